@@ -37,7 +37,7 @@ Ascending es = (a : ℕ) × (b : ℕ) × Range es a b
 
 pub left_range : (is js : List ℕ) (a b : ℕ) → Range (is ++ js) a b → (c : ℕ) × Range is a c
 left_range [] js a b h = (a, range_none a)
-left_range (e ∷ is) js a b h = (let r = left_range is js (suc e) b h.1 in (r.0, h.0, r.1))
+left_range (e ∷ is) js a b h = (let r = left_range is js (suc e) b h.1 in (r.0, (h.0, r.1)))
 
 pub right_range : (is js : List ℕ) (a b : ℕ) → Range (is ++ js) a b → (c : ℕ) × Range js c b
 right_range [] js a b h = (a, h)

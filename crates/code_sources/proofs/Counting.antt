@@ -1,5 +1,5 @@
 -- What counts on some way through a block is a target in it, and so is what is assigned in it.
-use Rattle.std.proofs.Common.{◌≡◌, ◌⊎◌, inl, inr, ℕ, zero, suc, ◌+◌, ◌≤◌, List, [], ◌∷◌, ◌++◌, refl, sym, ap, subst, arith}
+use Rattle.std.proofs.Common.{◌≡◌, ◌⊎◌, inl, inr, ℕ, zero, suc, ◌+◌, ◌≤◌, List, [], ◌∷◌, ◌++◌, refl, sym, ap, ◌∙◌, subst, arith}
 use Rattle.language.specs.Core.{Owned, Name, Outer, Stmt, stmt, Action, declare, call_alone, assign, fill, insert, print, assert, when, choose, range, each, wait, Block, no_stmts, stmts}
 use Rattle.language.specs.Members.{◌∈◌, first, later}
 use Rattle.language.specs.Parts.{block_list, blocks_below, blocks_in, blocks_inside, blocks_of, stmts_within, stmt_action, by_name, by_element, owners, targets, targets_of, targets_in}
@@ -95,7 +95,7 @@ mutual
 owner_in : {y : Name} {o : Owned} (xs : List Name) → y ∈ xs → y.what ≡ o → o ∈ owners xs
 owner_in [] m e = elim m [ ]
 owner_in {y} {o} (x ∷ xs) m e = elim (split_in m) [
-  | inl q ↦ subst (λ (z : Owned). z ∈ (x.what ∷ owners xs)) (ap (λ (z : Name). z.what) (sym q)) first
+  | inl q ↦ subst (λ (z : Owned). z ∈ (x.what ∷ owners xs)) (ap (λ (z : Name). z.what) (sym q) ∙ e) first
   | inr j ↦ later (owner_in xs j e)
 ]
 

@@ -138,9 +138,9 @@ module _ {s : Core} {fs : List Kinds} {ds : List (ℕ × Bool)} (C : Code) (l : 
   parameter_place h = cc
 
   -- the name that stands for an output in the called body
-  output_hands : {t i b at' : ℕ} {p : _} {all : List Part} {c : Call} {f : Function} (ca : CallAs C l (k_of t) all at' p c i) → In {X = Way × ℕ} (Calling, b) (ways (entry C i).act) → length ca.ins ≡ f.inputs → (j : ℕ) (r : code.Name) → slice_get ca.outs j ≡ Some r
+  output_hands : {t i b at' : ℕ} {p : _} {all : List Part} {c : Call} (f : Function) (ca : CallAs C l (k_of t) all at' p c i) → In {X = Way × ℕ} (Calling, b) (ways (entry C i).act) → length ca.ins ≡ f.inputs → (j : ℕ) (r : code.Name) → slice_get ca.outs j ≡ Some r
       → Writes C l L I b f.inputs (output j) → HandsOn C i Calling b r
-  output_hands {t} {i} {b} {f = f} ca way counted j r at_j z = by ((I.fits i Calling b way).writes z.number z.name z.there z.right)
+  output_hands {t} {i} {b} f ca way counted j r at_j z = by ((I.fits i Calling b way).writes z.number z.name z.there z.right)
     where
       by_place : (q : code.Name) (k : ℕ) (bb : Bool) → z.name ≡ record { up = 0; owned = Parameter k bb } → argument C (entry C i).mark k bb ≡ Some (Named q) → HandsOn C i Calling b r
       by_place q k bb e ar =
@@ -172,7 +172,7 @@ module _ {s : Core} {fs : List Kinds} {ds : List (ℕ × Bool)} (C : Code) (l : 
       by o.0 o.1 counted (held C l L I (by_entry i Calling x h way) (output o.0) stands target)
     where
       by : (j : ℕ) → slice_get ca.outs j ≡ Some r → length ca.ins ≡ f.inputs → Held C l L I b 0 f.inputs (output j) → HandsOn C i Calling b r
-      by j e q (inl z) = output_hands {t} {f = f} ca way q j r e z
+      by j e q (inl z) = output_hands {t = t} f ca way q j r e z
       by j e q (inr z) = no_output_local z.is
 
   called_hands : {t i b : ℕ} {st : Stmt} (w : Way) → w ≡ Calling → (x : Reached C t) → In i (body C t).entries → In {X = Way × ℕ} (w, b) (ways (entry C i).act) → OpensAs s C l L.table t i st w b → (r : code.Name) → In r (targets (entry C i)) → HandsOn C i Calling b r

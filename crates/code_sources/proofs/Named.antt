@@ -89,10 +89,10 @@ module _ {s : Core} {fs : List Kinds} {ds : List (ℕ × Bool)} (C : Code) (l : 
   abbrev pub Held : ℕ → ℕ → ℕ → Owned → Type 0
   Held t n k o = Writes t k o ⊎ Inside n o
 
-  seen_owned : {mark : ℕ} (w : Way) (r q : code.Name) → (w ≡ Calling → ⊥) → Seen C mark w r q → q.owned ≡ r.owned
-  seen_owned InPlace r q f s = sym (ap (λ (z : code.Name). z.owned) s)
-  seen_owned Through r q f s = sym (ap (λ (z : code.Name). z.owned) s)
-  seen_owned Calling r q f s = absurd (f refl)
+  seen_owned : (mark : ℕ) (w : Way) (r q : code.Name) → (w ≡ Calling → ⊥) → Seen C mark w r q → q.owned ≡ r.owned
+  seen_owned mark InPlace r q f s = sym (ap (λ (z : code.Name). z.owned) s)
+  seen_owned mark Through r q f s = sym (ap (λ (z : code.Name). z.owned) s)
+  seen_owned mark Calling r q f s = absurd (f refl)
 
   -- what a body that an entry opens holds, the entry's body does
   lift : {t d k : ℕ} {o : Owned} (x : Reached C t) (i : ℕ) (w : Way) → In i (body C t).entries → In {X = Way × ℕ} (w, d) (ways (entry C i).act) → (w ≡ Calling → ⊥) → Held d (way_level w (level x)) k o → Held t (level x) k o
@@ -106,7 +106,7 @@ module _ {s : Core} {fs : List Kinds} {ds : List (ℕ × Bool)} (C : Code) (l : 
       by (inl y) =
           let v = local_of k z.flag o y.variable (sym z.is ∙ ap (λ (q : code.Name). q.owned) y.is) in
           inr (record { home = d; reached = by_entry i w x h p; deeper = step_deeper w (level x) f; node = v.0; flag = z.flag; is = v.1; made = subst (λ (q : Variable). In q (body C d).makes) v.2 y.made })
-      by (inr y) = inl (record { number = i; there = h; name = y.outside; flag = z.flag; right = y.right; is = seen_owned w z.name y.outside f y.seen ∙ z.is })
+      by (inr y) = inl (record { number = i; there = h; name = y.outside; flag = z.flag; right = y.right; is = seen_owned (entry C i).mark w z.name y.outside f y.seen ∙ z.is })
 
   -- an entry of the body that stores into it
   stored : {t k m : ℕ} {a : Act} (j : ℕ) (o : Owned) (r : code.Name) (b : Bool) → In j (body C t).entries → (entry C j).act ≡ a → In r (targets_by (entry C j).node a) → r.owned ≡ owned_as k b o → Held t m k o
@@ -167,21 +167,21 @@ module _ {s : Core} {fs : List Kinds} {ds : List (ℕ × Bool)} (C : Code) (l : 
   in_place_no : InPlace ≡ Calling → ⊥
   in_place_no e = absurd (cc (e))
 
-  own_last : (t : ℕ) {j : ℕ} {es : List ℕ} (is : List ℕ) → es ≡ is ++ j ∷ [] → ((i : ℕ) → In i es → In i (body C t).entries) → In j (body C t).entries
-  own_last t {j} is e f = f j (subst (λ (z : List ℕ). In j z) (sym e) (in_right j is (j ∷ []) (inl refl)))
+  own_last : (t j : ℕ) {es : List ℕ} (is : List ℕ) → es ≡ is ++ j ∷ [] → ((i : ℕ) → In i es → In i (body C t).entries) → In j (body C t).entries
+  own_last t j is e f = f j (subst (λ (z : List ℕ). In j z) (sym e) (in_right j is (j ∷ []) (inl refl)))
 
   stmt_held : (m : ℕ) → Smaller m → {t k : ℕ} {st : Stmt} {es : List ℕ} {vs : List Variable} (x : Reached C t) (o : Owned) → stmt_weight st ≤ m → ((i : ℕ) → In i es → In i (body C t).entries) → StmtLaid C l T k st es vs → o ∈ targets st → Held t (level x) k o
   stmt_held m rec {t} x o w f (declares_laid b) i = elim i [ ]
   stmt_held m rec {t} x o w f (call_laid {ps = ps} {c = c} as') i = call_held c o f (call_among C l as' (to_right ps (calls c ∷ []) first)) i
-  stmt_held m rec {t} x o w f (simple_laid j {a = a} {is = is} z as' en q e) i = simple_held j a o z (own_last t is e f) en.act_is i
-  stmt_held m rec {t} x o w f (branch_laid j {is = is} as' en mk st e) i = opened m j rec x Through o (own_last t is e f) en.act_is (inl refl) through_no (omega arith) st i
+  stmt_held m rec {t} x o w f (simple_laid j {a = a} {is = is} z as' en q e) i = simple_held j a o z (own_last t j is e f) en.act_is i
+  stmt_held m rec {t} x o w f (branch_laid j {is = is} as' en mk st e) i = opened m j rec x Through o (own_last t j is e f) en.act_is (inl refl) through_no (omega arith) st i
   stmt_held m rec {t} x o w f (branches_laid j {b = b} {d = d} {is = is} as' en mk st su e) i = elim (either (targets_in b) (targets_in d) i) [
-    | inl n ↦ opened m j rec x Through o (own_last t is e f) en.act_is (inl refl) through_no (omega arith) st n
-    | inr n ↦ opened m j rec x Through o (own_last t is e f) en.act_is (inr (inl refl)) through_no (omega arith) su n
+    | inl n ↦ opened m j rec x Through o (own_last t j is e f) en.act_is (inl refl) through_no (omega arith) st n
+    | inr n ↦ opened m j rec x Through o (own_last t j is e f) en.act_is (inr (inl refl)) through_no (omega arith) su n
   ]
-  stmt_held m rec {t} x o w f (range_laid j {is = is} as' en mk st e) i = opened m j rec x Through o (own_last t is e f) en.act_is (inl refl) through_no (omega arith) st i
-  stmt_held m rec {t} x o w f (each_laid j en mk st e) i = opened m j rec x Through o (own_last t [] e f) en.act_is (inl refl) through_no (omega arith) st i
-  stmt_held m rec {t} x o w f (wait_laid j hd en st e) i = (let n = headers_weight hd in opened m j rec x InPlace o (own_last t [] e f) en.act_is (inl refl) in_place_no (omega arith) st (headers_target hd i))
+  stmt_held m rec {t} x o w f (range_laid j {is = is} as' en mk st e) i = opened m j rec x Through o (own_last t j is e f) en.act_is (inl refl) through_no (omega arith) st i
+  stmt_held m rec {t} x o w f (each_laid j en mk st e) i = opened m j rec x Through o (own_last t j [] e f) en.act_is (inl refl) through_no (omega arith) st i
+  stmt_held m rec {t} x o w f (wait_laid j hd en st e) i = (let n = headers_weight hd in opened m j rec x InPlace o (own_last t j [] e f) en.act_is (inl refl) in_place_no (omega arith) st (headers_target hd i))
 
   block_held : (m : ℕ) → Smaller m → {t k : ℕ} {es : List ℕ} {vs : List Variable} (b : Block) (x : Reached C t) (o : Owned) → block_weight b ≤ m → ((i : ℕ) → In i es → In i (body C t).entries) → StmtsLaid C l T k (block_list b) es vs → o ∈ targets_in b → Held t (level x) k o
   block_held m rec no_stmts x o w f none_laid i = elim i [ ]

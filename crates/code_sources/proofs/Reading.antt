@@ -153,16 +153,16 @@ module _ (C : Code) (l : Layout) (T : Table) where
   no_parts : {k : ℕ} {st : Stmt} {es : List ℕ} → own_of st ≡ [] → Parted k st es
   no_parts {k} {st} e = record { at = 0; priority = pos 0; numbers = []; parts_as = subst (λ (ps : List Part). PartsAs C l k ps 0 (pos 0) ps []) (sym e) no_part; among_them = λ j h. absurd h }
 
-  before_last : {is es : List ℕ} (i : ℕ) → es ≡ is ++ i ∷ [] → (j : ℕ) → In j is → In j es
-  before_last {is} i e j h = subst (λ (z : List ℕ). In j z) (sym e) (in_left j is (i ∷ []) h)
+  before_last : (is : List ℕ) {es : List ℕ} (i : ℕ) → es ≡ is ++ i ∷ [] → (j : ℕ) → In j is → In j es
+  before_last is i e j h = subst (λ (z : List ℕ). In j z) (sym e) (in_left j is (i ∷ []) h)
 
   stmt_parted : {k : ℕ} {st : Stmt} {es : List ℕ} {vs : List Variable} → StmtLaid C l T k st es vs → Parted k st es
   stmt_parted (declares_laid b) = no_parts refl
   stmt_parted (call_laid as') = record { at = _; priority = _; numbers = _; parts_as = as'; among_them = λ j h. h }
-  stmt_parted (simple_laid j z as' en q e) = record { at = _; priority = _; numbers = _; parts_as = as'; among_them = before_last j e }
-  stmt_parted (branch_laid j as' en mk st e) = record { at = _; priority = _; numbers = _; parts_as = as'; among_them = before_last j e }
-  stmt_parted (branches_laid j as' en mk st su e) = record { at = _; priority = _; numbers = _; parts_as = as'; among_them = before_last j e }
-  stmt_parted (range_laid j as' en mk st e) = record { at = _; priority = _; numbers = _; parts_as = as'; among_them = before_last j e }
+  stmt_parted (simple_laid j {is = is} z as' en q e) = record { at = _; priority = _; numbers = _; parts_as = as'; among_them = before_last is j e }
+  stmt_parted (branch_laid j {is = is} as' en mk st e) = record { at = _; priority = _; numbers = _; parts_as = as'; among_them = before_last is j e }
+  stmt_parted (branches_laid j {is = is} as' en mk st su e) = record { at = _; priority = _; numbers = _; parts_as = as'; among_them = before_last is j e }
+  stmt_parted (range_laid j {is = is} as' en mk st e) = record { at = _; priority = _; numbers = _; parts_as = as'; among_them = before_last is j e }
   stmt_parted (each_laid j en mk st e) = no_parts refl
   stmt_parted (wait_laid j hd en st e) = no_parts refl
 
