@@ -21,7 +21,7 @@ use Rattle.code_rules.specs.IsCodeOf.{Layout, own_expr, own_needs, fill_act, sim
 use Rattle.code_rules.specs.Laying.{Kinds, PlainAs, plain_after, cell_data, data_in, data_of, node_here, local_node, one_output, output_scalars}
 use Rattle.code_rules.specs.Laid.{Table, Stands, StmtLaid, declares_laid, call_laid, simple_laid, branch_laid, branches_laid, range_laid, each_laid, wait_laid, StmtsLaid, none_laid, one_laid, BodyLaid, IsLaid}
 use Rattle.code_whole.specs.Standing.{CallsAreFound}
-use Rattle.code_whole.proofs.Openings.{OpensAs, opens_header, opens_wait, opens_call, opens_as}
+use Rattle.code_whole.proofs.Openings.{no_simple_way, OpensAs, opens_header, opens_wait, opens_call, opens_as}
 use Rattle.code_whole.proofs.Roles.{own_of, OwnOf, own_simple, own_branch, own_branches, own_range, own_each, own_wait, Role, PartOf}
 use Rattle.code_whole.proofs.Shapes.{home_in, body_within}
 use Rattle.code_left.specs.Sources.{IsTurns, IsAssigned, Reached, at_start, by_entry}
@@ -134,27 +134,6 @@ local_is k (local n) v e = ap local (sym (ap number e))
     number (code.Parameter i b) = i
 local_is k (input i) v e = absurd (cc (e))
 local_is k (output j) v e = absurd (cc (e))
-
--- ways of acts
-no_fill_way : {A : Type 0} (l : Layout) (k : ℕ) (ms : List code.Need) (x : Name) (e : Co.Expr) (y : Way × ℕ) → In y (ways (fill_act l k ms x e)) → A
-no_fill_way l k ms x (Co.whole b) y h = absurd h
-no_fill_way l k ms x (Co.literal v) y h = absurd h
-no_fill_way l k ms x (Co.name z) y h = absurd h
-no_fill_way l k ms x (Co.operator o es) y h = absurd h
-
-no_simple_way : {A : Type 0} (l : Layout) (k : ℕ) (a : Action) (y : Way × ℕ) → of.IsSimple a → In y (ways (simple_act l k (own_needs l k a) a)) → A
-no_simple_way l k (assign x o) y z h = absurd h
-no_simple_way l k (fill x o) y z h = no_fill_way l k (own_needs l k (fill x o)) x (own_expr o) y h
-no_simple_way l k (insert x i o) y z h = absurd h
-no_simple_way l k (print p o) y z h = absurd h
-no_simple_way l k (assert p o) y z h = absurd h
-no_simple_way l k (declare v) y z h = absurd z
-no_simple_way l k (call_alone p ps c) y z h = absurd z
-no_simple_way l k (when c b) y z h = absurd z
-no_simple_way l k (choose c b d) y z h = absurd z
-no_simple_way l k (range lo hi st v t b) y z h = absurd z
-no_simple_way l k (each a v t b) y z h = absurd z
-no_simple_way l k (wait ns b) y z h = absurd z
 
 module _ {s : Core} {fs : List Kinds} {ds : List (ℕ × Bool)} (C : Code) (l : Layout) (L : IsLaid s fs ds C l) (R : HasRights C) (found : CallsAreFound C) (scoped : Scoped s) (single : SinglyAssigned s) (I : IsCode C) where
   abbrev T : Table
