@@ -21,7 +21,7 @@ range_lower : (es : List ℕ) (a c b : ℕ) → c ≤ a → Range es a b → Ran
 range_lower [] a c b l h = (let x : a ≤ b = h in let y : c ≤ b = omega arith in y)
 range_lower (e ∷ es) a c b l h = (let x = h.0 in (omega arith, h.1))
 
-pub range_none : (a : ℕ) → Range [] a a
+range_none : (a : ℕ) → Range [] a a
 range_none a = (let x : a ≤ a = omega arith in x)
 
 range_both : (is js : List ℕ) (a b c : ℕ) → Range is a b → Range js b c → Range (is ++ js) a c

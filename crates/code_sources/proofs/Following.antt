@@ -12,6 +12,7 @@ use Rattle.language.specs.Scopes.{Visible, Scope}
 use Rattle.language.specs.WellFormed.{WellFormed}
 use Rattle.language.proofs.Members.{split_in, to_left}
 use Rattle.language.proofs.Tested.{flat, block_nodes, cell_nodes}
+use Rattle.language_laws.proofs.Declared.{local_same}
 use Rattle.language_laws.specs.TypedValues.{own_parts}
 use Rattle.task_code.specs.Code as code
 use Rattle.task_code.specs.Code.{Variable, Local, Need, Stored, Closed, Act, Code, Entry, blank_entry, entry, body, here, is_array_name, needed, scalar}
@@ -22,8 +23,11 @@ use Rattle.code_rules.specs.IsCodeOf.{Layout, own_expr, own_needs, fill_act, sim
 use Rattle.code_rules.specs.Laying.{Kinds, LaysScript}
 use Rattle.code_rules.specs.Laid.{Table, StmtLaid, declares_laid, call_laid, simple_laid, branch_laid, branches_laid, range_laid, each_laid, wait_laid, StmtsLaid, none_laid, one_laid, IsLaid}
 use Rattle.code_rules.specs.NodesOnce.{TellsNode, NodesOnce}
-use Rattle.code_whole.proofs.Kept.{cell_node, hidden_node, declared_cell, role_cell, cell_hidden}
+use Rattle.code_whole.proofs.Bases.{only, of_needed}
+use Rattle.code_whole.proofs.Kept.{inner_among, cell_node, hidden_node, declared_cell, role_cell, cell_hidden}
 use Rattle.code_whole.proofs.Led.{cell_part}
+use Rattle.code_whole.proofs.Lookup.{before_own}
+use Rattle.code_whole.proofs.Made.{inner_same}
 use Rattle.code_whole.proofs.Needs.{flag_of, of_once}
 use Rattle.code_whole.proofs.Openings.{part_of_stmt, stmt_in}
 use Rattle.code_whole.proofs.Roles.{own_of}
@@ -33,21 +37,8 @@ use Rattle.code_left.specs.Sources.{is_cell}
 use Rattle.code_sources.proofs.Ascending.{Range, Ascending, left_range, right_range}
 use Rattle.code_sources.proofs.Ordered.{Among, Before, before_more, Ordered}
 use Rattle.code_sources.proofs.Named.{local_of}
-use Rattle.code_sources.proofs.Reading.{HasEntry, among_cells, of_needed}
+use Rattle.code_sources.proofs.Reading.{HasEntry, only_name}
 use Rattle.code_sources.proofs.Walked.{IsVariable, Good}
-
-only : {X : Type 0} {x y : X} → In x (y ∷ []) → x ≡ y
-only (inl e) = e
-only (inr z) = absurd z
-
-inner_same : {c d : Cell} → inner c ≡ inner d → c ≡ d
-inner_same h = cc
-
-local_same : {m n : ℕ} → local m ≡ local n → m ≡ n
-local_same h = cc
-
-only_name : (r q : code.Name) (n m : Need) → n ≡ m → In r (needed n) → needed m ≡ q ∷ [] → r ≡ q
-only_name r q n m e h f = only (subst (λ (zs : List code.Name). In r zs) f (subst (λ (z : Need). In r (needed z)) e h))
 
 -- a scalar's name is no array's
 no_array : {A : Type 0} (k m : ℕ) (a : Name) → here (scalar m) ≡ name_as k true a → A
@@ -332,20 +323,6 @@ module _ (C : Code) (l : Layout) (T : Table) where
 
 -- ALL CELLS
 
-before_own : (a : Action) {x : Part} → x ∈ before a → x ∈ own_parts a
-before_own (call_alone p ps d) m = to_left ps (calls d ∷ []) m
-before_own (declare v) m = m
-before_own (assign x e) m = m
-before_own (fill a e) m = m
-before_own (insert a j e) m = m
-before_own (print p e) m = m
-before_own (assert p e) m = m
-before_own (when c b) m = m
-before_own (choose c b d) m = m
-before_own (range lo hi st v t b) m = m
-before_own (each a v t b) m = m
-before_own (wait ns b) m = m
-
 tells_cell : (a : Act) → is_cell a ≡ true → TellsNode a
 tells_cell (code.Cell e) h = tt
 tells_cell code.Read h = tt
@@ -398,7 +375,7 @@ module _ {s : Core} {fs : List Kinds} {ds : List (ℕ × Bool)} (C : Code) (l : 
   cell_once {at} {n} {a} m c d i j e = (formed.cells.cell_once (stmt at n a) (stmt at n a) c d m m (in_cells i) (in_cells (before_own a j)) e).1
     where
       in_cells : {x : Cell} → inner x ∈ own_parts a → x ∈ part_cells (parts a)
-      in_cells u = among_cells (parts a) (part_of_stmt a u)
+      in_cells u = inner_among (parts a) (part_of_stmt a u)
 
   -- CELLS FOLLOW
   pub follow : (i j : ℕ) → is_cell (entry C i).act ≡ true → is_cell (entry C j).act ≡ true → In (here (scalar (entry C j).node)) (needs_of (entry C i)) → j < i

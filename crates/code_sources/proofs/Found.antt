@@ -8,6 +8,7 @@ use Rattle.language.specs.Members.{◌∈◌, first, later}
 use Rattle.language.specs.Parts.{block_list, owners}
 use Rattle.language.specs.Single.{SinglyAssigned, declared_here, IsRead}
 use Rattle.language.proofs.Members.{split_in, to_left}
+use Rattle.language_laws.proofs.Declared.{local_same}
 use Rattle.language_laws.specs.Scoped.{Scoped}
 use Rattle.language_laws.specs.TypedValues.{own_parts}
 use Rattle.task_code.specs.Code as code
@@ -21,7 +22,10 @@ use Rattle.code_rules.specs.IsCodeOf.{Layout, own_expr, own_needs, fill_act, sim
 use Rattle.code_rules.specs.Laying.{Kinds, PlainAs, plain_after, cell_data, data_in, data_of, node_here, local_node, one_output, output_scalars}
 use Rattle.code_rules.specs.Laid.{Table, Stands, StmtLaid, declares_laid, call_laid, simple_laid, branch_laid, branches_laid, range_laid, each_laid, wait_laid, StmtsLaid, none_laid, one_laid, BodyLaid, IsLaid}
 use Rattle.code_whole.specs.Standing.{CallsAreFound}
+use Rattle.code_whole.proofs.Lookup.{before_own}
+use Rattle.code_whole.proofs.Made.{data_before, plain_before}
 use Rattle.code_whole.proofs.Openings.{no_simple_way, OpensAs, opens_header, opens_wait, opens_call, opens_as}
+use Rattle.code_whole.proofs.Scoping.{before}
 use Rattle.code_whole.proofs.Roles.{own_of, OwnOf, own_simple, own_branch, own_branches, own_range, own_each, own_wait, Role, PartOf}
 use Rattle.code_whole.proofs.Shapes.{home_in, body_within}
 use Rattle.code_left.specs.Sources.{IsTurns, IsAssigned, Reached, at_start, by_entry}
@@ -75,28 +79,12 @@ of_data l p (calls c ∷ ps) v f h = elim (in_split v (output_scalars c.outputs)
 ]
 
 -- of a statement
-front_parts : (l : Layout) (p : Option Part) (ps qs : List Part) → PlainAs l p (ps ++ qs) → PlainAs l p ps
-front_parts l p [] qs f = tt
-front_parts l p (inner c ∷ ps) qs f = (f.0, front_parts l (Some (inner c)) ps qs f.1)
-front_parts l p (calls c ∷ ps) qs f = front_parts l (Some (calls c)) ps qs f
-
-front_of : {l : Layout} (ps qs : List Part) {v : Variable} → OfParts l ps v → OfParts l (ps ++ qs) v
-front_of ps qs (of_a_cell c m e q) = of_a_cell c (to_left ps qs m) e q
-front_of ps qs (of_a_call c n m i q) = of_a_call c n (to_left ps qs m) i q
+of_before : {l : Layout} (a : Action) {v : Variable} → OfParts l (before a) v → OfParts l (own_parts a) v
+of_before a (of_a_cell c m e q) = of_a_cell c (before_own a m) e q
+of_before a (of_a_call c n m i q) = of_a_call c n (before_own a m) i q
 
 of_statement : (l : Layout) (a : Action) (v : Variable) → PlainAs l None (own_parts a) → In v (data_of a) → OfParts l (own_parts a) v
-of_statement l (call_alone p ps c) v f h = front_of ps (calls c ∷ []) (of_data l None ps v (front_parts l None ps (calls c ∷ []) f) h)
-of_statement l (declare w) v f h = absurd h
-of_statement l (assign x o) v f h = of_data l None (own_parts (assign x o)) v f h
-of_statement l (fill x o) v f h = of_data l None (own_parts (fill x o)) v f h
-of_statement l (insert x i o) v f h = of_data l None (own_parts (insert x i o)) v f h
-of_statement l (print p o) v f h = of_data l None (own_parts (print p o)) v f h
-of_statement l (assert p o) v f h = of_data l None (own_parts (assert p o)) v f h
-of_statement l (when c b) v f h = of_data l None (own_parts (when c b)) v f h
-of_statement l (choose c b d) v f h = of_data l None (own_parts (choose c b d)) v f h
-of_statement l (range lo hi st x y b) v f h = of_data l None (own_parts (range lo hi st x y b)) v f h
-of_statement l (each a x y b) v f h = absurd h
-of_statement l (wait ns b) v f h = absurd h
+of_statement l a v f h = of_before a (of_data l None (before a) v (plain_before l a f) (subst (λ (vs : List Variable). In v vs) (data_before a) h))
 
 module _ (C : Code) (l : Layout) (T : Table) where
   -- a variable is declared by a statement, or one of its data
@@ -228,12 +216,9 @@ module _ {s : Core} {fs : List Kinds} {ds : List (ℕ × Bool)} (C : Code) (l : 
       stands : Stands C l T (T.inputs_of t) (T.block_of t) (T.variables_of t) (body C t).opener t
       stands = record { within = lt; block = refl; inputs = refl; variables = refl; opener = refl }
 
-      node_of : {n n' : ℕ} → local n ≡ local n' → n ≡ n'
-      node_of e = cc
-
       by : Held C l L I t (level x) (T.inputs_of t) (local v.node) → IsAssigned C t v
       by (inl z) = written x z.number v z.name iv z.there z.right (slot_to (T.inputs_of t) z.flag v v.node (z.name).owned refl z.is)
-      by (inr z) = apart C I K x z.reached v (record { node = z.node; array = z.flag }) iv z.made (node_of z.is) z.deeper
+      by (inr z) = apart C I K x z.reached v (record { node = z.node; array = z.flag }) iv z.made (local_same z.is) z.deeper
 
   declared : (t at m n j : ℕ) (b : Bool) (v : Variable) (x : Reached C t) → t < length C.bodies → stmt at m (declare n) ∈ block_list (T.block_of t) → v ≡ record { node = n; array = b } → In v (body C t).makes → v.array ≡ false → Use C l L R scoped t (here v) → IsAssigned C t v
   declared t at m n j b v x lt i e iv sc (of_an_array z) = absurd (let q : true ≡ false = sym z ∙ sc in cc (q))

@@ -28,24 +28,17 @@ use Rattle.code_whole.specs.Described.{is_array_shape, kinds_of_signature}
 use Rattle.code_whole.specs.Standing.{CallsAreFound}
 use Rattle.code_whole.proofs.Aims.{alone, named_of, Calls, Assigned, Aims, at_cell, at_hidden, at_alone, at_own, aims}
 use Rattle.code_whole.proofs.Arguments.{arg_at, get_below, get_map, get_right, get_some, inputs_length, out_at, some_same}
-use Rattle.code_whole.proofs.Bases.{Assigns, names, further_in}
+use Rattle.code_whole.proofs.Bases.{only, Assigns, names, further_in}
 use Rattle.code_whole.proofs.Openings.{OpensAs, opens_header, opens_wait, opens_call, opens_as, call_of_stmt}
 use Rattle.code_whole.proofs.Owners.{OwnerOf, OwnedScope, owned_scope, Round, round}
 use Rattle.code_whole.proofs.Roles.{own_of, OwnOf, own_simple, own_branch, own_branches, own_range, own_each, own_wait, Role}
 use Rattle.code_whole.proofs.Settling.{ScriptScoped}
 use Rattle.code_whole.proofs.Shapes.{home_in, body_within}
-use Rattle.code_whole.proofs.Singles.{stmt_way}
+use Rattle.code_whole.proofs.Singles.{only_in, stmt_way}
 use Rattle.code_left.specs.Sources.{HandsOn, Reached, by_entry, always_opens}
 use Rattle.code_sources.proofs.Counting.{counted_target, named_target, written_target}
 use Rattle.code_sources.proofs.Levels.{SameSlot, step_deeper, level, level_same, named_same, Declarer, declarer, apart, unique}
 use Rattle.code_sources.proofs.Named.{local_of, Held, Writes, Inside, held}
-
-only_in : {X : Type 0} {x y : X} → x ∈ (y ∷ []) → x ≡ y
-only_in m = elim (split_in m) [ inl e ↦ e | inr i ↦ elim i [ ] ]
-
-only : {X : Type 0} {x y : X} → In x (y ∷ []) → x ≡ y
-only (inl e) = e
-only (inr z) = absurd z
 
 -- a variable of code is the same one, wherever it is made
 pub kinds_same : {s : Core} {fs : List Kinds} {ds : List (ℕ × Bool)} {C : Code} {l : Layout} → IsLaid s fs ds C l → (t u : ℕ) (v w : Variable) → In v (body C t).makes → In w (body C u).makes → v.node ≡ w.node → v ≡ w

@@ -53,7 +53,7 @@ not_main C i Calling o h e = (let q : ByCalls ≡ ByMain = sym h.0 ∙ e in absu
 
 -- NAMES
 
-local_same : {v w : Variable} → Local v ≡ Local w → v ≡ w
+pub local_same : {v w : Variable} → Local v ≡ Local w → v ≡ w
 local_same h = cc
 
 no_local : {A : Type 0} {k : ℕ} {b : Bool} {v : Variable} → Parameter k b ≡ Local v → A

@@ -16,11 +16,9 @@ use Rattle.code_rules.specs.IsCodeOf.{Layout, own_expr, own_needs, fill_act, sim
 use Rattle.code_rules.specs.Laying.{Kinds, Headers, one_header, more_headers}
 use Rattle.code_rules.specs.Laid.{Stands, StmtLaid, declares_laid, call_laid, simple_laid, branch_laid, branches_laid, range_laid, each_laid, wait_laid, StmtsLaid, none_laid, one_laid, IsLaid}
 use Rattle.code_layout.proofs.CodeOf.{block_weight, stmt_weight}
+use Rattle.code_whole.proofs.Made.{calls_same}
 use Rattle.code_left.specs.Sources.{Reached, by_entry}
-use Rattle.code_sources.proofs.Levels.{way_level, step_deeper, level}
-
-local_same : {v w : Variable} → Local v ≡ Local w → v ≡ w
-local_same h = cc
+use Rattle.code_sources.proofs.Levels.{way_level, step_deeper, level, local_same}
 
 -- a name that is a variable's in code is one in the core
 pub local_of : (k : ℕ) (b : Bool) (o : Owned) (v : Variable) → owned_as k b o ≡ Local v → (n : ℕ) × (o ≡ local n) × (v ≡ record { node = n; array = b })
@@ -33,9 +31,6 @@ pub record CallAt (C : Code) (l : Layout) (k : ℕ) (all : List Part) (at : ℕ)
   pub number : ℕ
   pub there : In number es
   pub call_as : CallAs C l k all at p c number
-
-calls_same : {x y : Call} → calls x ≡ calls y → x ≡ y
-calls_same h = cc
 
 module _ (C : Code) (l : Layout) where
   call_in : {k at : ℕ} {p : Rattle.std.specs.Prelude.ℤ} {all : List Part} {x : Part} {is : List ℕ} {c : Call} → PartAs C l k all at p x is → calls c ≡ x → CallAt C l k all at p c is

@@ -23,7 +23,10 @@ use Rattle.code_rules.specs.IsCodeOf.{Layout, seen_as, seen, own_form, own_expr,
 use Rattle.code_rules.specs.Laying.{Kinds, Headers, one_header, more_headers}
 use Rattle.code_rules.specs.Laid.{Table, StmtLaid, declares_laid, call_laid, simple_laid, branch_laid, branches_laid, range_laid, each_laid, wait_laid, StmtsLaid, none_laid, one_laid, IsLaid}
 use Rattle.code_whole.proofs.Arguments.{arg_at, get_in}
+use Rattle.code_whole.proofs.Bases.{only, of_needed, of_exprs, outer_in}
+use Rattle.code_whole.proofs.Kept.{inner_among}
 use Rattle.code_whole.proofs.Led.{cell_part}
+use Rattle.code_whole.proofs.Made.{inner_same}
 use Rattle.code_whole.proofs.Needs.{flag_of, of_once, of_flat}
 use Rattle.code_whole.proofs.Openings.{OpensAs, opens_header, opens_wait, opens_call, opens_as, part_of_stmt}
 use Rattle.code_whole.proofs.Roles.{own_of, PartOf, OwnOf, own_simple, own_branch, own_branches, own_range, own_each, own_wait, Role}
@@ -32,21 +35,9 @@ use Rattle.code_rules.proofs.Members.{to_in}
 use Rattle.code_sources.proofs.Counting.{read_outwards}
 use Rattle.code_sources.proofs.Levels.{named_same}
 
-only : {X : Type 0} {x y : X} → In x (y ∷ []) → x ≡ y
-only (inl e) = e
-only (inr z) = absurd z
-
-inner_same : {c d : Cell} → inner c ≡ inner d → c ≡ d
-inner_same h = cc
-
-pub among_cells : (ps : List Part) {c : Cell} → inner c ∈ ps → c ∈ part_cells ps
-among_cells [] h = elim h [ ]
-among_cells (inner d ∷ ps) {c} h = elim (split_in h) [ inl e ↦ subst (λ (x : Cell). x ∈ (d ∷ part_cells ps)) (sym (inner_same e)) first | inr i ↦ later (among_cells ps i) ]
-among_cells (calls d ∷ ps) h = elim (split_in h) [ inl e ↦ absurd (cc (e)) | inr i ↦ among_cells ps i ]
-
 -- BLOCKS
 
-pub stmt_below : (b : Block) {st : Stmt} {c : Block} → st ∈ block_list b → c ∈ blocks_in st → c ∈ blocks_below b
+stmt_below : (b : Block) {st : Stmt} {c : Block} → st ∈ block_list b → c ∈ blocks_in st → c ∈ blocks_below b
 stmt_below no_stmts m i = elim m [ ]
 stmt_below (stmts s b) {st} {c} m i = elim (split_in m) [
   | inl e ↦ to_left (blocks_in s) (blocks_below b) (subst (λ (z : Stmt). c ∈ blocks_in z) e i)
@@ -54,7 +45,7 @@ stmt_below (stmts s b) {st} {c} m i = elim (split_in m) [
 ]
 
 -- the content of waits lies in the first
-pub headers_inside : {k : ℕ} {st : Stmt} {hs : List Header} {c : Block} → Headers k st hs c → c ∈ blocks_in st
+headers_inside : {k : ℕ} {st : Stmt} {hs : List Header} {c : Block} → Headers k st hs c → c ∈ blocks_in st
 headers_inside (one_header lone e) = first
 headers_inside (more_headers {st = st} hd e) = later (to_left (blocks_in st) [] (headers_inside hd))
 
@@ -77,7 +68,7 @@ IsNamedAmong k es r = (is_array_name r ≡ true) ⊎ ((x : Name) × (r ≡ name_
 array_named : (k : ℕ) (a : Name) (r : code.Name) → r ≡ name_as k true a → is_array_name r ≡ true
 array_named k a r e = ap is_array_name e ∙ flag_of k true a
 
-only_name : (r q : code.Name) (n m : Need) → n ≡ m → In r (needed n) → needed m ≡ q ∷ [] → r ≡ q
+pub only_name : (r q : code.Name) (n m : Need) → n ≡ m → In r (needed n) → needed m ≡ q ∷ [] → r ≡ q
 only_name r q n m e h f = only (subst (λ (zs : List code.Name). In r zs) f (subst (λ (z : Need). In r (needed z)) e h))
 
 mutual
@@ -93,14 +84,6 @@ mutual
     | inl j ↦ elim (expr_names k e n r j i) [ inl a ↦ inl a | inr x ↦ inr (x.0, x.1, the_first x.2) ]
     | inr j ↦ elim (exprs_name k es n r j i) [ inl a ↦ inl a | inr x ↦ inr (x.0, x.1, a_later x.2) ]
   ]
-
-pub of_needed : (r : code.Name) (ns : List Need) → In r (flat_map needed ns) → (n : Need) × In n ns × In r (needed n)
-of_needed r [] h = absurd h
-of_needed r (n ∷ ns) h = elim (in_split r (needed n) (flat_map needed ns) h) [ inl i ↦ (n, inl refl, i) | inr i ↦ (let x = of_needed r ns i in (x.0, inr x.1, x.2)) ]
-
-of_exprs : (k : ℕ) (n : Need) (es : List Expr) → In n (flat_map (wanted k) es) → (e : Expr) × In e es × In n (wanted k e)
-of_exprs k n [] h = absurd h
-of_exprs k n (e ∷ es) h = elim (in_split n (wanted k e) (flat_map (wanted k) es) h) [ inl i ↦ (e, inl refl, i) | inr i ↦ (let x = of_exprs k n es i in (x.0, inr x.1, x.2)) ]
 
 -- CELLS WITH ENTRIES
 
@@ -208,7 +191,7 @@ module _ {s : Core} {fs : List Kinds} {ds : List (ℕ × Bool)} (C : Code) (l : 
     ]
 
     in_parts : {c : Cell} → inner c ∈ own_parts a → c ∈ part_cells (parts a)
-    in_parts i = among_cells (parts a) (part_of_stmt a i)
+    in_parts i = inner_among (parts a) (part_of_stmt a i)
 
     of_here : (c : Cell) (q : Need) (r : code.Name) → inner c ∈ own_parts a → HasEntry l c → In q (wanted k (Co.name (Co.here c.node))) → In r (needed q) → Use t r
     of_here c q r i h u v = of_cell c r i h (only_name r (name_as k false (Co.here c.node)) q (Stored (name_as k false (Co.here c.node))) (only u) v refl)
@@ -290,13 +273,6 @@ module _ {s : Core} {fs : List Kinds} {ds : List (ℕ × Bool)} (C : Code) (l : 
       by (inr j) rec = rec j
 
   -- a statement's own entry
-  outer_in : (os : List Outer) {o : Outer} → o ∈ os → inner o.cell ∈ outer_parts os
-  outer_in [] h = elim h [ ]
-  outer_in (x ∷ os) {o} h = elim (split_in h) [
-    | inl e ↦ subst (λ (z : Outer). inner z.cell ∈ outer_parts (x ∷ os)) (sym e) (to_right x.parts _ first)
-    | inr i ↦ to_right x.parts _ (later (outer_in os i))
-  ]
-
   own_need : (t j : ℕ) (a : Action) (q : Need) → (entry C j).needs ≡ own_needs l (T.inputs_of t) a → In q (entry C j).needs → (e : Expr) × In e (own_exprs l (T.inputs_of t) a) × In q (wanted (T.inputs_of t) e)
   own_need t j a q e h = of_exprs (T.inputs_of t) q (own_exprs l (T.inputs_of t) a) (of_once q (flat_map (wanted (T.inputs_of t)) (own_exprs l (T.inputs_of t) a)) (by_needs j (own_needs l (T.inputs_of t) a) q e h))
 
@@ -307,7 +283,7 @@ module _ {s : Core} {fs : List Kinds} {ds : List (ℕ × Bool)} (C : Code) (l : 
   HasParts t at n a = Parted C l T (T.inputs_of t) (stmt at n a) (body C t).entries
 
   own_cell_in : (o : Outer) → o.cell ∈ part_cells (outer_parts (o ∷ []))
-  own_cell_in o = among_cells (outer_parts (o ∷ [])) (to_right o.parts _ first)
+  own_cell_in o = inner_among (outer_parts (o ∷ [])) (to_right o.parts _ first)
 
   at_expr : (t : ℕ) (q : Need) {e x : Expr} → e ≡ x → In q (wanted (T.inputs_of t) e) → In q (wanted (T.inputs_of t) x)
   at_expr t q e h = subst (λ (z : Expr). In q (wanted (T.inputs_of t) z)) e h

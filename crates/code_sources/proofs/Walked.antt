@@ -15,23 +15,12 @@ use Rattle.language.specs.Typing.{LoopScope, StatementTyped, StatementsTyped, Bo
 use Rattle.language.proofs.Blocks.{among}
 use Rattle.language.proofs.Members.{split_in, either, to_left, to_right}
 use Rattle.language.proofs.Tested.{among_split, declared_of, roles_of}
+use Rattle.language_laws.proofs.Declared.{local_same}
 use Rattle.language_laws.proofs.TreeBlocks.{right_no_block, several_no_block, call_no_block, loop_block}
 use Rattle.code_whole.proofs.Lookup.{deeper_of}
+use Rattle.code_whole.proofs.Settling.{first_role, second_role}
 use Rattle.code_whole.proofs.Scoping.{before}
 use Rattle.code_sources.proofs.Ordered.{Ordered, Fine, right_fine, write_fine, several_fine, called_fine, when_fine, choose_fine, loop_fine}
-
-local_same : {m n : ℕ} → local m ≡ local n → m ≡ n
-local_same h = cc
-
-first_role : (t : Table) (v : Word) (u : Option Word) (o : Over) (d : Block) → v.number ∈ roles_of (loop_action t v u o d)
-first_role t v None (T.array w) d = first
-first_role t v (Some k) (T.array w) d = first
-first_role t v None (T.range low high step) d = first
-first_role t v (Some k) (T.range low high step) d = first
-
-second_role : (t : Table) (v k : Word) (o : Over) (d : Block) → k.number ∈ roles_of (loop_action t v (Some k) o d)
-second_role t v k (T.array w) d = later first
-second_role t v k (T.range low high step) d = later first
 
 module _ (s : Core) where
   -- the node is that of a variable that a statement declares, or of a loop

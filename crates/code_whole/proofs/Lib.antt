@@ -8,7 +8,7 @@ pub mod Coming
 mod Stating
 pub mod Settling
 pub mod Lookup
-mod Made
+pub mod Made
 pub mod Arguments
 pub mod Led
 pub mod Bases

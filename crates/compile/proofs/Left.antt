@@ -4,7 +4,6 @@ use Rattle.dataflow.specs.History.{log_of}
 use Rattle.dataflow.specs.Machine.{Event}
 use Rattle.dataflow.specs.System.{In}
 use Rattle.dataflow.proofs.Follows.{Follows}
-use Rattle.dataflow.proofs.Keeping.{data_exact}
 use Rattle.dataflow.proofs.Steps.{run_follows}
 use Rattle.task_code.specs.Code.{Code}
 use Rattle.task_code.specs.Machine.{CodeItem, CodeState, IsTidy, Quiet, Run}
@@ -39,4 +38,4 @@ module _ (src : List ℕ) (C : Code) (w : IsCompiled src C) where
     no_items none = none_left C w.whole sources w.exact order st (log_of (code_system C) events st run) follows quiet none
 
     pub no_data : ((at : ℕ) (path : List Step) → Blocked C st at path → ⊥) → IsTidy C st → st.places ≡ []
-    no_data none tidy = (data_exact (code_system C) (code_laws C w.whole) st (log_of (code_system C) events st run) follows tidy).none_left (no_items none)
+    no_data none tidy = (w.runs.exact events st run tidy).none_left (no_items none)
