@@ -1,4 +1,4 @@
 mod Holders
 mod Sourced
-mod Left
+pub mod Left
 mod Tested

@@ -36,11 +36,11 @@ use Rattle.code_whole.proofs.Made.{PartsMade, stmt_made, cell_declared, read_rea
 use Rattle.code_whole.proofs.Arguments.{some_same, get_map, get_one, get_some, out_at, out_type}
 use Rattle.code_whole.proofs.Led.{cell_part, Keeping, Within, Settled, settle, come, CallKnown, call_known, out_settled}
 
-of_needed : (r : code.Name) (ns : List Need) → In r (flat_map needed ns) → (n : Need) × In n ns × In r (needed n)
+pub of_needed : (r : code.Name) (ns : List Need) → In r (flat_map needed ns) → (n : Need) × In n ns × In r (needed n)
 of_needed r [] h = absurd h
 of_needed r (n ∷ ns) h = elim (in_split r (needed n) (flat_map needed ns) h) [ inl i ↦ (n, inl refl, i) | inr i ↦ (let q = of_needed r ns i in (q.0, inr q.1, q.2)) ]
 
-of_exprs : (k : ℕ) (n : Need) (es : List Expr) → In n (flat_map (wanted k) es) → (e : Expr) × In e es × In n (wanted k e)
+pub of_exprs : (k : ℕ) (n : Need) (es : List Expr) → In n (flat_map (wanted k) es) → (e : Expr) × In e es × In n (wanted k e)
 of_exprs k n [] h = absurd h
 of_exprs k n (e ∷ es) h = elim (in_split n (wanted k e) (flat_map (wanted k) es) h) [ inl i ↦ (e, inl refl, i) | inr i ↦ (let q = of_exprs k n es i in (q.0, inr q.1, q.2)) ]
 
@@ -51,7 +51,7 @@ outer_in (p ∷ os) {o} m = elim (split_in m) [
   | inr i ↦ to_right p.parts (inner p.cell ∷ outer_parts os) (later (outer_in os i))
 ]
 
-only : {X : Type 0} {x y : X} → In x (y ∷ []) → x ≡ y
+pub only : {X : Type 0} {x y : X} → In x (y ∷ []) → x ≡ y
 only (inl e) = e
 only (inr z) = absurd z
 

@@ -161,7 +161,7 @@ module _ {s : Core} {fs : List Kinds} {ds : List (ℕ × Bool)} (C : Code) (l : 
           where
             standing : {g : Scope} {x : Name} → is_array_shape τ.shape ≡ false → InputComes g (before act) x τ → StandsAmong (own_parts act) x
             standing z (inl h) = absurd (let w = h.0 in cc (z, w))
-            standing z (inr h) = record { cell = (h.1).0; there = among_cells (own_parts act) (before_own sigs type_of act (h.1).1); is = (h.1).2 }
+            standing z (inr h) = record { cell = (h.1).0; there = among_cells (own_parts act) (before_own act (h.1).1); is = (h.1).2 }
 
     -- WHAT PASSES OUT
     abbrev Here : ℕ → Scope → Action → Type 0

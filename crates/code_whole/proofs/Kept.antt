@@ -10,7 +10,7 @@ use Rattle.language_laws.specs.TypedValues.{own_parts}
 use Rattle.code_whole.proofs.Scoping.{before}
 use Rattle.code_whole.proofs.Openings.{part_of_stmt, call_among}
 
-inner_among : (ps : List Part) {c : Cell} → inner c ∈ ps → c ∈ part_cells ps
+pub inner_among : (ps : List Part) {c : Cell} → inner c ∈ ps → c ∈ part_cells ps
 inner_among [] h = elim h [ ]
 inner_among (inner d ∷ ps) {c} h = elim (split_in h) [ inl e ↦ subst (λ (x : Cell). x ∈ (d ∷ part_cells ps)) (sym (inner_same e)) first | inr i ↦ later (inner_among ps i) ]
   where

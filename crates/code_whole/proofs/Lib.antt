@@ -1,22 +1,22 @@
-mod Needs
-mod Roles
-mod Shapes
+pub mod Needs
+pub mod Roles
+pub mod Shapes
 pub mod Openings
 mod Standings
 pub mod Scoping
-mod Coming
+pub mod Coming
 mod Stating
 pub mod Settling
 pub mod Lookup
-mod Made
+pub mod Made
 pub mod Arguments
-mod Led
-mod Bases
+pub mod Led
+pub mod Bases
 mod Fields
 pub mod Accepted
 pub mod Offsets
-mod Owners
-mod Kept
-mod Aims
-mod Singles
+pub mod Owners
+pub mod Kept
+pub mod Aims
+pub mod Singles
 mod Whole

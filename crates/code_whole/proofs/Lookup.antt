@@ -52,6 +52,20 @@ action_same h = cc
 content_same : {ns ns' : List Awaited} {c c' : Block} → wait ns c ≡ wait ns' c' → c ≡ c'
 content_same h = cc
 
+pub before_own : (a : Action) {x : Part} → x ∈ before a → x ∈ own_parts a
+before_own (call_alone p ps d) m = to_left ps (calls d ∷ []) m
+before_own (declare v) m = m
+before_own (assign x e) m = m
+before_own (fill a e) m = m
+before_own (insert a j e) m = m
+before_own (print p e) m = m
+before_own (assert p e) m = m
+before_own (when c b) m = m
+before_own (choose c b d) m = m
+before_own (range lo hi st v t b) m = m
+before_own (each a v t b) m = m
+before_own (wait ns b) m = m
+
 module _ (fs : List Signature) (type_of : ℕ → Typ) where
   -- the block declares the variable
   pub record DeclaredBy (b : Block) (v : Visible) : Type 0 where
@@ -173,20 +187,6 @@ module _ (fs : List Signature) (type_of : ℕ → Typ) where
   inner_before (range lo hi st v t b) m = m
   inner_before (each a v t b) m = m
   inner_before (wait ns b) m = m
-
-  pub before_own : (a : Action) {x : Part} → x ∈ before a → x ∈ own_parts a
-  before_own (call_alone p ps d) m = to_left ps (calls d ∷ []) m
-  before_own (declare v) m = m
-  before_own (assign x e) m = m
-  before_own (fill a e) m = m
-  before_own (insert a j e) m = m
-  before_own (print p e) m = m
-  before_own (assert p e) m = m
-  before_own (when c b) m = m
-  before_own (choose c b d) m = m
-  before_own (range lo hi st v t b) m = m
-  before_own (each a v t b) m = m
-  before_own (wait ns b) m = m
 
   -- a call that is the statement
   pub record AloneComes (g : Scope) (a : Action) (c : Call) : Type 0 where

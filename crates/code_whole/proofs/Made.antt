@@ -18,10 +18,10 @@ use Rattle.code_whole.specs.Described.{is_array_shape}
 use Rattle.code_whole.proofs.Scoping.{before}
 use Rattle.code_whole.proofs.Shapes.{HomeIn}
 
-inner_same : {x y : Cell} → inner x ≡ inner y → x ≡ y
+pub inner_same : {x y : Cell} → inner x ≡ inner y → x ≡ y
 inner_same h = cc
 
-calls_same : {x y : Call} → calls x ≡ calls y → x ≡ y
+pub calls_same : {x y : Call} → calls x ≡ calls y → x ≡ y
 calls_same h = cc
 
 -- the datum of a cell
@@ -83,7 +83,7 @@ plain_before l (range lo hi st v t b) f = f
 plain_before l (each a v t b) f = f
 plain_before l (wait ns b) f = f
 
-data_before : (a : Action) → data_of a ≡ data_in None (before a)
+pub data_before : (a : Action) → data_of a ≡ data_in None (before a)
 data_before (call_alone p ps d) = refl
 data_before (declare v) = refl
 data_before (assign x e) = refl

@@ -78,7 +78,7 @@ no_fill_loop l k ms x (Co.literal v) w h = absurd (cc (h))
 no_fill_loop l k ms x (Co.name z) w h = absurd (cc (h))
 no_fill_loop l k ms x (Co.operator o es) w h = absurd (cc (h))
 
-no_simple_way : {A : Type 0} (l : Layout) (k : ℕ) (a : Action) (y : Way × ℕ) → IsSimple a → In y (ways (simple_act l k (own_needs l k a) a)) → A
+pub no_simple_way : {A : Type 0} (l : Layout) (k : ℕ) (a : Action) (y : Way × ℕ) → IsSimple a → In y (ways (simple_act l k (own_needs l k a) a)) → A
 no_simple_way l k (assign x o) y z h = absurd h
 no_simple_way l k (fill x o) y z h = no_fill_way l k _ x (own_expr o) y h
 no_simple_way l k (insert x i o) y z h = absurd h

@@ -27,13 +27,13 @@ loops_body : (t : Table) (v : Word) (u : Option Word) (o : Over) (d : Block) →
 loops_body t v u (T.array w) d = over_each
 loops_body t v u (T.range low high step) d = over_range
 
-first_role : (t : Table) (v : Word) (u : Option Word) (o : Over) (d : Block) → v.number ∈ roles_of (loop_action t v u o d)
+pub first_role : (t : Table) (v : Word) (u : Option Word) (o : Over) (d : Block) → v.number ∈ roles_of (loop_action t v u o d)
 first_role t v None (T.array w) d = first
 first_role t v (Some k) (T.array w) d = first
 first_role t v None (T.range low high step) d = first
 first_role t v (Some k) (T.range low high step) d = first
 
-second_role : (t : Table) (v k : Word) (o : Over) (d : Block) → k.number ∈ roles_of (loop_action t v (Some k) o d)
+pub second_role : (t : Table) (v k : Word) (o : Over) (d : Block) → k.number ∈ roles_of (loop_action t v (Some k) o d)
 second_role t v k (T.array w) d = later first
 second_role t v k (T.range low high step) d = later first
 

@@ -22,7 +22,7 @@ use Rattle.code_whole.proofs.Bases.{Assigns, names, further_in}
 use Rattle.code_whole.proofs.Owners.{OwnerOf, owned, unnamed, owner_inner, Round}
 use Rattle.code_whole.proofs.Aims.{alone, named_of}
 
-only_in : {X : Type 0} {x y : X} → x ∈ (y ∷ []) → x ≡ y
+pub only_in : {X : Type 0} {x y : X} → x ∈ (y ∷ []) → x ≡ y
 only_in m = elim (split_in m) [ inl e ↦ e | inr i ↦ elim i [ ] ]
 
 only : {X : Type 0} {x y : X} → In x (y ∷ []) → x ≡ y

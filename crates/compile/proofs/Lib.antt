@@ -4,3 +4,4 @@ pub mod Runs
 pub mod Scripts
 pub mod Sizes
 pub mod Alike
+pub mod Left

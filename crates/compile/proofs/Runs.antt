@@ -71,16 +71,16 @@ runs_go_on C I = record {
 -- WHAT THE FOLD OF AN ACCEPTED SCRIPT IS
 
 module _ (src : List ℕ) (t : Table) (tree : Tree) (a : IsAccepted src t tree) where
-  folds_placed : IsPlaced (folded_tree tree)
+  pub folds_placed : IsPlaced (folded_tree tree)
   folds_placed = folded_placed tree (read_placed src tree a.reads)
 
-  folds_typed : WellTyped (folded_tree tree) t
+  pub folds_typed : WellTyped (folded_tree tree) t
   folds_typed = folded_typed t tree a.typed
 
   folds_same : SameCore (core t tree) (core t (folded_tree tree))
   folds_same = core_same t tree a.typed
 
-  folds_single : SinglyAssigned (core t (folded_tree tree))
+  pub folds_single : SinglyAssigned (core t (folded_tree tree))
   folds_single = singly_assigned (core t tree) (core t (folded_tree tree)) folds_same a.single
 
 pub kinds_stay : (fs : List Kinds) (tree : Tree) → KindsOf fs tree → KindsOf fs (folded_tree tree)

@@ -1,6 +1,7 @@
 //! What is emitted for a script, and what every run of it owes, whatever names its data have. Nothing here runs: each function has
 //! an empty body, and its contract is a law.
 ghost use Rattle.dataflow.specs.Machine.{Event};
+ghost use Rattle.dataflow.specs.System.{In};
 ghost use Rattle.dataflow.specs.Names.{IsFresh, IsNaming, NamedState, NamedStep, NamedSteps, named_start};
 ghost use Rattle.code_alike.specs.Alike.{AreAlike};
 ghost use Rattle.code_rules.specs.Emitted.{IsEmitted};
@@ -8,14 +9,16 @@ ghost use Rattle.code_rules.specs.Laying.{Kinds};
 ghost use Rattle.compile.specs.Compiled.{IsCompiled};
 ghost use Rattle.compile.specs.Accepted.{IsAccepted};
 ghost use Rattle.constant_fold.specs.Folded.{folded_tree};
-ghost use Rattle.std.specs.Prelude.{◌≡◌, ℕ, Bool, List};
+ghost use Rattle.std.specs.Prelude.{◌≡◌, ℕ, Bool, List, []};
 ghost use Rattle.headline.specs.Headline.{Agrees, IsAll};
 ghost use Rattle.language.specs.Outcomes.{Clean};
 ghost use Rattle.language.specs.Resolved.{core};
 ghost use Rattle.language.specs.Table.{Table};
 ghost use Rattle.language.specs.Tree.{Tree};
 ghost use Rattle.task_code.specs.Code.{Code};
-ghost use Rattle.task_code.specs.Machine.{CodeState, CodeStep, Quiet};
+ghost use Rattle.task_code.specs.Machine.{CodeItem, CodeState, CodeStep, IsTidy, Quiet, Run};
+ghost use Rattle.task_code.specs.Places.{Step};
+ghost use Rattle.task_code.specs.Runs.{Blocked};
 ghost use Rattle.task_code.specs.System.{code_system};
 ghost use Rattle.code_whole.specs.Described.{DeclaredIn, KindsOf};
 
@@ -47,4 +50,15 @@ pub fn every_naming_of_scripts<N>()
 /// with the same rights.
 pub fn codes_of_a_text_are_alike()
     ensures { (src : List ℕ) (C D : Code) → IsCompiled src C → IsCompiled src D → AreAlike C D }
+{}
+
+/// A run of a script's code that ends quiet without fault leaves a blocked statement, or nothing at all: where any item is left, a statement
+/// is blocked; where none is, no item is left, and no datum, if those that are free have left.
+pub fn quiet_runs_leave_nothing()
+    ensures blocked { (src : List ℕ) (code : Code) → IsCompiled src code → (events : List Event) (st : CodeState) → Run code events st
+        → Quiet code st → (i : CodeItem) → In i st.items → (at : ℕ) × (path : List Step) × Blocked code st at path }
+    ensures items { (src : List ℕ) (code : Code) → IsCompiled src code → (events : List Event) (st : CodeState) → Run code events st
+        → Quiet code st → ((at : ℕ) (path : List Step) → Blocked code st at path → ⊥) → st.items ≡ [] }
+    ensures data { (src : List ℕ) (code : Code) → IsCompiled src code → (events : List Event) (st : CodeState) → Run code events st
+        → Quiet code st → ((at : ℕ) (path : List Step) → Blocked code st at path → ⊥) → IsTidy code st → st.places ≡ [] }
 {}

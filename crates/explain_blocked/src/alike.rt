@@ -5,10 +5,19 @@ use std::alloc::{AllocError, Allocator, Global};
 use std::collections::HashMap;
 
 /// For each statement of a list the first one that waits alike, and for each such one how many there are.
-#[derive(Drop)]
 pub struct Alike {
     firsts: Vec<usize>,
     counts: HashMap<usize, usize>,
+}
+
+// Written out, so that who owns one lets it go by one call.
+impl Drop for Alike {
+    fn drop(self) {
+        let Alike {
+            firsts: _,
+            counts: _,
+        } = self;
+    }
 }
 
 impl Alike {
@@ -22,6 +31,16 @@ impl Alike {
             firsts: Vec::with_capacity(alloc, listed.len())?,
             counts: HashMap::new(alloc),
         };
+        alike.add_all(alloc, listed, done)?;
+        Ok(alike)
+    }
+
+    fn add_all<'t, 'a, A: Allocator>(
+        &mut self,
+        alloc: Global,
+        listed: &[Waiting<'t, 'a, A>],
+        done: &[bool],
+    ) -> Result<(), AllocError> {
         let mut by_offset: HashMap<usize, Vec<usize>> = HashMap::new(alloc);
         for number in 0..listed.len() {
             let first = if done.get(number) == Some(&true) {
@@ -29,9 +48,9 @@ impl Alike {
             } else {
                 first_alike(alloc, &mut by_offset, listed, number)?
             };
-            alike.add(first)?;
+            self.add(first)?;
         }
-        Ok(alike)
+        Ok(())
     }
 
     /// The first statement that waits as this one does.

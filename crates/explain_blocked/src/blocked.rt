@@ -10,8 +10,9 @@ use crate::path::say_path;
 use crate::scene::Scene;
 use crate::waits::Waits;
 use explain_inputs::blocking::{Waiting, inputs_blocking};
-use explain_text::words::{add_mark, say, say_count, say_start};
-use std::alloc::{AllocError, Allocator};
+use explain_text::words::{say, say_count};
+use paths::Statement;
+use std::alloc::{AllocError, Allocator, Global};
 
 /// The most texts, where not all are wanted.
 const MOST: usize = 20;
@@ -32,11 +33,22 @@ pub fn add_all_blocked<'t, 'a, A: Allocator>(
     all: bool,
 ) -> Result<(), AllocError> {
     let listed = list_waiting(scene)?;
-    let waits = Waits::of(scene, listed.as_slice())?;
+    add_listing(scene, out, file, all, listed.as_slice())
+}
+
+/// The same of what the blocked statements wait for.
+fn add_listing<'t, 'a, A: Allocator>(
+    scene: &Scene<'t, 'a, A>,
+    out: &mut Vec<u8>,
+    file: &str,
+    all: bool,
+    listed: &[Waiting<'t, 'a, A>],
+) -> Result<(), AllocError> {
+    let waits = Waits::of(scene, listed)?;
     let list = List {
         scene,
         file,
-        listed: listed.as_slice(),
+        listed,
         waits: &waits,
     };
     if all {
@@ -50,15 +62,24 @@ pub fn add_all_blocked<'t, 'a, A: Allocator>(
 fn list_waiting<'t, 'a, A: Allocator>(
     scene: &Scene<'t, 'a, A>,
 ) -> Result<Vec<Waiting<'t, 'a, A>>, AllocError> {
-    let index: &'t Index<'a, A> = scene.index;
     let blocked = scene.known.blocked()?;
     let mut listed = Vec::new(scene.alloc);
     for statement in &blocked {
-        if let Some(waiting) = inputs_blocking(scene.alloc, &index.sites, scene.known, statement)? {
-            listed.push(waiting)?;
-        }
+        list_one(scene, &mut listed, statement)?;
     }
     Ok(listed)
+}
+
+fn list_one<'t, 'a, A: Allocator>(
+    scene: &Scene<'t, 'a, A>,
+    listed: &mut Vec<Waiting<'t, 'a, A>>,
+    statement: &Statement,
+) -> Result<(), AllocError> {
+    let index: &'t Index<'a, A> = scene.index;
+    if let Some(waiting) = inputs_blocking(scene.alloc, &index.sites, scene.known, statement)? {
+        listed.push(waiting)?;
+    }
+    Ok(())
 }
 
 fn add_each<'l, 't, 'a, A: Allocator>(
@@ -79,6 +100,15 @@ struct Told {
 }
 
 impl Told {
+    /// None of so many.
+    fn none(alloc: Global, count: usize) -> Result<Told, AllocError> {
+        let mut done = Vec::with_capacity(alloc, count)?;
+        for _ in 0..count {
+            done.push(false)?;
+        }
+        Ok(Told { done, texts: 0 })
+    }
+
     /// Whether there are as many texts as there may be.
     fn is_full(&self) -> bool {
         self.texts >= MOST
@@ -99,27 +129,40 @@ fn add_shortened<'l, 't, 'a, A: Allocator>(
     list: &List<'l, 't, 'a, A>,
     out: &mut Vec<u8>,
 ) -> Result<(), AllocError> {
-    let alloc = list.scene.alloc;
     let parts = list.waits.graph.parts()?;
-    let causes = list.waits.causes(alloc, &parts)?;
-    let mut told = Told {
-        done: Vec::with_capacity(alloc, causes.len())?,
-        texts: 0,
-    };
-    for _ in 0..causes.len() {
-        told.done.push(false)?;
-    }
-    add_circles(list, out, &mut told, &parts, causes.as_slice())?;
-    let alike = Alike::of(alloc, list.listed, told.done.as_slice())?;
+    let causes = list.waits.causes(list.scene.alloc, &parts)?;
+    add_by_causes(list, out, &parts, causes.as_slice())
+}
+
+/// Adds the circles of the causes, then the other causes, and then the others.
+fn add_by_causes<'l, 't, 'a, A: Allocator>(
+    list: &List<'l, 't, 'a, A>,
+    out: &mut Vec<u8>,
+    parts: &Parts,
+    causes: &[bool],
+) -> Result<(), AllocError> {
+    let mut told = Told::none(list.scene.alloc, causes.len())?;
+    add_circles(list, out, &mut told, parts, causes)?;
+    add_others(list, out, &mut told, causes)
+}
+
+/// Adds the causes that are not told, and then the others.
+fn add_others<'l, 't, 'a, A: Allocator>(
+    list: &List<'l, 't, 'a, A>,
+    out: &mut Vec<u8>,
+    told: &mut Told,
+    causes: &[bool],
+) -> Result<(), AllocError> {
+    let alike = Alike::of(list.scene.alloc, list.listed, told.done.as_slice())?;
     for number in 0..causes.len() {
         if causes[number] {
-            add_listed(list, out, &mut told, &alike, number)?;
+            add_listed(list, out, told, &alike, number)?;
         }
     }
     for number in 0..causes.len() {
-        add_listed(list, out, &mut told, &alike, number)?;
+        add_listed(list, out, told, &alike, number)?;
     }
-    say_left(list, out, &told, &alike)
+    say_left(list, out, told, &alike)
 }
 
 /// Adds the circles of the causes, one of each part.
@@ -231,13 +274,13 @@ fn add_blocked<'l, 't, 'a, A: Allocator>(
     };
     let scene = list.scene;
     let stand = list.stand(number);
-    say_start(out, list.file, scene.text, stand.at)?;
+    scene.lines.say_start(out, list.file, stand.at)?;
     say(out, "blocked: ")?;
     if !say_inputs(scene, out, stand, waiting.missing.as_slice())? {
         say_nothing(scene, out)?;
     }
     say(out, "\n")?;
-    add_mark(out, scene.text, stand.at)?;
+    scene.lines.add_mark(out, stand.at)?;
     say_path(scene, out, stand.instance)
 }
 

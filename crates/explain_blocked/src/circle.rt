@@ -5,9 +5,9 @@ use crate::list::List;
 use crate::path::say_path;
 use crate::scene::Stand;
 use crate::waits::input_at;
+use crate::writers::Target;
 use explain_inputs::input::Input;
-use explain_text::words::{add_mark, say, say_count, say_place, say_start};
-use meaning_facts::facts::Place;
+use explain_text::words::{say, say_count};
 use std::alloc::{AllocError, Allocator};
 
 /// The most names of a circle that are told in turn.
@@ -45,12 +45,12 @@ pub fn add_circle<'l, 't, 'a, A: Allocator>(
 ) -> Result<(), AllocError> {
     let last = last_of(circle);
     let at = list.at(last);
-    let text = list.scene.text;
-    say_start(out, list.file, text, at)?;
+    let lines = list.scene.lines;
+    lines.say_start(out, list.file, at)?;
     say(out, "blocked: ")?;
     say_links(list, out, circle)?;
     say(out, "\n")?;
-    add_mark(out, text, at)?;
+    lines.add_mark(out, at)?;
     say_path(list.scene, out, list.stand(last).instance)
 }
 
@@ -111,8 +111,8 @@ fn say_link<'l, 't, 'a, A: Allocator>(
         Some(before) => node_at(circle, before),
         None => last_of(circle),
     };
-    match list.waits.place(node_at(circle, i)) {
-        Some(place) => say_waited(list, out, before, place),
+    match list.waits.target(node_at(circle, i)) {
+        Some(target) => say_waited(list, out, before, target),
         None => say(out, "a value"),
     }
 }
@@ -124,12 +124,12 @@ fn node_at(circle: &[usize], i: usize) -> usize {
     }
 }
 
-/// Adds what a place is called by the statement or the argument of this node, which waits for it.
+/// Adds what is waited for as it is called by the statement or the argument of this node, which waits for it.
 fn say_waited<'l, 't, 'a, A: Allocator>(
     list: &List<'l, 't, 'a, A>,
     out: &mut Vec<u8>,
     node: usize,
-    place: Place,
+    target: Target,
 ) -> Result<(), AllocError> {
     match list.listed.get(node) {
         Some(waiting) => say_one_of(
@@ -137,32 +137,33 @@ fn say_waited<'l, 't, 'a, A: Allocator>(
             out,
             list.stand(node),
             waiting.missing.as_slice(),
-            place,
+            target,
         ),
-        None => match (list.waits.place(node), list.argument(node)) {
+        None => match (list.waits.target(node), list.argument(node)) {
             (Some(own), Some(spot)) => {
-                let missing = missing_in_cell(list.scene, own.instance, spot.cell)?;
+                let instance = own.place.instance;
+                let missing = missing_in_cell(list.scene, instance, spot.cell)?;
                 let stand = Stand {
                     at: spot.cell.at,
                     function: spot.function,
-                    instance: own.instance,
+                    instance,
                 };
-                say_one_of(list, out, stand, missing.as_slice(), place)
+                say_one_of(list, out, stand, missing.as_slice(), target)
             }
             _ => say(out, "a value"),
         },
     }
 }
 
-/// Adds what that of these inputs is called that has a place.
+/// Adds what that of these inputs is called that is waited for as this.
 fn say_one_of<'l, 't, 'a, A: Allocator>(
     list: &List<'l, 't, 'a, A>,
     out: &mut Vec<u8>,
     stand: Stand,
     inputs: &[Input],
-    place: Place,
+    target: Target,
 ) -> Result<(), AllocError> {
-    match input_at(list.scene, stand.instance, inputs, place) {
+    match input_at(list.scene, stand.instance, inputs, target) {
         Some(input) => say_wanted(list.scene, out, stand, input),
         None => say(out, "a value"),
     }
@@ -180,6 +181,6 @@ fn say_giver<'l, 't, 'a, A: Allocator>(
         Some(spot) => spot.cell.at,
         None => list.at(node_at(circle, i.saturating_add(1))),
     };
-    say_place(out, list.scene.text, at)?;
+    list.scene.lines.say_place(out, at)?;
     say(out, ")")
 }

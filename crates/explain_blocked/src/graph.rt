@@ -5,7 +5,6 @@ use crate::search::Search;
 use std::alloc::{AllocError, Global};
 
 /// Nodes, numbered as they are added, and for each those to which it leads.
-#[derive(Drop)]
 pub struct Graph {
     alloc: Global,
     edges: Vec<Vec<usize>>,
@@ -13,13 +12,30 @@ pub struct Graph {
     count: usize,
 }
 
+// Written out, so that who owns one lets it go by one call.
+impl Drop for Graph {
+    fn drop(self) {
+        let Graph {
+            alloc: _,
+            edges: _,
+            count: _,
+        } = self;
+    }
+}
+
 /// The parts of a graph in which each node leads to each other one.
-#[derive(Drop)]
 pub struct Parts {
     /// The number of each node's part. A part leads to parts of lower numbers alone.
     pub part: Numbers,
     /// All nodes, by the numbers of their parts.
     pub order: Vec<usize>,
+}
+
+// Written out, so that who owns one lets it go by one call.
+impl Drop for Parts {
+    fn drop(self) {
+        let Parts { part: _, order: _ } = self;
+    }
 }
 
 impl Graph {

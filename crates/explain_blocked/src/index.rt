@@ -41,6 +41,8 @@ struct Tables<'a, A: Allocator> {
     giving: HashMap<u32, usize>,
     /// The called functions by the offsets of the calls.
     called: HashMap<usize, usize>,
+    /// The statements that can be blocked, by their nodes.
+    blockable: HashMap<u32, usize>,
 }
 
 impl<'a, A: Allocator> Tables<'a, A> {
@@ -51,6 +53,7 @@ impl<'a, A: Allocator> Tables<'a, A> {
             cells: HashMap::new(alloc),
             giving: HashMap::new(alloc),
             called: HashMap::new(alloc),
+            blockable: HashMap::new(alloc),
         };
         for i in 0..sites.len() {
             tables.note_site(alloc, i, &sites[i])?;
@@ -59,6 +62,9 @@ impl<'a, A: Allocator> Tables<'a, A> {
     }
 
     fn note_site(&mut self, alloc: Global, i: usize, site: &Site<'a, A>) -> Result<(), AllocError> {
+        if site.can_be_blocked() {
+            self.blockable.insert(site.node(), i)?;
+        }
         match action_of(site) {
             None => Ok(()),
             Some(action) => self.note_action(alloc, i, site.function, action),
@@ -177,12 +183,7 @@ impl<'a, A: Allocator> Index<'a, A> {
 
     /// The statement of a node that can be blocked.
     pub fn site_of(&self, node: u32) -> Option<&Site<'a, A>> {
-        for site in &self.sites.all {
-            if site.node() == node && site.can_be_blocked() {
-                return Some(site);
-            }
-        }
-        None
+        self.sites.all.get(*self.tables.blockable.get(&node)?)
     }
 
     /// The number of the function that is called at an offset.

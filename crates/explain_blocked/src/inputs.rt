@@ -4,14 +4,15 @@ use crate::names::say_name;
 use crate::scene::{Scene, Stand};
 use crate::sites::{opens_blocks, word_of};
 use crate::words::say_scalar;
-use crate::writers::Writer;
+use crate::writers::{Target, Writer};
 use explain_inputs::input::{Input, add_form};
 use explain_inputs::missing::missing_of;
-use explain_text::words::{say, say_place};
+use explain_text::words::say;
 use flow::cell::Cell;
 use flow::name::{Name, Owned};
 use meaning_facts::facts::Place;
 use std::alloc::{AllocError, Allocator};
+use values::key::KeyRef;
 use values::value::{Scalar, Value};
 
 /// Adds what a statement waits for, of its inputs that are not known, and why each is not known. Whether anything was added.
@@ -77,7 +78,7 @@ fn say_input<'t, 'a, A: Allocator>(
         Input::Element { index, .. } => {
             say(out, "for ")?;
             say_wanted(scene, out, stand, input)?;
-            if key_of(scene, stand, index).is_some() {
+            if key_of(scene, stand.instance, index).is_some() {
                 Ok(())
             } else {
                 say(out, " whose index is not known")
@@ -94,18 +95,18 @@ pub fn say_wanted<'t, 'a, A: Allocator>(
     input: Input,
 ) -> Result<(), AllocError> {
     match input {
-        Input::Scalar(name) => say_name(scene.index, scene.text, out, stand.function, name),
-        Input::Array(name) => say_name(scene.index, scene.text, out, stand.function, name),
-        Input::Element { array, index } => match key_of(scene, stand, index) {
+        Input::Scalar(name) => say_name(scene.index, scene.lines, out, stand.function, name),
+        Input::Array(name) => say_name(scene.index, scene.lines, out, stand.function, name),
+        Input::Element { array, index } => match key_of(scene, stand.instance, index) {
             Some(key) => {
-                say_name(scene.index, scene.text, out, stand.function, array)?;
+                say_name(scene.index, scene.lines, out, stand.function, array)?;
                 say(out, "[")?;
                 say_scalar(out, key)?;
                 say(out, "]")
             }
             None => {
                 say(out, "an element of ")?;
-                say_name(scene.index, scene.text, out, stand.function, array)
+                say_name(scene.index, scene.lines, out, stand.function, array)
             }
         },
     }
@@ -114,11 +115,11 @@ pub fn say_wanted<'t, 'a, A: Allocator>(
 /// The index that a cell has, where it is known.
 fn key_of<'k, 't, 'a, A: Allocator>(
     scene: &'k Scene<'t, 'a, A>,
-    stand: Stand,
+    instance: usize,
     index: u32,
 ) -> Option<&'k Scalar> {
     let cell = Place {
-        instance: stand.instance,
+        instance,
         node: index,
     };
     match scene.known.learned.facts.value(cell) {
@@ -134,19 +135,36 @@ fn say_reason<'t, 'a, A: Allocator>(
     stand: Stand,
     input: Input,
 ) -> Result<(), AllocError> {
+    let target = target_of(scene, stand.instance, input);
+    let writers = scene.writers.of(target);
     match input {
-        Input::Scalar(name) => {
-            let place = scene.known.learned.instances.place(stand.instance, name);
-            say_given(scene, out, place)?;
-            say_givers(scene, out, stand, Giving::Assign, scene.writers.of(place))
+        Input::Scalar(_) => {
+            say_given(scene, out, target.place)?;
+            say_givers(scene, out, stand, Giving::Assign, writers)
         }
-        Input::Array(name) => {
-            let place = scene.known.learned.instances.place(stand.instance, name);
-            say_givers(scene, out, stand, Giving::Write, scene.writers.of(place))
+        Input::Element { .. } if target.mark.is_some() && writers.is_empty() => {
+            say(out, " (no statement that is left writes it)")
         }
-        Input::Element { array, .. } => {
-            let place = scene.known.learned.instances.place(stand.instance, array);
-            say_givers(scene, out, stand, Giving::Write, scene.writers.of(place))
+        _ => say_givers(scene, out, stand, Giving::Write, writers),
+    }
+}
+
+/// What an input in an instance is to those that would write it: of an element its array, unless its key and theirs are known.
+pub fn target_of<'t, 'a, A: Allocator>(
+    scene: &Scene<'t, 'a, A>,
+    instance: usize,
+    input: Input,
+) -> Target {
+    let instances = &scene.known.learned.instances;
+    match input {
+        Input::Scalar(name) => Target::whole(instances.place(instance, name)),
+        Input::Array(name) => Target::whole(instances.place(instance, name)),
+        Input::Element { array, index } => {
+            let place = instances.place(instance, array);
+            match key_of(scene, instance, index) {
+                Some(key) => scene.writers.element(place, KeyRef::of(key)),
+                None => Target::whole(place),
+            }
         }
     }
 }
@@ -161,7 +179,7 @@ fn say_given<'t, 'a, A: Allocator>(
         return Ok(());
     };
     say(out, " (given at ")?;
-    say_place(out, scene.text, spot.cell.at)?;
+    scene.lines.say_place(out, spot.cell.at)?;
     let missing = missing_in_cell(scene, place.instance, spot.cell)?;
     let stand = Stand {
         at: spot.cell.at,
@@ -264,7 +282,7 @@ fn say_assignment<'t, 'a, A: Allocator>(
         say(out, " ")?;
     }
     say(out, "at ")?;
-    say_place(out, scene.text, writer.at)?;
+    scene.lines.say_place(out, writer.at)?;
     say(
         out,
         if writer.blocked {
@@ -283,7 +301,7 @@ fn say_writer<'t, 'a, A: Allocator>(
     say(out, "the ")?;
     say(out, kind_of(scene, writer.at))?;
     say(out, " at ")?;
-    say_place(out, scene.text, writer.at)?;
+    scene.lines.say_place(out, writer.at)?;
     if writer.blocked {
         say(out, ", itself blocked, may still write it")
     } else {

@@ -37,9 +37,9 @@ impl<'l, 't, 'a, A: Allocator> List<'l, 't, 'a, A> {
         self.stand(number).at
     }
 
-    /// The argument whose place a node is.
+    /// The argument that a node is.
     pub fn argument(&self, node: usize) -> Option<&Spot<'a, A>> {
-        let place = self.waits.place(node)?;
-        self.scene.index.spot(place.node)
+        let target = self.waits.target(node)?;
+        self.scene.index.spot(target.place.node)
     }
 }

@@ -1,25 +1,26 @@
 //! What names are called.
 
 use crate::index::Index;
-use explain_text::words::{say, say_place};
+use explain_text::lines::Lines;
+use explain_text::words::say;
 use flow::name::{Name, Owned};
 use std::alloc::{AllocError, Allocator};
 
 /// Adds what a name in a function, or in the script's own blocks, is called; of what a call in an expression gives, where that call stands.
 pub fn say_name<'a, A: Allocator>(
     index: &Index<'a, A>,
-    text: &[u8],
+    lines: &Lines<'_>,
     out: &mut Vec<u8>,
     function: Option<usize>,
     name: Name,
 ) -> Result<(), AllocError> {
-    say_owned(index, text, out, function, name.what)
+    say_owned(index, lines, out, function, name.what)
 }
 
 /// The same of what a name is in the block that owns it.
 pub fn say_owned<'a, A: Allocator>(
     index: &Index<'a, A>,
-    text: &[u8],
+    lines: &Lines<'_>,
     out: &mut Vec<u8>,
     function: Option<usize>,
     owned: Owned,
@@ -30,7 +31,7 @@ pub fn say_owned<'a, A: Allocator>(
     }
     match owned {
         Owned::Local(node) => match index.giving_at(node) {
-            Some(at) => say_call(index, text, out, at),
+            Some(at) => say_call(index, lines, out, at),
             None => say(out, "a value"),
         },
         _ => say(out, "a value"),
@@ -40,7 +41,7 @@ pub fn say_owned<'a, A: Allocator>(
 /// Adds what a call gives.
 fn say_call<'a, A: Allocator>(
     index: &Index<'a, A>,
-    text: &[u8],
+    lines: &Lines<'_>,
     out: &mut Vec<u8>,
     at: usize,
 ) -> Result<(), AllocError> {
@@ -49,5 +50,5 @@ fn say_call<'a, A: Allocator>(
         out.extend_from_slice(function)?;
     }
     say(out, " gives, called at ")?;
-    say_place(out, text, at)
+    lines.say_place(out, at)
 }

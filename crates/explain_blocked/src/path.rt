@@ -3,7 +3,7 @@
 use crate::scene::Scene;
 use crate::sites::action_of;
 use crate::words::{say_scalar, say_text};
-use explain_text::words::{say, say_count, say_place};
+use explain_text::words::{say, say_count};
 use flow::statement::{Action, Variable};
 use meaning_facts::facts::Place;
 use meaning_outcomes::Step;
@@ -73,7 +73,7 @@ fn say_step<'t, 'a, A: Allocator>(
         say(out, "in ")?;
         out.extend_from_slice(name)?;
         say(out, ", called at ")?;
-        return say_place(out, scene.text, step.offset);
+        return scene.lines.say_place(out, step.offset);
     }
     match opener(scene, step.offset) {
         Some(Action::Range { value, .. }) => say_turn(scene, out, instance, value, &step.key)?,
@@ -81,7 +81,7 @@ fn say_step<'t, 'a, A: Allocator>(
         Some(Action::Choose { .. }) => say_branch(out, &step.key)?,
         _ => say(out, "in the if at ")?,
     }
-    say_place(out, scene.text, step.offset)
+    scene.lines.say_place(out, step.offset)
 }
 
 /// What the statement does that opens blocks at an offset.

@@ -2,6 +2,7 @@
 
 use crate::index::Index;
 use crate::writers::Writers;
+use explain_text::lines::Lines;
 use meaning_outcomes::knowledge::Knowledge;
 use std::alloc::{Allocator, Global};
 
@@ -9,7 +10,7 @@ use std::alloc::{Allocator, Global};
 #[derive(Drop)]
 pub struct Scene<'t, 'a, A: Allocator> {
     pub alloc: Global,
-    pub text: &'t [u8],
+    pub lines: &'t Lines<'t>,
     pub index: &'t Index<'a, A>,
     pub known: &'t Knowledge,
     pub writers: &'t Writers,

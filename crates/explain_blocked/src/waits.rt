@@ -1,25 +1,35 @@
 //! Which blocked statements keep which others waiting.
 
 use crate::graph::{Graph, Parts};
-use crate::inputs::{is_own_cell, missing_in_cell};
+use crate::inputs::{is_own_cell, missing_in_cell, target_of};
 use crate::numbers::{NONE, Numbers};
 use crate::scene::Scene;
+use crate::writers::Target;
 use explain_inputs::blocking::Waiting;
 use explain_inputs::input::Input;
-use meaning_facts::facts::Place;
 use std::alloc::{AllocError, Allocator, Global};
 use std::collections::HashMap;
 
-/// The waits of blocked statements, as a graph: a statement leads to the places of what it waits for, a place to the blocked statements that
-/// would write it, and the place of an argument to those of what that waits for. The first nodes are the statements, in the order in which
-/// they are listed.
-#[derive(Drop)]
+/// The waits of blocked statements, as a graph: a statement leads to what it waits for, that to the blocked statements that would write it,
+/// and an argument to what that waits for. The first nodes are the statements, in the order in which they are listed.
 pub struct Waits {
     pub graph: Graph,
     statements: usize,
-    /// The places, and their nodes.
-    places: Vec<Place>,
-    nodes: HashMap<(usize, u32), usize>,
+    /// What is waited for, and its nodes.
+    targets: Vec<Target>,
+    nodes: HashMap<Target, usize>,
+}
+
+// Written out, so that who owns one lets it go by one call.
+impl Drop for Waits {
+    fn drop(self) {
+        let Waits {
+            graph: _,
+            statements: _,
+            targets: _,
+            nodes: _,
+        } = self;
+    }
 }
 
 impl Waits {
@@ -30,19 +40,27 @@ impl Waits {
         let mut waits = Waits {
             graph: Graph::new(scene.alloc),
             statements: listed.len(),
-            places: Vec::new(scene.alloc),
+            targets: Vec::new(scene.alloc),
             nodes: HashMap::new(scene.alloc),
         };
+        waits.note_all(scene, listed)?;
+        Ok(waits)
+    }
+
+    fn note_all<'t, 'a, A: Allocator>(
+        &mut self,
+        scene: &Scene<'t, 'a, A>,
+        listed: &[Waiting<'t, 'a, A>],
+    ) -> Result<(), AllocError> {
         for _ in listed {
-            waits.graph.add()?;
+            self.graph.add()?;
         }
         for i in 0..listed.len() {
             let waiting = &listed[i];
-            waits.note_inputs(scene, i, waiting.instance, waiting.missing.as_slice())?;
+            self.note_inputs(scene, i, waiting.instance, waiting.missing.as_slice())?;
         }
         let numbers = numbers_of(scene, listed)?;
-        waits.note_places(scene, &numbers)?;
-        Ok(waits)
+        self.note_targets(scene, &numbers)
     }
 
     /// Whether a node is a statement.
@@ -50,13 +68,13 @@ impl Waits {
         node < self.statements
     }
 
-    /// The place that a node is.
-    pub fn place(&self, node: usize) -> Option<Place> {
+    /// What is waited for that a node is.
+    pub fn target(&self, node: usize) -> Option<Target> {
         let number = node.checked_sub(self.statements)?;
-        self.places.get(number).copied()
+        self.targets.get(number).copied()
     }
 
-    /// Lets a node lead to the places of these inputs in an instance, but for a statement's own cells.
+    /// Lets a node lead to these inputs in an instance, but for a statement's own cells.
     fn note_inputs<'t, 'a, A: Allocator>(
         &mut self,
         scene: &Scene<'t, 'a, A>,
@@ -66,52 +84,52 @@ impl Waits {
     ) -> Result<(), AllocError> {
         for input in inputs {
             if !is_own_cell(scene, *input) {
-                let to = self.node_of(place_of(scene, instance, *input))?;
+                let to = self.node_of(target_of(scene, instance, *input))?;
                 self.graph.lead(from, to)?;
             }
         }
         Ok(())
     }
 
-    /// The node of a place, which is added where it is not there.
-    fn node_of(&mut self, place: Place) -> Result<usize, AllocError> {
-        let key = (place.instance, place.node);
-        if let Some(node) = self.nodes.get(&key) {
+    /// The node of what is waited for, which is added where it is not there.
+    fn node_of(&mut self, target: Target) -> Result<usize, AllocError> {
+        if let Some(node) = self.nodes.get(&target) {
             return Ok(*node);
         }
         let node = self.graph.add()?;
-        self.nodes.insert(key, node)?;
-        self.places.push(place)?;
+        self.nodes.insert(target, node)?;
+        self.targets.push(target)?;
         Ok(node)
     }
 
-    /// Lets each place lead on, also those that are added meanwhile.
-    fn note_places<'t, 'a, A: Allocator>(
+    /// Lets all that is waited for lead on, also what is added meanwhile.
+    fn note_targets<'t, 'a, A: Allocator>(
         &mut self,
         scene: &Scene<'t, 'a, A>,
         numbers: &Numbers,
     ) -> Result<(), AllocError> {
         for number in 0..usize::MAX {
-            match self.places.get(number).copied() {
-                Some(place) => self.note_place(scene, numbers, place)?,
+            match self.targets.get(number).copied() {
+                Some(target) => self.note_target(scene, numbers, target)?,
                 None => break,
             }
         }
         Ok(())
     }
 
-    fn note_place<'t, 'a, A: Allocator>(
+    fn note_target<'t, 'a, A: Allocator>(
         &mut self,
         scene: &Scene<'t, 'a, A>,
         numbers: &Numbers,
-        place: Place,
+        target: Target,
     ) -> Result<(), AllocError> {
-        let node = self.node_of(place)?;
+        let node = self.node_of(target)?;
+        let place = target.place;
         if let Some(spot) = scene.index.spot(place.node) {
             let missing = missing_in_cell(scene, place.instance, spot.cell)?;
             self.note_inputs(scene, node, place.instance, missing.as_slice())?;
         }
-        for writer in scene.writers.blocked_at(place) {
+        for writer in scene.writers.blocked_at(target) {
             let statement = numbers.at(*writer);
             if statement != NONE {
                 self.graph.lead(node, statement)?;
@@ -154,29 +172,15 @@ impl Waits {
     }
 }
 
-/// The place of an input in an instance: of an element that of its array.
-fn place_of<'t, 'a, A: Allocator>(
-    scene: &Scene<'t, 'a, A>,
-    instance: usize,
-    input: Input,
-) -> Place {
-    let instances = &scene.known.learned.instances;
-    match input {
-        Input::Scalar(name) => instances.place(instance, name),
-        Input::Array(name) => instances.place(instance, name),
-        Input::Element { array, .. } => instances.place(instance, array),
-    }
-}
-
-/// That of these inputs in an instance that has this place; of a statement's own cells none.
+/// That of these inputs in an instance that is waited for as this; of a statement's own cells none.
 pub fn input_at<'t, 'a, A: Allocator>(
     scene: &Scene<'t, 'a, A>,
     instance: usize,
     inputs: &[Input],
-    wanted: Place,
+    wanted: Target,
 ) -> Option<Input> {
     for input in inputs {
-        if !is_own_cell(scene, *input) && place_of(scene, instance, *input) == wanted {
+        if !is_own_cell(scene, *input) && target_of(scene, instance, *input) == wanted {
             return Some(*input);
         }
     }
@@ -188,10 +192,7 @@ fn numbers_of<'t, 'a, A: Allocator>(
     scene: &Scene<'t, 'a, A>,
     listed: &[Waiting<'t, 'a, A>],
 ) -> Result<Numbers, AllocError> {
-    let mut places = HashMap::new(scene.alloc);
-    for i in 0..listed.len() {
-        places.insert((listed[i].instance, listed[i].site.at()), i)?;
-    }
+    let places = places_of(scene.alloc, listed)?;
     let stuck = scene.known.stuck.as_slice();
     let mut numbers = Numbers::new(scene.alloc, stuck.len())?;
     for number in 0..stuck.len() {
@@ -200,4 +201,16 @@ fn numbers_of<'t, 'a, A: Allocator>(
         }
     }
     Ok(numbers)
+}
+
+/// The numbers of the statements that are listed, by their instances and offsets.
+fn places_of<'t, 'a, A: Allocator>(
+    alloc: Global,
+    listed: &[Waiting<'t, 'a, A>],
+) -> Result<HashMap<(usize, usize), usize>, AllocError> {
+    let mut places = HashMap::new(alloc);
+    for i in 0..listed.len() {
+        places.insert((listed[i].instance, listed[i].site.at()), i)?;
+    }
+    Ok(places)
 }

@@ -2,13 +2,14 @@
 
 use crate::index::Index;
 use flow::name::Name;
-use flow::statement::{Action, Block};
+use flow::statement::{Action, Block, Statement};
 use flow_index::site::Form;
 use meaning_facts::facts::Place;
 use meaning_facts::learned::Learned;
 use meaning_outcomes::knowledge::Knowledge;
 use std::alloc::{AllocError, Allocator, Global};
-use std::collections::HashMap;
+use std::collections::{HashMap, HashSet};
+use values::key::KeyRef;
 
 /// The most statements that are told of a variable.
 const MOST: usize = 4;
@@ -20,12 +21,37 @@ pub struct Writer {
     pub blocked: bool,
 }
 
-/// Such statements, by the places of the variables.
-#[derive(Drop)]
+/// What statements write: the variable at a place, or the element of an array there under a key with this mark.
+#[derive(Clone, Copy, PartialEq, Eq, Hash, Debug)]
+pub struct Target {
+    pub place: Place,
+    pub mark: Option<u64>,
+}
+
+impl Target {
+    pub fn whole(place: Place) -> Target {
+        Target { place, mark: None }
+    }
+}
+
+/// Such statements, by what they would write: a variable, and also an element where its key is known.
 pub struct Writers {
-    found: HashMap<(usize, u32), Vec<Writer>>,
-    /// The numbers of all blocked statements that would write a variable.
-    blocked: HashMap<(usize, u32), Vec<usize>>,
+    found: HashMap<Target, Vec<Writer>>,
+    /// The numbers of all that are blocked.
+    blocked: HashMap<Target, Vec<usize>>,
+    /// The places that some would write under a key that is not known, or under several.
+    open: HashSet<Place>,
+}
+
+// Written out, so that who owns one lets it go by one call.
+impl Drop for Writers {
+    fn drop(self) {
+        let Writers {
+            found: _,
+            blocked: _,
+            open: _,
+        } = self;
+    }
 }
 
 /// Where a statement stands: its instance, and how many blocks lie between it and the one that is blocked.
@@ -36,6 +62,8 @@ struct Stand {
     writer: Writer,
     /// Its number among the blocked statements, where it is blocked.
     number: Option<usize>,
+    /// The mark of the key under which it would write an element, where that is known.
+    mark: Option<u64>,
 }
 
 impl Writers {
@@ -47,6 +75,7 @@ impl Writers {
         let mut writers = Writers {
             found: HashMap::new(alloc),
             blocked: HashMap::new(alloc),
+            open: HashSet::new(alloc),
         };
         for number in 0..known.stuck.len() {
             let stuck = known.stuck[number];
@@ -63,6 +92,7 @@ impl Writers {
                     depth: 0,
                     writer,
                     number: Some(number),
+                    mark: None,
                 },
             )?;
         }
@@ -80,23 +110,35 @@ impl Writers {
                     depth: 0,
                     writer,
                     number: None,
+                    mark: None,
                 },
             )?;
         }
         Ok(writers)
     }
 
-    /// The statements that would write the variable at a place.
-    pub fn of(&self, place: Place) -> &[Writer] {
-        match self.found.get(&(place.instance, place.node)) {
+    /// What an element of the array at a place is to those that would write it: the element, where each of them has a key that is known,
+    /// and else the array.
+    pub fn element(&self, array: Place, key: KeyRef<'_>) -> Target {
+        let is_known = !self.open.contains(&array)
+            && self.found.contains_key(&Target::whole(array));
+        Target {
+            place: array,
+            mark: if is_known { Some(key.mark()) } else { None },
+        }
+    }
+
+    /// The statements that would write something, four at most.
+    pub fn of(&self, target: Target) -> &[Writer] {
+        match self.found.get(&target) {
             Some(writers) => writers.as_slice(),
             None => &[],
         }
     }
 
-    /// The numbers of the blocked statements that would write the variable at a place.
-    pub fn blocked_at(&self, place: Place) -> &[usize] {
-        match self.blocked.get(&(place.instance, place.node)) {
+    /// The numbers of the blocked statements that would write something.
+    pub fn blocked_at(&self, target: Target) -> &[usize] {
+        match self.blocked.get(&target) {
             Some(numbers) => numbers.as_slice(),
             None => &[],
         }
@@ -116,7 +158,14 @@ impl Writers {
         match &site.form {
             Form::Inner(_, _, content) => self.note_block(alloc, &known.learned, stand, *content),
             Form::Whole(statement) => {
-                self.note_action(alloc, &known.learned, stand, &statement.action)
+                let marked = Stand {
+                    instance: stand.instance,
+                    depth: stand.depth,
+                    writer: stand.writer,
+                    number: stand.number,
+                    mark: mark_of(&known.learned, stand.instance, statement),
+                };
+                self.note_action(alloc, &known.learned, marked, &statement.action)
             }
         }
     }
@@ -148,6 +197,7 @@ impl Writers {
             depth: stand.depth.saturating_add(1),
             writer: stand.writer,
             number: stand.number,
+            mark: None,
         };
         match action {
             Action::Assign { target, .. } => self.note_name(alloc, learned, stand, *target),
@@ -200,37 +250,65 @@ impl Writers {
             shape: name.shape,
         };
         let place = learned.instances.place(stand.instance, seen);
-        let key = (place.instance, place.node);
-        if let Some(number) = stand.number {
-            self.add_number(alloc, key, number)?;
+        self.add(alloc, Target::whole(place), stand)?;
+        match stand.mark {
+            Some(mark) => self.add(
+                alloc,
+                Target {
+                    place,
+                    mark: Some(mark),
+                },
+                stand,
+            ),
+            None => {
+                self.open.insert(place)?;
+                Ok(())
+            }
         }
-        self.add(alloc, key, stand.writer)
+    }
+
+    /// Notes a statement for what it would write.
+    fn add(&mut self, alloc: Global, target: Target, stand: Stand) -> Result<(), AllocError> {
+        if let Some(number) = stand.number {
+            self.add_number(alloc, target, number)?;
+        }
+        if !self.found.contains_key(&target) {
+            self.found.insert(target, Vec::new(alloc))?;
+        }
+        match self.found.get_mut(&target) {
+            Some(writers) => add_writer(writers, stand.writer),
+            None => Ok(()),
+        }
     }
 
     fn add_number(
         &mut self,
         alloc: Global,
-        key: (usize, u32),
+        target: Target,
         number: usize,
     ) -> Result<(), AllocError> {
-        if !self.blocked.contains_key(&key) {
-            self.blocked.insert(key, Vec::new(alloc))?;
+        if !self.blocked.contains_key(&target) {
+            self.blocked.insert(target, Vec::new(alloc))?;
         }
-        match self.blocked.get_mut(&key) {
+        match self.blocked.get_mut(&target) {
             Some(numbers) => add_last(numbers, number),
             None => Ok(()),
         }
     }
+}
 
-    fn add(&mut self, alloc: Global, key: (usize, u32), writer: Writer) -> Result<(), AllocError> {
-        if !self.found.contains_key(&key) {
-            self.found.insert(key, Vec::new(alloc))?;
-        }
-        match self.found.get_mut(&key) {
-            Some(writers) => add_writer(writers, writer),
-            None => Ok(()),
-        }
-    }
+/// The mark of the key under which a statement writes an element, where it does and that is known.
+fn mark_of<A: Allocator>(
+    learned: &Learned,
+    instance: usize,
+    statement: &Statement<A>,
+) -> Option<u64> {
+    let Action::Insert { index, .. } = &statement.action else {
+        return None;
+    };
+    let node = index.cell.node;
+    let value = learned.facts.value(Place { instance, node })?;
+    Some(KeyRef::of_value(value)?.mark())
 }
 
 /// Adds a number, unless it is the last one.

@@ -7,8 +7,7 @@ use crate::reasons::{say_plain, say_reason};
 use explain_blocked::path::{say_path, say_steps};
 use explain_blocked::scene::Scene;
 use explain_inputs::blocking::instance_at;
-use explain_text::position::line_begin;
-use explain_text::words::{add_mark, say, say_start};
+use explain_text::words::say;
 use flow::script::Flow;
 use meaning::rounds;
 use meaning_facts::facts::{FaultFact, Place};
@@ -161,19 +160,19 @@ fn add_fault<'t, 'a, A: Allocator>(
     file: &str,
     fact: FaultFact,
 ) -> Result<(), AllocError> {
-    say_start(out, file, scene.text, fact.at)?;
+    scene.lines.say_start(out, file, fact.at)?;
     say(out, fact.kind.name())?;
     say(out, ": ")?;
     if !say_reason(scene, out, fact)? {
         say_plain(out, fact.kind)?;
     }
     say(out, "\n")?;
-    add_mark(out, scene.text, mark_of(scene, fact))?;
+    scene.lines.add_mark(out, mark_of(scene, fact))?;
     say_path(scene, out, fact.place.instance)?;
     if say_near_key(scene, out, fact)? {
         return Ok(());
     }
-    say_hint(out, scene.text, fact.kind, fact.at)
+    say_hint(out, scene.lines.text(), fact.kind, fact.at)
 }
 
 /// What is marked of a fault: its cell where that is on the line of the statement, and else the statement.
@@ -181,9 +180,9 @@ fn mark_of<'t, 'a, A: Allocator>(scene: &Scene<'t, 'a, A>, fact: FaultFact) -> u
     let Some(spot) = scene.index.spot(fact.place.node) else {
         return fact.at;
     };
-    let end = scene.text.len();
-    let line = line_begin(scene.text, fact.at.min(end));
-    if line_begin(scene.text, spot.cell.at.min(end)) == line {
+    let end = scene.lines.text().len();
+    let line = scene.lines.begin(fact.at.min(end));
+    if scene.lines.begin(spot.cell.at.min(end)) == line {
         spot.cell.at
     } else {
         fact.at
@@ -197,17 +196,17 @@ fn add_plain<'t, 'a, A: Allocator>(
     file: &str,
     printed: &Printed,
 ) -> Result<(), AllocError> {
-    say_start(out, file, scene.text, printed.at)?;
+    scene.lines.say_start(out, file, printed.at)?;
     say(out, printed.kind.name())?;
     say(out, ": ")?;
     say_plain(out, printed.kind)?;
     say(out, "\n")?;
-    add_mark(out, scene.text, printed.at)?;
+    scene.lines.add_mark(out, printed.at)?;
     let inner = printed.inner_first(scene.alloc)?;
     if !inner.is_empty() {
         say(out, "    ")?;
         say_steps(scene, out, usize::MAX, inner.as_slice())?;
         say(out, "\n")?;
     }
-    say_hint(out, scene.text, printed.kind, printed.at)
+    say_hint(out, scene.lines.text(), printed.kind, printed.at)
 }

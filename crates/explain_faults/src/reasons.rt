@@ -7,7 +7,7 @@ use explain_blocked::path::say_steps;
 use explain_blocked::scene::Scene;
 use explain_blocked::sites::action_of;
 use explain_blocked::words::say_scalar;
-use explain_text::words::{say, say_count, say_place};
+use explain_text::words::{say, say_count};
 use flow::cell::{Form, Outer};
 use flow::name::Name;
 use flow::statement::{Action, Range};
@@ -193,7 +193,7 @@ fn say_other<'t, 'a, A: Allocator>(
     match scene.index.site_of(other.writer.node) {
         Some(site) if site.at() != at => {
             say(out, "at ")?;
-            say_place(out, scene.text, site.at())?;
+            scene.lines.say_place(out, site.at())?;
         }
         _ => say(out, "by the same statement")?,
     }

@@ -19,22 +19,26 @@ pub fn told_of_assignments<A: Allocator>(
     match fault {
         AssignFault::AssignedTwice(at) => told_of_twice(refused, at),
         AssignFault::PartlyAssigned(at) => told_of_partly(refused, at),
-        AssignFault::NeverAssigned(at) => {
-            let name = bytes_at(refused.text, at);
-            let told = Told::of(refused.alloc, name, "is read and never assigned", None)?;
-            Ok(told.with(Hint::named(refused.alloc, "assign it once: ", name, " = ..;")?))
-        }
-        AssignFault::OuterInLoop(at) => {
-            let declared = place_before(refused, at, Wanted::Declaration, at.from)?;
-            let name = bytes_at(refused.text, at);
-            let words = "is assigned in each turn of a loop, and declared outside of it";
-            let told = Told::of(refused.alloc, name, words, note_of("declared at", declared))?;
-            Ok(told.with(hint_of_loop(refused, name, at)?))
-        }
+        AssignFault::NeverAssigned(at) => told_of_never(refused, at),
+        AssignFault::OuterInLoop(at) => told_of_outer(refused, at),
         AssignFault::WholeAndElements(at) => told_of_both(refused, at),
         AssignFault::OutputUnassigned(at) => told_of_output(refused, at),
         AssignFault::Memory => Told::plain(refused.alloc, "no memory"),
     }
+}
+
+fn told_of_never<A: Allocator>(refused: &Refused<'_, A>, at: Span) -> Result<Told, AllocError> {
+    let name = bytes_at(refused.text, at);
+    let told = Told::of(refused.alloc, name, "is read and never assigned", None)?;
+    Ok(told.with(Hint::named(refused.alloc, "assign it once: ", name, " = ..;")?))
+}
+
+fn told_of_outer<A: Allocator>(refused: &Refused<'_, A>, at: Span) -> Result<Told, AllocError> {
+    let declared = place_before(refused, at, Wanted::Declaration, at.from)?;
+    let name = bytes_at(refused.text, at);
+    let words = "is assigned in each turn of a loop, and declared outside of it";
+    let told = Told::of(refused.alloc, name, words, note_of("declared at", declared))?;
+    Ok(told.with(hint_of_loop(refused, name, at)?))
 }
 
 fn told_of_twice<A: Allocator>(refused: &Refused<'_, A>, at: Span) -> Result<Told, AllocError> {
@@ -147,26 +151,36 @@ fn first_assigned(first: Option<Mention>) -> Option<Note> {
 /// What is said of an `if` whose branches assign a variable differently often.
 fn told_of_partly<A: Allocator>(refused: &Refused<'_, A>, at: Span) -> Result<Told, AllocError> {
     match partly_assigned(refused.alloc, refused.text, refused.script, at)? {
-        None => {
-            let words =
-                "one branch of this if assigns a variable that the other branch does not assign as often";
-            let hint = Hint::plain(
-                refused.alloc,
-                "a branch assigns a variable once: give each further value another name",
-            )?;
-            Ok(Told::plain(refused.alloc, words)?.with(hint))
-        }
-        Some(partly) => {
-            let name = bytes_at(refused.text, partly.mention.at);
-            let note = Some(Note {
-                words: "assigned at",
-                at: partly.mention.at,
-            });
-            let words = "is assigned by one branch of this if, and not as often by the other";
-            let hint = hint_of_partly(refused, partly, name, at)?;
-            Ok(Told::of(refused.alloc, name, words, note)?.with(hint))
-        }
+        None => told_of_branches(refused),
+        Some(partly) => told_of_branch(refused, partly, at),
     }
+}
+
+/// What is said where it is not known of which variable.
+fn told_of_branches<A: Allocator>(refused: &Refused<'_, A>) -> Result<Told, AllocError> {
+    let words =
+        "one branch of this if assigns a variable that the other branch does not assign as often";
+    let told = Told::plain(refused.alloc, words)?;
+    Ok(told.with(Hint::plain(
+        refused.alloc,
+        "a branch assigns a variable once: give each further value another name",
+    )?))
+}
+
+/// What is said of the variable that one branch of the `if` at a place assigns.
+fn told_of_branch<A: Allocator>(
+    refused: &Refused<'_, A>,
+    partly: Partly,
+    at: Span,
+) -> Result<Told, AllocError> {
+    let name = bytes_at(refused.text, partly.mention.at);
+    let note = Some(Note {
+        words: "assigned at",
+        at: partly.mention.at,
+    });
+    let words = "is assigned by one branch of this if, and not as often by the other";
+    let told = Told::of(refused.alloc, name, words, note)?;
+    Ok(told.with(hint_of_partly(refused, partly, name, at)?))
 }
 
 /// What to write instead of an `if` that leaves a variable out, which may be one inside of the one at the place.
@@ -201,10 +215,7 @@ fn hint_of_partly<A: Allocator>(
     };
     match Hint::named(refused.alloc, "assign ", name, behind)? {
         None => Ok(None),
-        Some(hint) => Ok(Some(Hint {
-            words: hint.words,
-            at: inner,
-        })),
+        Some(hint) => Ok(Some(hint.placed(inner))),
     }
 }
 

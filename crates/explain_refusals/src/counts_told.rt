@@ -27,33 +27,39 @@ pub fn hint_of_count<A: Allocator>(
     if given != function.inputs.len() {
         return hint_of_arguments(refused, given);
     }
-    let gives = function.outputs.len();
     let mut words = Vec::new(refused.alloc);
+    say_outputs(&mut words, refused, function, at)?;
+    Ok(Some(Hint { words, at: None }))
+}
+
+/// Adds how many values a function gives, and what takes them where its name stands at a place.
+fn say_outputs<A: Allocator>(
+    words: &mut Vec<u8>,
+    refused: &Refused<'_, A>,
+    function: &Function<A>,
+    at: Span,
+) -> Result<(), AllocError> {
+    let gives = function.outputs.len();
     words.extend_from_slice(function.name.text.as_slice())?;
-    say(&mut words, " gives ")?;
-    add_count(&mut words, gives, " value")?;
+    say(words, " gives ")?;
+    add_count(words, gives, " value")?;
     match taker_of(refused.alloc, refused.text, at.from)? {
         Taker::Nobody if gives == 1 => {
-            say(&mut words, ", and nothing takes it: ")?;
-            say_taken(&mut words, refused.text, function, at)?;
+            say(words, ", and nothing takes it: ")?;
+            say_taken(words, refused.text, function, at)
         }
-        Taker::Nobody => {
-            say(
-                &mut words,
-                ", and nothing takes them: assign them, (x, y) = f(..);",
-            )?;
-        }
-        Taker::One if gives == 0 => {
-            say(&mut words, ": call it as a statement of its own, f(..);")?;
-        }
-        Taker::One => say(&mut words, ", and here one is taken: (x, y) = f(..);")?,
+        Taker::Nobody => say(
+            words,
+            ", and nothing takes them: assign them, (x, y) = f(..);",
+        ),
+        Taker::One if gives == 0 => say(words, ": call it as a statement of its own, f(..);"),
+        Taker::One => say(words, ", and here one is taken: (x, y) = f(..);"),
         Taker::Names(names) => {
-            say(&mut words, ", and on the left ")?;
-            say(&mut words, if names == 1 { "stands " } else { "stand " })?;
-            add_count(&mut words, names, " name")?;
+            say(words, ", and on the left ")?;
+            say(words, if names == 1 { "stands " } else { "stand " })?;
+            add_count(words, names, " name")
         }
     }
-    Ok(Some(Hint { words, at: None }))
 }
 
 /// Adds the call whose name stands at a place, with a variable that takes its value.
@@ -133,11 +139,16 @@ fn hint_of_printed<A: Allocator>(
     let Some(wanted) = conversions_behind(refused.text, at.to) else {
         return hint_of_arguments(refused, given);
     };
-    let behind = given.saturating_sub(1);
-    let mut words = Vec::from_slice(refused.alloc, b"the format takes ")?;
-    add_count(&mut words, wanted, " value")?;
-    say(&mut words, ", and behind it ")?;
-    say(&mut words, if behind == 1 { "stands " } else { "stand " })?;
-    say_count(&mut words, behind)?;
+    let mut words = Vec::new(refused.alloc);
+    say_printed(&mut words, wanted, given.saturating_sub(1))?;
     Ok(Some(Hint { words, at: None }))
+}
+
+/// Adds how many values a format takes, and how many stand behind it.
+fn say_printed(words: &mut Vec<u8>, wanted: usize, behind: usize) -> Result<(), AllocError> {
+    say(words, "the format takes ")?;
+    add_count(words, wanted, " value")?;
+    say(words, ", and behind it ")?;
+    say(words, if behind == 1 { "stands " } else { "stand " })?;
+    say_count(words, behind)
 }

@@ -17,40 +17,59 @@ use syntax_trees::tree::{Item, Shape};
 /// The functions that are there without a definition.
 static BUILT_IN: [&str; 6] = ["strcat", "fromint", "toint", "size", "printf", "assert"];
 
+const UNKNOWN: &str = "is no variable that is visible here";
+
 /// What is said of a name that is no variable where it stands.
 pub fn told_of_unknown<A: Allocator>(
     refused: &Refused<'_, A>,
     at: Span,
 ) -> Result<Told, AllocError> {
     let name = bytes_at(refused.text, at);
-    let words = "is no variable that is visible here";
     if let Some(outside) = outside_of_function(refused, at)? {
-        let note = Note {
-            words: "the script declares it at",
-            at: outside,
-        };
-        let hint = Hint::named(
-            refused.alloc,
-            "a function sees no variable of the script: ",
-            name,
-            " has to be an input of it",
-        )?;
-        return Ok(Told::of(refused.alloc, name, words, Some(note))?.with(hint));
+        return told_of_outside(refused, name, outside);
     }
     let other = place_before(refused, at, Wanted::Declaration, refused.text.len())?;
     let note = note_of("another block or a later line declares it at", other);
-    let hint = match other {
+    let told = Told::of(refused.alloc, name, UNKNOWN, note)?;
+    Ok(told.with(hint_of_place(refused, at, other)?))
+}
+
+/// What is said of a variable of the script in a function.
+fn told_of_outside<A: Allocator>(
+    refused: &Refused<'_, A>,
+    name: &[u8],
+    outside: Span,
+) -> Result<Told, AllocError> {
+    let note = Note {
+        words: "the script declares it at",
+        at: outside,
+    };
+    let told = Told::of(refused.alloc, name, UNKNOWN, Some(note))?;
+    Ok(told.with(Hint::named(
+        refused.alloc,
+        "a function sees no variable of the script: ",
+        name,
+        " has to be an input of it",
+    )?))
+}
+
+/// What to write instead of a name at a place, by where else it is declared, if anywhere.
+fn hint_of_place<A: Allocator>(
+    refused: &Refused<'_, A>,
+    at: Span,
+    other: Option<Span>,
+) -> Result<Option<Hint>, AllocError> {
+    match other {
         Some(other) if other.from > at.from => Hint::plain(
             refused.alloc,
             "a variable is visible from its declaration on: declare it before",
-        )?,
+        ),
         Some(_) => Hint::plain(
             refused.alloc,
             "a variable is visible to the end of the block that declares it: declare it before that block",
-        )?,
-        None => hint_of_unknown(refused, at, name)?,
-    };
-    Ok(Told::of(refused.alloc, name, words, note)?.with(hint))
+        ),
+        None => hint_of_unknown(refused, at, bytes_at(refused.text, at)),
+    }
 }
 
 /// Where the script declares the name that stands at a place in a function.
@@ -120,21 +139,31 @@ fn hint_of_declaration<A: Allocator>(
         && !is_read_behind(refused.text, at.to, bytes_at(refused.text, at));
     let has_value = kind != Some(Kind::Written) && sort.shape == Shape::Scalar;
     let mut words = Vec::new(refused.alloc);
-    say(
-        &mut words,
-        if is_here {
-            "declare it: "
-        } else {
-            "declare it before: "
-        },
-    )?;
-    say_declaration(&mut words, sort, bytes_at(refused.text, at))?;
     if is_here {
-        words.extend_from_slice(rest)?;
+        say(&mut words, "declare it: ")?;
+        say_declared(&mut words, sort, bytes_at(refused.text, at), rest)?;
     } else {
-        say(&mut words, if has_value { " = ..;" } else { ";" })?;
+        let behind = if has_value {
+            b" = ..;".as_slice()
+        } else {
+            b";".as_slice()
+        };
+        say(&mut words, "declare it before: ")?;
+        say_declared(&mut words, sort, bytes_at(refused.text, at), behind)?;
     }
     Ok(Some(Hint { words, at: None }))
+}
+
+/// Adds a declaration of a name, with what stands behind it.
+fn say_declared(
+    words: &mut Vec<u8>,
+    sort: Sort,
+    name: &[u8],
+    behind: &[u8],
+) -> Result<(), AllocError> {
+    say_declaration(words, sort, name)?;
+    words.extend_from_slice(behind)?;
+    Ok(())
 }
 
 /// The nearest variable that is declared before a place.

@@ -161,19 +161,30 @@ fn behind_place(
     text: &[u8],
     refusal: &Refusal,
 ) -> Result<Vec<u8>, AllocError> {
+    let mut out = Vec::new(alloc);
+    add_behind_place(&mut out, file, text, refusal)?;
+    Ok(out)
+}
+
+fn add_behind_place(
+    out: &mut Vec<u8>,
+    file: &str,
+    text: &[u8],
+    refusal: &Refusal,
+) -> Result<(), AllocError> {
     let told = &refusal.told;
-    let mut out = Vec::from_slice(alloc, refusal.rule.as_bytes())?;
+    out.extend_from_slice(refusal.rule.as_bytes())?;
     out.extend_from_slice(b": ")?;
     out.extend_from_slice(told.sentence.as_slice())?;
     out.push(b'\n')?;
-    add_quote(&mut out, text, refusal.at)?;
+    add_quote(out, text, refusal.at)?;
     if let Some(note) = told.note {
-        add_note(&mut out, file, text, note)?;
+        add_note(out, file, text, note)?;
     }
-    if let Some(hint) = &told.hint {
-        add_hint(&mut out, file, text, hint)?;
+    match &told.hint {
+        Some(hint) => add_hint(out, file, text, hint),
+        None => Ok(()),
     }
-    Ok(out)
 }
 
 /// Adds the line of a hint, and the line of the source that it speaks of where it speaks of one.

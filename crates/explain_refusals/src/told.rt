@@ -13,13 +13,26 @@ pub struct Note {
 }
 
 /// What to write instead, and the place that this speaks of where it is another one than that of the refusal.
-#[derive(Debug, Drop)]
+#[derive(Debug)]
 pub struct Hint {
     pub words: Vec<u8>,
     pub at: Option<Span>,
 }
 
+// Written out, so that who owns one lets it go by one call.
+impl Drop for Hint {
+    fn drop(self) {
+        let Hint { words: _, at: _ } = self;
+    }
+}
+
 impl Hint {
+    /// The same words, of a place.
+    pub fn placed(self, at: Option<Span>) -> Hint {
+        let Hint { words, at: _ } = self;
+        Hint { words, at }
+    }
+
     /// A hint of these words, without another place.
     pub fn plain(alloc: Global, words: &str) -> Result<Option<Hint>, AllocError> {
         Hint::named(alloc, words, b"", "")
@@ -54,11 +67,22 @@ impl Hint {
 }
 
 /// What is said of a refusal: what is wrong, another place where there is one, and what to write instead where that is known.
-#[derive(Debug, Drop)]
+#[derive(Debug)]
 pub struct Told {
     pub sentence: Vec<u8>,
     pub note: Option<Note>,
     pub hint: Option<Hint>,
+}
+
+// Written out, so that who owns one lets it go by one call.
+impl Drop for Told {
+    fn drop(self) {
+        let Told {
+            sentence: _,
+            note: _,
+            hint: _,
+        } = self;
+    }
 }
 
 impl Told {

@@ -2,6 +2,7 @@
 use Rattle.std.specs.Prelude.{◌≡◌, ◌≢◌, ◌⊎◌, ◌≤◌, ◌<◌, ◌+◌, ℕ, List, ◌∷◌, ◌++◌, length, nat_eq, take, slice_index}
 use Rattle.std.specs.Fmt.{decimal}
 use Rattle.std.specs.List.{count_by}
+use Rattle.explain_text.specs.declared.position.Line.{Line}
 use Rattle.explain_text.specs.declared.position.Position.{Position}
 
 -- the byte between two lines
@@ -24,6 +25,11 @@ pub record EndsLine (text : List ℕ) (at to : ℕ) : Type 0 where
   pub within : to ≤ length text
   pub ends : (to ≡ length text) ⊎ (slice_index text to ≡ line_feed)
   pub same_line : (k : ℕ) → at ≤ k → k < to → slice_index text k ≢ line_feed
+
+-- the line of an offset: its number, and where it begins
+pub record IsLine (text : List ℕ) (at : ℕ) (line : Line) : Type 0 where
+  pub number_is : line.number ≡ line_of text at
+  pub begins : BeginsLine text at line.begin
 
 -- the column is one more than the bytes between the line's beginning and the offset
 pub record IsPosition (text : List ℕ) (at : ℕ) (p : Position) : Type 0 where

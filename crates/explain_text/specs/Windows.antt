@@ -1,5 +1,5 @@
 -- The part of a line that is shown.
-use Rattle.std.specs.Prelude.{◌≡◌, ◌≤◌, ◌+◌, ℕ, List, nat_lt}
+use Rattle.std.specs.Prelude.{◌≡◌, ◌≤◌, ◌+◌, ℕ, List, min, nat_lt}
 use Rattle.explain_text.specs.declared.quote.Window.{Window}
 use Rattle.explain_text.specs.Positions.{BeginsLine, EndsLine}
 
@@ -16,3 +16,9 @@ pub record IsWindow (text : List ℕ) (at : ℕ) (w : Window) : Type 0 where
   pub short : w.to ≤ w.from + 120
   pub before_is : w.cut_before ≡ nat_lt begin w.from
   pub behind_is : w.cut_behind ≡ nat_lt w.to end
+
+-- where the offset's line ends, or 121 bytes behind the offset if it ends later
+pub record IsNearEnd (text : List ℕ) (at near : ℕ) : Type 0 where
+  pub end : ℕ
+  pub ends : EndsLine text at end
+  pub near_is : near ≡ min end (at + 121)

@@ -1,6 +1,6 @@
 //! Lines and columns.
 ghost use Rattle.std.specs.Prelude.{◌≡◌, ◌≤◌, length};
-ghost use Rattle.explain_text.specs.Positions.{BeginsLine, EndsLine, IsPosition, line_of};
+ghost use Rattle.explain_text.specs.Positions.{BeginsLine, IsLine, IsPosition};
 
 /// A place in a text as a person counts it, from 1 on. A tab is one column.
 #[derive(Clone, Copy, PartialEq, Eq, Debug, Drop)]
@@ -9,29 +9,25 @@ pub struct Position {
     pub column: usize,
 }
 
+/// A line of a text: its number, from 1 on, and the offset where it begins.
+#[derive(Clone, Copy, PartialEq, Eq, Debug, Drop)]
+pub struct Line {
+    pub number: usize,
+    pub begin: usize,
+}
+
+/// The first line of each text.
+pub(crate) const FIRST: Line = Line {
+    number: 1,
+    begin: 0,
+};
+
 /// The line and the column of an offset.
 pub fn position_of(text: &[u8], at: usize) -> Position
     requires { at ≤ length text.now }
     ensures { IsPosition text.now at result }
 {
-    Position {
-        line: line_of(text, at),
-        column: at - line_begin(text, at) + 1,
-    }
-}
-
-/// One more than the line feeds before an offset.
-fn line_of(text: &[u8], at: usize) -> usize
-    requires { at ≤ length text.now }
-    ensures { result ≡ line_of text.now at }
-{
-    let mut line = 1;
-    for i in 0..at {
-        if text[i] == b'\n' {
-            line += 1;
-        }
-    }
-    line
+    position_in(text, line_of(text, at), at)
 }
 
 /// Where the line of an offset begins.
@@ -39,24 +35,44 @@ pub fn line_begin(text: &[u8], at: usize) -> usize
     requires { at ≤ length text.now }
     ensures { BeginsLine text.now at result }
 {
-    let mut begin = 0;
-    for i in 0..at {
+    line_of(text, at).begin
+}
+
+/// The line of an offset.
+fn line_of(text: &[u8], at: usize) -> Line
+    requires { at ≤ length text.now }
+    ensures { IsLine text.now at result }
+{
+    line_from(text, FIRST, 0, at)
+}
+
+/// The line of an offset, by that of an offset before it.
+pub(crate) fn line_from(text: &[u8], line: Line, from: usize, at: usize) -> Line
+    requires line { IsLine text.now from line }
+    requires order { from ≤ at }
+    requires within { at ≤ length text.now }
+    ensures { IsLine text.now at result }
+{
+    let mut number = line.number;
+    let mut begin = line.begin;
+    for i in from..at {
         if text[i] == b'\n' {
+            number += 1;
             begin = i + 1;
         }
     }
-    begin
+    Line { number, begin }
 }
 
-/// Where the line of an offset ends: at its line feed, or with the text.
-pub fn line_end(text: &[u8], at: usize) -> usize
-    requires { at ≤ length text.now }
-    ensures { EndsLine text.now at result }
+/// The line and the column of an offset, by its line.
+pub(crate) fn position_in(text: &[u8], line: Line, at: usize) -> Position
+    requires line { IsLine text.now at line }
+    requires within { at ≤ length text.now }
+    ensures { IsPosition text.now at result }
 {
-    for i in at..text.len() {
-        if text[i] == b'\n' {
-            return i;
-        }
+    let _length = text.len();
+    Position {
+        line: line.number,
+        column: at - line.begin + 1,
     }
-    text.len()
 }

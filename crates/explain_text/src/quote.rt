@@ -1,8 +1,9 @@
 //! The line of a source, with a place on it marked.
-ghost use Rattle.std.specs.Prelude.{◌≡◌, ◌≤◌, ◌+◌, length};
-ghost use Rattle.explain_text.specs.Windows.{IsWindow};
+ghost use Rattle.std.specs.Prelude.{◌≡◌, ◌≤◌, ◌+◌, length, min};
+ghost use Rattle.explain_text.specs.Positions.{BeginsLine};
+ghost use Rattle.explain_text.specs.Windows.{IsNearEnd, IsWindow};
 
-use crate::position::{line_begin, line_end};
+use crate::position::line_begin;
 use lexer::token::Span;
 use std::alloc::AllocError;
 
@@ -28,8 +29,16 @@ pub fn window_round(text: &[u8], at: usize) -> Window
     requires { at ≤ length text.now }
     ensures { IsWindow text.now at result }
 {
-    let begin = line_begin(text, at);
-    let end = line_end(text, at);
+    window_in(text, line_begin(text, at), at)
+}
+
+/// The same, by where the line begins.
+pub(crate) fn window_in(text: &[u8], begin: usize, at: usize) -> Window
+    requires begins { BeginsLine text.now at begin }
+    requires within { at ≤ length text.now }
+    ensures { IsWindow text.now at result }
+{
+    let end = near_end(text, at);
     if end - begin <= WIDTH {
         return Window {
             from: begin,
@@ -50,11 +59,52 @@ pub fn window_round(text: &[u8], at: usize) -> Window
     }
 }
 
+/// Where the line of an offset ends, at its line feed or with the text; or where more of it is behind the offset than is shown.
+#[tactic(auto, using(crate::proofs::Ends::near_here, crate::proofs::Ends::near_most))]
+fn near_end(text: &[u8], at: usize) -> usize
+    requires { at ≤ length text.now }
+    ensures { IsNearEnd text.now at result }
+{
+    let most = reach(text, at);
+    for i in at..most {
+        if text[i] == b'\n' {
+            return i;
+        }
+    }
+    most
+}
+
+/// How far the line of an offset is looked at.
+fn reach(text: &[u8], at: usize) -> usize
+    requires { at ≤ length text.now }
+    ensures { result ≡ min (length text.now) (at + 121) }
+{
+    if text.len() - at > WIDTH {
+        at + WIDTH + 1
+    } else {
+        text.len()
+    }
+}
+
 /// Adds the line on which a place begins, and under it a mark for each of its bytes on that line.
 pub fn add_quote(out: &mut Vec<u8>, text: &[u8], at: Span) -> Result<(), AllocError> {
     let from = at.from.min(text.len());
-    let to = at.to.min(text.len());
-    let shown = window_round(text, from);
+    let begin = line_begin(text, from);
+    add_quoted(out, text, begin, from, at.to.min(text.len()))
+}
+
+/// The same of a place from one offset to another, by where the line of the first begins.
+pub(crate) fn add_quoted(
+    out: &mut Vec<u8>,
+    text: &[u8],
+    begin: usize,
+    from: usize,
+    to: usize,
+) -> Result<(), AllocError>
+    requires begins { BeginsLine text.now from begin }
+    requires within { from ≤ length text.now }
+{
+    let shown = window_in(text, begin, from);
     add_line(out, text, shown)?;
     add_marks(out, text, shown, from, to)
 }

@@ -39,7 +39,11 @@ pub fn say_bytes(out: &mut Vec<u8>, bytes: &[u8], most: usize) -> Result<(), All
 
 /// Adds `LINE:COLUMN` of an offset.
 pub fn say_place(out: &mut Vec<u8>, text: &[u8], at: usize) -> Result<(), AllocError> {
-    let position = position_of(text, at.min(text.len()));
+    say_position(out, position_of(text, at.min(text.len())))
+}
+
+/// Adds `LINE:COLUMN`.
+pub(crate) fn say_position(out: &mut Vec<u8>, position: Position) -> Result<(), AllocError> {
     say_count(out, position.line)?;
     say(out, ":")?;
     say_count(out, position.column)

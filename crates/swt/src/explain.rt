@@ -9,6 +9,7 @@ use explain_blocked::writers::Writers;
 use explain_faults::faults::{add_all_faults, add_printed_fault, known_for};
 use explain_faults::limits::add_limit_of_rounds;
 use explain_faults::printed::Printed;
+use explain_text::lines::Lines;
 use flow::script::Flow;
 use meaning::rounds;
 use meaning_outcomes::knowledge::Knowledge;
@@ -132,9 +133,10 @@ fn explain_indexed(
     out: &mut Vec<u8>,
 ) -> Result<(), AllocError> {
     let writers = Writers::new(alloc, known, index)?;
+    let lines = Lines::of(alloc, script.text)?;
     let scene = Scene {
         alloc,
-        text: script.text,
+        lines: &lines,
         index,
         known,
         writers: &writers,

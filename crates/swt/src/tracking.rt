@@ -12,6 +12,7 @@ use compile::compile::{compile, read};
 use compile::fault::CompileFault;
 use explain_blocked::index::Index;
 use explain_faults::traces::{NoStep, WhyNot};
+use explain_text::lines::Lines;
 use explain_text::position::position_of;
 use explain_text::words::add_place;
 use std::alloc::{AllocError, Global};
@@ -184,9 +185,10 @@ fn add_waits(
     match read(alloc, alloc, text) {
         Ok(flow) => {
             let index = Index::new(alloc, &flow)?;
+            let lines = Lines::of(alloc, text)?;
             let view = View {
                 alloc,
-                text,
+                lines: &lines,
                 index: &index,
                 code,
                 items,

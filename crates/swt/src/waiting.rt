@@ -4,6 +4,7 @@ use crate::items::{Items, Place};
 use explain_blocked::index::Index;
 use explain_blocked::names::say_owned;
 use explain_blocked::words::{say_scalar, say_text};
+use explain_text::lines::Lines;
 use explain_text::words::{say, say_count, say_number};
 use flow::name::Owned as Named;
 use std::alloc::{AllocError, Global};
@@ -14,11 +15,11 @@ use values::key::Key;
 /// The most items that are looked at for one: those that work something out for its statement.
 const MOST: usize = 64;
 
-/// A script's bytes, where its things stand, and its code with the items of a run.
+/// A script's text, where its things stand, and its code with the items of a run.
 #[derive(Drop)]
 pub struct View<'v, 'a> {
     pub alloc: Global,
-    pub text: &'v [u8],
+    pub lines: &'v Lines<'v>,
     pub index: &'v Index<'a, Global>,
     pub code: &'v Code,
     pub items: &'v Items,
@@ -176,7 +177,7 @@ fn say_name(
         Owned::Local(variable) => Named::Local(variable.node),
         Owned::Parameter(place, _) => parameter_of(view, function, place),
     };
-    say_owned(view.index, view.text, out, function, named)
+    say_owned(view.index, view.lines, out, function, named)
 }
 
 /// The function whose call opened a block, or the one around it.

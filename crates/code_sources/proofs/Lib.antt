@@ -1,0 +1,11 @@
+pub mod Levels
+pub mod Counting
+pub mod Named
+pub mod Reading
+pub mod Handed
+pub mod Found
+pub mod Ordered
+pub mod Walked
+pub mod Ascending
+pub mod Following
+pub mod Sources
