@@ -1,0 +1,32 @@
+use Rattle.compile.proofs.Runs.{compiled, flow_calls, flow_cells, flow_reads, flow_room, flow_size}
+use Rattle.swt_library.proofs.stages.rights.Goals as goal
+
+pub emit-requires-clause-merged : goal.emit-requires-clause-merged
+emit-requires-clause-merged g c = ((c.requires.is).3).merged
+
+pub emit-requires-clause-calls : goal.emit-requires-clause-calls
+emit-requires-clause-calls g c = flow_calls {A = g.row.A.Denot} c.requires.src c.args.flow c.requires.is
+
+pub emit-requires-clause-cells : goal.emit-requires-clause-cells
+emit-requires-clause-cells g c = flow_cells {A = g.row.A.Denot} c.requires.src c.args.flow c.requires.is
+
+pub emit-requires-clause-reads : goal.emit-requires-clause-reads
+emit-requires-clause-reads g c = flow_reads {A = g.row.A.Denot} c.requires.src c.args.flow c.requires.is
+
+pub emit-requires-clause-room : goal.emit-requires-clause-room
+emit-requires-clause-room g c = flow_room {A = g.row.A.Denot} c.requires.src c.args.flow c.requires.is
+
+pub emit-requires-clause-size : goal.emit-requires-clause-size
+emit-requires-clause-size g c = flow_size {A = g.row.A.Denot} c.requires.src c.args.flow c.requires.is
+
+pub of-requires-clause-whole : goal.of-requires-clause-whole
+of-requires-clause-whole g c = (compiled {A = g.row.A.Denot} c.requires.src c.args.flow c.requires.is c.in-Ok.draft c.in-Ok.ensures).whole
+
+pub of-requires-clause-few : goal.of-requires-clause-few
+of-requires-clause-few g c = (compiled {A = g.row.A.Denot} c.requires.src c.args.flow c.requires.is c.in-Ok.draft c.in-Ok.ensures).few
+
+pub returns-in-Ok-clause-code : goal.returns-in-Ok-clause-code
+returns-in-Ok-clause-code g c = rw c.of.ensures (λ src is. compiled {A = g.row.A.Denot} src c.args.flow is c.in-Ok.draft c.in-Ok.ensures)
+
+pub returns-in-Ok-clause-emitted : goal.returns-in-Ok-clause-emitted
+returns-in-Ok-clause-emitted g c = rw c.of.ensures c.in-Ok.ensures

@@ -1,0 +1,28 @@
+//! What the stages give, one after another. Nothing here runs: the function has an empty body, and its contract is a law.
+ghost use Rattle.std.specs.Prelude.{◌≡◌, ◌++◌, ℕ, List, map};
+ghost use Rattle.compile.specs.Accepted.{IsAccepted};
+ghost use Rattle.constant_fold.specs.Folded.{folded_tree};
+ghost use Rattle.flow.specs.Shapes.{declared_of, kinds_of};
+ghost use Rattle.flow.specs.View.{core_of};
+ghost use Rattle.flow.specs.declared.script.Flow.{Flow};
+ghost use Rattle.language.specs.Resolved.{core};
+ghost use Rattle.language.specs.Scopes.{signatures};
+ghost use Rattle.language.specs.Table.{Table};
+ghost use Rattle.language.specs.Tree.{Tree};
+ghost use Rattle.lowering.specs.Shapes.{flagged, function_declarations, kinds_of_signature, own_declarations};
+ghost use Rattle.wait_merge.specs.Merged.{IsMerged};
+ghost use Rattle.swt_library.specs.Stages.{IsOfScript};
+
+/// What `fold`, `lower` and `merge` owe of an accepted script is what `rights` asks for: the merged flow is that of the fold of a script.
+pub fn merged_flows_are_of_scripts<A>()
+    ensures { (src : List ℕ) (t : Table) (tree folded : Tree) (lowered merged : Flow A) → IsAccepted src t tree
+        → folded ≡ folded_tree tree
+        → core_of lowered ≡ core t folded
+        → declared_of lowered ≡ flagged (own_declarations folded) ++ flagged (function_declarations folded)
+        → kinds_of lowered ≡ map kinds_of_signature (signatures folded)
+        → core_of merged ≡ core_of lowered
+        → declared_of merged ≡ declared_of lowered
+        → kinds_of merged ≡ kinds_of lowered
+        → IsMerged merged
+        → IsOfScript merged }
+{}

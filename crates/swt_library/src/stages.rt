@@ -1,0 +1,144 @@
+//! The stages from a script's tree to its code and to its meaning, each by itself.
+ghost use Rattle.std.specs.Prelude.{◌≡◌, ◌≢◌, ◌≤◌, ◌++◌, [], ℕ, List, Some, false, map, IfOk, IfErr};
+ghost use Rattle.assign_check.specs.Breaks.{Breaks, IsTyped};
+ghost use Rattle.assign_check.specs.Faults as faults;
+ghost use Rattle.code_rules.specs.Emitted.{IsEmitted};
+ghost use Rattle.compile.specs.Compiled.{IsCompiled, IsFoldedFlowOf};
+ghost use Rattle.flow.specs.Shapes.{declared_of, kinds_of};
+ghost use Rattle.flow.specs.View.{core_of};
+ghost use Rattle.language.specs.Reads.{Reads};
+ghost use Rattle.language.specs.Resolved.{core};
+ghost use Rattle.language.specs.Scopes.{signatures};
+ghost use Rattle.language.specs.Single.{SinglyAssigned};
+ghost use Rattle.language.specs.Typing.{WellTyped};
+ghost use Rattle.lowering.specs.Shapes.{flagged, function_declarations, kinds_of_signature, own_declarations};
+ghost use Rattle.meaning_outcomes.specs.Known.{IsKnowledgeOf};
+ghost use Rattle.syntax_trees.specs.View.{tree_of};
+ghost use Rattle.types.specs.Typed.{table_of};
+ghost use Rattle.swt_library.specs.Stages.{IsOfScript};
+
+use crate::scripts::Code;
+use assign_check::fault::AssignFault;
+use board_program::program::Program;
+use code_listing::text::listing;
+pub use compile::check::{Accepted, accept};
+use compile::compile::Compiled;
+pub use constant_fold::fold;
+use flow::script::Flow;
+use meaning_outcomes::knowledge::Knowledge;
+use std::alloc::{AllocError, Allocator, Global};
+pub use syntax::parser::parse;
+use syntax_trees::tree::Script;
+use task_code::code;
+pub use types::check as check_types;
+use types::typed::Typed;
+pub use wait_merge::merge;
+
+/// The answer of `check_single` where no rule is broken. There is nothing in it to be read: the table of types tells what names are.
+#[derive(Clone, Copy, Debug, PartialEq, Eq, Drop)]
+pub struct Single;
+
+/// Whether a script is singly assigned, by what the check of its types found out of its names.
+///
+/// The clauses that speak of rules and of single assignment are of a script that is well typed by that table, with its nodes numbered in
+/// reading order; the others of every script.
+///
+/// # Errors
+///
+/// The broken rule whose place begins first, and at one place the one of the smallest number; or `Memory`.
+pub fn check_single<A: Allocator>(
+    alloc: Global,
+    script: &Script<A>,
+    typed: &Typed,
+) -> Result<Single, AssignFault>
+    ensures accepted { IfOk result (λ _. faults.faults (table_of typed.now) (tree_of script.now) ≡ []) }
+    ensures refused { IfErr result (λ fault. fault ≢ AssignFault.Memory
+        → faults.first_fault (faults.faults (table_of typed.now) (tree_of script.now)) ≡ Some fault) }
+    ensures single { IfOk result (λ _. IsTyped (table_of typed.now) (tree_of script.now) → SinglyAssigned (core (table_of typed.now) (tree_of script.now))) }
+    ensures not_single { IfErr result (λ fault. fault ≢ AssignFault.Memory → IsTyped (table_of typed.now) (tree_of script.now)
+        → ¬ SinglyAssigned (core (table_of typed.now) (tree_of script.now))) }
+    ensures broken { IfErr result (λ fault. fault ≢ AssignFault.Memory → IsTyped (table_of typed.now) (tree_of script.now)
+        → Breaks (table_of typed.now) (tree_of script.now) fault) }
+    ensures none_before { IfErr result (λ fault. fault ≢ AssignFault.Memory → IsTyped (table_of typed.now) (tree_of script.now)
+        → (other : AssignFault) → Breaks (table_of typed.now) (tree_of script.now) other → faults.precedes other fault ≡ false) }
+{
+    match assign_check::check(alloc, script, typed) {
+        Ok(()) => Ok(Single),
+        Err(fault) => Err(fault),
+    }
+}
+
+/// The flow of a script that is singly assigned, in memory of this allocator.
+///
+/// # Errors
+///
+/// Want of memory alone.
+pub fn lower<A: Allocator + Clone>(
+    alloc: A,
+    script: &Script<A>,
+    typed: &Typed,
+    _single: &Single,
+) -> Result<Flow<A>, AllocError>
+    ensures core { IfOk result (λ flow. core_of flow ≡ core (table_of typed.now) (tree_of script.now)) }
+    ensures declared { IfOk result (λ flow.
+        declared_of flow ≡ flagged (own_declarations (tree_of script.now)) ++ flagged (function_declarations (tree_of script.now))) }
+    ensures kinds { IfOk result (λ flow. kinds_of flow ≡ map kinds_of_signature (signatures (tree_of script.now))) }
+{
+    lowering::lower(alloc, script, typed)
+}
+
+/// The flow of an accepted script, folded, lowered and merged, with its code, in which each entry has its rights.
+///
+/// # Errors
+///
+/// Want of memory alone.
+pub fn rights<A: Allocator>(machine: Global, flow: Flow<A>) -> Result<Compiled<A>, AllocError>
+    requires { IsOfScript flow }
+    ensures flow { IfOk result (λ counted. counted.flow ≡ flow) }
+    ensures emitted { IfOk result (λ counted. IsEmitted (core_of flow) (kinds_of flow) (declared_of flow) counted.code) }
+    ensures code { IfOk result (λ counted. (src : List ℕ) → IsFoldedFlowOf src flow → IsCompiled src counted.code) }
+{
+    match emit::emit(machine, &flow) {
+        Ok(draft) => Ok(Compiled {
+            flow,
+            code: code::Code::of(draft),
+        }),
+        Err(fault) => Err(fault),
+    }
+}
+
+/// The code of a flow whose entries have their rights, with its tables and its listing.
+///
+/// # Errors
+///
+/// Want of memory alone.
+pub fn emit<A: Allocator>(machine: Global, counted: &Compiled<A>) -> Result<Code, AllocError>
+    ensures { IfOk result (λ code. code.program ≡ counted.now.code) }
+{
+    let text = listing(machine, &counted.flow, &counted.code)?;
+    let copy = counted.code.copy()?;
+    let program = Program::new(machine, copy)?;
+    Ok(Code { program, text })
+}
+
+/// What is known of a script after so many rounds as add something, or after `limit` rounds.
+///
+/// # Errors
+///
+/// Want of memory alone.
+pub fn rounds<A: Allocator + Clone>(
+    machine: Global,
+    script: &Script<A>,
+    typed: &Typed,
+    single: &Single,
+    limit: u32,
+) -> Result<Knowledge, AllocError>
+    ensures known { IfOk result (λ k. (src : List ℕ) → Reads src (tree_of script.now) → WellTyped (tree_of script.now) (table_of typed.now)
+        → SinglyAssigned (core (table_of typed.now) (tree_of script.now)) → IsKnowledgeOf (core (table_of typed.now) (tree_of script.now)) k) }
+    ensures within { IfOk result (λ k. (k.rounds ≤ limit) × (k.finished ≡ false → k.rounds ≡ limit)) }
+{
+    let alloc = script.items.allocator().clone()?;
+    let flow = lower(alloc, script, typed, single)?;
+    let known = meaning::rounds(machine, &flow, limit)?;
+    Ok(known)
+}

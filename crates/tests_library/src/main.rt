@@ -1,0 +1,70 @@
+//! What a program of somebody else does with a script: from its bytes to its code, its listing, a run and the run's trace, with `swt_library`
+//! alone.
+#![tactic(auto)]
+
+mod sink;
+
+use crate::sink::Kept;
+use std::alloc::{AllocError, Global};
+use std::io;
+use swt_library::runs::{replay, run_one};
+use swt_library::scripts::{Code, compile};
+use swt_library::{Report, WriteFault, write_report, write_trace};
+
+/// The script: the tenth Fibonacci number, by calls.
+const SCRIPT: &[u8] =
+    b"(int r) fib(int n) { if (n < 2) { r = n; } else { r = fib(n-1) + fib(n-2); } } printf(\"%i\", fib(10));";
+
+/// The most events of the run.
+const LIMIT: u32 = 10_000_000;
+
+fn main(rt: HostRuntime) -> io::Result<()> {
+    let alloc = rt.alloc();
+    match compile(alloc, alloc, SCRIPT) {
+        Ok(code) => tell(&rt, alloc, &code),
+        Err(fault) => println!(rt; "refused: {fault}"),
+    }
+}
+
+/// Prints the listing, the report of a run on one thread, and that of its trace.
+fn tell(rt: &HostRuntime, alloc: Global, code: &Code) -> io::Result<()> {
+    let mut listing = Kept::new(alloc);
+    let listed = code.listing(&mut listing);
+    print_text(rt, alloc, listed, &listing)?;
+    let report = run_one(alloc, code, &[], LIMIT)?;
+    print_report(rt, alloc, &report)?;
+    let mut trace = Kept::new(alloc);
+    match write_trace(&report, &mut trace) {
+        Ok(()) => {}
+        Err(fault) => return println!(rt; "{fault}"),
+    }
+    match replay(alloc, code, trace.bytes.as_slice()) {
+        Ok(again) => print_report(rt, alloc, &again),
+        Err(fault) => println!(rt; "{fault}"),
+    }
+}
+
+/// Prints the text of a report.
+fn print_report(rt: &HostRuntime, alloc: Global, report: &Report) -> io::Result<()> {
+    let mut text = Kept::new(alloc);
+    let written = write_report(report, &mut text);
+    print_text(rt, alloc, written, &text)
+}
+
+/// Prints a text that was written, or why it was not.
+fn print_text(
+    rt: &HostRuntime,
+    alloc: Global,
+    written: Result<(), WriteFault>,
+    text: &Kept,
+) -> io::Result<()> {
+    match written {
+        Ok(()) => print!(rt; "{}", as_text(alloc, text)?),
+        Err(fault) => println!(rt; "{fault}"),
+    }
+}
+
+/// What a sink was given, as a text.
+fn as_text(alloc: Global, text: &Kept) -> Result<String, AllocError> {
+    String::from_utf8_lossy(alloc, text.bytes.as_slice())
+}

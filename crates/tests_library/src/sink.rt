@@ -1,0 +1,43 @@
+//! A sink in memory.
+
+use std::alloc::Global;
+use swt_library::{Sink, SinkFault};
+
+/// A sink that keeps what it is given.
+#[derive(Drop)]
+pub struct Kept {
+    /// What it was given.
+    pub bytes: Vec<u8>,
+    /// How many writes failed, for want of memory.
+    failures: u64,
+}
+
+impl Kept {
+    ghost use Rattle.std.specs.Prelude.{◌≡◌};
+
+    /// A sink that was given nothing.
+    pub fn new(alloc: Global) -> Kept
+        ensures { result.failures ≡ 0 }
+    {
+        Kept {
+            bytes: Vec::new(alloc),
+            failures: 0,
+        }
+    }
+}
+
+impl Sink for Kept {
+    ghost taken = { λ sink. sink.bytes.items };
+
+    ghost failures = { λ sink. sink.failures };
+
+    fn write(&mut self, piece: &[u8]) -> Result<usize, SinkFault> {
+        match self.bytes.extend_from_slice(piece) {
+            Ok(()) => Ok(piece.len()),
+            Err(_) => {
+                self.failures += 1;
+                Err(SinkFault)
+            }
+        }
+    }
+}
