@@ -1,11 +1,12 @@
 //! The elements of an array under small keys, each in the slot of its key.
-ghost use Rattle.std.specs.Prelude.{◌≡◌, ◌≢◌, ℕ, pos, MatchOption, slice_index_or, ◌++◌, ◌∷◌, ◌<◌, ◌≤◌, ◌^◌, [], None, length, map, vec_len, IfNone, IfSome, OnOk, option_copied};
-ghost use Rattle.std.specs.Bool.{OnTrue};
+ghost use Rattle.std.specs.Prelude.{IsTrue, ◌≡◌, ◌↔◌, ◌≢◌, ℕ, pos, MatchOption, slice_index_or, ◌++◌, ◌∷◌, ◌<◌, ◌≤◌, ◌^◌, [], None, length, map, vec_len, IfErr, IfNone, IfOk, IfSome, IsSome, OnErr, OnOk, option_copied};
 ghost use Rattle.std.specs.Map.{lookup};
 ghost use Rattle.std.specs.Ordering.{int_eq};
 ghost use Rattle.data_store.specs.Arrays.{number_element};
 ghost use Rattle.data_store.specs.Filled.{filled, IsPut};
+ghost use Rattle.data_store.specs.declared.refusal.Refusal.TheVariants.{ElementTwice};
 
+use crate::refusal::Refusal;
 use std::alloc::{AllocError, Global};
 use std::marker::Model;
 use values::key::Key;
@@ -14,6 +15,9 @@ use values::value::Scalar;
 
 // So many slots there may be before the first is taken.
 const FEW: usize = 64;
+
+// So many slots more there may be for each element.
+const EACH: usize = 4;
 
 /// Elements under keys from 0 on, below 2 ^ 32. So the keys 0, 1, 2 and so on lie side by side, in whatever order they come.
 #[derive(Drop)]
@@ -61,21 +65,28 @@ impl Slots {
         }
     }
 
-    /// Puts in an element under a key that has none. Gives the scalar back where there is no slot for it.
-    pub fn put(&mut self, key: i64, value: Scalar) -> Option<Scalar>
-        requires { lookup (int_eq key) self.old ≡ None }
-        ensures added { IfNone result (IsPut key value self.old self.new) }
-        ensures left { IfSome result (λ back. (back ≡ value) × (self.new ≡ self.old)) }
+    /// Puts in an element of an array that has so many others outside of the slots. Gives the scalar back where there is no slot for its
+    /// key, and refuses it where that is taken.
+    #[inline(always)]
+    pub fn put(&mut self, key: i64, value: Scalar, others: usize) -> Result<Option<Scalar>, Refusal>
+        ensures absent { OnOk result (lookup (int_eq key) self.old ≡ None) }
+        ensures added { IfOk result (λ back. IfNone back (IsPut key value self.old self.new)) }
+        ensures left { IfOk result (λ back. IfSome back (λ v. (v ≡ value) × (self.new ≡ self.old))) }
+        ensures taken { IfErr result (λ e. (e ≡ ElementTwice) × IsSome (lookup (int_eq key) self.old)) }
+        ensures err { OnErr result (self.new ≡ self.old) }
     {
         let Some(place) = place_of(key) else {
-            return Some(value);
+            return Ok(Some(value));
         };
-        if !make_slot(&mut self.slots, self.len, place) {
-            return Some(value);
+        if !make_slot(&mut self.slots, self.len.saturating_add(others), place) {
+            return Ok(Some(value));
+        }
+        if self.slots[place].is_some() {
+            return Err(Refusal::ElementTwice);
         }
         self.slots[place] = Some(value);
         self.len += 1;
-        None
+        Ok(None)
     }
 
     /// Adds all to the end of the list, by rising key.
@@ -109,14 +120,29 @@ fn at(slots: &[Option<Scalar>], place: usize) -> Option<&Scalar>
     }
 }
 
-// Makes a slot for a place, where about half of all are taken then, and there is memory.
-#[tactic(auto, using(crate::proofs::Filled::one_slot_more))]
-fn make_slot(slots: &mut Vec<Option<Scalar>>, taken: usize, place: usize) -> bool
+// Whether there is a slot for a place, or one could be made.
+#[inline(always)]
+fn make_slot(slots: &mut Vec<Option<Scalar>>, elements: usize, place: usize) -> bool
     ensures same { filled 0 slots.new.items ≡ filled 0 slots.old.items }
     ensures few { place < 2 ^ 32 → vec_len slots.old ≤ 2 ^ 32 → vec_len slots.new ≤ 2 ^ 32 }
-    ensures there { OnTrue result (place < vec_len slots.new) }
+    ensures there { IsTrue result ↔ (place < vec_len slots.new) }
 {
-    if place / 2 > taken.saturating_add(FEW / 2) {
+    if place < slots.len() {
+        return true;
+    }
+    add_slots(slots, elements, place)
+}
+
+// Makes slots up to a place behind them, where there are no more than about four for each element then, and there is memory.
+#[tactic(auto, using(crate::proofs::Filled::one_slot_more))]
+#[inline(never)]
+fn add_slots(slots: &mut Vec<Option<Scalar>>, elements: usize, place: usize) -> bool
+    requires { vec_len slots.old ≤ place }
+    ensures same { filled 0 slots.new.items ≡ filled 0 slots.old.items }
+    ensures few { place < 2 ^ 32 → vec_len slots.old ≤ 2 ^ 32 → vec_len slots.new ≤ 2 ^ 32 }
+    ensures there { IsTrue result ↔ (place < vec_len slots.new) }
+{
+    if place / EACH > elements.saturating_add(FEW / EACH) {
         return false;
     }
     while slots.len() <= place {
