@@ -1,6 +1,6 @@
 -- What slots in a row find, and what slots and a table find together.
 use Rattle.std.proofs.Common.{◌≡◌, ◌∙◌, sym, ap, subst, inl, inr, ℕ, zero, suc, ◌<◌, ◌≤◌, ◌+◌, List, [], ◌∷◌, ◌++◌, length, length-append, None, Some, true, false, arith, refl}
-use Rattle.std.specs.Prelude.{Option, ℤ, pos, negsuc, Bool, is_some, IsSome, slice_set, slice_index_or, if◌then◌else◌}
+use Rattle.std.specs.Prelude.{Option, ℤ, pos, negsuc, Bool, is_some, slice_set, slice_index_or, if◌then◌else◌}
 use Rattle.std.specs.Option.{option_or}
 use Rattle.std.specs.Map.{lookup}
 use Rattle.std.specs.Ordering.{int_eq}
@@ -99,14 +99,6 @@ found_nowhere most (pos n) xs h l = elim (cases_lt n most) [
 ]
 found_nowhere most (negsuc n) xs h l = sym (at_no_place n xs)
 
--- a key finds what its slot holds, once there are more of them
-pub finds_in_more : (key : ℤ) (j : ℕ) (xs ys : List (Option Scalar)) → filled 0 ys ≡ filled 0 xs → key ≡ pos j → lookup (int_eq key) (filled 0 xs) ≡ slice_index_or ys j None
-finds_in_more key j xs ys same is = subst (λ k. lookup (int_eq k) (filled 0 xs) ≡ slice_index_or ys j None) (sym is) (ap (λ es. lookup (int_eq (pos j)) es) (sym same) ∙ at_place j ys)
-
--- and nothing, where there is none
-pub finds_no_slot : (key : ℤ) (j : ℕ) (xs ys : List (Option Scalar)) → filled 0 ys ≡ filled 0 xs → key ≡ pos j → length ys ≤ j → lookup (int_eq key) (filled 0 xs) ≡ None
-finds_no_slot key j xs ys same is l = finds_in_more key j xs ys same is ∙ behind_all j ys l
-
 put_in_slot : (key : ℤ) (j : ℕ) (v : Scalar) (xs : List (Option Scalar)) → key ≡ pos j → j < length xs → lookup (int_eq key) (filled 0 xs) ≡ None → IsPut key v (filled 0 xs) (filled 0 (slice_set xs j (Some v)))
 put_in_slot key j v xs is l absent =
     let free : slice_index_or xs j None ≡ None = sym (at_place j xs) ∙ subst (λ k. lookup (int_eq k) (filled 0 xs) ≡ None) is absent in
@@ -164,23 +156,6 @@ found_first test es fs v e = ap (λ o. option_or o (lookup test fs)) e ∙ sym (
 
 pub found_second : (test : ℤ → Bool) (es fs : List (ℤ × Scalar)) (o : Option Scalar) → None ≡ lookup test es → o ≡ lookup test fs → o ≡ lookup test (es ++ fs)
 found_second test es fs o e f = f ∙ ap (λ p. option_or p (lookup test fs)) e ∙ sym (lookup_both test es fs)
-
-pub absent_both : (test : ℤ → Bool) (es fs : List (ℤ × Scalar)) → lookup test es ≡ None → lookup test fs ≡ None → lookup test (es ++ fs) ≡ None
-absent_both test es fs e f = lookup_both test es fs ∙ ap (λ o. option_or o (lookup test fs)) e ∙ f
-
-some_first : (o p : Option Scalar) → IsSome o → IsSome (option_or o p)
-some_first None p h = absurd h
-some_first (Some v) p h = tt
-
-some_second : (o p : Option Scalar) → IsSome p → IsSome (option_or o p)
-some_second None p h = h
-some_second (Some v) p h = tt
-
-pub there_first : (test : ℤ → Bool) (es fs : List (ℤ × Scalar)) → IsSome (lookup test es) → IsSome (lookup test (es ++ fs))
-there_first test es fs h = subst (λ o. IsSome o) (sym (lookup_both test es fs)) (some_first (lookup test es) (lookup test fs) h)
-
-pub there_second : (test : ℤ → Bool) (es fs : List (ℤ × Scalar)) → IsSome (lookup test fs) → IsSome (lookup test (es ++ fs))
-there_second test es fs h = subst (λ o. IsSome o) (sym (lookup_both test es fs)) (some_second (lookup test es) (lookup test fs) h)
 
 none_first : (o p : Option Scalar) → option_or o p ≡ None → o ≡ None
 none_first None p e = refl

@@ -4,4 +4,3 @@ pub mod Parted
 pub mod Filled
 pub mod Held
 pub mod Numbers
-pub mod Refused

@@ -9,7 +9,7 @@ use Rattle.values.specs.declared.map.Element.{Element}
 use Rattle.values.specs.declared.value.Scalar.{Scalar}
 use Rattle.values.specs.Keys.{key_below, same_key}
 use Rattle.values.specs.Maps.{rising, found, inserted, element}
-use Rattle.data_store.specs.Arrays.{is_number, room_for, together, with_element, with_entry, AreParted, Array, HaveKind, Table}
+use Rattle.data_store.specs.Arrays.{is_number, together, with_element, with_entry, AreParted, Array, HaveKind, Table}
 
 -- what the first find, or else the others
 found_both : (k : Key) (es fs : List Element) → found k (es ++ fs) ≡ option_or (found k es) (found k fs)
@@ -105,12 +105,6 @@ number_got key n k numbers texts is same h =
 pub text_got : (key : Key) (bytes : List ℕ) (numbers texts : Table) → key ≡ Text bytes → HaveKind true numbers.entries → found (Text bytes) texts.entries ≡ found key (together numbers texts).elements
 text_got key bytes numbers texts is h =
     sym (found_text bytes numbers.entries texts.entries h) ∙ ap (λ j. found j (numbers.entries ++ texts.entries)) (sym is)
-
-pub number_room : (key : Key) (n : ℤ) (numbers texts : Table) → key ≡ Number n → room_for key (together numbers texts) ≡ numbers.places
-number_room key n numbers texts is = ap (λ k. room_for k (together numbers texts)) is
-
-pub text_room : (key : Key) (bytes : List ℕ) (numbers texts : Table) → key ≡ Text bytes → room_for key (together numbers texts) ≡ texts.places
-text_room key bytes numbers texts is = ap (λ k. room_for k (together numbers texts)) is
 
 abbrev array : List Element → ℕ → ℕ → Array
 array es n m = record { elements = es; room = n; text_room = m }

@@ -1,13 +1,11 @@
 -- The elements of an array.
-use Rattle.std.specs.Prelude.{◌≡◌, ◌≤◌, ℕ, ℤ, ◌-◌, ◌++◌, max, Bool, true, false, List, [], ◌∷◌, length, Option, Some, None, IfSome, IsSome}
+use Rattle.std.specs.Prelude.{◌≡◌, ◌≤◌, ℕ, ℤ, ◌-◌, ◌++◌, max, Bool, true, false, List, [], ◌∷◌, length, Option, Some, None, IfSome}
 use Rattle.std.specs.declared.boxed.Box.{Box}
 use Rattle.values.specs.declared.key.Key.{Key}
 use Rattle.values.specs.declared.key.Key.TheVariants.{Number, Text}
 use Rattle.values.specs.declared.map.Element.{Element}
 use Rattle.values.specs.declared.value.Scalar.{Scalar}
-use Rattle.values.specs.Maps.{found, inserted, element}
-use Rattle.data_store.specs.declared.refusal.Refusal.{Refusal}
-use Rattle.data_store.specs.declared.refusal.Refusal.TheVariants.{AlreadySet, ElementTwice, Closed, Memory}
+use Rattle.values.specs.Maps.{inserted, element}
 
 -- elements under keys of one kind, by rising key, and how many more are sure to find memory
 pub record Table : Type 0 where
@@ -26,13 +24,6 @@ table_of (Some index) = index.value
 -- one more element, which uses up one place of the room, if there is one
 abbrev pub with_entry : Key → Scalar → Table → Table
 with_entry k v a = record { entries = inserted k v a.entries; places = a.places - 1 }
-
--- why an element is refused under a key: that stands; or else there was no memory, and no place that was promised
-abbrev pub RefusesEntry : Key → List Element → ℕ → Refusal → Type 0
-RefusesEntry k es places ElementTwice = IsSome (found k es)
-RefusesEntry k es places Memory = (found k es ≡ None) × (places ≡ 0)
-RefusesEntry k es places AlreadySet = ⊥
-RefusesEntry k es places Closed = ⊥
 
 -- the same elements, with room for n or more
 abbrev pub with_places : ℕ → Table → Table

@@ -123,7 +123,15 @@ impl Datum {
             return Err(Refusal::Closed);
         }
         match &mut self.content {
-            Content::OfArray(elements) => elements.insert(alloc, key, value),
+            Content::OfArray(elements) => {
+                if elements.get(key.as_ref()).is_some() {
+                    return Err(Refusal::ElementTwice);
+                }
+                match elements.insert(alloc, key, value) {
+                    Ok(()) => Ok(()),
+                    Err(_) => Err(Refusal::Memory),
+                }
+            }
             Content::OfScalar(_) => unreachable!(),
         }
     }

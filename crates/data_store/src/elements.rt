@@ -1,12 +1,11 @@
 //! The elements of an array, those under numbers and those under texts each by themselves: an array of a script has keys of one kind.
-ghost use Rattle.std.specs.Prelude.{◌≡◌, ◌<◌, ◌≤◌, ◌+◌, ◌^◌, ◌++◌, None, length, IfOk, IfErr, IsOk, OnOk, OnErr, option_copied};
+ghost use Rattle.std.specs.Prelude.{◌≡◌, ◌<◌, ◌≤◌, ◌+◌, ◌^◌, ◌++◌, None, length, IfOk, IsOk, OnOk, OnErr, option_copied};
 ghost use Rattle.values.specs.Keys.{key_seen};
 ghost use Rattle.values.specs.Maps.{found};
-ghost use Rattle.data_store.specs.Arrays.{empty, limited, room_for, table_of, with_element, with_entry, with_places, with_room, with_room_for, AreParted, RefusesEntry};
+ghost use Rattle.data_store.specs.Arrays.{empty, limited, room_for, table_of, with_element, with_entry, with_places, with_room, with_room_for, AreParted};
 
 use crate::named::Named;
 use crate::numbered::Index;
-use crate::refusal::Refusal;
 use std::alloc::{AllocError, Global};
 use std::marker::Model;
 use values::key::{Key, KeyRef};
@@ -90,11 +89,11 @@ impl Elements {
         }
     }
 
-    /// Puts in an element.
     #[inline(always)]
-    pub fn insert(&mut self, alloc: Global, key: Key, value: Scalar) -> Result<(), Refusal>
-        ensures ok { OnOk result ((found key self.old.elements ≡ None) × (self.new ≡ with_element key value self.old)) }
-        ensures refused { IfErr result (λ e. RefusesEntry key self.old.elements (room_for key self.old) e) }
+    pub fn insert(&mut self, alloc: Global, key: Key, value: Scalar) -> Result<(), AllocError>
+        requires { found key self.old.elements ≡ None }
+        ensures ok { OnOk result (self.new ≡ with_element key value self.old) }
+        ensures succeeds { 0 < room_for key self.old → IsOk result }
         ensures err { OnErr result (self.new ≡ self.old) }
     {
         match key {
@@ -237,9 +236,10 @@ fn insert_number(
     alloc: Global,
     n: i64,
     value: Scalar,
-) -> Result<(), Refusal>
-    ensures ok { OnOk result ((found (Key.Number n) (table_of numbers.old).entries ≡ None) × (table_of numbers.new ≡ with_entry (Key.Number n) value (table_of numbers.old))) }
-    ensures refused { IfErr result (λ e. RefusesEntry (Key.Number n) (table_of numbers.old).entries (table_of numbers.old).places e) }
+) -> Result<(), AllocError>
+    requires { found (Key.Number n) (table_of numbers.old).entries ≡ None }
+    ensures ok { OnOk result (table_of numbers.new ≡ with_entry (Key.Number n) value (table_of numbers.old)) }
+    ensures succeeds { 0 < (table_of numbers.old).places → IsOk result }
     ensures err { OnErr result (table_of numbers.new ≡ table_of numbers.old) }
 {
     match numbers {
@@ -259,9 +259,10 @@ fn insert_text(
     alloc: Global,
     text: Text,
     value: Scalar,
-) -> Result<(), Refusal>
-    ensures ok { OnOk result ((found (Key.Text text) (table_of texts.old).entries ≡ None) × (table_of texts.new ≡ with_entry (Key.Text text) value (table_of texts.old))) }
-    ensures refused { IfErr result (λ e. RefusesEntry (Key.Text text) (table_of texts.old).entries (table_of texts.old).places e) }
+) -> Result<(), AllocError>
+    requires { found (Key.Text text) (table_of texts.old).entries ≡ None }
+    ensures ok { OnOk result (table_of texts.new ≡ with_entry (Key.Text text) value (table_of texts.old)) }
+    ensures succeeds { 0 < (table_of texts.old).places → IsOk result }
     ensures err { OnErr result (table_of texts.new ≡ table_of texts.old) }
 {
     match texts {

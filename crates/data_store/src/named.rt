@@ -1,11 +1,10 @@
 //! The elements of an array under texts: found by their keys in a hash table, and listed by rising key once they are asked for.
-ghost use Rattle.std.specs.Prelude.{IsTrue, ◌≡◌, ◌<◌, ◌≤◌, ◌+◌, ◌-◌, ◌^◌, ◌++◌, None, length, map, IfErr, IfOk, IsOk, OnOk, OnErr, option_copied};
+ghost use Rattle.std.specs.Prelude.{IsTrue, ◌≡◌, ◌<◌, ◌≤◌, ◌+◌, ◌-◌, ◌^◌, ◌++◌, None, length, map, IfOk, IsOk, OnOk, OnErr, option_copied};
 ghost use Rattle.std.specs.Bool.{OnTrue};
 ghost use Rattle.values.specs.Maps.{found};
-ghost use Rattle.data_store.specs.Arrays.{arranged, no_table, text_element, with_entry, with_places, RefusesEntry};
+ghost use Rattle.data_store.specs.Arrays.{arranged, no_table, text_element, with_entry, with_places};
 
 use crate::order::arrange;
-use crate::refusal::Refusal;
 use std::alloc::{AllocError, Global};
 use std::collections::HashMap;
 use std::marker::Model;
@@ -78,16 +77,14 @@ impl Named {
         Ok(())
     }
 
-    pub fn insert(&mut self, text: Text, value: Scalar) -> Result<(), Refusal>
-        ensures ok { OnOk result ((found (Key.Text text) self.old.entries ≡ None) × (self.new ≡ with_entry (Key.Text text) value self.old)) }
-        ensures refused { IfErr result (λ e. RefusesEntry (Key.Text text) self.old.entries self.old.places e) }
+    pub fn insert(&mut self, text: Text, value: Scalar) -> Result<(), AllocError>
+        requires { found (Key.Text text) self.old.entries ≡ None }
+        ensures ok { OnOk result (self.new ≡ with_entry (Key.Text text) value self.old) }
+        ensures succeeds { 0 < self.old.places → IsOk result }
         ensures err { OnErr result (self.new ≡ self.old) }
     {
-        if self.by_text.contains_key(&text) {
-            return Err(Refusal::ElementTwice);
-        }
         if !has_place(self.by_text.len(), self.room) {
-            return Err(Refusal::Memory);
+            return Err(AllocError);
         }
         self.by_text.insert(text, value)?;
         self.sorted = None;

@@ -1,15 +1,13 @@
 //! The elements of an array under numbers: found by their keys in slots or in a hash table, and listed by rising key once they are asked for.
-ghost use Rattle.std.specs.Prelude.{◌≡◌, ◌<◌, ◌≤◌, ◌+◌, ◌^◌, ◌++◌, None, length, map, IfErr, IfOk, IsOk, OnOk, OnErr, option_copied};
+ghost use Rattle.std.specs.Prelude.{◌≡◌, ◌<◌, ◌≤◌, ◌+◌, ◌^◌, ◌++◌, None, length, map, IfOk, IsOk, OnOk, OnErr, option_copied};
 ghost use Rattle.std.specs.HashMap.{spare};
 ghost use Rattle.std.specs.Map.{lookup};
 ghost use Rattle.std.specs.Ordering.{int_eq};
 ghost use Rattle.values.specs.Maps.{found};
-ghost use Rattle.data_store.specs.Arrays.{arranged, limited, no_table, number_element, with_entry, with_places, RefusesEntry};
+ghost use Rattle.data_store.specs.Arrays.{arranged, limited, no_table, number_element, with_entry, with_places};
 ghost use Rattle.data_store.specs.Filled.{IsPut};
-ghost use Rattle.data_store.specs.declared.refusal.Refusal.TheVariants.{Memory};
 
 use crate::order::arrange;
-use crate::refusal::Refusal;
 use crate::slots::Slots;
 use std::alloc::{AllocError, Global};
 use std::collections::HashMap;
@@ -98,9 +96,10 @@ impl Index {
         self.room = places;
     }
 
-    pub fn insert(&mut self, n: i64, value: Scalar) -> Result<(), Refusal>
-        ensures ok { OnOk result ((found (Key.Number n) self.old.entries ≡ None) × (self.new ≡ with_entry (Key.Number n) value self.old)) }
-        ensures refused { IfErr result (λ e. RefusesEntry (Key.Number n) self.old.entries self.old.places e) }
+    pub fn insert(&mut self, n: i64, value: Scalar) -> Result<(), AllocError>
+        requires { found (Key.Number n) self.old.entries ≡ None }
+        ensures ok { OnOk result (self.new ≡ with_entry (Key.Number n) value self.old) }
+        ensures succeeds { 0 < self.old.places → IsOk result }
         ensures err { OnErr result (self.new ≡ self.old) }
     {
         put(&mut self.slots, &mut self.by_key, n, value)?;
@@ -143,39 +142,26 @@ fn in_table(by_key: &HashMap<i64, Scalar>, key: i64) -> Option<&Scalar>
     by_key.get(&key)
 }
 
-// Puts in an element: into a slot, if there is one for its key, and else into the table.
-#[inline(always)]
+// Puts in an element under a key that has none: into a slot, if there is one for it, and else into the table.
 fn put(
     slots: &mut Slots,
     by_key: &mut HashMap<i64, Scalar>,
     key: i64,
     value: Scalar,
-) -> Result<(), Refusal>
-    ensures ok { OnOk result ((lookup (int_eq key) (slots.old ++ by_key.old.entries) ≡ None) × IsPut key value (slots.old ++ by_key.old.entries) (slots.new ++ by_key.new.entries)) }
-    ensures refused { IfErr result (λ e. RefusesEntry (Key.Number key) (arranged (map number_element (slots.old ++ by_key.old.entries))) (spare by_key.old) e) }
+) -> Result<(), AllocError>
+    requires { lookup (int_eq key) (slots.old ++ by_key.old.entries) ≡ None }
+    ensures ok { OnOk result (IsPut key value (slots.old ++ by_key.old.entries) (slots.new ++ by_key.new.entries)) }
+    ensures succeeds { 0 < spare by_key.old → IsOk result }
     ensures spare { spare by_key.old ≤ spare by_key.new + 1 }
     ensures err { OnErr result ((slots.new ≡ slots.old) × (by_key.new.entries ≡ by_key.old.entries)) }
 {
-    if in_table(by_key, key).is_some() {
-        return Err(Refusal::ElementTwice);
-    }
-    match slots.put(key, value, by_key.len())? {
+    match slots.put(key, value) {
         None => Ok(()),
-        Some(value) => add(by_key, key, value),
+        Some(value) => {
+            by_key.insert(key, value)?;
+            Ok(())
+        }
     }
-}
-
-// Puts an element into a table that has none under its key.
-#[inline(never)]
-fn add(by_key: &mut HashMap<i64, Scalar>, key: i64, value: Scalar) -> Result<(), Refusal>
-    requires { lookup (int_eq key) by_key.old.entries ≡ None }
-    ensures ok { OnOk result (IsPut key value by_key.old.entries by_key.new.entries) }
-    ensures refused { IfErr result (λ e. (e ≡ Memory) × (spare by_key.old ≡ 0)) }
-    ensures spare { spare by_key.old ≤ spare by_key.new + 1 }
-    ensures err { OnErr result (by_key.new.entries ≡ by_key.old.entries) }
-{
-    by_key.insert(key, value)?;
-    Ok(())
 }
 
 // The elements in slots and in a table, by rising key.

@@ -1,7 +1,5 @@
 //! Why the store refused a call.
-ghost use Rattle.std.specs.Prelude.{◌≡◌};
 
-use std::alloc::{AllocError, AllocFailed};
 use thiserror::Error;
 
 /// Why the store refused a call.
@@ -19,24 +17,4 @@ pub enum Refusal {
     /// Memory that was asked for was refused.
     #[error("no memory")]
     Memory,
-}
-
-impl From<AllocError> for Refusal {
-    ghost use Rattle.data_store.specs.declared.refusal.Refusal.TheVariants.{Memory};
-
-    ghost from_gives = { λ _ refusal. refusal ≡ Memory };
-
-    fn from(_refused: AllocError) -> Refusal {
-        Refusal::Memory
-    }
-}
-
-impl<T: Drop> From<AllocFailed<T>> for Refusal {
-    ghost use Rattle.data_store.specs.declared.refusal.Refusal.TheVariants.{Memory};
-
-    ghost from_gives = { λ _ refusal. refusal ≡ Memory };
-
-    fn from(_refused: AllocFailed<T>) -> Refusal {
-        Refusal::Memory
-    }
 }

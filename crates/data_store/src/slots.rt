@@ -1,12 +1,11 @@
 //! The elements of an array under small keys, each in the slot of its key.
-ghost use Rattle.std.specs.Prelude.{IsTrue, ◌≡◌, ◌↔◌, ◌≢◌, ℕ, pos, MatchOption, slice_index_or, ◌++◌, ◌∷◌, ◌<◌, ◌≤◌, ◌^◌, [], None, length, map, vec_len, IfErr, IfNone, IfOk, IfSome, IsSome, OnErr, OnOk, option_copied};
+ghost use Rattle.std.specs.Prelude.{◌≡◌, ◌≢◌, ℕ, pos, MatchOption, slice_index_or, ◌++◌, ◌∷◌, ◌<◌, ◌≤◌, ◌^◌, [], None, length, map, vec_len, IfNone, IfSome, OnOk, option_copied};
+ghost use Rattle.std.specs.Bool.{OnTrue};
 ghost use Rattle.std.specs.Map.{lookup};
 ghost use Rattle.std.specs.Ordering.{int_eq};
 ghost use Rattle.data_store.specs.Arrays.{number_element};
 ghost use Rattle.data_store.specs.Filled.{filled, IsPut};
-ghost use Rattle.data_store.specs.declared.refusal.Refusal.TheVariants.{ElementTwice};
 
-use crate::refusal::Refusal;
 use std::alloc::{AllocError, Global};
 use std::marker::Model;
 use values::key::Key;
@@ -16,13 +15,14 @@ use values::value::Scalar;
 // So many slots there may be before the first is taken.
 const FEW: usize = 64;
 
-// So many slots more there may be for each element.
-const EACH: usize = 4;
+// So many keys a page has.
+const PAGE: usize = 64;
 
 /// Elements under keys from 0 on, below 2 ^ 32. So the keys 0, 1, 2 and so on lie side by side, in whatever order they come.
 #[derive(Drop)]
 pub struct Slots {
-    slots: Vec<Option<Scalar>>,
+    pages: Vec<Vec<Option<Scalar>>>,
+    alloc: Global,
     // How many are taken.
     len: usize,
 }
@@ -44,7 +44,8 @@ impl Slots {
         ensures { result ≡ [] }
     {
         Slots {
-            slots: Vec::new(alloc),
+            pages: Vec::new(alloc),
+            alloc,
             len: 0,
         }
     }
@@ -60,41 +61,41 @@ impl Slots {
         ensures { option_copied result ≡ lookup (int_eq key) self.now }
     {
         match place_of(key) {
-            Some(place) => at(self.slots.as_slice(), place),
+            Some(place) => at(self.pages.as_slice(), place),
             None => None,
         }
     }
 
-    /// Puts in an element of an array that has so many others outside of the slots. Gives the scalar back where there is no slot for its
-    /// key, and refuses it where that is taken.
-    #[inline(always)]
-    pub fn put(&mut self, key: i64, value: Scalar, others: usize) -> Result<Option<Scalar>, Refusal>
-        ensures absent { OnOk result (lookup (int_eq key) self.old ≡ None) }
-        ensures added { IfOk result (λ back. IfNone back (IsPut key value self.old self.new)) }
-        ensures left { IfOk result (λ back. IfSome back (λ v. (v ≡ value) × (self.new ≡ self.old))) }
-        ensures taken { IfErr result (λ e. (e ≡ ElementTwice) × IsSome (lookup (int_eq key) self.old)) }
-        ensures err { OnErr result (self.new ≡ self.old) }
+    /// Puts in an element under a key that has none. Gives the scalar back where there is no slot for it.
+    pub fn put(&mut self, key: i64, value: Scalar) -> Option<Scalar>
+        requires { lookup (int_eq key) self.old ≡ None }
+        ensures added { IfNone result (IsPut key value self.old self.new) }
+        ensures left { IfSome result (λ back. (back ≡ value) × (self.new ≡ self.old)) }
     {
         let Some(place) = place_of(key) else {
-            return Ok(Some(value));
+            return Some(value);
         };
-        if !make_slot(&mut self.slots, self.len.saturating_add(others), place) {
-            return Ok(Some(value));
+        if !make_page(&mut self.pages, self.alloc, self.len, place / PAGE) {
+            return Some(value);
         }
-        if self.slots[place].is_some() {
-            return Err(Refusal::ElementTwice);
+        let page = &mut self.pages[place / PAGE];
+        if !make_slot(page, place % PAGE) {
+            return Some(value);
         }
-        self.slots[place] = Some(value);
+        page[place % PAGE] = Some(value);
         self.len += 1;
-        Ok(None)
+        None
     }
 
     /// Adds all to the end of the list, by rising key.
     pub fn append_to(&self, list: &mut Vec<Element>) -> Result<(), AllocError>
         ensures { OnOk result (list.new.items ≡ list.old.items ++ map number_element self.now) }
     {
-        for place in 0..self.slots.len() {
-            append(list, place, &self.slots[place])?;
+        for number in 0..self.pages.len() {
+            let page = &self.pages[number];
+            for place in 0..page.len() {
+                append(list, number * PAGE + place, &page[place])?;
+            }
         }
         Ok(())
     }
@@ -111,42 +112,44 @@ fn place_of(key: i64) -> Option<usize>
 }
 
 // What the slot at a place holds.
-fn at(slots: &[Option<Scalar>], place: usize) -> Option<&Scalar>
+fn at(pages: &[Vec<Option<Scalar>>], place: usize) -> Option<&Scalar>
     ensures { option_copied result ≡ slice_index_or slots.now place None }
 {
-    match slots.get(place) {
-        Some(slot) => slot.as_ref(),
+    match pages.get(place / PAGE) {
+        Some(page) => match page.get(place % PAGE) {
+            Some(slot) => slot.as_ref(),
+            None => None,
+        },
         None => None,
     }
 }
 
-// Whether there is a slot for a place, or one could be made.
+// Makes a page, where there are no more than about four for each element then, and there is memory.
 #[inline(always)]
-fn make_slot(slots: &mut Vec<Option<Scalar>>, elements: usize, place: usize) -> bool
-    ensures same { filled 0 slots.new.items ≡ filled 0 slots.old.items }
-    ensures few { place < 2 ^ 32 → vec_len slots.old ≤ 2 ^ 32 → vec_len slots.new ≤ 2 ^ 32 }
-    ensures there { IsTrue result ↔ (place < vec_len slots.new) }
-{
-    if place < slots.len() {
+fn make_page(pages: &mut Vec<Vec<Option<Scalar>>>, alloc: Global, taken: usize, number: usize) -> bool {
+    if number < pages.len() {
         return true;
     }
-    add_slots(slots, elements, place)
+    add_pages(pages, alloc, taken, number)
 }
 
-// Makes slots up to a place behind them, where there are no more than about four for each element then, and there is memory.
-#[tactic(auto, using(crate::proofs::Filled::one_slot_more))]
 #[inline(never)]
-fn add_slots(slots: &mut Vec<Option<Scalar>>, elements: usize, place: usize) -> bool
-    requires { vec_len slots.old ≤ place }
-    ensures same { filled 0 slots.new.items ≡ filled 0 slots.old.items }
-    ensures few { place < 2 ^ 32 → vec_len slots.old ≤ 2 ^ 32 → vec_len slots.new ≤ 2 ^ 32 }
-    ensures there { IsTrue result ↔ (place < vec_len slots.new) }
-{
-    if place / EACH > elements.saturating_add(FEW / EACH) {
+fn add_pages(pages: &mut Vec<Vec<Option<Scalar>>>, alloc: Global, taken: usize, number: usize) -> bool {
+    if number / 4 > taken.saturating_add(FEW / 4) {
         return false;
     }
-    while slots.len() <= place {
-        if slots.push(None).is_err() {
+    while pages.len() <= number {
+        if pages.push(Vec::new(alloc)).is_err() {
+            return false;
+        }
+    }
+    true
+}
+
+// Makes a slot for a place of a page, where there is memory.
+fn make_slot(page: &mut Vec<Option<Scalar>>, place: usize) -> bool {
+    while page.len() <= place {
+        if page.push(None).is_err() {
             return false;
         }
     }

@@ -1,6 +1,6 @@
 use Rattle.std.proofs.Common.{◌≡◌, ◌+◌, ◌-◌, ◌<◌, ◌≤◌, ◌^◌, vec_len}
 use Rattle.data_store.specs.Filled.{filled}
-use Rattle.data_store.proofs.slots.add_slots.Given as goal
+use Rattle.data_store.proofs.slots.make_slot.Given as goal
 
 abbrev pub invariant-loop-slots : goal.invariant-loop-slots
 invariant-loop-slots l =
