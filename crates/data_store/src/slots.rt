@@ -15,14 +15,10 @@ use values::value::Scalar;
 // So many slots there may be before the first is taken.
 const FEW: usize = 64;
 
-// So many keys a page has.
-const PAGE: usize = 64;
-
 /// Elements under keys from 0 on, below 2 ^ 32. So the keys 0, 1, 2 and so on lie side by side, in whatever order they come.
 #[derive(Drop)]
 pub struct Slots {
-    pages: Vec<Vec<Option<Scalar>>>,
-    alloc: Global,
+    slots: Vec<Option<Scalar>>,
     // How many are taken.
     len: usize,
 }
@@ -44,8 +40,7 @@ impl Slots {
         ensures { result ≡ [] }
     {
         Slots {
-            pages: Vec::new(alloc),
-            alloc,
+            slots: Vec::new(alloc),
             len: 0,
         }
     }
@@ -61,7 +56,7 @@ impl Slots {
         ensures { option_copied result ≡ lookup (int_eq key) self.now }
     {
         match place_of(key) {
-            Some(place) => at(self.pages.as_slice(), place),
+            Some(place) => at(self.slots.as_slice(), place),
             None => None,
         }
     }
@@ -75,14 +70,10 @@ impl Slots {
         let Some(place) = place_of(key) else {
             return Some(value);
         };
-        if !make_page(&mut self.pages, self.alloc, self.len, place / PAGE) {
+        if !make_slot(&mut self.slots, self.len, place) {
             return Some(value);
         }
-        let page = &mut self.pages[place / PAGE];
-        if !make_slot(page, place % PAGE) {
-            return Some(value);
-        }
-        page[place % PAGE] = Some(value);
+        self.slots[place] = Some(value);
         self.len += 1;
         None
     }
@@ -91,11 +82,8 @@ impl Slots {
     pub fn append_to(&self, list: &mut Vec<Element>) -> Result<(), AllocError>
         ensures { OnOk result (list.new.items ≡ list.old.items ++ map number_element self.now) }
     {
-        for number in 0..self.pages.len() {
-            let page = &self.pages[number];
-            for place in 0..page.len() {
-                append(list, number * PAGE + place, &page[place])?;
-            }
+        for place in 0..self.slots.len() {
+            append(list, place, &self.slots[place])?;
         }
         Ok(())
     }
@@ -112,44 +100,27 @@ fn place_of(key: i64) -> Option<usize>
 }
 
 // What the slot at a place holds.
-fn at(pages: &[Vec<Option<Scalar>>], place: usize) -> Option<&Scalar>
+fn at(slots: &[Option<Scalar>], place: usize) -> Option<&Scalar>
     ensures { option_copied result ≡ slice_index_or slots.now place None }
 {
-    match pages.get(place / PAGE) {
-        Some(page) => match page.get(place % PAGE) {
-            Some(slot) => slot.as_ref(),
-            None => None,
-        },
+    match slots.get(place) {
+        Some(slot) => slot.as_ref(),
         None => None,
     }
 }
 
-// Makes a page, where there are no more than about four for each element then, and there is memory.
-#[inline(always)]
-fn make_page(pages: &mut Vec<Vec<Option<Scalar>>>, alloc: Global, taken: usize, number: usize) -> bool {
-    if number < pages.len() {
-        return true;
-    }
-    add_pages(pages, alloc, taken, number)
-}
-
-#[inline(never)]
-fn add_pages(pages: &mut Vec<Vec<Option<Scalar>>>, alloc: Global, taken: usize, number: usize) -> bool {
-    if number / 4 > taken.saturating_add(FEW / 4) {
+// Makes a slot for a place, where about half of all are taken then, and there is memory.
+#[tactic(auto, using(crate::proofs::Filled::one_slot_more))]
+fn make_slot(slots: &mut Vec<Option<Scalar>>, taken: usize, place: usize) -> bool
+    ensures same { filled 0 slots.new.items ≡ filled 0 slots.old.items }
+    ensures few { place < 2 ^ 32 → vec_len slots.old ≤ 2 ^ 32 → vec_len slots.new ≤ 2 ^ 32 }
+    ensures there { OnTrue result (place < vec_len slots.new) }
+{
+    if place / 2 > taken.saturating_add(FEW / 2) {
         return false;
     }
-    while pages.len() <= number {
-        if pages.push(Vec::new(alloc)).is_err() {
-            return false;
-        }
-    }
-    true
-}
-
-// Makes a slot for a place of a page, where there is memory.
-fn make_slot(page: &mut Vec<Option<Scalar>>, place: usize) -> bool {
-    while page.len() <= place {
-        if page.push(None).is_err() {
+    while slots.len() <= place {
+        if slots.push(None).is_err() {
             return false;
         }
     }
