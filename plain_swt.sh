@@ -1,0 +1,1 @@
+time /work/tools/plainbuild.sh /work/wt/mean3 /tmp/m3/swt_mine /work/wt/mean3/crates/swt  board board_chunks board_compute board_program board_runs board_work compile explain_blocked explain_faults explain_json explain_refusals explain_text flow host host_system meaning meaning_outcomes swt_arguments swt_command swt_process swt_status swt_trace task_code values workers
