@@ -7,7 +7,7 @@ ghost use Rattle.board_instances.specs.Names.{datum_of, led_slot, slot_in, spot_
 ghost use Rattle.board_instances.specs.Nested.{IsNested};
 ghost use Rattle.board_instances.specs.View.{frame_view, frames_view, slot_view, step_view};
 
-use crate::outer::{Outer, Way};
+use crate::outer::{LastStep, Outer};
 use crate::packed::PackedSlot;
 use board_program::spot::Spot;
 use paths::Step;
@@ -41,7 +41,7 @@ pub struct Instance {
     pub depth: u32,
     pub body: u32,
     /// The last step of its path; the content of a `wait` adds none.
-    pub way: Way,
+    pub way: LastStep,
     /// How many items that have not ended and how many instances it has.
     pub live: usize,
     pub slots: Slots,

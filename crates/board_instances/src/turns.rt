@@ -13,7 +13,7 @@ ghost use Rattle.values.specs.Keys.{key_seen};
 ghost use Rattle.board_instances.specs.declared.opening.Opening.{Opening as AnOpening};
 
 use crate::opening::{Around, Opening, inner};
-use crate::outer::Way;
+use crate::outer::LastStep;
 use board_program::program::Passed;
 use std::alloc::{AllocError, Global};
 use values::key::KeyRef;
@@ -21,9 +21,9 @@ use values::map::Element;
 use values::range::Range;
 use values::value::Scalar;
 
-/// Where instances of a body are made: inside of the one that is looked at, by steps at this offset.
+/// A body of which instances are made: inside of the one that is looked at, by steps at this offset.
 #[derive(Clone, Copy)]
-pub struct Site<'a> {
+pub struct InnerBody<'a> {
     pub alloc: Global,
     pub around: Around<'a>,
     pub body: u32,
@@ -36,9 +36,9 @@ pub struct Site<'a> {
 ///
 /// `AllocError` where memory that was asked for was refused.
 pub fn push_block(
-    site: Site<'_>,
+    site: InnerBody<'_>,
     list: &mut Vec<Opening>,
-    way: Way,
+    way: LastStep,
     arguments: (u32, &[Passed]),
     values: (Option<Scalar>, Option<Scalar>),
 ) -> Result<(), AllocError>
@@ -67,7 +67,7 @@ pub fn push_block(
 /// Adds an instance for a turn of a loop.
 #[inline(always)]
 fn push_turn(
-    site: Site<'_>,
+    site: InnerBody<'_>,
     list: &mut Vec<Opening>,
     key: KeyRef<'_>,
     value: Scalar,
@@ -77,7 +77,7 @@ fn push_turn(
     ensures none { OnOk result (length (body_of site.entry.around.program.now site.entry.body).entries ≡ 0 → list.new.items ≡ list.old.items) }
 {
     let turn = key.scalar()?;
-    let way = Way::to(site.offset, key)?;
+    let way = LastStep::to(site.offset, key)?;
     push_block(site, list, way, (0, &[]), (Some(value), Some(turn)))?;
     Ok(())
 }
@@ -88,7 +88,7 @@ fn push_turn(
 ///
 /// `AllocError` where memory that was asked for was refused. Some of the instances may be there then.
 pub fn push_elements(
-    site: Site<'_>,
+    site: InnerBody<'_>,
     list: &mut Vec<Opening>,
     elements: &[Element],
 ) -> Result<(), AllocError>
@@ -104,7 +104,7 @@ pub fn push_elements(
 
 /// Adds an instance for a turn of a range.
 fn push_number(
-    site: Site<'_>,
+    site: InnerBody<'_>,
     list: &mut Vec<Opening>,
     range: &Range,
     n: u64,
@@ -133,7 +133,7 @@ fn push_number(
 ///
 /// `AllocError` where memory that was asked for was refused. Some of the instances may be there then.
 pub fn push_range(
-    site: Site<'_>,
+    site: InnerBody<'_>,
     list: &mut Vec<Opening>,
     range: &Range,
     first: u64,

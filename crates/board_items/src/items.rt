@@ -8,7 +8,6 @@ ghost use Rattle.board_history.specs.Marking.{mark_at};
 ghost use Rattle.rules.specs.Waiting.{GivesRoomBack};
 ghost use Rattle.work_queue.specs.Both.{of, with_changed};
 ghost use Rattle.work_queue.specs.Waiting.{with_put, without};
-ghost use Rattle.board_program.specs.Tables.{queue_kind};
 ghost use Rattle.board_data.specs.View.{want_view};
 ghost use Rattle.board_instances.specs.View.{job_view, rows_view};
 ghost use Rattle.board_items.specs.Learnt.{HaveLearnt};
@@ -71,7 +70,7 @@ impl Counts {
 
 /// Who runs a job, and its priority.
 pub fn order_of(program: &Program, job: Job) -> (Kind, i32)
-    ensures kind { result.0 ≡ queue_kind (job_kind program.now (job_view job)) }
+    ensures kind { result.0 ≡ job_kind program.now (job_view job) }
     ensures priority { result.1 ≡ job_priority program.now (job_view job) }
 {
     match job {

@@ -7,7 +7,6 @@ ghost use Rattle.std.specs.Prelude.{◌≡◌, ◌⊎◌, ◌<◌, ◌≤◌, �
 ghost use Rattle.smallvec.specs.SmallVec.{HasRoomFor};
 ghost use Rattle.board_history.specs.Ending.{job_kind, job_priority};
 ghost use Rattle.board_history.specs.Fields.{Job as AJob, Over as over_mark, Row, Waiter, Want, row_of};
-ghost use Rattle.board_program.specs.Tables.{queue_kind};
 ghost use Rattle.board_data.specs.View.{cells_view, want_view};
 ghost use Rattle.board_data.specs.Wanted.{FewSlots};
 ghost use Rattle.board_instances.specs.View.{frames_view, job_view, rows_view};
@@ -160,7 +159,7 @@ impl<'a> Outlook<'a> {
     /// Who runs a new item, with its priority, and what it waits for in which instance: one that goes on with a loop waits for nothing.
     #[inline(always)]
     fn look(self, job: Job) -> ((Kind, i32), usize, &'a [Wanted])
-        ensures kind { result.0.0 ≡ queue_kind (job_kind self.entry.program.now (job_view job)) }
+        ensures kind { result.0.0 ≡ job_kind self.entry.program.now (job_view job) }
         ensures priority { result.0.1 ≡ job_priority self.entry.program.now (job_view job) }
         ensures count { length result.2.now ≡ first_needs self.entry.program.now (job_view job) }
         ensures listed { FewSlots (frames_view self.entry.instances.now.slots) → IsSeen self.entry.program.now (frames_view self.entry.instances.now.slots) (job_view job) →
@@ -271,7 +270,7 @@ impl Items {
     /// An item that has learnt of its last input waits for what it misses next, or can begin.
     fn wake_one(&mut self, outlook: Outlook<'_>, number: u64) -> Result<(), AllocError>
         ensures settles { OnOk result ((r : Row) → row_of (rows_view self.old.rows.items) number ≡ Some r → FewSlots (frames_view outlook.entry.instances.now.slots) → IsSeen outlook.entry.program.now (frames_view outlook.entry.instances.now.slots) r.job → IsShort outlook.entry.program.now (frames_view outlook.entry.instances.now.slots) (cells_view outlook.entry.store.now.cells) r.job →
-            Settles number (misses outlook.entry.program.now (frames_view outlook.entry.instances.now.slots) (cells_view outlook.entry.store.now.cells) r.job) (queue_kind (job_kind outlook.entry.program.now r.job)) (job_priority outlook.entry.program.now r.job) self.old self.new) }
+            Settles number (misses outlook.entry.program.now (frames_view outlook.entry.instances.now.slots) (cells_view outlook.entry.store.now.cells) r.job) (job_kind outlook.entry.program.now r.job) (job_priority outlook.entry.program.now r.job) self.old self.new) }
         ensures woken { self.new.woken ≡ self.old.woken }
         ensures running { self.new.running ≡ self.old.running }
         ensures len { vec_len self.new.rows ≡ vec_len self.old.rows }
@@ -377,7 +376,7 @@ impl Items {
     ) -> Result<(), AllocError>
         requires { place < vec_len self.old.rows }
         ensures settles { OnOk result ((r : Row) → row_of (rows_view self.old.rows.items) (place + 1) ≡ Some r → FewSlots (frames_view outlook.entry.instances.now.slots) → IsSeen outlook.entry.program.now (frames_view outlook.entry.instances.now.slots) r.job →
-            Settles (place + 1) (misses_first outlook.entry.program.now (frames_view outlook.entry.instances.now.slots) (cells_view outlook.entry.store.now.cells) r.job) (queue_kind (job_kind outlook.entry.program.now r.job)) (job_priority outlook.entry.program.now r.job) self.old self.new) }
+            Settles (place + 1) (misses_first outlook.entry.program.now (frames_view outlook.entry.instances.now.slots) (cells_view outlook.entry.store.now.cells) r.job) (job_kind outlook.entry.program.now r.job) (job_priority outlook.entry.program.now r.job) self.old self.new) }
         ensures woken { self.new.woken ≡ self.old.woken }
         ensures running { self.new.running ≡ self.old.running }
         ensures len { vec_len self.new.rows ≡ vec_len self.old.rows }

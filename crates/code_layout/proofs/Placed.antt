@@ -12,9 +12,10 @@ use Rattle.code_rules.specs.Emitted.{ReadsStand}
 use Rattle.code_rules.specs.Laid.{Table, Stands, StmtLaid, declares_laid, call_laid, simple_laid, branch_laid, branches_laid, range_laid, each_laid, wait_laid, StmtsLaid, none_laid, one_laid}
 use Rattle.code_rules.specs.Laying.{Kinds, Laying, bare, Suits, next_body, Headers, one_header, more_headers, LaysStmt, declares, calls_alone, simple, branch, branches, range_loop, array_loop, waits, LaysBlock, no_statement, one_statement}
 use Rattle.code_layout.proofs.Adding.{nth_right, header_block}
-use Rattle.code_layout.proofs.Rows.{Row, row, bodies_in, length-append, length-map, stmt_rows, block_rows, stmt_bodies, block_bodies}
+use Rattle.code_layout.proofs.Rows.{Row, row, bodies_in, length-map, stmt_rows, block_rows, stmt_bodies, block_bodies}
 use Rattle.code_layout.proofs.Moves.{entry_moves, Has, has_less, parts_at}
 use Rattle.code_layout.proofs.Tables.{block_grows, Sits, sits_left, sits_right, sits_first, table_of, row_stands}
+use Rattle.std.proofs.lemmas.List.{length-append}
 
 -- where merged waits stand, the content of the innermost one stands
 header_scope : (c : Core) {k q : ℕ} {st : Stmt} {hs : List Header} {b : Block} → Headers q st hs b → (B : Block) → InScope c k B → st ∈ block_list B → InScope c k b

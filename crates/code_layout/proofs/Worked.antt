@@ -19,8 +19,8 @@ use Rattle.code_layout.specs.Worked.{fibonacci, fibonacci_kinds, fibonacci_code,
 use Rattle.code_layout.proofs.IndexParts.{reads_stand}
 use Rattle.code_layout.proofs.Nodes.{NodesApart, nodes_apart}
 use Rattle.code_layout.proofs.Layouts.{layout_of}
-use Rattle.code_layout.proofs.Rows.{length-append}
 use Rattle.code_layout.proofs.Whole.{is_laid}
+use Rattle.std.proofs.lemmas.List.{length-append}
 
 pub same : {e : Entry} {at : ℕ} {p : ℤ} {ns : List Need} {a : Act} → e.at ≡ at → e.priority ≡ p → e.needs ≡ ns → e.act ≡ a → IsEntry e at p ns a
 same a b c d = record { at_is = a; priority_is = b; needs_is = c; act_is = d }

@@ -52,7 +52,7 @@ pub fn boxed_outer<A: Allocator + Clone>(
 
 /// The node and the offset of a cell.
 #[derive(Clone, Copy, Drop)]
-pub struct Place {
+pub struct Anchor {
     pub node: u32,
     pub at: usize,
 }
@@ -61,7 +61,7 @@ pub struct Place {
 fn outer_operation<A: Allocator + Clone>(
     alloc: &A,
     typed: &Typed,
-    place: Place,
+    place: Anchor,
     operation: Operation<A>,
     exprs: &Vec<tree::Expr<A>, A>,
     from: usize,
@@ -93,7 +93,7 @@ pub fn assignment<A: Allocator + Clone>(
     match right {
         Right::Value(expr) => of_value(alloc, typed, target, expr),
         Right::List(list) => {
-            let place = Place {
+            let place = Anchor {
                 node: list.number,
                 at: list.first.from,
             };
@@ -221,7 +221,7 @@ pub fn statement_call<A: Allocator + Clone>(
         action_view a ≡ rules.call_action t priority c.node.number c.name (expressions_of c.arguments) (t.callee_of c.name.number)) }
     ensures declared { IfOk result (λ a. action_declared a ≡ []) }
 {
-    let place = Place {
+    let place = Anchor {
         node: call.number,
         at: call.first.from,
     };

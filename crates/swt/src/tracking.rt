@@ -4,7 +4,7 @@ ghost use Rattle.board.specs.Board.{IsWorker};
 
 use crate::items::Items;
 use crate::waiting::{View, say_waits};
-use board::board::Board;
+use board::Board;
 use board::refusal::Refusal;
 use board_program::program::Program;
 use board_work::work::{Done, Work};

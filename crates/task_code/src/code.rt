@@ -2,7 +2,7 @@
 ghost use Rattle.std.specs.Prelude.{◌≡◌, ◌<◌, ◌≤◌, length, IfOk, MatchOption};
 ghost use Rattle.std.specs.Arc.{arc_value};
 ghost use Rattle.task_code.specs.Code.{entry, body, kind_of};
-ghost use Rattle.task_code.specs.View.{entry_view, body_view, kind_view};
+ghost use Rattle.task_code.specs.View.{entry_view, body_view};
 ghost use Rattle.task_code.specs.Whole.{IsCode};
 
 use crate::draft::Draft;
@@ -113,7 +113,7 @@ impl Code {
 
     /// Who runs the entry of this number. A number that there is not is a leaf's.
     pub fn kind(&self, number: u32) -> Kind
-        ensures { kind_view result ≡ kind_of (entry self.now number).act }
+        ensures { result ≡ kind_of (entry self.now number).act }
     {
         self.draft.kind(number)
     }

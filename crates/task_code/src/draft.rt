@@ -2,7 +2,7 @@
 ghost use Rattle.std.specs.Prelude.{◌≡◌, ◌<◌, ◌≤◌, ◌++◌, ◌∷◌, [], length, map, IfOk, OnOk, OnErr, MatchOption};
 ghost use Rattle.std.specs.Arc.{arc_value};
 ghost use Rattle.task_code.specs.Code.{blank_entry, blank_body, entry, body, kind_of};
-ghost use Rattle.task_code.specs.View.{entry_view, body_view, kind_view};
+ghost use Rattle.task_code.specs.View.{entry_view, body_view};
 
 use crate::code::Body;
 use crate::entry::{Entry, Kind};
@@ -111,7 +111,7 @@ impl Draft {
 
     /// Who runs the entry of this number. A number that there is not is a leaf's.
     pub fn kind(&self, number: u32) -> Kind
-        ensures { kind_view result ≡ kind_of (entry self.now number).act }
+        ensures { result ≡ kind_of (entry self.now number).act }
     {
         match self.entry(number) {
             Some(found) => found.act.kind(),

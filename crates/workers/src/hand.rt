@@ -2,7 +2,6 @@
 ghost use Rattle.std.specs.Prelude.{◌≡◌, ◌⊎◌, ◌+◌, ◌<◌, length, reverse, OnOk};
 ghost use Rattle.pool.specs.Seats.{TakeDid, kind_order, view, seat_pool, pool_id};
 ghost use Rattle.pool_offers.specs.Offering.{OfferedEach};
-ghost use Rattle.task_code.specs.View.{kind_view};
 ghost use Rattle.workers.specs.Offering.{AreListed, side_of};
 ghost use Rattle.workers.specs.Threads.{IsPlace};
 
@@ -32,7 +31,7 @@ pub struct Hand<J: Job, E: Ledger, N: Ledger> {
     pub dones: Vec<Finished<J>>,
     pub comes: bool,
     pub of: PhantomData<J>,
-    ghost place: { IsPlace J.engines J.workers worker (kind_view kind) },
+    ghost place: { IsPlace J.engines J.workers worker kind },
     ghost of_pool: { seat_pool offers.seat ≡ J.pool },
     ghost one_each: { (events.parts ≡ 1) × (news.parts ≡ 1) },
     ghost tallied: { events.amount ≡ tally },
@@ -49,7 +48,7 @@ impl<J: Job, E: Ledger, N: Ledger> Hand<J, E, N> {
         events: Share<E>,
         news: Share<N>,
     ) -> Hand<J, E, N>
-        requires place { IsPlace J.engines J.workers worker (kind_view kind) }
+        requires place { IsPlace J.engines J.workers worker kind }
         requires seat { (seat_pool seat ≡ J.pool) × (length (view seat).offered ≡ 0) × (length (view seat).taken ≡ 0) }
         requires shares { (events.parts ≡ 1) × (news.parts ≡ 1) × (events.amount ≡ 0) × (news.amount ≡ 0) }
         ensures { result.offers.pending ≡ 0 }
@@ -71,7 +70,7 @@ impl<J: Job, E: Ledger, N: Ledger> Hand<J, E, N> {
     /// A number from the pool, of its kind.
     pub fn draw(&mut self, pool: &Pool) -> Option<u64>
         requires { pool_id pool.now ≡ J.pool }
-        ensures did { self.old.offers.drawn < u64.MAX → TakeDid (view self.old.offers.seat) (view self.new.offers.seat) (kind_order (side_of (kind_view self.old.kind))) result }
+        ensures did { self.old.offers.drawn < u64.MAX → TakeDid (view self.old.offers.seat) (view self.new.offers.seat) (kind_order (side_of self.old.kind)) result }
         ensures pending { self.new.offers.pending ≡ self.old.offers.pending }
     {
         let side = side_of(self.kind);

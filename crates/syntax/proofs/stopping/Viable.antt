@@ -21,6 +21,7 @@ use Rattle.syntax.proofs.scripts.Scripts.{module_named, function_is, script_comp
 use Rattle.syntax.proofs.stopping.Prefixes.{before_of, Language, Opens, Refused, Comes, Halts, At, Looks, shift, wider, alike, bind_stops, bind_refused, falls, shorter, map_at, token, Spells, spells_to, spells_both, spells_drop, spells_keep, spells_made, spells_one, spells_nil, spells_cons, token_looks, made_looks, both_looks, drop_looks, keep_looks, none_of_all, last_both_looks, last_keep_looks, choose_at, choose_second_at, other_at, never_at, maybe_looks, many_here, The_checked, checked_looks, alike_looks, wider_looks, bracket_looks, kind_end, kind_mid}
 use Rattle.syntax.specs.Viable.{Viable, StopsFirst}
 use Rattle.syntax.proofs.stopping.Beginnings.{Below, name_looks, test_looks, index_looks, deep_expr, expr_looks, expr_word, decl_looks, names_looks, call_looks, right_looks, priority_looks, source_looks, parameters_looks, tests_second}
+use Rattle.std.proofs.lemmas.Bool.{or_from}
 
 -- WORDS BY THEIR FIRST TOKEN
 
@@ -106,12 +107,8 @@ calling_looks n =
 abbrev pub Opening : TokenKind → Bool
 Opening x = same x Kind.OpenRound || same x Kind.If
 
-or_false : (b c : Bool) → b ≡ false → c ≡ false → (b || c) ≡ false
-or_false true c h g = h
-or_false false c h g = g
-
 not_opening : (T : TokenKind → Bool) (k : TokenKind) → T k ≡ true → T Kind.OpenRound ≡ false → T Kind.If ≡ false → Opening k ≡ false
-not_opening T k is one two = or_false (same k Kind.OpenRound) (same k Kind.If) (not_kind T k Kind.OpenRound is one) (not_kind T k Kind.If is two)
+not_opening T k is one two = or_from (same k Kind.OpenRound) (same k Kind.If) (not_kind T k Kind.OpenRound is one) (not_kind T k Kind.If is two)
 
 stmts_below : (n : ℕ) → ((d : ℕ) → n ≡ suc d → Looks true Opening (read_stmt d) read_stmt (Spells (IsStmt (suc n)))) → Below false read_stmts (λ d. Many (IsStmt d)) n
 unfolding read_stmts
@@ -244,7 +241,7 @@ command_looks n one = record { here = here; some = (declaration_looks n).some }
         choose_at (tests_at Kind.OpenRound) s (λ is. wider (λ cs h. h) (λ h. let bad : true ≡ false = sym is ∙ h in absurd (cc)) ((assigned_looks n).here s)) (λ no_round.
         choose_at (tests_at Kind.At) s (λ is. wider (λ cs h. h) (λ h. not_opening (λ k. same k Kind.At) (kind_at s) is refl refl) ((calling_looks n).here s)) (λ other.
         choose_at (tests_at Kind.Name) s (λ is. wider (λ cs h. h) (λ h. not_opening (λ k. same k Kind.Name) (kind_at s) is refl refl) (named_stmt_here n s is)) (λ other.
-        never_at s (declaration_looks n).some (or_false (same (kind_at s) Kind.OpenRound) (same (kind_at s) Kind.If) no_round no_if))))))))
+        never_at s (declaration_looks n).some (or_from (same (kind_at s) Kind.OpenRound) (same (kind_at s) Kind.If) no_round no_if))))))))
 
 pub stmt_looks : (n : ℕ) → Looks true Opening (read_stmt n) read_stmt (Spells (IsStmt (suc (suc n))))
 unfolding IsStmt
