@@ -29,7 +29,6 @@ use Rattle.meaning_steps.proofs.Seen as seen
 use Rattle.meaning_invariants.specs.Active.{Active, active}
 use Rattle.meaning_round.specs.Standing.{active_path, site_of, active_news, actives_news, AreLive, IsAfter}
 use Rattle.meaning_round.proofs.Meant.{told_is_news}
-use Rattle.meaning_round.proofs.Quiet.{told_is_silent}
 
 -- MEMBERS
 
@@ -105,7 +104,7 @@ module _ (s : Core) (l : Learned) (placed : IsPlaced s l.instances) where
     told_here : (a : Active) (f : Fact) → a ∈ ls → f ∈ active_news l a → f ∈ actives_news l telling
     told_here a f i j = elim (live.quiet a i) [
       | inl k ↦ told_by_all l telling a f k j
-      | inr e ↦ (let none : f ∈ [] = subst (λ (fs : List Fact). f ∈ fs) (told_is_silent l (site_of a) (stmt_action a.statement) e) j in elim none [ ])
+      | inr e ↦ (let none : f ∈ [] = subst (λ (fs : List Fact). f ∈ fs) e j in elim none [ ])
     ]
 
     pub told_all : (f : Fact) → ToldOf s K (λ path. see path) (λ path. recall path) f → f ∈ actives_news l telling
