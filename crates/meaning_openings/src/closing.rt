@@ -4,7 +4,7 @@ ghost use Rattle.flow.specs.View.{core_of};
 ghost use Rattle.meaning_facts.specs.declared.facts.Place.{Place as Spot};
 ghost use Rattle.meaning_facts.specs.Sighted.{closed_at};
 ghost use Rattle.meaning_facts.specs.Store.{same_place};
-ghost use Rattle.meaning_openings.specs.Closing.{AllStaySo, AreEnded, IsEnded, IsToClose, StaysSo};
+ghost use Rattle.meaning_openings.specs.Closing.{AllStaySo, AreEnded, IsTried, IsToClose};
 ghost use Rattle.language.specs.Members.{◌∈◌};
 ghost use Rattle.meaning_round.specs.Hearing.{AreHeard, AreWoken};
 ghost use Rattle.meaning_round.specs.Made.{arrays_of, candidate_of, tasks_of, waiting_of};
@@ -70,34 +70,32 @@ fn close_arrays<'a, A: Allocator>(
 {
     let mut closed = Vec::new(alloc);
     for array in arrays {
-        if close_one(learned, alloc, flow, array)? {
-            closed.push(array.place)?;
-        }
+        close_one(learned, alloc, flow, array, &mut closed)?;
     }
     Ok(closed)
 }
 
-/// Closes an array if this is so, and it is not closed yet. Whether it is so.
+/// Closes an array if this is so, and it is not closed yet. Its place is put behind those that were closed.
 fn close_one<'a, A: Allocator>(
     learned: &mut Learned,
     alloc: Global,
     flow: &'a Flow<A>,
     array: &Array<'a, A>,
-) -> Result<bool, AllocError>
+    closed: &mut Vec<Place>,
+) -> Result<(), AllocError>
     ensures facts { learned.new.facts ≡ learned.old.facts }
     ensures instances { learned.new.instances ≡ learned.old.instances }
-    ensures others { IfOk result (λ is_new. (q : Spot) → ((is_new ≡ true) × (q ≡ array.now.place)) ⊎ (closed_at learned.new q ≡ closed_at learned.old q)) }
-    ensures so { OnOk result (StaysSo (core_of flow.now) (candidate_of array.now) learned.old learned.new) }
-    ensures ended { IfOk result (λ is_new. is_new ≡ false → (learned.new ≡ learned.old) × IsEnded (core_of flow.now) learned.old (candidate_of array.now)) }
+    ensures tried { OnOk result (IsTried (core_of flow.now) (candidate_of array.now) learned.old learned.new closed.old.items closed.new.items) }
 {
     if learned.is_closed(array.place) {
-        return Ok(false);
+        return Ok(());
     }
     if !is_closing(learned, alloc, flow, array)? {
-        return Ok(false);
+        return Ok(());
     }
     close(learned, array.place)?;
-    Ok(true)
+    closed.push(array.place)?;
+    Ok(())
 }
 
 /// Marks an array as closed.

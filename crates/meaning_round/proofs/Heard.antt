@@ -136,12 +136,13 @@ heard_woken l m ls old new events woken more comes h = record { fresh = subst (�
     same_called k e = ap (λ c. is_called (record { fresh = new.fresh; awake = new.awake; asleep = new.asleep; called = c }) e k) woken.called
 
     still : (k : ℕ) (a : Active) → is_asleep new k ≡ true → Sleeps l old k a → Sleeps m new k a
-    still k a sleeps s = sleeps_later l m old new k a s more
-    (λ e i. elim (comes e) [
-      | inr q ↦ q
-      | inl j ↦ (let z : true ≡ false = sym (s.called e i) ∙ woken.quiet e j k sleeps in absurd (cc (z)))
-    ])
-    (λ e c. same_called k e ∙ c)
+    still k a sleeps s =
+        sleeps_later l m old new k a s more
+        (λ e i. elim (comes e) [
+          | inr q ↦ q
+          | inl j ↦ (let z : true ≡ false = sym (s.called e i) ∙ woken.quiet e j k sleeps in absurd (cc (z)))
+        ])
+        (λ e c. same_called k e ∙ c)
 
     each : (k : ℕ) (a : Active) → slice_get ls k ≡ Some a → IsAwake new k ⊎ (k ∈ []) ⊎ ((is_asleep new k ≡ true) × Sleeps m new k a)
     each k a e = elim (h.each k a e) [
@@ -189,10 +190,10 @@ module _ (l : Learned) (ls : List Active) where
       | inr rest ↦ elim rest [
         | inl i ↦ absurd (no_one i)
         | inr x ↦ inr (inr (
-            ap (λ s. is_asleep (record { fresh = new.fresh; awake = new.awake; asleep = s; called = new.called }) k) asleep ∙ x.0,
-            sleeps_later l l old new k a x.1 (more_same l) (λ d i. same_self l d)
-            (λ d c. ap (λ z. is_called (record { fresh = new.fresh; awake = new.awake; asleep = new.asleep; called = z }) d k) called ∙ c),
-            ))
+          ap (λ s. is_asleep (record { fresh = new.fresh; awake = new.awake; asleep = s; called = new.called }) k) asleep ∙ x.0,
+          sleeps_later l l old new k a x.1 (more_same l) (λ d i. same_self l d)
+              (λ d c. ap (λ z. is_called (record { fresh = new.fresh; awake = new.awake; asleep = new.asleep; called = z }) d k) called ∙ c),
+        ))
       ]
     ];
   }
@@ -213,10 +214,10 @@ module _ (l : Learned) (ls : List Active) where
           | inr j ↦ inr (inl j)
         ]
         | inr x ↦ inr (inr (
-            ap (λ s. is_asleep (record { fresh = new.fresh; awake = new.awake; asleep = s; called = new.called }) k) asleep ∙ x.0,
-            sleeps_later l l old new k a x.1 (more_same l) (λ d i. same_self l d)
-            (λ d c. ap (λ z. is_called (record { fresh = new.fresh; awake = new.awake; asleep = new.asleep; called = z }) d k) called ∙ c),
-            ))
+          ap (λ s. is_asleep (record { fresh = new.fresh; awake = new.awake; asleep = s; called = new.called }) k) asleep ∙ x.0,
+          sleeps_later l l old new k a x.1 (more_same l) (λ d i. same_self l d)
+              (λ d c. ap (λ z. is_called (record { fresh = new.fresh; awake = new.awake; asleep = new.asleep; called = z }) d k) called ∙ c),
+        ))
       ]
     ];
   }
@@ -234,9 +235,9 @@ module _ (l : Learned) (ls : List Active) where
       | inr rest ↦ elim rest [
         | inl i ↦ elim (split_in i) [ inl q ↦ inr (inr (now k a q e)) | inr j ↦ inr (inl j) ]
         | inr x ↦ inr (inr (
-            falls.asleep k ∙ or_true (nat_eq n k) (is_asleep old k) x.0,
-            sleeps_later l l old new k a x.1 (more_same l) (λ d i. same_self l d) (λ d c. falls.still d k c),
-            ))
+          falls.asleep k ∙ or_true (nat_eq n k) (is_asleep old k) x.0,
+          sleeps_later l l old new k a x.1 (more_same l) (λ d i. same_self l d) (λ d c. falls.still d k c),
+        ))
       ]
     ];
   }

@@ -1,4 +1,6 @@
+pub mod Asking
 pub mod Behind
+pub mod Called
 pub mod Calls
 pub mod Going
 pub mod Inside

@@ -1,5 +1,5 @@
 //! What a round adds. Who told nothing sleeps until something comes of what it has read.
-ghost use Rattle.std.specs.Prelude.{◌≡◌, ◌↔◌, ◌⊎◌, ◌++◌, ◌∷◌, [], ℕ, suc, List, length, map, IfOk, OnOk};
+ghost use Rattle.std.specs.Prelude.{◌≡◌, ◌↔◌, ◌⊎◌, ◌++◌, ◌∷◌, [], ℕ, suc, List, Some, length, map, slice_get, IfOk, OnOk};
 ghost use Rattle.language.specs.Facts.{Fact as Told};
 ghost use Rattle.language.specs.Meaning.{Known};
 ghost use Rattle.language.specs.Members.{◌∈◌};
@@ -83,6 +83,23 @@ fn ask_all<A: Allocator>(
         → AreHeard learned.now (map active_of tasks.now) tellers.new []) }
 {
     let numbers = tellers.take_awake(alloc, tasks.len())?;
+    ask_each(learned, alloc, tasks, tellers, numbers)
+}
+
+/// What the statements of these numbers tell.
+fn ask_each<A: Allocator>(
+    learned: &Learned,
+    alloc: Global,
+    tasks: &[Task<'_, A>],
+    tellers: &mut Tellers,
+    numbers: Vec<usize>,
+) -> Result<Vec<Fact>, AllocError>
+    ensures told { IfOk result (λ news. facts_view learned.now.instances.all.items news.items ≡ actives_news learned.now (picks (map active_of tasks.now) numbers.items)) }
+    ensures inside { IfOk result (λ news. HavePlaces learned.now.instances.all.items (picks (map active_of tasks.now) numbers.items)
+        → AreInside learned.now.instances.all.items news.items) }
+    ensures heard { OnOk result (HavePlaces learned.now.instances.all.items (map active_of tasks.now) → AreHeard learned.now (map active_of tasks.now) tellers.old numbers.items
+        → AreHeard learned.now (map active_of tasks.now) tellers.new []) }
+{
     let mut news = Vec::new(alloc);
     for number in numbers {
         ask(learned, alloc, tasks, tellers, number, &mut news)?;
@@ -106,9 +123,27 @@ fn ask<A: Allocator>(
     ensures heard { OnOk result (HavePlaces learned.now.instances.all.items (map active_of tasks.now) → (asked : List ℕ)
         → AreHeard learned.now (map active_of tasks.now) tellers.old (number ∷ asked) → AreHeard learned.now (map active_of tasks.now) tellers.new asked) }
 {
-    let Some(task) = tasks.get(number) else {
-        return Ok(());
-    };
+    match tasks.get(number) {
+        Some(task) => ask_task(learned, alloc, task, tellers, number, news),
+        None => Ok(()),
+    }
+}
+
+/// The same of a statement and its number.
+fn ask_task<A: Allocator>(
+    learned: &Learned,
+    alloc: Global,
+    task: &Task<'_, A>,
+    tellers: &mut Tellers,
+    number: usize,
+    news: &mut Vec<Fact>,
+) -> Result<(), AllocError>
+    ensures told { OnOk result (facts_view learned.now.instances.all.items news.new.items
+        ≡ facts_view learned.now.instances.all.items news.old.items ++ active_news learned.now (active_of task.now)) }
+    ensures inside { OnOk result (StayInside learned.now.instances.all.items task.now.site.instance news.old.items news.new.items) }
+    ensures heard { OnOk result ((ls : List Active) → slice_get ls number ≡ Some (active_of task.now) → HavePlaces learned.now.instances.all.items ls → (asked : List ℕ)
+        → AreHeard learned.now ls tellers.old (number ∷ asked) → AreHeard learned.now ls tellers.new asked) }
+{
     let before = news.len();
     add_task_news(learned, alloc, task, news)?;
     if news.len() > before {
