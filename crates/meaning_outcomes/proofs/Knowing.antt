@@ -213,7 +213,7 @@ not_empty xs b e f q = not_both (sym (e ∙ eq-eqb (length xs) 0 (ap length q)) 
 
 pub starts_between : {A : Type 0} (c : Core) (state : State A) → IsFresh state.learned → tasks_of state ≡ all_active 0 (block_list c.body) → state.tellers.fresh ≡ 0 → state.passed ≡ 0
     → waiting_of state ≡ [] → arrays_of state ≡ declares_here 0 c.body (block_list c.body) → IsBetween c 0 state
-starts_between c state new tasks fresh passed waiting arrays =
+starts_between c state new tasks unasked passed waiting arrays =
     let all = all_active 0 (block_list c.body) in
     let start = starts c state.learned new in
     let go_arrays = subst (λ (z : List Candidate). StandsBetween c 0 state.learned all z [] []) (sym (arrays ∙ here_declares c 0 c.body (block_list c.body))) start in
@@ -221,5 +221,5 @@ starts_between c state new tasks fresh passed waiting arrays =
     let go_passed = subst (λ (z : ℕ). StandsBetween c 0 state.learned all (arrays_of state) (take z all) (waiting_of state)) (sym passed) go_waiting in
     record {
       stands = subst (λ (z : List Active). StandsBetween c 0 state.learned z (arrays_of state) (take state.passed z) (waiting_of state)) (sym tasks) go_passed;
-      heard = heard_first state.learned (tasks_of state) state.tellers fresh;
+      heard = heard_first state.learned (tasks_of state) state.tellers unasked;
     }

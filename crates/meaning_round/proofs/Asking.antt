@@ -3,14 +3,14 @@ use Rattle.std.specs.Prelude.{◌≡◌, ℕ, ◌+◌, ◌≤◌, List, [], ◌�
 use Rattle.std.proofs.Common.{sym, ap, ◌∙◌, subst, arith}
 use Rattle.std.proofs.lemmas.List.{append_assoc, append-nil, length-map}
 use Rattle.language.specs.Facts.{Fact}
-use Rattle.language.specs.Members.{◌∈◌, first, later}
+use Rattle.language.specs.Members.{◌∈◌, first}
 use Rattle.language.proofs.Members.{to_left, to_right}
 use Rattle.meaning_facts.specs.declared.facts.Fact.{Fact as Known}
 use Rattle.meaning_facts.specs.declared.instances.Instance.{Instance}
 use Rattle.meaning_facts.specs.declared.learned.Learned.{Learned}
 use Rattle.meaning_facts.specs.Growing.{fact_view}
 use Rattle.meaning_invariants.specs.Active.{Active}
-use Rattle.meaning_invariants.specs.Held.{AreInside}
+use Rattle.meaning_invariants.specs.Held.{HasPlaces}
 use Rattle.meaning_faults.specs.Viewed.{facts_view}
 use Rattle.meaning_round.specs.Made.{picks}
 use Rattle.meaning_round.specs.Standing.{active_news, actives_news, HavePlaces}
@@ -48,6 +48,9 @@ one_tells l ls k a xs ys e f =
     f ∙ ap (λ (z : List Fact). xs ++ z) (sym (append-nil (active_news l a)))
     ∙ ap (λ (o : Option Active). xs ++ actives_news l (option_to_list o ++ [])) (sym e)
 
+pub places_one : (ns : List Instance) (ls : List Active) (k : ℕ) (a : Active) → slice_get ls k ≡ Some a → HavePlaces ns (picks ls (k ∷ [])) → HasPlaces ns a.instance
+places_one ns ls k a e h = h a (subst (λ (o : Option Active). a ∈ (option_to_list o ++ [])) (sym e) first)
+
 -- who has told nothing, by how many facts there are
 pub told_nothing : (ns : List Instance) (fs gs : List Known) (ks : List Fact) → facts_view ns gs ≡ facts_view ns fs ++ ks → length gs ≤ length fs → ks ≡ []
 told_nothing ns fs gs ks e few =
@@ -55,7 +58,7 @@ told_nothing ns fs gs ks e few =
     none ks p
   where
     length_both : (xs zs : List Fact) → length (xs ++ zs) ≡ length xs + length zs
-    length_both [] zs = refl
+    length_both [] zs = omega arith
     length_both (x ∷ xs) zs = let e = length_both xs zs in omega (arith, e)
 
     none : (zs : List Fact) → length gs ≡ length fs + length zs → zs ≡ []

@@ -1,15 +1,16 @@
 -- Who is called at events, as one more is, and as those who sleep are woken.
-use Rattle.std.specs.Prelude.{◌≡◌, ◌⊎◌, ℕ, ◌+◌, ◌<◌, Bool, true, false, ◌&&◌, ◌||◌, List, [], ◌∷◌, ◌++◌, length, nat_eq, take, Option, Some, None, cond, refl}
+use Rattle.std.specs.Prelude.{◌≡◌, ◌⊎◌, ℕ, ◌+◌, ◌<◌, Bool, true, false, ◌&&◌, ◌||◌, List, [], ◌∷◌, ◌++◌, length, nat_eq, take, Option, Some, None, cond, is_some, suc, ◌-◌, ◌≤◌, refl}
 use Rattle.std.specs.HashMap.{get}
+use Rattle.std.specs.List.{list_any}
 use Rattle.std.specs.HashSet.{HashSet, contains}
-use Rattle.std.proofs.Common.{inl, inr, sym, ap, ◌∙◌, subst, get_or}
+use Rattle.std.proofs.Common.{inl, inr, sym, ap, ◌∙◌, subst, get_or, arith}
 use Rattle.std.proofs.lemmas.Bool.{cases_Bool, eq-eqb, eqb-true}
-use Rattle.std.proofs.lemmas.List.{take_more}
+use Rattle.std.proofs.lemmas.List.{append_assoc, append-nil, take_more}
 use Rattle.language.specs.Members.{◌∈◌, first, later}
 use Rattle.language.proofs.Members.{either, split_in}
 use Rattle.meaning_round.specs.declared.tellers.Event.{Event}
 use Rattle.meaning_round.specs.declared.tellers.Tellers.{Tellers}
-use Rattle.meaning_round.specs.Hearing.{event_key, is_asleep, is_called, is_in, same_event, AreWoken, FallsAsleep}
+use Rattle.meaning_round.specs.Hearing.{counted, event_key, is_asleep, is_called, is_in, same_event, AreWoken, FallsAsleep}
 
 -- TESTS
 
@@ -46,16 +47,17 @@ event_same p q h =
 -- the first so many events are
 pub record AreCalled (old new : Tellers) (number : ℕ) (events : List Event) : Type 0 where
   pub fresh : new.fresh ≡ old.fresh
-  pub awake : new.awake ≡ old.awake
+  pub awake : new.awake.items ≡ old.awake.items
   pub asleep : new.asleep ≡ old.asleep
   pub still : (e : Event) (k : ℕ) → is_called old e k ≡ true → is_called new e k ≡ true
   pub called : (e : Event) → e ∈ events → is_called new e number ≡ true
 
-pub none_called : (t : Tellers) (number : ℕ) → AreCalled t t number []
-none_called t number = record { fresh = refl; awake = refl; asleep = refl; still = λ e k c. c; called = λ e i. elim i [ ] }
+pub none_called : (t : Tellers) (number : ℕ) (es : List Event) → AreCalled t t number (take 0 es)
+none_called t number [] = record { fresh = refl; awake = refl; asleep = refl; still = λ e k c. c; called = λ e i. elim i [ ] }
+none_called t number (x ∷ es) = record { fresh = refl; awake = refl; asleep = refl; still = λ e k c. c; called = λ e i. elim i [ ] }
 
 pub next_called : (old mid new : Tellers) (number : ℕ) (es : List Event) (i : ℕ) (d : Event) → i < length es
-    → ((e : Event) (k : ℕ) → is_called new e k ≡ (same_event (event_key (get_or es i d)) (event_key e) && nat_eq number k) || is_called mid e k) → new.fresh ≡ mid.fresh → new.awake ≡ mid.awake → new.asleep ≡ mid.asleep
+    → ((e : Event) (k : ℕ) → is_called new e k ≡ (same_event (event_key (get_or es i d)) (event_key e) && nat_eq number k) || is_called mid e k) → new.fresh ≡ mid.fresh → new.awake.items ≡ mid.awake.items → new.asleep ≡ mid.asleep
     → AreCalled old mid number (take i es) → AreCalled old new number (take (i + 1) es)
 next_called old mid new number es i d h calls fresh awake asleep a = record {
   fresh = fresh ∙ a.fresh;
@@ -81,7 +83,7 @@ next_called old mid new number es i d h calls fresh awake asleep a = record {
         (and_so (same_event (event_key (get_or es i d)) (event_key e)) (nat_eq number number)
         (ap (λ (z : Event). same_event (event_key (get_or es i d)) (event_key z)) q ∙ event_self (event_key (get_or es i d))) (number_self number))
 
-pub all_asleep : (old mid new : Tellers) (number : ℕ) (events : List Event) → AreCalled old mid number events → new.fresh ≡ mid.fresh → new.awake ≡ mid.awake → new.called ≡ mid.called
+pub all_asleep : (old mid new : Tellers) (number : ℕ) (events : List Event) → AreCalled old mid number events → new.fresh ≡ mid.fresh → new.awake.items ≡ mid.awake.items → new.called ≡ mid.called
     → ((k : ℕ) → is_asleep new k ≡ cond (nat_eq number k) true (is_asleep mid k)) → FallsAsleep old new number events
 all_asleep old mid new number events a fresh awake called asleep = record {
   fresh = fresh ∙ a.fresh;
@@ -151,3 +153,70 @@ those_woken old new e fresh called fewer others woken still = record {
   woken = woken;
   awake = still;
 }
+
+-- of these some are left to be woken, of those who slept
+pub record AreWaking {S T : Type 0} (numbers : HashSet ℕ T) (left : List ℕ) (was now : HashSet ℕ S) (before awake : List ℕ) : Type 0 where
+  pub fewer : (k : ℕ) → contains nat_eq now k ≡ true → contains nat_eq was k ≡ true
+  pub others : (k : ℕ) → contains nat_eq now k ≡ true → contains nat_eq numbers k ≡ true → list_any (nat_eq k) left ≡ true
+  pub woken : (k : ℕ) → contains nat_eq was k ≡ true → (contains nat_eq now k ≡ true) ⊎ (k ∈ awake)
+  pub still : (k : ℕ) → k ∈ before → k ∈ awake
+
+pub all_waking : {S T : Type 0} (numbers : HashSet ℕ T) (left : List ℕ) (was : HashSet ℕ S) (awake : List ℕ) → ((k : ℕ) → contains nat_eq numbers k ≡ true → list_any (nat_eq k) left ≡ true) → AreWaking numbers left was was awake awake
+all_waking numbers left was awake f = record { fewer = λ k e. e; others = λ k e c. f k c; woken = λ k e. inl e; still = λ k i. i }
+
+pub next_waking : {S T : Type 0} (numbers : HashSet ℕ T) (x : ℕ) (left : List ℕ) (was old new : HashSet ℕ S) (before mid awake : List ℕ) → ((k : ℕ) → contains nat_eq new k ≡ cond (nat_eq x k) false (contains nat_eq old k))
+    → (contains nat_eq old x ≡ true → x ∈ awake) → ((k : ℕ) → k ∈ mid → k ∈ awake) → AreWaking numbers (x ∷ left) was old before mid → AreWaking numbers left was new before awake
+next_waking numbers x left was old new before mid awake less wakes keeps h = record {
+  fewer = λ k e. h.fewer k (stays (nat_eq x k) (contains nat_eq old k) (sym (less k) ∙ e));
+  others = λ k e c. past k (other (nat_eq x k) (contains nat_eq old k) (sym (less k) ∙ e)) (h.others k (stays (nat_eq x k) (contains nat_eq old k) (sym (less k) ∙ e)) c);
+  woken = λ k e. elim (h.woken k e) [
+    | inl s ↦ elim (cases_Bool (nat_eq x k)) [
+      | inl same ↦ (let q : x ≡ k = eqb-true x k same in inr (subst (λ (z : ℕ). z ∈ awake) q (wakes (subst (λ (z : ℕ). contains nat_eq old z ≡ true) (sym q) s))))
+      | inr differs ↦ inl (less k ∙ ap (λ (b : Bool). cond b false (contains nat_eq old k)) differs ∙ s)
+    ]
+    | inr i ↦ inr (keeps k i)
+  ];
+  still = λ k i. keeps k (h.still k i);
+}
+  where
+    stays : (a b : Bool) → cond a false b ≡ true → b ≡ true
+    stays true b e = absurd (cc (e))
+    stays false b e = e
+
+    other : (a b : Bool) → cond a false b ≡ true → a ≡ false
+    other true b e = absurd (cc (e))
+    other false b e = refl
+
+    past : (k : ℕ) → nat_eq x k ≡ false → list_any (nat_eq k) (x ∷ left) ≡ true → list_any (nat_eq k) left ≡ true
+    past k differs e = elim (cases_Bool (nat_eq k x)) [
+      | inl same ↦ (let z : true ≡ false = sym (eq-eqb x k (sym (eqb-true k x same))) ∙ differs in absurd (cc (z)))
+      | inr lacks ↦ ap (λ (b : Bool). b || list_any (nat_eq k) left) (sym lacks) ∙ e
+    ]
+
+pub none_left : {S T : Type 0} (numbers : HashSet ℕ T) (left : List ℕ) (was now : HashSet ℕ S) (before awake : List ℕ) → left ≡ [] → AreWaking numbers left was now before awake
+    → (k : ℕ) → contains nat_eq now k ≡ true → contains nat_eq numbers k ≡ false
+none_left numbers left was now before awake e h k s = elim (cases_Bool (contains nat_eq numbers k)) [
+  | inr lacks ↦ lacks
+  | inl has ↦ (let z : false ≡ true = ap (λ (xs : List ℕ). list_any (nat_eq k) xs) (sym e) ∙ h.others k s has in absurd (cc (z)))
+]
+
+-- NUMBERS THAT WERE NOT ASKED
+
+pub counted_next : (xs ys whole : List ℕ) (n count : ℕ) → n < count → ys ≡ xs ++ n ∷ [] → xs ++ counted n (count - n) ≡ whole → ys ++ counted (n + 1) (count - (n + 1)) ≡ whole
+counted_next xs ys whole n count below pushed e =
+    let left : count - n ≡ suc (count - (n + 1)) = omega (arith, below) in
+    let next : suc n ≡ n + 1 = omega arith in
+    ap (λ (z : List ℕ). z ++ counted (n + 1) (count - (n + 1))) pushed
+    ∙ append_assoc xs (n ∷ []) (counted (n + 1) (count - (n + 1)))
+    ∙ ap (λ (m : ℕ). xs ++ n ∷ counted m (count - (n + 1))) (sym next)
+    ∙ ap (λ (m : ℕ). xs ++ counted n m) (sym left)
+    ∙ e
+
+pub counted_all : (xs whole : List ℕ) (n count : ℕ) → count ≤ n → xs ++ counted n (count - n) ≡ whole → xs ≡ whole
+counted_all xs whole n count past e =
+    let none : count - n ≡ 0 = omega (arith, past) in
+    sym (append-nil xs) ∙ ap (λ (m : ℕ). xs ++ counted n m) (sym none) ∙ e
+
+pub none_of : {X : Type 0} (o : Option X) → is_some o ≡ false → o ≡ None
+none_of (Some x) h = absurd (cc (h))
+none_of None h = refl

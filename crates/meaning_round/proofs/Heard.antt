@@ -1,7 +1,9 @@
 -- Who may have something left to tell, as more is known and those are woken who have read what comes.
 use Rattle.std.specs.Prelude.{◌≡◌, ◌⊎◌, ℕ, zero, suc, ◌+◌, ◌-◌, ◌<◌, ◌≤◌, Bool, true, false, ◌||◌, List, [], ◌∷◌, ◌++◌, length, nat_eq, Option, Some, None, option_to_list, slice_get, refl}
+use Rattle.std.specs.HashMap.{get}
+use Rattle.std.specs.HashSet.{contains}
 use Rattle.std.proofs.Common.{inl, inr, sym, ap, ◌∙◌, subst, arith}
-use Rattle.std.proofs.lemmas.Bool.{cases_Bool, eq-eqb, eqb-true}
+use Rattle.std.proofs.lemmas.Bool.{cases_lt, eq-eqb}
 use Rattle.language.specs.Members.{◌∈◌, first, later}
 use Rattle.language.specs.Parts.{stmt_action}
 use Rattle.language.proofs.Members.{either, split_in, to_left, to_right}
@@ -15,7 +17,7 @@ use Rattle.meaning_invariants.specs.Held.{HasPlaces}
 use Rattle.meaning_round.specs.declared.tellers.Event.{Event}
 use Rattle.meaning_round.specs.declared.tellers.Tellers.{Tellers}
 use Rattle.meaning_round.specs.Going.{IsTelling}
-use Rattle.meaning_round.specs.Hearing.{active_reads, comes_with, counted, is_asleep, is_called, numbers_of, AreHeard, AreWoken, FallsAsleep, IsAwake, Sleeps}
+use Rattle.meaning_round.specs.Hearing.{active_reads, comes_with, counted, event_key, is_asleep, is_called, is_in, numbers_of, same_event, AreHeard, AreWoken, FallsAsleep, IsAwake, Sleeps}
 use Rattle.meaning_round.specs.Made.{picks}
 use Rattle.meaning_round.specs.More.{KnowsMore}
 use Rattle.meaning_round.specs.Reads.{IsSame}
@@ -45,7 +47,7 @@ record StandsAt {X : Type 0} (xs : List X) (x : X) : Type 0 where
 
 stands_at : {X : Type 0} (xs : List X) (x : X) → x ∈ xs → StandsAt xs x
 stands_at [] x i = elim i [ ]
-stands_at (y ∷ ys) y first = record { number = 0; is = refl }
+stands_at (y ∷ ys) x first = record { number = 0; is = refl }
 stands_at (y ∷ ys) x (later i) = let s = stands_at ys x i in record { number = suc s.number; is = s.is }
 
 -- of a longer list it stands there, or behind
@@ -56,26 +58,23 @@ got_before (y ∷ xs) ys (suc k) x e = elim (got_before xs ys k x e) [ inl f ↦
 
 picked_in : (ls : List Active) (ks : List ℕ) (a : Active) → a ∈ picks ls ks → a ∈ ls
 picked_in ls [] a i = elim i [ ]
-picked_in ls (k ∷ ks) a i = by (slice_get ls k) refl i
+picked_in ls (k ∷ ks) a i = by (slice_get ls k) refl (λ j. picked_in ls ks a j) i
   where
-    by : (o : Option Active) → slice_get ls k ≡ o → a ∈ (option_to_list o ++ picks ls ks) → a ∈ ls
-    by (Some b) e i = elim (split_in i) [ inl q ↦ subst (λ (z : Active). z ∈ ls) (sym q) (got_in k ls b e) | inr j ↦ picked_in ls ks a j ]
-    by None e i = picked_in ls ks a i
+    by : (o : Option Active) → slice_get ls k ≡ o → (a ∈ picks ls ks → a ∈ ls) → a ∈ (option_to_list o ++ picks ls ks) → a ∈ ls
+    by (Some b) e rec i = elim (split_in i) [ inl q ↦ subst (λ (z : Active). z ∈ ls) (sym q) (got_in k ls b e) | inr j ↦ rec j ]
+    by None e rec i = rec i
 
 pick_in : (ls : List Active) (ks : List ℕ) (k : ℕ) (a : Active) → k ∈ ks → slice_get ls k ≡ Some a → a ∈ picks ls ks
 pick_in ls [] k a i e = elim i [ ]
-pick_in ls (k ∷ ks) k a first e = subst (λ (o : Option Active). a ∈ (option_to_list o ++ picks ls ks)) (sym e) first
+pick_in ls (j ∷ ks) k a first e = subst (λ (o : Option Active). a ∈ (option_to_list o ++ picks ls ks)) (sym e) first
 pick_in ls (j ∷ ks) k a (later i) e = to_right (option_to_list (slice_get ls j)) (picks ls ks) (pick_in ls ks k a i e)
 
 counted_in : (n more k : ℕ) → n ≤ k → k < n + more → k ∈ counted n more
 counted_in n zero k b l = absurd (omega (arith, b, l))
-counted_in n (suc more) k b l = elim (cases_Bool (nat_eq n k)) [
-  | inl e ↦ subst (λ (z : ℕ). z ∈ counted n (suc more)) (eqb-true n k e) first
-  | inr e ↦ later (counted_in (suc n) more k (behind e) (omega (arith, l)))
+counted_in n (suc more) k b l = elim (cases_lt n k) [
+  | inl below ↦ later (counted_in (suc n) more k (omega (arith, below)) (omega (arith, l)))
+  | inr above ↦ (let e : n ≡ k = omega (arith, b, above) in subst (λ (z : ℕ). z ∈ counted n (suc more)) e first)
 ]
-  where
-    behind : nat_eq n k ≡ false → suc n ≤ k
-    behind e = let differs : n ≡ k → ⊥ = λ q. (let h : true ≡ false = sym (eq-eqb n k q) ∙ e in absurd (cc (h))) in omega (arith, b, differs)
 
 asked_of : (t : Tellers) (count k : ℕ) → k < count → IsAwake t k → k ∈ numbers_of t count
 asked_of t count k l (inl i) = to_left t.awake.items (counted t.fresh (count - t.fresh)) i
@@ -121,7 +120,7 @@ heard_opened l m ls more t knows same h = record {
 }
   where
     length_both : (xs : List Active) → length (xs ++ more) ≡ length xs + length more
-    length_both [] = refl
+    length_both [] = omega arith
     length_both (x ∷ xs) = let e = length_both xs in omega (arith, e)
 
 no_one : {k : ℕ} → k ∈ [] → ⊥
@@ -133,7 +132,7 @@ pub heard_woken : (l m : Learned) (ls : List Active) (old new : Tellers) (events
 heard_woken l m ls old new events woken more comes h = record { fresh = subst (λ (z : ℕ). z ≤ length ls) (sym woken.fresh) h.fresh; each = each }
   where
     same_called : (k : ℕ) (e : Event) → is_called new e k ≡ is_called old e k
-    same_called k e = ap (λ c. is_called (record { fresh = new.fresh; awake = new.awake; asleep = new.asleep; called = c }) e k) woken.called
+    same_called k e = ap (λ c. is_in (get same_event c (event_key e)) k) woken.called
 
     still : (k : ℕ) (a : Active) → is_asleep new k ≡ true → Sleeps l old k a → Sleeps m new k a
     still k a sleeps s =
@@ -144,7 +143,7 @@ heard_woken l m ls old new events woken more comes h = record { fresh = subst (�
         ])
         (λ e c. same_called k e ∙ c)
 
-    each : (k : ℕ) (a : Active) → slice_get ls k ≡ Some a → IsAwake new k ⊎ (k ∈ []) ⊎ ((is_asleep new k ≡ true) × Sleeps m new k a)
+    each : (k : ℕ) (a : Active) → slice_get ls k ≡ Some a → IsAwake new k ⊎ ((k ∈ []) ⊎ ((is_asleep new k ≡ true) × Sleeps m new k a))
     each k a e = elim (h.each k a e) [
       | inl awake ↦ elim awake [ inl i ↦ inl (inl (woken.awake k i)) | inr b ↦ inl (inr (subst (λ (z : ℕ). z ≤ k) (sym woken.fresh) b)) ]
       | inr rest ↦ elim rest [
@@ -171,7 +170,7 @@ more_woken t u v es ds a b = record {
   asleep = λ k e. a.asleep k (b.asleep k e);
   quiet = λ e i k s. elim (either es ds i) [
     | inl j ↦ a.quiet e j k (b.asleep k s)
-    | inr j ↦ sym (ap (λ c. is_called (record { fresh = u.fresh; awake = u.awake; asleep = u.asleep; called = c }) e k) a.called) ∙ b.quiet e j k s
+    | inr j ↦ sym (ap (λ c. is_in (get same_event c (event_key e)) k) a.called) ∙ b.quiet e j k s
   ];
   woken = λ k e. elim (a.woken k e) [ inl s ↦ b.woken k s | inr i ↦ inr (b.awake k i) ];
   awake = λ k i. b.awake k (a.awake k i);
@@ -190,9 +189,9 @@ module _ (l : Learned) (ls : List Active) where
       | inr rest ↦ elim rest [
         | inl i ↦ absurd (no_one i)
         | inr x ↦ inr (inr (
-          ap (λ s. is_asleep (record { fresh = new.fresh; awake = new.awake; asleep = s; called = new.called }) k) asleep ∙ x.0,
+          ap (λ s. contains nat_eq s k) asleep ∙ x.0,
           sleeps_later l l old new k a x.1 (more_same l) (λ d i. same_self l d)
-              (λ d c. ap (λ z. is_called (record { fresh = new.fresh; awake = new.awake; asleep = new.asleep; called = z }) d k) called ∙ c),
+              (λ d c. ap (λ z. is_in (get same_event z (event_key d)) k) called ∙ c),
         ))
       ]
     ];
@@ -214,9 +213,9 @@ module _ (l : Learned) (ls : List Active) where
           | inr j ↦ inr (inl j)
         ]
         | inr x ↦ inr (inr (
-          ap (λ s. is_asleep (record { fresh = new.fresh; awake = new.awake; asleep = s; called = new.called }) k) asleep ∙ x.0,
+          ap (λ s. contains nat_eq s k) asleep ∙ x.0,
           sleeps_later l l old new k a x.1 (more_same l) (λ d i. same_self l d)
-              (λ d c. ap (λ z. is_called (record { fresh = new.fresh; awake = new.awake; asleep = new.asleep; called = z }) d k) called ∙ c),
+              (λ d c. ap (λ z. is_in (get same_event z (event_key d)) k) called ∙ c),
         ))
       ]
     ];
@@ -229,7 +228,7 @@ module _ (l : Learned) (ls : List Active) where
     fresh = subst (λ (z : ℕ). z ≤ length ls) (sym falls.fresh) h.fresh;
     each = λ k a e. elim (h.each k a e) [
       | inl w ↦ elim w [
-        | inl i ↦ inl (inl (subst (λ z. k ∈ z.items) (sym falls.awake) i))
+        | inl i ↦ inl (inl (subst (λ (z : List ℕ). k ∈ z) (sym falls.awake) i))
         | inr b ↦ inl (inr (subst (λ (z : ℕ). z ≤ k) (sym falls.fresh) b))
       ]
       | inr rest ↦ elim rest [

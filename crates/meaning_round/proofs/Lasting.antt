@@ -51,11 +51,11 @@ lines_stay k j (Is.Fault f) a q e = ap is_some (a.lines q) ∙ e
 
 in_front : (ws us : List Write) (k : Key) (p : Place) → is_written_in ws k p ≡ true → is_written_in (ws ++ us) k p ≡ true
 in_front [] us k p e = absurd (cc (e))
-in_front (w ∷ ws) us k p e = by (same_key w.key k && same_place w.writer p) e
+in_front (w ∷ ws) us k p e = by (same_key w.key k && same_place w.writer p) (λ f. in_front ws us k p f) e
   where
-    by : (b : Bool) → b || is_written_in ws k p ≡ true → b || is_written_in (ws ++ us) k p ≡ true
-    by true e = refl
-    by false e = in_front ws us k p e
+    by : (b : Bool) → (is_written_in ws k p ≡ true → is_written_in (ws ++ us) k p ≡ true) → b || is_written_in ws k p ≡ true → b || is_written_in (ws ++ us) k p ≡ true
+    by true rec e = refl
+    by false rec e = rec e
 
 with_written : (ws : List Write) (w : Write) (k : Key) (p : Place) → is_written_in ws k p ≡ true → is_written_in (with_write ws w) k p ≡ true
 with_written ws w k p e = by (is_written_in ws w.key w.writer)
@@ -130,11 +130,12 @@ module _ (l : Learned) (k : Facts) where
   module _ (w : Write) where
     under_more : (ws : List Write) (key : Key) → same_key w.key key ≡ false → writes_under (ws ++ w ∷ []) key ≡ writes_under ws key
     under_more [] key e = ap (λ (b : Bool). if b then w.value ∷ [] else []) e
-    under_more (u ∷ ws) key e = by (same_key u.key key)
+    under_more (u ∷ ws) key e = by (same_key u.key key) (under_more ws key e)
       where
-        by : (b : Bool) → (if b then u.value ∷ writes_under (ws ++ w ∷ []) key else writes_under (ws ++ w ∷ []) key) ≡ (if b then u.value ∷ writes_under ws key else writes_under ws key)
-        by true = ap (λ (z : List Scalar). u.value ∷ z) (under_more ws key e)
-        by false = under_more ws key e
+        by : (b : Bool) → writes_under (ws ++ w ∷ []) key ≡ writes_under ws key
+            → (if b then u.value ∷ writes_under (ws ++ w ∷ []) key else writes_under (ws ++ w ∷ []) key) ≡ (if b then u.value ∷ writes_under ws key else writes_under ws key)
+        by true rec = ap (λ (z : List Scalar). u.value ∷ z) rec
+        by false rec = rec
 
     under_with : (ws : List Write) (key : Key) → same_key w.key key ≡ false → writes_under (with_write ws w) key ≡ writes_under ws key
     under_with ws key e = by (is_written_in ws w.key w.writer)
@@ -146,7 +147,7 @@ module _ (l : Learned) (k : Facts) where
   -- what comes of a value
   value_comes : (p : Place) (v : Value) → IsAdded l.facts (Is.Value p v) k → (e : Event) → (e ∈ (at p ∷ [])) ⊎ IsSame l (with_facts l k) e
   value_comes p v a e = elim (cases_Bool (same_place p e.place)) [
-    | inr other ↦ inr (same_here e (a.values e.place ∙ elsewhere p e.place _ _ other) (a.writes e.place))
+    | inr other ↦ inr (same_here e (a.values e.place ∙ elsewhere p e.place (first_of (value_at l.facts e.place) v) (value_at l.facts e.place) other) (a.writes e.place))
     | inl same ↦ elim (cases_Bool (nat_eq e.mark 0)) [
       | inl whole ↦ inl (subst (λ (z : Event). z ∈ (at p ∷ [])) (is_event p 0 e (same_place-eq p e.place same) (sym (eqb-true e.mark 0 whole))) first)
       | inr marked ↦ inr (record {
@@ -161,7 +162,7 @@ module _ (l : Learned) (k : Facts) where
   -- what comes of a write
   write_comes : (p : Place) (w : Write) → IsAdded l.facts (Is.Element p w) k → (e : Event) → (e ∈ comes_with l (Is.Element p w)) ⊎ IsSame l (with_facts l k) e
   write_comes p w a e = elim (cases_Bool (same_place p e.place)) [
-    | inr other ↦ inr (same_here e (a.values e.place) (a.writes e.place ∙ elsewhere p e.place _ _ other))
+    | inr other ↦ inr (same_here e (a.values e.place) (a.writes e.place ∙ elsewhere p e.place (with_write (writes_at l.facts e.place) w) (writes_at l.facts e.place) other))
     | inl same ↦ here (same_place-eq p e.place same) (a.writes e.place ∙ ap (λ (b : Bool). if b then with_write (writes_at l.facts e.place) w else writes_at l.facts e.place) same)
   ]
     where
@@ -182,8 +183,8 @@ module _ (l : Learned) (k : Facts) where
         | inl under_key ↦ inl (subst (λ (z : Event). z ∈ comes_with l (Is.Element p w)) (is_event p (mark_of w.key) e g (sym (eqb-true e.mark (mark_of w.key) under_key))) first)
         | inr other ↦ elim (cases_Bool (nat_eq e.mark 0)) [
           | inr marked ↦ inr (open_array g h other (λ z c. not_zero e.mark marked z))
-          | inl zero ↦ elim (cases_Bool (closed_at l e.place)) [
-            | inl c ↦ inl (later (whole (closed_at l p) refl g (eqb-true e.mark 0 zero) c))
+          | inl unmarked ↦ elim (cases_Bool (closed_at l e.place)) [
+            | inl c ↦ inl (later (whole (closed_at l p) refl g (eqb-true e.mark 0 unmarked) c))
             | inr c ↦ inr (open_array g h other (λ z d. (let y : true ≡ false = sym d ∙ c in absurd (cc (y)))))
           ]
         ]

@@ -18,7 +18,7 @@ use Rattle.language.specs.Openings.{bounds}
 use Rattle.language.specs.Parts.{outers, outer_cells, outer_parts, parts, part_cells, stmt_calls}
 use Rattle.language.specs.Places.{Path, most_steps}
 use Rattle.language.proofs.Members.{to_left, to_right}
-use Rattle.meaning_steps.specs.Environment.{Outcome, outcome, as_outcome, element_come, element_under, many_come, one_come, operated, read_come, with_come, worked, worked_all}
+use Rattle.meaning_steps.specs.Environment.{Come, Outcome, outcome, as_outcome, element_come, element_under, many_come, one_come, operated, read_come, with_come, worked, worked_all}
 use Rattle.meaning_steps.specs.Kept.{is_there, several_in}
 use Rattle.meaning_steps.specs.News.{bad_by, branch_by, cell_by, come_by, comes_all, count_of, deep_by, key_in, one_in, printed_told, some_call, some_item, some_turn, text_in, unless, with_value}
 use Rattle.meaning_facts.specs.declared.facts.Place.{Place}
@@ -46,7 +46,7 @@ right_empty [] ys e = e
 right_empty (x ∷ xs) ys e = absurd (cc (e))
 
 both_empty : {X : Type 0} (xs ys : List X) → xs ≡ [] → ys ≡ [] → xs ++ ys ≡ []
-both_empty xs ys e f = ap (λ (z : List _). z ++ ys) e ∙ f
+both_empty {X = X} xs ys e f = ap (λ (z : List X). z ++ ys) e ∙ f
 
 -- an outermost cell is one of the cells
 now_in : (ps : List core.Part) (c : Cell) (qs : List core.Part) → c ∈ part_cells (ps ++ inner c ∷ qs)
@@ -61,7 +61,7 @@ past_in (calls b ∷ ps) d qs c i = past_in ps d qs c i
 
 outer_in : (os : List Outer) (o : Outer) → o ∈ os → o.cell ∈ part_cells (outer_parts os)
 outer_in [] o i = elim i [ ]
-outer_in (x ∷ os) x first = now_in x.parts x.cell (outer_parts os)
+outer_in (x ∷ os) o first = now_in x.parts x.cell (outer_parts os)
 outer_in (x ∷ os) o (later i) = past_in x.parts x.cell (outer_parts os) o.cell (outer_in os o i)
 
 module _ (l m : Learned) (more : KnowsMore l m) (t : Site) (placed : HasPlaces l.instances.all.items t.instance) where
@@ -105,18 +105,19 @@ module _ (l m : Learned) (more : KnowsMore l m) (t : Site) (placed : HasPlaces l
       by true e = ap (many_come true) (elements_same p s e)
       by false e = refl
 
-  worked_same : (e : Expr) → Quiet (expr_reads l t.instance e) → worked (sight_of m t.instance) e ≡ worked (sight_of l t.instance) e
+  mutual
+    worked_same : (e : Expr) → Quiet (expr_reads l t.instance e) → worked (sight_of m t.instance) e ≡ worked (sight_of l t.instance) e
+    worked_same (literal v) q = refl
+    worked_same (name x) q = ap one_come (scalar_same x q)
+    worked_same (whole a) q =
+        ap (λ (p : Place). many_come (closed_at m p) (elements_at m p)) (lies_same a) ∙ many_same (lies l t.instance a) (q (at (lies l t.instance a)) first)
+    worked_same (operator o es) q = ap (operated o) (all_same es q)
 
-  all_same : (es : Exprs) → Quiet (exprs_reads l t.instance es) → worked_all (sight_of m t.instance) es ≡ worked_all (sight_of l t.instance) es
-  worked_same (literal v) q = refl
-  worked_same (name x) q = ap one_come (scalar_same x q)
-  worked_same (whole a) q =
-      ap (λ (p : Place). many_come (closed_at m p) (elements_at m p)) (lies_same a) ∙ many_same (lies l t.instance a) (q (at (lies l t.instance a)) first)
-  worked_same (operator o es) q = ap (operated o) (all_same es q)
-  all_same none q = refl
-  all_same (also e es) q =
-      ap (λ z. with_come z (worked_all (sight_of m t.instance) es)) (worked_same e (quiet_left (expr_reads l t.instance e) (exprs_reads l t.instance es) q))
-      ∙ ap (with_come (worked (sight_of l t.instance) e)) (all_same es (quiet_right (expr_reads l t.instance e) (exprs_reads l t.instance es) q))
+    all_same : (es : Exprs) → Quiet (exprs_reads l t.instance es) → worked_all (sight_of m t.instance) es ≡ worked_all (sight_of l t.instance) es
+    all_same none q = refl
+    all_same (also e es) q =
+        ap (λ (z : Come). with_come z (worked_all (sight_of m t.instance) es)) (worked_same e (quiet_left (expr_reads l t.instance e) (exprs_reads l t.instance es) q))
+        ∙ ap (with_come (worked (sight_of l t.instance) e)) (all_same es (quiet_right (expr_reads l t.instance e) (exprs_reads l t.instance es) q))
 
   element_same : (a : Name) (o : Option Key) → Quiet (key_reads (lies l t.instance a) o) → element_under (sight_of m t.instance) a o ≡ element_under (sight_of l t.instance) a o
   element_same a None q = refl
@@ -197,13 +198,13 @@ module _ (l m : Learned) (more : KnowsMore l m) (t : Site) (placed : HasPlaces l
       by None f q =
           let now : value_at m.facts (here t.instance c.node) ≡ None = (q (at (here t.instance c.node)) first).value refl ∙ f in
           let same = outcome_same c.form (λ d i. q d (later i)) in
-          let then = outcome_still c.node (outcome (sight_at l t) c.form)
+          let was = outcome_still c.node (outcome (sight_at l t) c.form)
           (subst (λ (o : Option Value). cell_by (past_at l t) (path_at l t) t.at c.node o (outcome (sight_at l t) c.form) ≡ []) f e) in
           record {
             silent = ap (λ (o : Option Value). cell_by (past_at m t) (path_at m t) t.at c.node o (outcome (sight_at m t) c.form)) now
-                ∙ ap (λ (r : Outcome). cell_by (past_at m t) (path_at m t) t.at c.node None r) same ∙ then.0;
-            comes_then = ap (λ (o : Option Value). come_by o (outcome (sight_at l t) c.form)) f ∙ then.1 ∙ sym f;
-            comes_now = ap (λ (o : Option Value). come_by o (outcome (sight_at m t) c.form)) now ∙ ap (λ (r : Outcome). come_by None r) same ∙ then.1 ∙ sym f;
+                ∙ ap (λ (r : Outcome). cell_by (past_at m t) (path_at m t) t.at c.node None r) same ∙ was.0;
+            comes_then = ap (λ (o : Option Value). come_by o (outcome (sight_at l t) c.form)) f ∙ was.1 ∙ sym f;
+            comes_now = ap (λ (o : Option Value). come_by o (outcome (sight_at m t) c.form)) now ∙ ap (λ (r : Outcome). come_by None r) same ∙ was.1 ∙ sym f;
           }
 
   abbrev AreStill : List Cell → Type 0
@@ -211,7 +212,7 @@ module _ (l m : Learned) (more : KnowsMore l m) (t : Site) (placed : HasPlaces l
 
   cells_still : (cs : List Cell) → Quiet (cells_reads l t cs) → cells_news l t cs ≡ [] → AreStill cs
   cells_still [] q e c i = elim i [ ]
-  cells_still (c ∷ cs) q e c first = cell_still c (quiet_left (cell_reads l t c) (cells_reads l t cs) q) (left_empty (cell_news l t c) (cells_news l t cs) e)
+  cells_still (c ∷ cs) q e d first = cell_still c (quiet_left (cell_reads l t c) (cells_reads l t cs) q) (left_empty (cell_news l t c) (cells_news l t cs) e)
   cells_still (c ∷ cs) q e d (later i) = cells_still cs (quiet_right (cell_reads l t c) (cells_reads l t cs) q) (right_empty (cell_news l t c) (cells_news l t cs) e) d i
 
   cells_silent : (cs : List Cell) → AreStill cs → cells_news m t cs ≡ []
@@ -225,7 +226,7 @@ module _ (l m : Learned) (more : KnowsMore l m) (t : Site) (placed : HasPlaces l
   all_come [] s = refl
   all_come (c ∷ cs) s =
       ap (λ (o : Option Value). with_value o (comes_all (sight_at m t) cs)) (comes_same c (s c first))
-      ∙ ap (λ z. with_value (comes_at l t c) z) (all_come cs (λ d i. s d (later i)))
+      ∙ ap (λ (z : Option (List Value)). with_value (comes_at l t c) z) (all_come cs (λ d i. s d (later i)))
 
   -- WHAT IS DONE WITH THEIR VALUES
 
@@ -238,7 +239,7 @@ module _ (l m : Learned) (more : KnowsMore l m) (t : Site) (placed : HasPlaces l
 
   assigned_still : (x : Name) (o : Option Value) → assigned_news l t x o ≡ [] → assigned_news m t x o ≡ []
   assigned_still x None e = refl
-  assigned_still x (Some v) e = unless_true ((past_at m t).valued x) _ (valued_stays x (known_in ((past_at l t).valued x) _ e))
+  assigned_still x (Some v) e = unless_true ((past_at m t).valued x) (value (lies_at m t x) v) (valued_stays x (known_in ((past_at l t).valued x) (value (lies_at l t x) v) e))
 
   printed_still : (o : Option (List ℕ)) → printed_told (past_at l t) (path_at l t) t.node o ≡ [] → printed_told (past_at m t) (path_at m t) t.node o ≡ []
   printed_still None e = refl
@@ -348,18 +349,18 @@ module _ (l m : Learned) (more : KnowsMore l m) (t : Site) (placed : HasPlaces l
 
   -- of a call those are among its parts
   outers_of : (a : Action) → AreStill (part_cells (parts a)) → AreStill (part_cells (outer_parts (outers a)))
-  outers_of (declare v) s = s
+  outers_of (declare v) s d i = s d i
   outers_of (call_alone p ps c) s d i = elim i [ ]
-  outers_of (assign x o) s = s
-  outers_of (fill x o) s = s
-  outers_of (insert x i o) s = s
-  outers_of (print p o) s = s
-  outers_of (assert p o) s = s
-  outers_of (when o b) s = s
-  outers_of (choose o b d) s = s
-  outers_of (range lo hi st x n b) s = s
-  outers_of (each a x n b) s = s
-  outers_of (wait ns b) s = s
+  outers_of (assign x o) s d i = s d i
+  outers_of (fill x o) s d i = s d i
+  outers_of (insert x k o) s d i = s d i
+  outers_of (print p o) s d i = s d i
+  outers_of (assert p o) s d i = s d i
+  outers_of (when o b) s d i = s d i
+  outers_of (choose o b d) s d i = s d i
+  outers_of (range lo hi st x n b) s d i = s d i
+  outers_of (each a x n b) s d i = s d i
+  outers_of (wait ns b) s d i = s d i
 
   pub silence_stays : (a : Action) → site_news l t a ≡ [] → Quiet (site_reads l t a) → site_news m t a ≡ []
   silence_stays a e q =

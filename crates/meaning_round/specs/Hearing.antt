@@ -65,14 +65,14 @@ pub record Sleeps (l : Learned) (t : Tellers) (number : ℕ) (a : Active) : Type
 -- each of these statements is awake, is among those that are asked now, or sleeps
 pub record AreHeard (l : Learned) (ls : List Active) (t : Tellers) (asked : List ℕ) : Type 0 where
   pub fresh : t.fresh ≤ length ls
-  pub each : (k : ℕ) (a : Active) → slice_get ls k ≡ Some a → IsAwake t k ⊎ (k ∈ asked) ⊎ ((is_asleep t k ≡ true) × Sleeps l t k a)
+  pub each : (k : ℕ) (a : Active) → slice_get ls k ≡ Some a → IsAwake t k ⊎ ((k ∈ asked) ⊎ ((is_asleep t k ≡ true) × Sleeps l t k a))
 
 -- WHAT CHANGES
 
 -- one more sleeps, who is called at these events
 pub record FallsAsleep (old new : Tellers) (number : ℕ) (events : List Event) : Type 0 where
   pub fresh : new.fresh ≡ old.fresh
-  pub awake : new.awake ≡ old.awake
+  pub awake : new.awake.items ≡ old.awake.items
   pub asleep : (k : ℕ) → is_asleep new k ≡ nat_eq number k || is_asleep old k
   pub still : (e : Event) (k : ℕ) → is_called old e k ≡ true → is_called new e k ≡ true
   pub called : (e : Event) → e ∈ events → is_called new e number ≡ true

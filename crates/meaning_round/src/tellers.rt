@@ -1,6 +1,6 @@
 //! Which live statements may have something left to tell, by their numbers; and which sleep, and at what they are called.
 
-ghost use Rattle.std.specs.Prelude.{◌≡◌, ◌⊎◌, ◌++◌, ◌∷◌, ◌&&◌, ◌||◌, [], ℕ, nat_eq, false, true, IfOk, IsSome, OnOk};
+ghost use Rattle.std.specs.Prelude.{◌≡◌, ◌⊎◌, ◌++◌, ◌∷◌, ◌&&◌, ◌||◌, [], ℕ, cond, nat_eq, false, true, IfOk, IsSome, OnOk};
 ghost use Rattle.std.specs.HashMap.{get};
 ghost use Rattle.std.specs.HashSet.{contains};
 ghost use Rattle.language.specs.Members.{◌∈◌};
@@ -109,21 +109,21 @@ impl Tellers {
         ensures { OnOk result (FallsAsleep self.old self.new number events.now) }
     {
         for event in events {
-            self.call(alloc, *event, number)?;
+            self.call(alloc, event, number)?;
         }
         self.asleep.insert(number)?;
         Ok(())
     }
 
     /// Has one called at an event.
-    fn call(&mut self, alloc: Global, event: Event, number: usize) -> Result<(), AllocError>
-        ensures called { OnOk result ((e : SomeEvent) (k : ℕ) → is_called self.new e k ≡ (same_event (event_key event) (event_key e) && nat_eq number k) || is_called self.old e k) }
+    fn call(&mut self, alloc: Global, event: &Event, number: usize) -> Result<(), AllocError>
+        ensures called { OnOk result ((e : SomeEvent) (k : ℕ) → is_called self.new e k ≡ (same_event (event_key event.now) (event_key e) && nat_eq number k) || is_called self.old e k) }
         ensures fresh { self.new.fresh ≡ self.old.fresh }
-        ensures awake { self.new.awake ≡ self.old.awake }
+        ensures awake { self.new.awake.items ≡ self.old.awake.items }
         ensures asleep { self.new.asleep ≡ self.old.asleep }
     {
-        self.make_list(alloc, event)?;
-        self.put(event, number)
+        self.make_list(alloc, *event)?;
+        self.put(*event, number)
     }
 
     /// Makes a list of those who are called at an event where there is none.
@@ -131,7 +131,7 @@ impl Tellers {
         ensures called { OnOk result ((e : SomeEvent) (k : ℕ) → is_called self.new e k ≡ is_called self.old e k) }
         ensures there { OnOk result (IsSome (get same_event self.new.called (event_key event))) }
         ensures fresh { self.new.fresh ≡ self.old.fresh }
-        ensures awake { self.new.awake ≡ self.old.awake }
+        ensures awake { self.new.awake.items ≡ self.old.awake.items }
         ensures asleep { self.new.asleep ≡ self.old.asleep }
     {
         if !self.called.contains_key(&event.key()) {
@@ -145,7 +145,7 @@ impl Tellers {
         requires { IsSome (get same_event self.old.called (event_key event)) }
         ensures called { OnOk result ((e : SomeEvent) (k : ℕ) → is_called self.new e k ≡ (same_event (event_key event) (event_key e) && nat_eq number k) || is_called self.old e k) }
         ensures fresh { self.new.fresh ≡ self.old.fresh }
-        ensures awake { self.new.awake ≡ self.old.awake }
+        ensures awake { self.new.awake.items ≡ self.old.awake.items }
         ensures asleep { self.new.asleep ≡ self.old.asleep }
     {
         match self.called.get_mut(&event.key()) {
@@ -162,7 +162,10 @@ impl Tellers {
         ensures { OnOk result (AreWoken self.old self.new (event ∷ [])) }
     {
         match self.called.get(&event.key()) {
-            Some(numbers) => wake_all(numbers, &mut self.asleep, &mut self.awake),
+            Some(numbers) => {
+                wake_all(numbers, &mut self.asleep, &mut self.awake)?;
+                Ok(())
+            }
             None => Ok(()),
         }
     }
@@ -180,9 +183,24 @@ fn wake_all(
     ensures still { OnOk result ((k : ℕ) → k ∈ awake.old.items → k ∈ awake.new.items) }
 {
     for number in numbers {
-        if asleep.remove(number) {
-            awake.push(*number)?;
-        }
+        wake_one(number, asleep, awake)?;
     }
+    Ok(())
+}
+
+/// Wakes one that sleeps.
+fn wake_one(
+    number: &usize,
+    asleep: &mut HashSet<usize>,
+    awake: &mut Vec<usize>,
+) -> Result<(), AllocError>
+    ensures fewer { OnOk result ((k : ℕ) → contains nat_eq asleep.new k ≡ cond (nat_eq number.now k) false (contains nat_eq asleep.old k)) }
+    ensures woken { OnOk result (contains nat_eq asleep.old number.now ≡ true → number.now ∈ awake.new.items) }
+    ensures still { OnOk result ((k : ℕ) → k ∈ awake.old.items → k ∈ awake.new.items) }
+{
+    if !asleep.remove(number) {
+        return Ok(());
+    }
+    awake.push(*number)?;
     Ok(())
 }

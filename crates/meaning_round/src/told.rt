@@ -123,10 +123,10 @@ fn ask<A: Allocator>(
     ensures heard { OnOk result (HavePlaces learned.now.instances.all.items (map active_of tasks.now) → (asked : List ℕ)
         → AreHeard learned.now (map active_of tasks.now) tellers.old (number ∷ asked) → AreHeard learned.now (map active_of tasks.now) tellers.new asked) }
 {
-    match tasks.get(number) {
-        Some(task) => ask_task(learned, alloc, task, tellers, number, news),
-        None => Ok(()),
-    }
+    let Some(task) = tasks.get(number) else {
+        return Ok(());
+    };
+    ask_task(learned, alloc, task, tellers, number, news)
 }
 
 /// The same of a statement and its number.

@@ -8,7 +8,7 @@ use Rattle.meaning_round.specs.Hearing.{numbers_of, AreHeard}
 use Rattle.meaning_round.specs.Made.{picks, tasks_of, telling_of}
 use Rattle.meaning_round.specs.Standing.{active_of, actives_news, HavePlaces}
 use Rattle.meaning_round.proofs.Round.{round_told}
-use Rattle.meaning_round.proofs.told.State.news.Goals as goal
+use Rattle.meaning_round.proofs.state.State.news.Goals as goal
 
 pub returns-clause-told : goal.returns-clause-told
 returns-clause-told g c =
