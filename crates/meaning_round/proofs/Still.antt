@@ -357,7 +357,7 @@ module _ (l m : Learned) (more : KnowsMore l m) (t : Site) (placed : HasPlaces l
   outers_of (print p o) s d i = s d i
   outers_of (assert p o) s d i = s d i
   outers_of (when o b) s d i = s d i
-  outers_of (choose o b d) s d i = s d i
+  outers_of (choose o b e) s d i = s d i
   outers_of (range lo hi st x n b) s d i = s d i
   outers_of (each a x n b) s d i = s d i
   outers_of (wait ns b) s d i = s d i

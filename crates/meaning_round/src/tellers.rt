@@ -109,21 +109,21 @@ impl Tellers {
         ensures { OnOk result (FallsAsleep self.old self.new number events.now) }
     {
         for event in events {
-            self.call(alloc, event, number)?;
+            self.call(alloc, *event, number)?;
         }
         self.asleep.insert(number)?;
         Ok(())
     }
 
     /// Has one called at an event.
-    fn call(&mut self, alloc: Global, event: &Event, number: usize) -> Result<(), AllocError>
-        ensures called { OnOk result ((e : SomeEvent) (k : ℕ) → is_called self.new e k ≡ (same_event (event_key event.now) (event_key e) && nat_eq number k) || is_called self.old e k) }
+    fn call(&mut self, alloc: Global, event: Event, number: usize) -> Result<(), AllocError>
+        ensures called { OnOk result ((e : SomeEvent) (k : ℕ) → is_called self.new e k ≡ (same_event (event_key event) (event_key e) && nat_eq number k) || is_called self.old e k) }
         ensures fresh { self.new.fresh ≡ self.old.fresh }
         ensures awake { self.new.awake.items ≡ self.old.awake.items }
         ensures asleep { self.new.asleep ≡ self.old.asleep }
     {
-        self.make_list(alloc, *event)?;
-        self.put(*event, number)
+        self.make_list(alloc, event)?;
+        self.put(event, number)
     }
 
     /// Makes a list of those who are called at an event where there is none.

@@ -1,4 +1,4 @@
-use Rattle.std.proofs.Common.{rules, ◌≡◌, ◌∷◌, [], ℕ, true, subst}
+use Rattle.std.proofs.Common.{rules, ◌≡◌, ◌∷◌, [], ℕ, true, ap, ◌∙◌, subst}
 use Rattle.std.specs.Prelude.{nat_eq, List}
 use Rattle.std.specs.List.{list_any}
 use Rattle.std.specs.HashSet.{contains}
@@ -7,8 +7,10 @@ use Rattle.meaning_round.proofs.tellers.wake_all.Goals as goal
 
 pub loop-number-init : goal.loop-number-init
 loop-number-init c =
-    let listed : (k : ℕ) → contains nat_eq c.args.numbers.now k ≡ true → list_any (nat_eq k) c.args.numbers.now.keys ≡ true = λ k e. e in
-    all_waking c.args.numbers.now c.args.numbers.now.keys c.args.asleep.now c.args.awake.now.items listed
+    let keys : c.into_iter-number-iterator.result ≡ c.args.numbers.now.keys = search rules in
+    let listed : (k : ℕ) → contains nat_eq c.args.numbers.now k ≡ true → list_any (nat_eq k) c.into_iter-number-iterator.result ≡ true =
+    λ k e. ap (λ (xs : List ℕ). list_any (nat_eq k) xs) keys ∙ e in
+    all_waking c.args.numbers.now c.into_iter-number-iterator.result c.args.asleep.now c.args.awake.now.items listed
 
 pub loop-number-preserved : goal.loop-number-preserved
 loop-number-preserved c =

@@ -14,8 +14,8 @@ returns-clause-inside g c =
     let A = g.row.A.Denot in
     let ls = map (active_of {A = A}) c.args.tasks.now in
     let ns = c.args.learned.now.instances.all.items in
-    let count : c.len.result ≡ length c.args.tasks.now = search rules in
-    let same = c.in_ok-numbers.ensures.numbers ∙ ap (numbers_of c.args.tellers.now) (count ∙ sym (length-map c.args.tasks.now (active_of {A = A}))) in
+    let numbers : c.in_ok-numbers.numbers.items ≡ numbers_of c.args.tellers.now (length c.args.tasks.now) = search rules in
+    let same = numbers ∙ ap (numbers_of c.args.tellers.now) (sym (length-map c.args.tasks.now (active_of {A = A}))) in
     subst (λ (z : List ℕ). IfOk c.ask_each.result (λ news. HavePlaces ns (picks ls z) → AreInside ns news.items)) same c.ask_each.ensures.inside
 
 pub returns-clause-heard : goal.returns-clause-heard
@@ -23,10 +23,11 @@ returns-clause-heard g c =
     let A = g.row.A.Denot in
     let l = c.args.learned.now in
     let ls = map (active_of {A = A}) c.args.tasks.now in
-    let count : c.len.result ≡ length c.args.tasks.now = search rules in
-    let counts = count ∙ sym (length-map c.args.tasks.now (active_of {A = A})) in
-    let taken = c.in_ok-numbers.ensures in
+    let numbers : c.in_ok-numbers.numbers.items ≡ numbers_of c.args.tellers.now (length c.args.tasks.now) = search rules in
+    let fresh : c.take_awake.new.self.fresh ≡ length c.args.tasks.now = search rules in
+    let counts = sym (length-map c.args.tasks.now (active_of {A = A})) in
     on_ok_weaker c.ask_each.result
     (λ f. λ places h. f places
-    (heard_taken l ls c.args.tellers.now _ c.in_ok-numbers.numbers.items (taken.numbers ∙ ap (numbers_of c.args.tellers.now) counts) (taken.fresh ∙ counts) taken.asleep taken.called h))
+    (heard_taken l ls c.args.tellers.now c.take_awake.new.self c.in_ok-numbers.numbers.items (numbers ∙ ap (numbers_of c.args.tellers.now) counts) (fresh ∙ counts)
+    c.take_awake.ensures.asleep c.take_awake.ensures.called h))
     c.ask_each.ensures.heard

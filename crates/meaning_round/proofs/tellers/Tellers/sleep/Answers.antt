@@ -1,4 +1,4 @@
-use Rattle.std.proofs.Common.{rules, arith, ◌≡◌, ◌<◌, ◌≤◌, List, length, get_or, take, refl, sym, ap, ◌∙◌, subst}
+use Rattle.std.proofs.Common.{rules, arith, ◌≡◌, ◌<◌, ◌≤◌, List, length, get_or, take, refl, ap, ◌∙◌, subst}
 use Rattle.std.proofs.lemmas.Grind.{common_steps}
 use Rattle.std.proofs.lemmas.List.{take_all}
 use Rattle.std.specs.Prelude.{◌&&◌, ◌||◌, nat_eq}
@@ -14,10 +14,10 @@ loop-event-init c = none_called c.args.self.now c.args.number c.args.events.now
 pub loop-event-preserved : goal.loop-event-preserved
 loop-event-preserved c =
     let within : c.loop-event.event-index < length c.args.events.now = grind (arith, common_steps) in
-    let item : get_or c.args.events.now c.loop-event.event-index c.call-arg-1.result ≡ c.call-arg-1.result = search rules in
-    next_called c.args.self.now c.loop-event.self c.call.new.self c.args.number c.args.events.now c.loop-event.event-index c.call-arg-1.result within
+    let item : c.event-item.result ≡ get_or c.args.events.now c.loop-event.event-index c.event-item.result = search rules in
+    next_called c.args.self.now c.loop-event.self c.call.new.self c.args.number c.args.events.now c.loop-event.event-index c.event-item.result within
     (λ e k. c.in_ok-call.ensures.called e k
-    ∙ ap (λ (z : Event). (same_event (event_key z) (event_key e) && nat_eq c.args.number k) || is_called c.loop-event.self e k) (sym item))
+    ∙ ap (λ (z : Event). (same_event (event_key z) (event_key e) && nat_eq c.args.number k) || is_called c.loop-event.self e k) item)
     c.call.ensures.fresh c.call.ensures.awake c.call.ensures.asleep c.loop-event.invariant
 
 pub returns : goal.returns
