@@ -6,7 +6,7 @@ use Rattle.std.specs.HashSet.{HashSet, contains}
 use Rattle.std.proofs.Common.{inl, inr, sym, ap, ◌∙◌, subst, get_or, arith}
 use Rattle.std.proofs.lemmas.Bool.{cases_Bool, eq-eqb, eqb-true}
 use Rattle.std.proofs.lemmas.List.{append_assoc, append-nil, take_more}
-use Rattle.language.specs.Members.{◌∈◌, first, later}
+use Rattle.language.specs.Members.{◌∈◌}
 use Rattle.language.proofs.Members.{either, split_in}
 use Rattle.meaning_round.specs.declared.tellers.Event.{Event}
 use Rattle.meaning_round.specs.declared.tellers.Tellers.{Tellers}

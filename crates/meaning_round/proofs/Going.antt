@@ -1,14 +1,12 @@
 -- From one round to the next.
-use Rattle.std.specs.Prelude.{◌≡◌, ◌↔◌, ◌⊎◌, ℕ, suc, ◌<◌, Bool, true, false, not, List, [], ◌∷◌, ◌++◌, length, map, take, filter, refl}
-use Rattle.std.proofs.Common.{inl, inr, sym, ap, ◌∙◌, subst, arith}
-use Rattle.std.proofs.lemmas.Bool.{cases_Bool}
+use Rattle.std.specs.Prelude.{◌≡◌, ◌↔◌, ◌⊎◌, ℕ, suc, true, false, List, []}
+use Rattle.std.proofs.Common.{inl, inr, subst, arith}
 use Rattle.values.specs.declared.key.Key.{Key}
-use Rattle.language.specs.Core.{Core, Block, Call, Function, Awaited, Stmt, wait}
+use Rattle.language.specs.Core.{Core, Block}
 use Rattle.language.specs.Facts as script
 use Rattle.language.specs.Facts.{Knowledge}
 use Rattle.language.specs.Meaning.{Known, IsFinished}
-use Rattle.language.specs.Members.{◌∈◌, first, later}
-use Rattle.language.specs.Parts.{stmt_action, block_list}
+use Rattle.language.specs.Members.{◌∈◌}
 use Rattle.language.specs.Reads.{Reads}
 use Rattle.language.specs.Resolved.{core}
 use Rattle.language.specs.Single.{SinglyAssigned}
@@ -16,21 +14,18 @@ use Rattle.language.specs.Table.{Table}
 use Rattle.language.specs.Tree.{Tree}
 use Rattle.language.specs.Typing.{WellTyped}
 use Rattle.language.specs.WellFormed.{WellFormed}
-use Rattle.language.proofs.Members.{either, to_left, to_right, split_in}
 use Rattle.language_accepted.proofs.Accepted.{accepted_formed}
 use Rattle.meaning_steps.proofs.Nodes.{accepted_nodes}
 use Rattle.meaning_facts.specs.declared.facts.Fact.{Fact}
 use Rattle.meaning_facts.specs.declared.facts.Facts.{Facts}
-use Rattle.meaning_facts.specs.declared.instances.Instances.{Instances}
 use Rattle.meaning_facts.specs.declared.learned.Learned.{Learned}
-use Rattle.meaning_facts.specs.Growing.{fact_view, with_facts}
-use Rattle.meaning_facts.specs.Keeping.{IsPlaced}
+use Rattle.meaning_facts.specs.Growing.{with_facts}
 use Rattle.meaning_facts.proofs.Keeping.{name_located}
 use Rattle.meaning_invariants.specs.Held.{AreAdded, AreInside, Holds}
 use Rattle.meaning_invariants.proofs.Rounds as held
 use Rattle.meaning_invariants.specs.Active.{Active, HasBlock}
-use Rattle.meaning_invariants.specs.Opened.{AreCalled, ArePassed, IsOpened, nothing, branches, content}
-use Rattle.meaning_invariants.specs.Opened.{IsSoFar, IsUnready, OffsetsApart}
+use Rattle.meaning_invariants.specs.Opened.{ArePassed, IsOpened, nothing, branches, content}
+use Rattle.meaning_invariants.specs.Opened.{IsUnready, OffsetsApart}
 use Rattle.meaning_invariants.proofs.Final.{all_open}
 use Rattle.meaning_invariants.proofs.Right.{is_right}
 use Rattle.meaning_invariants.proofs.Learning.{passed_later, so_far_later}

@@ -13,7 +13,6 @@ use Rattle.meaning_facts.specs.declared.learned.Learned.{Learned}
 use Rattle.meaning_facts.specs.Added.{IsAdded}
 use Rattle.meaning_facts.specs.Growing.{with_facts}
 use Rattle.meaning_invariants.specs.Active.{Active}
-use Rattle.meaning_invariants.specs.Held.{HasPlaces}
 use Rattle.meaning_round.specs.declared.tellers.Event.{Event}
 use Rattle.meaning_round.specs.declared.tellers.Tellers.{Tellers}
 use Rattle.meaning_round.specs.Going.{IsTelling}

@@ -1,5 +1,5 @@
 -- More is known where instances are opened, arrays are closed, and facts are added.
-use Rattle.std.specs.Prelude.{◌≡◌, ◌⊎◌, ℕ, ◌<◌, ◌≤◌, Bool, true, false, ◌&&◌, ◌||◌, List, [], ◌∷◌, ◌++◌, length, nat_eq, is_some, Option, Some, None, if◌then◌else◌, refl}
+use Rattle.std.specs.Prelude.{◌≡◌, ◌⊎◌, ℕ, Bool, true, false, ◌&&◌, ◌||◌, List, [], ◌∷◌, ◌++◌, nat_eq, is_some, Option, Some, None, if◌then◌else◌, refl}
 use Rattle.std.specs.HashSet.{contains}
 use Rattle.std.proofs.Common.{inl, inr, sym, ap, ◌∙◌, subst, arith}
 use Rattle.std.proofs.lemmas.Bool.{cases_Bool, eq-eqb, eqb-true}
@@ -8,7 +8,6 @@ use Rattle.values.specs.declared.value.Scalar.{Scalar}
 use Rattle.values.specs.declared.value.Value.{Value}
 use Rattle.values.specs.Keys.{mark_of, same_key}
 use Rattle.values.proofs.Keys.{same_key-eq}
-use Rattle.language.specs.Core.{Name}
 use Rattle.language.specs.Members.{◌∈◌, first, later}
 use Rattle.meaning_steps.specs.Kept.{scalar_by}
 use Rattle.meaning_facts.specs.declared.facts.Fact.{Fact}
@@ -18,18 +17,17 @@ use Rattle.meaning_facts.specs.declared.facts.Facts.{Facts}
 use Rattle.meaning_facts.specs.declared.facts.Place.{Place}
 use Rattle.meaning_facts.specs.declared.facts.Write.{Write}
 use Rattle.meaning_facts.specs.declared.learned.Learned.{Learned}
-use Rattle.meaning_facts.specs.Added.{fault_after, first_of, line_after, value_after, with_write, writes_after, IsAdded}
+use Rattle.meaning_facts.specs.Added.{first_of, with_write, IsAdded}
 use Rattle.meaning_facts.specs.Growing.{with_facts}
 use Rattle.meaning_facts.specs.Keeping.{same_fault}
-use Rattle.meaning_facts.specs.Sighted.{closed_at, scalar_at}
+use Rattle.meaning_facts.specs.Sighted.{closed_at}
 use Rattle.meaning_facts.specs.Store.{is_written_in, line_at, same_place, value_at, variable_in, variables_of, writes_at, writes_under}
 use Rattle.meaning_facts.proofs.Adding.{same_place-eq}
 use Rattle.meaning_facts.proofs.Growing.{value_stays}
-use Rattle.meaning_invariants.specs.Held.{Grows}
 use Rattle.meaning_round.specs.declared.tellers.Event.{Event}
 use Rattle.meaning_round.specs.Hearing.{closed_too, comes_with}
 use Rattle.meaning_round.specs.More.{KnowsMore}
-use Rattle.meaning_round.specs.Reads.{at, under, IsSame}
+use Rattle.meaning_round.specs.Reads.{at, IsSame}
 
 -- ONE FACT MORE
 

@@ -1,20 +1,19 @@
 -- What statements read, one cell, part or element after another.
-use Rattle.std.specs.Prelude.{◌≡◌, ℕ, ℤ, ◌+◌, ◌<◌, List, [], ◌∷◌, ◌++◌, length, map, take, Option, option_map, option_to_list, refl}
+use Rattle.std.specs.Prelude.{◌≡◌, ℕ, ℤ, ◌+◌, ◌<◌, List, [], ◌∷◌, ◌++◌, length, map, take, option_map, option_to_list, refl}
 use Rattle.std.proofs.Common.{sym, ap, ◌∙◌, get_or}
 use Rattle.std.proofs.lemmas.List.{map-append, append_assoc, append-nil, take_more}
 use Rattle.values.specs.declared.map.Element.{Element}
-use Rattle.flow.specs.declared.cell.Outer.{Outer as FlowOuter}
 use Rattle.flow.specs.declared.cell.Part.{Part as FlowPart}
 use Rattle.flow.specs.declared.expression.Expr.{Expr as FlowExpr}
 use Rattle.flow.specs.declared.statement.Range.{Range}
 use Rattle.flow.specs.View.{expr_view, exprs_view, operands, outer_view, part_view, parts_view}
 use Rattle.language.specs.Core.{Cell, Call, Expr, Outer, Part, Action, inner, calls, call_alone}
-use Rattle.language.specs.Parts.{outer_parts, part_cells, parts}
+use Rattle.language.specs.Parts.{outer_parts, part_cells}
 use Rattle.meaning_facts.specs.declared.facts.Place.{Place}
 use Rattle.meaning_facts.specs.declared.learned.Learned.{Learned}
 use Rattle.meaning_faults.specs.declared.site.Site.{Site}
 use Rattle.meaning_round.specs.declared.tellers.Event.{Event}
-use Rattle.meaning_round.specs.Reads.{cell_reads, cells_reads, elements_reads, expr_reads, exprs_reads, outers_reads, own_reads, site_reads, under}
+use Rattle.meaning_round.specs.Reads.{cell_reads, cells_reads, elements_reads, expr_reads, exprs_reads, outers_reads, site_reads, under}
 use Rattle.meaning_round.specs.Told.{range_outers}
 use Rattle.meaning_round.proofs.Behind.{parts_append}
 

@@ -1,11 +1,10 @@
 -- What is told of all tasks is what is told of the live statements.
-use Rattle.std.specs.Prelude.{◌≡◌, ◌↔◌, ◌⊎◌, ℕ, suc, ◌<◌, Bool, true, false, List, [], ◌∷◌, ◌++◌, length, map, refl}
+use Rattle.std.specs.Prelude.{◌≡◌, ◌↔◌, ◌⊎◌, ℕ, suc, ◌<◌, List, [], ◌∷◌, ◌++◌, length, refl}
 use Rattle.std.proofs.Common.{sym, ap, ◌∙◌, subst, inl, inr}
-use Rattle.std.proofs.lemmas.List.{append-nil}
 use Rattle.meaning_steps.specs.Kept.{sight_by, past_by}
-use Rattle.language.specs.Core.{Core, Name, Stmt, stmt}
+use Rattle.language.specs.Core.{Core, Stmt, stmt}
 use Rattle.language.specs.Facts.{Fact, Knowledge}
-use Rattle.language.specs.Meaning.{Known, LiveStmt}
+use Rattle.language.specs.Meaning.{Known}
 use Rattle.language.specs.Reads.{Reads}
 use Rattle.language.specs.Resolved.{core}
 use Rattle.language.specs.Single.{SinglyAssigned}

@@ -1,6 +1,5 @@
 -- A statement that told nothing tells nothing still, where more is known and nothing has come of what it read.
-use Rattle.std.specs.Prelude.{◌≡◌, ℕ, ◌<◌, Bool, true, false, ◌&&◌, List, [], ◌∷◌, ◌++◌, length, nat_le, is_some, map, Option, Some, None, Result, Ok, Err, refl}
-use Rattle.std.specs.HashSet.{contains}
+use Rattle.std.specs.Prelude.{◌≡◌, ℕ, Bool, true, false, ◌&&◌, List, [], ◌∷◌, ◌++◌, length, nat_le, map, Option, Some, None, Result, Ok, Err, refl}
 use Rattle.std.proofs.Common.{sym, ap, ◌∙◌, subst}
 use Rattle.paths.specs.declared.faults.FaultKind.{FaultKind}
 use Rattle.values.specs.declared.fault.OpFault.{OpFault}
@@ -12,7 +11,7 @@ use Rattle.values.specs.declared.value.Value.TheVariants.{One, Many}
 use Rattle.values.specs.Keys.{value_key}
 use Rattle.language.specs.Core as core
 use Rattle.language.specs.Core.{Cell, Outer, Action, Name, Expr, Exprs, literal, name, whole, operator, none, also, Form, compute, read, stmt, inner, calls, declare, call_alone, assign, fill, insert, print, assert, when, choose, range, each, wait}
-use Rattle.language.specs.Facts.{Fault, operation, element_twice, too_deep, Fact, value, element, line, fault}
+use Rattle.language.specs.Facts.{Fault, operation, element_twice, too_deep, Fact, value, line, fault}
 use Rattle.language.specs.Members.{◌∈◌, first, later}
 use Rattle.language.specs.Openings.{bounds}
 use Rattle.language.specs.Parts.{outers, outer_cells, outer_parts, parts, part_cells, stmt_calls}
@@ -23,8 +22,7 @@ use Rattle.meaning_steps.specs.Kept.{is_there, several_in}
 use Rattle.meaning_steps.specs.News.{bad_by, branch_by, cell_by, come_by, comes_all, count_of, deep_by, key_in, one_in, printed_told, some_call, some_item, some_turn, text_in, unless, with_value}
 use Rattle.meaning_facts.specs.declared.facts.Place.{Place}
 use Rattle.meaning_facts.specs.declared.learned.Learned.{Learned}
-use Rattle.meaning_facts.specs.Keeping.{has_kind, kind_of, same_fault}
-use Rattle.meaning_facts.specs.Paths.{path_of}
+use Rattle.meaning_facts.specs.Keeping.{has_kind, kind_of}
 use Rattle.meaning_facts.specs.Sighted.{closed_at, scalar_at, sight_of}
 use Rattle.meaning_facts.specs.Store.{elements_from, is_written_in, value_at, writes_at, writes_under}
 use Rattle.meaning_invariants.specs.Held.{HasPlaces}
@@ -33,7 +31,7 @@ use Rattle.meaning_faults.specs.Faults.{sight_at, past_at, path_at, deep_news, e
 use Rattle.meaning_round.specs.declared.tellers.Event.{Event}
 use Rattle.meaning_round.specs.More.{KnowsMore}
 use Rattle.meaning_round.specs.Reads.{at, cell_reads, cells_reads, elements_reads, element_reads, expr_reads, exprs_reads, filled_reads, form_reads, here, inserted_reads, key_reads, lies, own_reads, put_reads, site_reads, under, unknown, unless_known, IsSame}
-use Rattle.meaning_round.specs.Told.{assigned_news, bounds_news, branch_news, calls_news, cell_news, cells_news, comes_at, element_by, element_news, elements_news, filled_news, inserted_news, lies_at, own_news, range_news, site_news}
+use Rattle.meaning_round.specs.Told.{assigned_news, branch_news, calls_news, cell_news, cells_news, comes_at, element_by, element_news, elements_news, filled_news, inserted_news, lies_at, own_news, range_news, site_news}
 
 -- LISTS
 

@@ -18,7 +18,6 @@ use Rattle.meaning_invariants.specs.Active.{Active, active, IsListed}
 use Rattle.meaning_faults.specs.declared.site.Site.{Site}
 use Rattle.meaning_round.specs.declared.state.Content.{Content}
 use Rattle.meaning_round.specs.declared.state.Deed.{Deed}
-use Rattle.meaning_round.specs.declared.state.Deed.TheVariants as Deed
 use Rattle.meaning_round.specs.declared.state.Task.{Task}
 use Rattle.meaning_round.specs.Told.{site_news}
 

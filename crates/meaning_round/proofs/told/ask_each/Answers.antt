@@ -1,7 +1,5 @@
-use Rattle.std.proofs.Common.{rules, ◌≡◌, [], ◌∷◌, ◌++◌, List, ℕ, length, map, subst, sym, ap, ◌∙◌}
+use Rattle.std.proofs.Common.{rules, ◌≡◌, ◌∷◌, ◌++◌, List, ℕ, length, map, subst}
 use Rattle.std.specs.Vec.Iter.{into_iter_items}
-use Rattle.language.specs.Facts.{Fact}
-use Rattle.meaning_invariants.specs.Held.{AreInside}
 use Rattle.meaning_faults.specs.Viewed.{facts_view}
 use Rattle.meaning_round.specs.Hearing.{AreHeard}
 use Rattle.meaning_round.specs.Made.{picks}

@@ -1,4 +1,4 @@
-use Rattle.std.proofs.Common.{rules, ◌≡◌, [], ◌∷◌, ◌∙◌, List, length, subst, sym}
+use Rattle.std.proofs.Common.{rules, ◌≡◌, ◌∷◌, ◌∙◌, List, length, subst, sym}
 use Rattle.std.specs.Vec.Iter.{into_iter_items}
 use Rattle.meaning_facts.specs.declared.facts.Fact.{Fact}
 use Rattle.meaning_invariants.specs.Held.{AreAdded, no_more, one_more}

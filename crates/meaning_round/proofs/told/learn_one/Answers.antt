@@ -1,4 +1,3 @@
-use Rattle.std.proofs.Common.{◌≡◌}
 use Rattle.meaning_round.proofs.Heard.{heard_learned}
 use Rattle.meaning_round.proofs.told.learn_one.Goals as goal
 

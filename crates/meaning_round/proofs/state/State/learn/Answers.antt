@@ -1,4 +1,3 @@
-use Rattle.std.proofs.Common.{◌≡◌}
 use Rattle.std.proofs.lemmas.Result.{on_ok_weaker}
 use Rattle.meaning_round.specs.Made.{tasks_of}
 use Rattle.meaning_round.proofs.state.State.learn.Goals as goal

@@ -1,4 +1,4 @@
-use Rattle.std.proofs.Common.{rules, ◌≡◌, ◌++◌, [], List, length, map, subst}
+use Rattle.std.proofs.Common.{rules, ◌≡◌, [], List, length, map, subst}
 use Rattle.std.proofs.lemmas.Result.{IfOk-weaker}
 use Rattle.std.specs.Prelude.{IfOk, OnOk}
 use Rattle.meaning_invariants.specs.Held.{AreInside}

@@ -1,7 +1,6 @@
-use Rattle.std.proofs.Common.{rules, ◌≡◌, ℕ, false, true, refl, ap, ◌∙◌}
-use Rattle.std.specs.Prelude.{Some, nat_eq}
+use Rattle.std.proofs.Common.{rules, ◌≡◌, refl, ap, ◌∙◌}
+use Rattle.std.specs.Prelude.{Some}
 use Rattle.std.specs.HashMap.{get}
-use Rattle.std.specs.HashSet.{contains}
 use Rattle.meaning_round.specs.declared.tellers.Tellers.{Tellers}
 use Rattle.meaning_round.specs.Hearing.{event_key, is_in, same_event}
 use Rattle.meaning_round.proofs.Called.{those_woken}
