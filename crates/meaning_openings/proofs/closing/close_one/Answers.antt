@@ -13,8 +13,8 @@ returns-then-is_closed-clause-tried g c =
     let closed : closed_at c.args.learned.now c.args.array.now.place ≡ true = search rules in
     looked_still s a c.args.learned.now c.args.closed.now.items (closed_ends s c.args.learned.now a closed)
 
-pub returns-then-not-is_closing-clause-tried : goal.returns-then-not-is_closing-clause-tried
-returns-then-not-is_closing-clause-tried g c =
+pub returns-then-not-branch-clause-tried : goal.returns-then-not-branch-clause-tried
+returns-then-not-branch-clause-tried g c =
     let A = g.row.A.Denot in
     let s = core_of {A = A} c.args.flow.now in
     let a = candidate_of {A = A} c.args.array.now in

@@ -1,4 +1,4 @@
-use Rattle.std.proofs.Common.{rules, arith, ◌≡◌, ◌<◌, ◌≤◌, ◌∷◌, [], List, length, get_or, map, sym, ap, ◌∙◌, subst}
+use Rattle.std.proofs.Common.{arith, ◌<◌, ◌≤◌, ◌∷◌, [], List, length, map, subst}
 use Rattle.std.proofs.lemmas.Grind.{common_steps}
 use Rattle.std.proofs.lemmas.List.{take_all}
 use Rattle.meaning_facts.specs.declared.facts.Place.{Place}
@@ -15,9 +15,9 @@ loop-place-init c = none_woken c.args.tellers.now
 pub loop-place-preserved : goal.loop-place-preserved
 loop-place-preserved c =
     let within : c.loop-place.place-index < length c.args.closed.now = grind (arith, common_steps) in
-    let item : c.place-item.result ≡ get_or c.args.closed.now c.loop-place.place-index c.place-item.result = search rules in
-    next_woken c.args.tellers.now c.loop-place.tellers c.wake.new.self c.args.closed.now c.loop-place.place-index c.place-item.result within c.loop-place.invariant
-    (subst (λ (z : Event). AreWoken c.loop-place.tellers c.wake.new.self (z ∷ [])) (c.at.ensures ∙ ap at item) c.in_ok-wake.ensures)
+    let past : Place = record { instance = 0; node = 0 } in
+    next_woken c.args.tellers.now c.loop-place.tellers c.wake.new.self c.args.closed.now c.loop-place.place-index past within c.loop-place.invariant
+    (subst (λ (z : Event). AreWoken c.loop-place.tellers c.wake.new.self (z ∷ [])) c.at.ensures c.in_ok-wake.ensures)
 
 pub returns : goal.returns
 returns c =
