@@ -46,7 +46,7 @@ elements_step l t a es i d xs ys zs h e f =
     ∙ sym (elements_append l t a (take i es) (get_or es i d ∷ []))
     ∙ ap (λ (z : List Element). elements_news l t a z) (sym (take_more es i d h)))
 
-actives_append : (l : Learned) (xs bs : List Active) → actives_news l (xs ++ bs) ≡ actives_news l xs ++ actives_news l bs
+pub actives_append : (l : Learned) (xs bs : List Active) → actives_news l (xs ++ bs) ≡ actives_news l xs ++ actives_news l bs
 actives_append l [] bs = refl
 actives_append l (a ∷ xs) bs = ap (λ (z : List Fact). active_news l a ++ z) (actives_append l xs bs) ∙ sym (append_assoc (active_news l a) (actives_news l xs) (actives_news l bs))
 

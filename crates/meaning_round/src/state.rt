@@ -9,10 +9,11 @@ ghost use Rattle.meaning_facts.specs.Fresh.{IsFresh};
 ghost use Rattle.meaning_invariants.specs.Active.{active};
 ghost use Rattle.meaning_invariants.specs.Never.{never_in};
 ghost use Rattle.meaning_invariants.specs.Listed.{all_active, unless_never};
-ghost use Rattle.meaning_round.specs.Made.{arrays_of, candidate_of, declares_here, declares_here_by, no_calls, tasks_of, telling_of, waiting_of};
+ghost use Rattle.meaning_round.specs.Made.{arrays_of, candidate_of, declares_here, declares_here_by, no_calls, tasks_of, waiting_of};
 ghost use Rattle.meaning_round.specs.Standing.{active_of, deed_view};
 
 use crate::ending::nevers_of;
+use crate::tellers::Tellers;
 use flow::name::Name;
 use flow::script::Flow;
 use flow::statement::{Action, Block, Header, Statement};
@@ -51,15 +52,15 @@ pub struct Array<'a, A: Allocator> {
     pub block: &'a Block<A>,
 }
 
-/// What is known of a script, with what is live and closed by it: the live statements, and those among them that may have
-/// something left to tell. Of the first so many, which were passed, the blocks of their calls are live, and those that they open
+/// What is known of a script, with what is live and closed by it: the live statements, and who among them may have something
+/// left to tell. Of the first so many, which were passed, the blocks of their calls are live, and those that they open
 /// as headers, but where they wait for their choice.
 #[derive(Drop)]
 pub struct State<'a, A: Allocator> {
     pub flow: &'a Flow<A>,
     pub learned: Learned,
     pub tasks: Vec<Task<'a, A>>,
-    pub telling: Vec<Task<'a, A>>,
+    pub tellers: Tellers,
     pub passed: usize,
     pub waiting: Vec<Task<'a, A>>,
     pub arrays: Vec<Array<'a, A>>,
@@ -92,7 +93,7 @@ impl<'a, A: Allocator> State<'a, A> {
     pub fn new(alloc: Global, flow: &'a Flow<A>) -> Result<State<'a, A>, AllocError>
         ensures learned { IfOk result (λ state. IsFresh state.learned) }
         ensures tasks { IfOk result (λ state. tasks_of state ≡ all_active 0 (block_list (core_of flow.entry.now).body)) }
-        ensures telling { IfOk result (λ state. telling_of state ≡ all_active 0 (block_list (core_of flow.entry.now).body)) }
+        ensures fresh { IfOk result (λ state. state.tellers.fresh ≡ 0) }
         ensures passed { IfOk result (λ state. (state.passed ≡ 0) × (waiting_of state ≡ [])) }
         ensures arrays { IfOk result (λ state. arrays_of state ≡ declares_here 0 (core_of flow.entry.now).body (block_list (core_of flow.entry.now).body)) }
         ensures flow { IfOk result (λ state. state.flow.now ≡ flow.entry.now) }
@@ -101,7 +102,7 @@ impl<'a, A: Allocator> State<'a, A> {
             flow,
             learned: Learned::new(alloc)?,
             tasks: Vec::new(alloc),
-            telling: Vec::new(alloc),
+            tellers: Tellers::new(alloc),
             passed: 0,
             waiting: Vec::new(alloc),
             arrays: Vec::new(alloc),
@@ -118,7 +119,7 @@ impl<'a, A: Allocator> State<'a, A> {
         block: &'a Block<A>,
     ) -> Result<(), AllocError>
         ensures tasks { OnOk result (tasks_of self.new ≡ tasks_of self.old ++ all_active instance (block_list (waits_around waits.entry.now (block_view block.entry.now)))) }
-        ensures telling { OnOk result (telling_of self.new ≡ telling_of self.old ++ all_active instance (block_list (waits_around waits.entry.now (block_view block.entry.now)))) }
+        ensures tellers { self.new.tellers ≡ self.old.tellers }
         ensures arrays { OnOk result (let inside = waits_around waits.entry.now (block_view block.entry.now) in arrays_of self.new ≡ arrays_of self.old ++ declares_here instance inside (block_list inside)) }
         ensures learned { self.new.learned ≡ self.old.learned }
         ensures flow { self.new.flow.now ≡ self.old.flow.now }
@@ -146,7 +147,7 @@ impl<'a, A: Allocator> State<'a, A> {
 
     fn add_statements(&mut self, instance: usize, block: &'a Block<A>) -> Result<(), AllocError>
         ensures tasks { OnOk result (tasks_of self.new ≡ tasks_of self.old ++ all_active instance (block_list (block_view block.entry.now))) }
-        ensures telling { OnOk result (telling_of self.new ≡ telling_of self.old ++ all_active instance (block_list (block_view block.entry.now))) }
+        ensures tellers { self.new.tellers ≡ self.old.tellers }
         ensures arrays { OnOk result (arrays_of self.new ≡ arrays_of self.old ++ declares_here instance (block_view block.entry.now) (block_list (block_view block.entry.now))) }
         ensures learned { self.new.learned ≡ self.old.learned }
         ensures flow { self.new.flow.now ≡ self.old.flow.now }
@@ -169,7 +170,7 @@ impl<'a, A: Allocator> State<'a, A> {
     ) -> Result<(), AllocError>
         requires { (n : ℕ) → contains nat_eq nevers.now n ≡ never_in no_calls (local n) (block_view block.now) }
         ensures tasks { OnOk result (tasks_of self.new ≡ tasks_of self.old ++ active instance (statement_view statement.entry.now) ∷ []) }
-        ensures telling { OnOk result (telling_of self.new ≡ telling_of self.old ++ active instance (statement_view statement.entry.now) ∷ []) }
+        ensures tellers { self.new.tellers ≡ self.old.tellers }
         ensures arrays { OnOk result (arrays_of self.new ≡ arrays_of self.old ++ declares_here instance (block_view block.entry.now) (statement_view statement.entry.now ∷ [])) }
         ensures learned { self.new.learned ≡ self.old.learned }
         ensures flow { self.new.flow.now ≡ self.old.flow.now }
@@ -187,7 +188,7 @@ impl<'a, A: Allocator> State<'a, A> {
 
     fn add_task(&mut self, site: Site, deed: Deed<'a, A>) -> Result<(), AllocError>
         ensures tasks { OnOk result (tasks_of self.new ≡ tasks_of self.old ++ active site.instance (stmt site.at site.node (deed_view deed.entry)) ∷ []) }
-        ensures telling { OnOk result (telling_of self.new ≡ telling_of self.old ++ active site.instance (stmt site.at site.node (deed_view deed.entry)) ∷ []) }
+        ensures tellers { self.new.tellers ≡ self.old.tellers }
         ensures arrays { arrays_of self.new ≡ arrays_of self.old }
         ensures learned { self.new.learned ≡ self.old.learned }
         ensures flow { self.new.flow.now ≡ self.old.flow.now }
@@ -195,7 +196,6 @@ impl<'a, A: Allocator> State<'a, A> {
         ensures waiting { waiting_of self.new ≡ waiting_of self.old }
     {
         let task = Task { site, deed };
-        self.telling.push(task.again())?;
         self.tasks.push(task)?;
         Ok(())
     }
