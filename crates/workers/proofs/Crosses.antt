@@ -50,7 +50,7 @@ use Rattle.workers.specs.contracts.book.Front as front
 use Rattle.workers.specs.contracts.desk.Desk as desk
 use Rattle.workers.specs.contracts.floor.Floor as floor
 use Rattle.workers.specs.contracts.hand.Hand as hand
-use Rattle.workers.specs.contracts.hand.Ended as ended
+use Rattle.workers.specs.contracts.idle.Idle as idle
 
 pub job_send : IsSend (job.the_field).row
 job_send = search (entry_send, entry_sync, crosses, sendable) depth 60 fits 4000
@@ -110,14 +110,14 @@ module _ (J E N : RattleType) (g : jobs.Ghosts J.Denot) (h : ledger.Ghosts E.Den
   desk_send : IsSend (desk.the_row J E N g h k)
   desk_send = search (board_send, log_send, front_send, book.the_send, crosses, sendable) depth 60 fits 4000
 
-  pub floor_send : IsSend (floor.the_row J E N g h k)
-  floor_send = search (desk_send, crosses, sendable) depth 60 fits 4000
-
   hand_send : IsSend (hand.the_field J E N g h k).row
   hand_send = search (begun_send, finished_send, offers.the_field_send, share.the_send, kinds.the_field_send, crosses, sendable) depth 60 fits 4000
 
-  pub ended_send : IsSend (ended.the_row J E N g h k)
-  ended_send = search (hand_send, crosses, sendable) depth 60 fits 4000
+  idle_send : IsSend (idle.the_row J E N g h k)
+  idle_send = search (hand_send, Box-send, crosses, sendable) depth 60 fits 4000
+
+  pub floor_send : IsSend (floor.the_row J E N g h k)
+  floor_send = search (desk_send, idle_send, crosses, sendable) depth 60 fits 4000
 
 parts_send : (Ts : List RattleType) → AllSend Ts → FieldsHave IsSend (parts Ts)
 parts_send [] s = tt

@@ -2,7 +2,7 @@
 #![tactic(auto)]
 
 mod begun;
-mod bells;
+mod bell;
 mod book;
 mod crowd;
 mod desk;
@@ -10,6 +10,7 @@ pub mod fault;
 mod floor;
 mod fresh;
 mod hand;
+mod idle;
 pub mod job;
 pub mod run;
 mod sums;
