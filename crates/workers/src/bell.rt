@@ -1,9 +1,9 @@
 //! Where threads rest that have nothing to run.
 
-use std::hint;
 use std::sync::atomic::{AtomicU64, Ordering};
 use std::sync::{Condvar, Wait};
 use std::time::Duration;
+use std::{cmp, hint};
 
 /// So often a thread that rests looks before it sleeps.
 const LOOKS: u32 = 400;
@@ -104,9 +104,7 @@ impl Bell {
             if self.watch(STILL.saturating_mul(2)) {
                 return;
             }
-            if nap < LONGEST {
-                nap = nap.saturating_mul(2);
-            }
+            nap = cmp::min(nap.saturating_mul(2), LONGEST);
         }
     }
 }

@@ -20,7 +20,7 @@ use task_code::entry::Kind;
 /// So much more often than free a thread finds the lock taken before it rests.
 const CROWDED: u32 = 4;
 
-/// A thread draws a number before one of so many holds of the lock.
+/// A thread draws a number each time that it has computed items so often.
 const DRAWS: u32 = 8;
 
 /// What a thread does next.
@@ -42,8 +42,8 @@ struct Member<J: Job, E: Ledger, N: Ledger> {
     busy: bool,
     /// How much more often than free it found the lock taken.
     crowded: u32,
-    /// How often it took the lock.
-    holds: u32,
+    /// How often it computed items.
+    rounds: u32,
 }
 
 /// The run is to stop, and all wake to see it.
@@ -210,7 +210,6 @@ fn hold<'a, J: Job, E: Ledger, N: Ledger, R: Wait>(
     floor: &'a Mutex<Floor<J, E, N>>,
     member: &mut Member<J, E, N>,
 ) -> MutexGuard<'a, Floor<J, E, N>> {
-    member.holds = member.holds.wrapping_add(1);
     match floor.try_lock() {
         Some(guard) => {
             member.crowded = member.crowded.saturating_sub(1);
@@ -289,13 +288,14 @@ fn compute<J: Job, E: Ledger, N: Ledger, G: Gate>(
 ) -> Result<Option<(Kind, u64)>, u64>
     requires { pool_id pool.now ≡ J.pool }
 {
-    let draws = member.holds % DRAWS == 0;
-    let Some(hand) = &mut member.hand else {
+    let Member { hand, rounds, .. } = member;
+    let Some(hand) = hand else {
         return Ok(None);
     };
+    *rounds = rounds.wrapping_add(1);
     hand.offer_all(pool);
     hand.compute_all(gate)?;
-    if !draws {
+    if *rounds % DRAWS != 0 {
         return Ok(None);
     }
     match hand.draw(pool) {
@@ -338,7 +338,7 @@ fn work<J: Job, E: Ledger, N: Ledger, R: Wait, G: Gate>(
         hand: None,
         busy: false,
         crowded: 0,
-        holds: 0,
+        rounds: 0,
     };
     for _ in rt.forever() {
         match step(rt, floor, bell, pool, gate, &mut member) {

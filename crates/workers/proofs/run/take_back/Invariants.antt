@@ -2,4 +2,4 @@ use Rattle.std.proofs.Common.{◌≡◌, ◌≤◌, vec_capacity, vec_len}
 use Rattle.workers.proofs.run.take_back.Given as goal
 
 abbrev pub invariant-loop : goal.invariant-loop
-invariant-loop g l = (vec_len l.back ≡ l.index) × (l.fn.count ≤ vec_capacity l.back)
+invariant-loop g l = (vec_len l.back ≡ l.counter) × (l.count ≤ vec_capacity l.back)
