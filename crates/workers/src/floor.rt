@@ -5,15 +5,17 @@ use crate::crowd::Crowds;
 use crate::desk::Desk;
 use crate::idle::Idle;
 use crate::job::{Job, Progress};
+use crate::recent::Recent;
 use std::sync::ledger::Ledger;
 use task_code::entry::Kind;
 
-/// The board with its books, how many items there are, the hands that nobody has, and who works.
+/// The board with its books, how many items there are, the hands that nobody has, what came to be ready last, and who works.
 #[derive(Drop)]
 pub struct Floor<J: Job, E: Ledger, N: Ledger> {
     pub desk: Desk<J, E, N>,
     pub crowds: Crowds,
     pub idle: Idle<J, E, N>,
+    pub recent: Recent,
     pub shift: Shift,
 }
 

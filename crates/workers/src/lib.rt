@@ -12,6 +12,7 @@ mod fresh;
 mod hand;
 mod idle;
 pub mod job;
+mod recent;
 pub mod run;
 mod sums;
 mod work;

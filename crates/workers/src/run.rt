@@ -16,6 +16,7 @@ use crate::floor::{Floor, Shift};
 use crate::hand::{Ended, Hand};
 use crate::idle::Idle;
 use crate::job::{Gate, Job};
+use crate::recent::Recent;
 use crate::sums::Sums;
 use crate::work::crew;
 use board::board::Board;
@@ -321,6 +322,7 @@ fn run<
         desk,
         crowds,
         idle,
+        recent: Recent::new(alloc),
         shift: Shift::new(),
     });
     let sums = run_on(

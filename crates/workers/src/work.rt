@@ -61,7 +61,8 @@ fn halt<J: Job, E: Ledger, N: Ledger, R: Wait>(
     bell.rings();
 }
 
-/// Begins items under the lock: the drawn one or the first of the hand's kind, and as many more as one thread takes at once.
+/// Begins as many items under the lock as one thread takes at once: of the hand's kind those first that came to be ready last, then the
+/// drawn one, and then what the board has first.
 fn begin_some<J: Job, E: Ledger, N: Ledger>(
     under: &mut Floor<J, E, N>,
     hand: &mut Hand<J, E, N>,
@@ -69,8 +70,12 @@ fn begin_some<J: Job, E: Ledger, N: Ledger>(
 ) -> Next {
     let mut drawn = drawn;
     for _ in 0..under.share(hand.kind) {
-        match hand.begin(under, drawn) {
-            Ok(()) => drawn = None,
+        let number = match under.recent.take(hand.kind) {
+            Some(number) => Some(number),
+            None => drawn.take(),
+        };
+        match hand.begin(under, number) {
+            Ok(()) => {}
             Err(Refusal::NotReady) => break,
             Err(Refusal::Ended) => return Next::Stops,
             Err(Refusal::Memory) => {
@@ -184,6 +189,7 @@ fn lay_down<J: Job, E: Ledger, N: Ledger>(
         return true;
     };
     let went_on = end_all(under, &mut *hand);
+    under.recent.add_all(hand.offers.list.as_slice());
     under.idle.lay(hand);
     went_on
 }
