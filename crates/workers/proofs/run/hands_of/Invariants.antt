@@ -1,4 +1,4 @@
-use Rattle.std.proofs.Common.{◌≡◌, ◌≤◌, ◌+◌, All, vec_len}
+use Rattle.std.proofs.Common.{◌≡◌, ◌+◌, All, vec_len}
 use Rattle.pool.specs.Seats.{view, seat_pool}
 use Rattle.pool.specs.Views.{beginner}
 use Rattle.workers.proofs.run.hands_of.Given as goal

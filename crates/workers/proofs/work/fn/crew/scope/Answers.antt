@@ -3,7 +3,7 @@ use mir.Syntax.{named}
 use denote.RattleType.{RattleType}
 use denote.Ref.{ShrRef}
 use denote.Param.{param}
-use denote.Param.Send.{AllSend, IsSend, IsSync, sendable, shr_send}
+use denote.Param.Send.{AllSend, IsSend, IsSync, shr_send}
 use Rattle.std.proofs.Crossing.{crosses}
 use Rattle.std.specs.contracts.sync.Mutex as mutex
 use Rattle.pool.proofs.pool.Pool.TheSendSync as pools
