@@ -1,4 +1,4 @@
-//! What a thread has: its number and kind, a seat at the pool, its shares of the books and its counts.
+//! What goes with a number: its kind, a seat at the pool, its shares of the books and its counts.
 ghost use Rattle.std.specs.Prelude.{◌≡◌, ◌⊎◌, ◌+◌, ◌<◌, length, reverse, OnOk};
 ghost use Rattle.pool.specs.Seats.{TakeDid, kind_order, view, seat_pool, pool_id};
 ghost use Rattle.pool_offers.specs.Offering.{OfferedEach};
@@ -17,8 +17,8 @@ use std::marker::PhantomData;
 use std::sync::ledger::{Ledger, Share};
 use task_code::entry::Kind;
 
-/// What a thread has. The items that came to be ready by its events are what it offers to the pool. It runs some items, of which it has the
-/// work or what was done. It may be awake with nothing to run.
+/// What goes with a number. The items that came to be ready by its events are what it offers to the pool. It runs some items, of which it has
+/// the work or what was done. One thread has it at a time, or it lies under the lock.
 #[derive(Drop)]
 pub struct Hand<J: Job, E: Ledger, N: Ledger> {
     pub worker: u8,
@@ -29,7 +29,6 @@ pub struct Hand<J: Job, E: Ledger, N: Ledger> {
     pub tally: u64,
     pub works: Vec<Begun<J>>,
     pub dones: Vec<Finished<J>>,
-    pub comes: bool,
     pub of: PhantomData<J>,
     ghost place: { IsPlace J.engines J.workers worker kind },
     ghost of_pool: { seat_pool offers.seat ≡ J.pool },
@@ -62,7 +61,6 @@ impl<J: Job, E: Ledger, N: Ledger> Hand<J, E, N> {
             tally: 0,
             works: Vec::new(alloc),
             dones: Vec::new(alloc),
-            comes: false,
             of: PhantomData,
         }
     }
@@ -91,7 +89,7 @@ impl<J: Job, E: Ledger, N: Ledger> Hand<J, E, N> {
         ensures { self.new.offers.pending ≡ self.old.offers.pending }
     {
         let (worker, kind) = (self.worker, self.kind);
-        let Floor { desk, crowds } = floor;
+        let Floor { desk, crowds, .. } = floor;
         let Hand {
             events,
             tally,
@@ -159,7 +157,7 @@ impl<J: Job, E: Ledger, N: Ledger> Hand<J, E, N> {
         ensures listed { OnOk result (AreListed floor.new.desk.board self.old.offers.list.items self.new.offers.list.items ⊎ (self.new.offers.list.items ≡ self.old.offers.list.items)) }
     {
         let worker = self.worker;
-        let Floor { desk, crowds } = floor;
+        let Floor { desk, crowds, .. } = floor;
         let Hand {
             events,
             news,

@@ -86,7 +86,6 @@ impl<J: Job, E: Ledger, N: Ledger> Sums<J, E, N> {
             tally,
             works: _,
             dones: _,
-            comes: _,
             of: _,
         } = hand;
         let Offers {
