@@ -76,7 +76,7 @@ filled_script =
       fit = fit_more _ _ (laid 1) [] (read_fits _ _ (laid 1) refl) (fit_none _ _);
       parts_as = λ l pl b st. one_part (plain_literal pl.0) (one_part (a_read {n = 36} {i = 38} {j = 1} {a = here 22} {need = code.AtKey (code.here array) (number_key (pos 3))} pl.1.0 refl (at_literal {n = 38} {v = Number (pos 3)} first pl.0) (same refl refl refl refl)) no_part refl) refl;
     })
-    (λ l su. same refl refl refl refl) refl refl refl)
+    (λ l su. same refl refl refl refl) (refl, refl) refl refl)
     no_statement refl refl refl)
     refl refl refl)
     refl refl refl
