@@ -1,6 +1,5 @@
 pub mod View
 pub mod Shapes
-pub mod Listed
 pub mod Names
 pub mod Whole
 pub mod Tests

@@ -1,11 +1,11 @@
--- What a listing shows of a script beside its core, read off its tree: as `flow/specs/Listed` says it of a flow.
+-- What a listing shows of a script beside its core, read off its tree: as `flow_listed/specs/Listed` says it of a flow.
 use Rattle.std.specs.Prelude.{ℕ, List, [], ◌∷◌, ◌++◌, map, Option, None, Some, option_map}
 use Rattle.std.specs.List.{flat_map}
 use Rattle.language.specs.declared.tree.Shape.{Shape}
 use Rattle.language.specs.Tree as T
 use Rattle.language.specs.Tree.{RightSide, Statement, statement, statements_of, Command, Body, body, Statements, no_statements, and_statement, Composite, Tree, import, function, single}
 use Rattle.flow.specs.declared.statement.Statement.{Statement as Found}
-use Rattle.flow.specs.Listed.{Shown, declares, Listed, other, block_of, whole, waiting, looping, function_of, statement_listed}
+use Rattle.flow_listed.specs.Listed.{Shown, declares, Listed, other, block_of, whole, waiting, looping, function_of, statement_listed}
 use Rattle.lowering.specs.View.{as_declared, variable_of}
 
 -- what is shown of statements of a flow
@@ -17,7 +17,7 @@ abbrev pub right_listed : Option RightSide → List Listed
 right_listed None = []
 right_listed (Some r) = other [] ∷ []
 
-mutual
+abbrev mutual
   pub listed : Statement → List Listed
   listed (statement nd c) = command_listed c
 

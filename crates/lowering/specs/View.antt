@@ -16,7 +16,7 @@ use Rattle.language.specs.Tree.{Word, Node, Declaration, Form, variable, Command
 use Rattle.language.specs.Table.{Table}
 use Rattle.language.specs.Resolved.{Arguments, call_to, pieces_or_none, refers, with_command, with_statement, block_of, block_in, script_block}
 use Rattle.flow.specs.declared.cell.Part.{Part}
-pub use Rattle.flow.specs.Listed.{Declared, declared}
+pub use Rattle.flow_listed.specs.Listed.{Declared, declared}
 use Rattle.flow.specs.View.{parts_view}
 
 -- what is found is what is wanted, and the parts that stand before it stand behind those that were there

@@ -6,7 +6,7 @@ ghost use Rattle.language.specs.Tree.{expressions_of, value};
 ghost use Rattle.language.specs.Resolved as rules;
 ghost use Rattle.syntax_trees.specs.View.{word_of, words_view, expression_view, right_of, calling_of};
 ghost use Rattle.types.specs.Typed.{table_of, builtin_name};
-ghost use Rattle.flow.specs.Listed.{action_listed, other};
+ghost use Rattle.flow_listed.specs.Listed.{action_listed, other};
 ghost use Rattle.flow.specs.Shapes.{action_declared};
 ghost use Rattle.flow.specs.View as seen;
 ghost use Rattle.flow.specs.View.{action_view, outer_view, name_view, names_view, operation_view};

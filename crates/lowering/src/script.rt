@@ -9,8 +9,8 @@ ghost use Rattle.lowering.specs.View.{own_statements, function_core};
 ghost use Rattle.flow.specs.Shapes.{block_declared, declared_of, functions_declared, kinds_of, kinds_of_function};
 ghost use Rattle.language.specs.Scopes.{signature_of, signatures};
 ghost use Rattle.language_accepted.specs.Types.{body_declarations};
-ghost use Rattle.flow.specs.Listed as shows;
-ghost use Rattle.flow.specs.Listed.{block_listed, function_shown, functions_shown, shown_of};
+ghost use Rattle.flow_listed.specs.Listed as shows;
+ghost use Rattle.flow_listed.specs.Listed.{block_listed, function_shown, functions_shown, shown_of};
 ghost use Rattle.lowering.specs.Listed.{composite_shown, composites_shown, listed_by, own_listed, shown};
 ghost use Rattle.lowering.specs.Shapes.{declared_by, flagged, function_declarations, kinds_of_signature, own_declarations};
 

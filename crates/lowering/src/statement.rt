@@ -11,8 +11,8 @@ ghost use Rattle.lowering.specs.View.{statement_alone, command_alone, statements
 ghost use Rattle.flow.specs.Shapes.{action_declared, block_declared, is_array};
 ghost use Rattle.language_accepted.specs.Types.{statement_declarations, command_declarations, body_declarations};
 ghost use Rattle.lowering.specs.Shapes.{among, declared_by, flagged};
-ghost use Rattle.flow.specs.Listed as shows;
-ghost use Rattle.flow.specs.Listed.{action_listed, block_listed, declares, other, whole};
+ghost use Rattle.flow_listed.specs.Listed as shows;
+ghost use Rattle.flow_listed.specs.Listed.{action_listed, block_listed, declares, other, whole};
 ghost use Rattle.lowering.specs.View.{as_declared, variable_of};
 ghost use Rattle.lowering.specs.Listed.{all_listed, body_listed, command_listed, listed, listed_by};
 

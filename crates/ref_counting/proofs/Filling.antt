@@ -81,7 +81,7 @@ module _ {X : Type 0} where
   puts_here (v ∷ vs) zero x w d h e = ap (λ r. r ∷ rows_of vs) e
   puts_here (v ∷ vs) (suc n) x w d h e = ap (λ rs. v.items ∷ rs) (puts_here vs n x w d (omega arith) e)
 
-  pub puts_nowhere : (rs : List (List X)) (n : ℕ) (x : X) → length rs ≤ n → rs ≡ put_in rs n x
+  pub puts_nowhere : (vs : List (Vec X Global)) (n : ℕ) (x : X) → length vs ≤ n → rows_of vs ≡ put_in (rows_of vs) n x
   puts_nowhere [] n x h = refl
-  puts_nowhere (r ∷ rs) zero x h = absurd (omega arith)
-  puts_nowhere (r ∷ rs) (suc n) x h = ap (λ qs. r ∷ qs) (puts_nowhere rs n x (omega arith))
+  puts_nowhere (v ∷ vs) zero x h = absurd (omega arith)
+  puts_nowhere (v ∷ vs) (suc n) x h = ap (λ rs. v.items ∷ rs) (puts_nowhere vs n x (omega arith))

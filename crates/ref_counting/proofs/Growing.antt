@@ -92,7 +92,7 @@ same_self l =
     and_from _ _ (eqb_self l.entry) (and_from _ _ (eqb_self l.up) (and_from _ _ (beq_self l.local) (and_from _ _ (eqb_self l.node) (and_from _ _ (eqb_self l.place) (beq_self l.array)))))
 
 -- the name of a lead, where it is known whether that is a variable's
-named : Bool → Lead → Name
+abbrev pub named : Bool → Lead → Name
 named b l = record { up = l.up; owned = if b then Local (record { node = l.node; array = l.array }) else Parameter l.place l.array }
 
 -- plain leads of one entry to one name are the same
@@ -103,13 +103,13 @@ plain_same a b p q e n = by a.local b.local refl refl
     at la lb = ap (λ x. named x a) (sym la) ∙ n ∙ ap (λ y. named y b) lb
 
     same_variable : {v w : Variable} → Local v ≡ Local w → v ≡ w
-    same_variable h = cc
+    same_variable h = cc (h)
 
     same_place : {i j : ℕ} {x y : Bool} → Parameter i x ≡ Parameter j y → i ≡ j
-    same_place h = cc
+    same_place h = cc (h)
 
     same_kind : {i j : ℕ} {x y : Bool} → Parameter i x ≡ Parameter j y → x ≡ y
-    same_kind h = cc
+    same_kind h = cc (h)
 
     all : a.up ≡ b.up → a.local ≡ b.local → a.node ≡ b.node → a.place ≡ b.place → a.array ≡ b.array → a ≡ b
     all u l m k r = λ i. record { entry = e i; up = u i; local = l i; node = m i; place = k i; array = r i }
@@ -123,7 +123,7 @@ plain_same a b p q e n = by a.local b.local refl refl
         all (ap (λ (m : Name). m.up) (at la lb)) (la ∙ sym lb) (p.1 la ∙ sym (q.1 lb)) (same_place o) (same_kind o)
     by true false la lb =
         let o : Local (record { node = a.node; array = a.array }) ≡ Parameter b.place b.array = ap (λ (m : Name). m.owned) (at la lb) in
-        absurd (cc)
+        absurd (cc (o))
     by false true la lb =
         let o : Parameter a.place a.array ≡ Local (record { node = b.node; array = b.array }) = ap (λ (m : Name). m.owned) (at la lb) in
-        absurd (cc)
+        absurd (cc (o))

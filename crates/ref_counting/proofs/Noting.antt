@@ -8,7 +8,7 @@ use Rattle.ref_counting.specs.declared.openings.Opening.{Opening}
 use Rattle.ref_counting.specs.declared.openings.Way.{Way}
 use Rattle.ref_counting.specs.Openings.{Noted, NotesAll, NotesHomes, OpeningsUpTo, HomesUpTo, way_of}
 use Rattle.ref_counting.specs.Rows.{row, Fills, put_in}
-use Rattle.ref_counting.proofs.Filling.{fills_not}
+use Rattle.ref_counting.proofs.Filling.{fills_not, put_fills, put_there}
 
 pub below_or_at : (i n : ℕ) → i < n + 1 → (i < n) ⊎ (i ≡ n)
 below_or_at i n h = by (nat_lt i n) refl

@@ -9,7 +9,7 @@ use Rattle.flow.specs.declared.statement.Block.{Block}
 use Rattle.flow.specs.declared.statement.Statement.{Statement, out-Statement, roll-Statement}
 use Rattle.flow.specs.declared.statement.Action.{Action, When, Choose, Range, Each, Wait, the_lemmas}
 use Rattle.flow.specs.View.{action_view, awaited_view, block_view, statement_view, waits_around}
-use Rattle.flow.specs.Listed.{Listed, declared, action_listed, block_listed, statement_listed, content, looping, other, waiting, whole}
+use Rattle.flow_listed.specs.Listed.{Listed, declared, action_listed, block_listed, statement_listed, content, looping, other, waiting, whole}
 use Rattle.flow.specs.Shapes.{Declared, action_declared, block_declared, statement_declared}
 use Rattle.language.specs.Core as core
 use Rattle.wait_merge.specs.Merged.{action_seen, block_seen, statement_seen}

@@ -2,7 +2,7 @@
 ghost use Rattle.std.specs.Prelude.{◌≡◌, IfOk, IsTrue, OnOk, map};
 ghost use Rattle.flow.specs.View.{core_of, function_view};
 ghost use Rattle.flow.specs.Shapes.{block_declared, declared_of, kinds_of, kinds_of_function};
-ghost use Rattle.flow.specs.Listed.{function_shown, shown_of};
+ghost use Rattle.flow_listed.specs.Listed.{function_shown, shown_of};
 ghost use Rattle.wait_merge.specs.Merged.{functions_merged, IsMerged};
 
 use crate::statement::block;

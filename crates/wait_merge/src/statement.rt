@@ -3,7 +3,7 @@ ghost use Rattle.std.specs.Prelude.{◌≡◌, ◌∷◌, [], IsTrue, IsFalse, O
 ghost use Rattle.flow.specs.View.{action_view, awaited_view, block_view, statement_view, statements_view, waits_around};
 ghost use Rattle.flow.specs.Shapes.{action_declared, block_declared, statement_declared};
 ghost use Rattle.language.specs.Core as core;
-ghost use Rattle.flow.specs.Listed.{action_listed, block_listed, content as inside, statement_listed};
+ghost use Rattle.flow_listed.specs.Listed.{action_listed, block_listed, content as inside, statement_listed};
 ghost use Rattle.wait_merge.specs.Merged.{action_seen, all_merged, block_seen, statement_seen};
 
 use flow::statement::{Action, Block, Header, Statement};

@@ -12,7 +12,7 @@ use Rattle.flow.specs.Shapes.{functions_declared, kinds_of_function}
 use Rattle.flow.specs.View.{function_view}
 use Rattle.lowering.specs.Shapes.{flagged, function_declarations, kinds_of_signature}
 use Rattle.std.proofs.lemmas.Grind.{flat_map-append}
-use Rattle.flow.specs.Listed.{Shown, function_shown, functions_shown}
+use Rattle.flow_listed.specs.Listed.{Shown, function_shown, functions_shown}
 use Rattle.lowering.specs.Listed.{composite_shown, composites_shown}
 use Rattle.lowering.proofs.Declaring.{one_more_function}
 use Rattle.lowering.specs.View.{function_core}

@@ -8,7 +8,7 @@ use Rattle.language.specs.Scopes.{signatures}
 use Rattle.flow.specs.Shapes.{functions_declared, kinds_of_function}
 use Rattle.flow.specs.View.{function_view}
 use Rattle.lowering.specs.Shapes.{flagged, function_declarations, kinds_of_signature}
-use Rattle.flow.specs.Listed.{functions_shown}
+use Rattle.flow_listed.specs.Listed.{functions_shown}
 use Rattle.lowering.specs.Listed.{composites_shown}
 use Rattle.lowering.proofs.Declaring.{function_next, kinds_next}
 use Rattle.lowering.proofs.Showing.{shown_next}

@@ -5,7 +5,7 @@ use Rattle.types.specs.Typed.{table_of}
 use Rattle.flow.specs.View.{function_view}
 use Rattle.flow.specs.Shapes.{functions_declared, kinds_of_function}
 use Rattle.language.specs.Scopes.{signatures}
-use Rattle.flow.specs.Listed.{functions_shown}
+use Rattle.flow_listed.specs.Listed.{functions_shown}
 use Rattle.lowering.specs.Listed.{composites_shown}
 use Rattle.lowering.specs.Shapes.{flagged, function_declarations, kinds_of_signature}
 use Rattle.lowering.proofs.script.add_functions.Given as goal

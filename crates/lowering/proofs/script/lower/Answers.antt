@@ -1,7 +1,7 @@
 use Rattle.std.proofs.Common.{◌++◌, List, ap, ap₂, ◌∙◌}
 use Rattle.syntax_trees.specs.View.{tree_of}
 use Rattle.flow.specs.declared.script.Function.{Function}
-use Rattle.flow.specs.Listed.{Listed, Shown, functions_shown, whole}
+use Rattle.flow_listed.specs.Listed.{Listed, Shown, functions_shown, whole}
 use Rattle.lowering.specs.Listed.{composites_shown}
 use Rattle.lowering.proofs.script.lower.Goals as goal
 

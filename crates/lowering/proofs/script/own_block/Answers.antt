@@ -1,6 +1,6 @@
 use Rattle.std.proofs.Common.{List, ◌++◌, map, ap, ◌∙◌}
 use Rattle.flow.specs.declared.statement.Statement.{Statement as Added}
-use Rattle.flow.specs.Listed as shows
+use Rattle.flow_listed.specs.Listed as shows
 use Rattle.lowering.specs.Listed.{listed_by, own_listed}
 use Rattle.language.specs.Resolved.{script_block}
 use Rattle.syntax_trees.specs.View.{part_of}

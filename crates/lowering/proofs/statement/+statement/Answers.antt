@@ -1,4 +1,4 @@
-use Rattle.std.proofs.Common.{rules, to_z, of_z, w32, ℤ, ◌≡◌, ◌++◌, ◌≤◌, [], List, map, option_map, refl, ap, ap₂, sym, ◌∙◌, arith}
+use Rattle.std.proofs.Common.{rules, to_z, of_z, w32, ℤ, ◌≡◌, ◌++◌, ◌∷◌, ◌≤◌, [], List, map, option_map, refl, ap, ap₂, sym, ◌∙◌, arith}
 use Rattle.std.specs.Prelude.{Box}
 use Rattle.std.proofs.lemmas.Grind.{common_steps}
 use Rattle.std.proofs.lemmas.Result.{on_ok_weaker, IfOk-weaker}
@@ -26,8 +26,8 @@ use Rattle.language_accepted.specs.Types.{statement_declarations, body_declarati
 use Rattle.flow.specs.Shapes.{block_declared}
 use Rattle.lowering.specs.Shapes.{among, declared_by, flagged}
 use Rattle.lowering.proofs.Declaring.{flagged_append, statement_next}
-use Rattle.flow.specs.Listed as shows
-use Rattle.flow.specs.Listed.{Listed, block_listed, looping, other, waiting, whole}
+use Rattle.flow_listed.specs.Listed as shows
+use Rattle.flow_listed.specs.Listed.{Listed, block_listed, looping, other, waiting, whole}
 use Rattle.language.specs.declared.tree.Shape.{Shape}
 use Rattle.lowering.specs.Listed.{all_listed, body_listed, command_listed, listed, listed_by}
 use Rattle.lowering.specs.View.{as_declared}

@@ -1,6 +1,6 @@
 use Rattle.std.proofs.Common.{rules, [], ◌∷◌, ◌++◌, ap, ◌∙◌}
 use Rattle.std.proofs.lemmas.List.{map-append}
-use Rattle.flow.specs.Listed.{Listed, statement_listed}
+use Rattle.flow_listed.specs.Listed.{Listed, statement_listed}
 use Rattle.lowering.specs.Listed.{listed_by}
 use Rattle.flow.specs.declared.statement.Statement.{the_lemmas}
 use Rattle.lowering.specs.Shapes.{declared_by}

@@ -9,7 +9,7 @@ use Rattle.flow.specs.View.{statements_view}
 use Rattle.lowering.proofs.Statements.{block_found}
 use Rattle.language_accepted.specs.Types.{body_declarations}
 use Rattle.lowering.specs.Shapes.{among, declared_by, flagged}
-use Rattle.flow.specs.Listed as shows
+use Rattle.flow_listed.specs.Listed as shows
 use Rattle.lowering.specs.Listed.{all_listed, body_listed, listed_by}
 use Rattle.lowering.proofs.statement.block.Goals as goal
 

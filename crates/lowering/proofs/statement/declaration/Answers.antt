@@ -6,7 +6,7 @@ use Rattle.types.specs.Typed.{table_of}
 use Rattle.flow.specs.declared.statement.Action.{Declare}
 use Rattle.flow.specs.View.{action_view, name_view, statements_view}
 use Rattle.lowering.proofs.Loops.{view_declare}
-use Rattle.flow.specs.Listed.{action_listed, declares, other}
+use Rattle.flow_listed.specs.Listed.{action_listed, declares, other}
 use Rattle.lowering.specs.Listed.{listed_by}
 use Rattle.lowering.specs.View.{Declared}
 use Rattle.lowering.proofs.Showing.{declare_shown, declares_alone, declares_both}

@@ -7,7 +7,7 @@ use Rattle.flow.specs.View.{block_view}
 use Rattle.lowering.proofs.Loops.{each_found, range_found}
 use Rattle.lowering.proofs.Declaring.{each_declared, range_declared}
 use Rattle.lowering.proofs.Showing.{each_shown, range_shown, same_loop}
-use Rattle.flow.specs.Listed.{block_listed}
+use Rattle.flow_listed.specs.Listed.{block_listed}
 use Rattle.lowering.proofs.statement.repeated.Goals as goal
 
 pub returns-in_ok-range-in-Range-clause-core : goal.returns-in_ok-range-in-Range-clause-core

@@ -1,5 +1,5 @@
 use Rattle.std.proofs.Common.{rules, refl, List, length, map, ap, arith}
-use Rattle.flow.specs.Listed.{Listed, Shown, declared, function_of, function_shown}
+use Rattle.flow_listed.specs.Listed.{Listed, Shown, declared, function_of, function_shown}
 use Rattle.std.proofs.lemmas.Grind.{common_steps}
 use Rattle.flow.specs.declared.script.Function.{Function}
 use Rattle.flow.specs.View.{function_view}

@@ -4,8 +4,8 @@ use Rattle.std.proofs.lemmas.List.{take_all}
 use Rattle.flow.specs.View.{block_view, statement_view}
 use Rattle.flow.specs.Shapes.{action_declared, block_declared, statement_declared}
 use Rattle.wait_merge.specs.Merged.{all_merged, statement_seen}
-use Rattle.flow.specs.Listed.{Listed, action_listed, block_listed, declared, looping, other, statement_listed, whole}
-use Rattle.wait_merge.proofs.Actions.{listed_changed, when_listed, choose_listed, range_listed, each_listed, both_declared, view_changed, declared_changed, seen_changed, when_core, choose_core, range_core, each_core, when_declared, choose_declared, range_declared, each_declared, when_merged, choose_merged, range_merged, each_merged}
+use Rattle.flow_listed.specs.Listed.{Listed, action_listed, block_listed, content, declared, looping, other, statement_listed, whole}
+use Rattle.wait_merge.proofs.Actions.{listed_changed, when_listed, choose_listed, range_listed, each_listed, wait_listed, same_waiting, both_declared, view_changed, declared_changed, seen_changed, when_core, choose_core, range_core, each_core, when_declared, choose_declared, range_declared, each_declared, when_merged, choose_merged, range_merged, each_merged}
 use Rattle.wait_merge.proofs.Lists.{both_true, kept_at, merged_more}
 use Rattle.wait_merge.proofs.statement.+merged.Goals as goal
 
@@ -110,6 +110,13 @@ action-returns-in_ok-block-in-Choose-2-clause-listed g t c =
     choose_listed c.in-Choose.condition _ _
     ∙ ap₂ (λ (x y : Listed). other (whole x ++ whole y)) (c.in_ok-block-in-Choose.ensures.listed ∙ ap block_listed c.deref_mut-in-Choose.ensures.value) (c.in_ok-block-in-Choose-2.ensures.listed ∙ ap block_listed c.deref_mut-in-Choose-2.ensures.value)
     ∙ sym (ap action_listed c.in-Choose.is ∙ choose_listed c.in-Choose.condition c.in-Choose.then c.in-Choose.other)
+
+pub action-returns-in_ok-absorb-in-Wait-clause-listed : goal.action-returns-in_ok-absorb-in-Wait-clause-listed
+action-returns-in_ok-absorb-in-Wait-clause-listed g t c =
+    wait_listed c.in-Wait.names _ _
+    ∙ same_waiting (block_listed c.absorb-in-Wait.new.content.value) (block_listed c.in-Wait.content.value)
+    (c.in_ok-absorb-in-Wait.ensures.listed ∙ ap content (c.in_ok-block-in-Wait.ensures.listed ∙ ap block_listed c.deref_mut-in-Wait.ensures.value))
+    ∙ sym (ap action_listed c.in-Wait.is ∙ wait_listed c.in-Wait.names c.in-Wait.inner c.in-Wait.content)
 
 pub each-returns-clause-listed : goal.each-returns-clause-listed
 each-returns-clause-listed g t c = c.loop-i.invariant.3

@@ -3,7 +3,7 @@ use Rattle.flow.specs.declared.statement.Header.{Header}
 use Rattle.flow.specs.View.{action_view, block_view, waits_around}
 use Rattle.language.specs.Core as core
 use Rattle.wait_merge.specs.Merged.{Seen}
-use Rattle.flow.specs.Listed.{Listed, action_listed}
+use Rattle.flow_listed.specs.Listed.{Listed, action_listed}
 use Rattle.wait_merge.proofs.Actions.{listed_statement, wait_listed, around_more, seen_statement, view_statement, view_waits}
 use Rattle.wait_merge.proofs.Forms.{not_wait}
 use Rattle.wait_merge.proofs.statement.take_in.Goals as goal
