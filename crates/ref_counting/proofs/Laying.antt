@@ -1,8 +1,8 @@
 -- Leads are laid out by their entries, and are the rights.
 use Rattle.std.proofs.Common.{◌≡◌, inl, inr, ℕ, zero, suc, ◌<◌, ◌≤◌, ◌+◌, List, [], ◌∷◌, ◌++◌, map, take, length, get_or, refl, sym, ap, subst, ◌∙◌, arith}
-use Rattle.std.proofs.lemmas.List.{map-append}
+use Rattle.std.proofs.lemmas.List.{append-nil, map-append}
 use Rattle.dataflow.specs.System.{Distinct, In}
-use Rattle.dataflow.proofs.Lists.{in_left, in_right, in_split, in_map, in_unmap}
+use Rattle.dataflow.proofs.Lists.{distinct_append, in_left, in_right, in_split, in_map, in_unmap, seam_distinct}
 use Rattle.task_code.specs.declared.entry.Name.{Name as Used}
 use Rattle.task_code.specs.Code.{Code, Entry, Name, blank_entry, entry, nth}
 use Rattle.task_code.specs.Exact.{Leads, itself, through}
@@ -31,24 +31,15 @@ lays_nothing n ls found count empty = record {
 
 -- a member behind others that it is not one of
 distinct_push : {X : Type 0} (xs : List X) (x : X) → Distinct xs → (In x xs → ⊥) → Distinct (xs ++ x ∷ [])
-distinct_push [] x d h = (λ t. t, tt)
-distinct_push (y ∷ ys) x d h = (out, distinct_push ys x d.1 (λ t. h (inr t)))
+distinct_push {X} xs x d h = distinct_append xs (x ∷ []) d (λ t. t, tt) apart
   where
-    last : In y (x ∷ []) → ⊥
-    last (inl e) = h (inl (sym e))
-    last (inr t) = t
-
-    out : In y (ys ++ x ∷ []) → ⊥
-    out t = elim (in_split y ys (x ∷ []) t) [ inl u ↦ d.0 u | inr u ↦ last u ]
+    apart : (y : X) → In y xs → In y (x ∷ []) → ⊥
+    apart y t (inl e) = h (subst (λ z. In z xs) e t)
+    apart y t (inr f) = f
 
 -- the last of such members is none of those before it
 distinct_last : {X : Type 0} (xs : List X) (x : X) → Distinct (xs ++ x ∷ []) → Distinct xs × (In x xs → ⊥)
-distinct_last [] x d = (tt, λ t. t)
-distinct_last (y ∷ ys) x d = ((λ t. d.0 (in_left y ys (x ∷ []) t), (distinct_last ys x d.1).0), out)
-  where
-    out : In x (y ∷ ys) → ⊥
-    out (inl e) = d.0 (subst (λ z. In z (ys ++ x ∷ [])) e (in_right x ys (x ∷ []) (inl refl)))
-    out (inr t) = (distinct_last ys x d.1).1 t
+distinct_last xs x d = let s = seam_distinct x xs [] d in (subst Distinct (append-nil xs) s.1, λ t. s.0 (subst (In x) (sym (append-nil xs)) t))
 
 pub lays_next : (lead : Lead) (x : Used) (k : ℕ) (ls : List Lead) (old new : List (List Used)) → k < length ls → get_or ls k lead ≡ lead → name_view x ≡ name_of lead → new ≡ put_in old lead.entry x → LaysNext k ls old new
 lays_next lead x k ls old new h is same put n before = record { count = fills.count ∙ before.count; only = only; all = all; once = once }

@@ -17,17 +17,17 @@ below_or_at i n h = by (nat_lt i n) refl
     by true e = inl (grind arith)
     by false e = inr (grind arith)
 
-pub noted_one : (i : ℕ) (way : Way) (b : ℕ) (old new : List (List Opening)) → new ≡ put_in old b (record { entry = i; way = way }) → NotesAll i ((way_of way, b) ∷ []) old new
+abbrev pub opening_by : ℕ → Way → Opening
+opening_by i way = record { entry = i; way = way }
+
+pub noted_one : (i : ℕ) (way : Way) (b : ℕ) (old new : List (List Opening)) → new ≡ put_in old b (opening_by i way) → NotesAll i ((way_of way, b) ∷ []) old new
 noted_one i way b old new is = record { fills = record { count = fills.count; kept = fills.kept; only = only }; all = all }
   where
-    opening : Opening
-    opening = record { entry = i; way = way }
+    fills : Fills (λ (k : ℕ) (o : Opening). (k ≡ b) × (o ≡ opening_by i way)) old new
+    fills = subst (Fills (λ (k : ℕ) (o : Opening). (k ≡ b) × (o ≡ opening_by i way)) old) (sym is) (put_fills old b (opening_by i way))
 
-    fills : Fills (λ k o. (k ≡ b) × (o ≡ opening)) old new
-    fills = subst (Fills (λ k o. (k ≡ b) × (o ≡ opening)) old) (sym is) (put_fills old b opening)
-
-    there : b < length old → In opening (row new b)
-    there h = subst (λ rs. In opening (row rs b)) (sym is) (put_there old b opening h)
+    there : b < length old → In (opening_by i way) (row new b)
+    there h = subst (λ rs. In (opening_by i way) (row rs b)) (sym is) (put_there old b (opening_by i way) h)
 
     only : (k : ℕ) (o : Opening) → In o (row new k) → In o (row old k) ⊎ ((o.entry ≡ i) × In {X = pure.Way × ℕ} (way_of o.way, k) ((way_of way, b) ∷ []))
     only k o t = elim (fills.only k o t) [ inl u ↦ inl u | inr q ↦ inr (ap (λ (x : Opening). x.entry) q.1, inl (λ j. (way_of (q.1 j).way, q.0 j))) ]
@@ -36,7 +36,7 @@ noted_one i way b old new is = record { fills = record { count = fills.count; ke
     all w k (inl e) h =
         let at : k ≡ b = ap (λ (q : pure.Way × ℕ). q.1) e in
         let by : w ≡ way_of way = ap (λ (q : pure.Way × ℕ). q.0) e in
-        record { opening = record { entry = i; way = way }; there = subst (λ n. In (record { entry = i; way = way }) (row new n)) (sym at) (there (subst (λ n. n < length old) at h)); of = refl; by = sym by }
+        record { opening = opening_by i way; there = subst (λ n. In (opening_by i way) (row new n)) (sym at) (there (subst (λ n. n < length old) at h)); of = refl; by = sym by }
     all w k (inr f) h = absurd f
 
 pub noted_still : {P : ℕ → Opening → Type 0} {i : ℕ} {w : pure.Way} {old new : List (List Opening)} (k : ℕ) → Fills P old new → Noted i w (row old k) → Noted i w (row new k)
