@@ -14,4 +14,4 @@ returns-in_ok-push g c =
 pub returns-else-number-len : goal.returns-else-number-len
 returns-else-number-len g c =
     let past : length c.self.inside.rows.items ≤ c.args.number = omega (arith, c.if-number-len.false, c.len.ensures) in
-    subst (λ old. rows_of c.self.inside.rows.items ≡ put_in old c.args.number c.args.value) c.self.view_is (puts_nowhere c.self.inside.rows.items c.args.number c.args.value past)
+    subst (λ old. old ≡ put_in old c.args.number c.args.value) c.self.view_is (puts_nowhere c.self.inside.rows.items c.args.number c.args.value past)
