@@ -114,7 +114,7 @@ action-returns-in_ok-block-in-Choose-2-clause-listed g t c =
 pub action-returns-in_ok-absorb-in-Wait-clause-listed : goal.action-returns-in_ok-absorb-in-Wait-clause-listed
 action-returns-in_ok-absorb-in-Wait-clause-listed g t c =
     wait_listed c.in-Wait.names _ _
-    ∙ same_waiting (block_listed c.absorb-in-Wait.new.content.value) (block_listed c.in-Wait.content.value)
+    ∙ same_waiting (block_listed c.absorb.new.content.value) (block_listed c.in-Wait.content.value)
     (c.in_ok-absorb-in-Wait.ensures.listed ∙ ap content (c.in_ok-block-in-Wait.ensures.listed ∙ ap block_listed c.deref_mut-in-Wait.ensures.value))
     ∙ sym (ap action_listed c.in-Wait.is ∙ wait_listed c.in-Wait.names c.in-Wait.inner c.in-Wait.content)
 
