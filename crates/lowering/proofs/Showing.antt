@@ -1,5 +1,5 @@
 -- What a listing shows of statements, one after another.
-use Rattle.std.proofs.Common.{rules, ◌≡◌, ℕ, List, [], ◌∷◌, ◌++◌, map, Option, Some, None, option_map, Result, Ok, Err, refl, sym, ap, ap₂, ◌∙◌, append_assoc}
+use Rattle.std.proofs.Common.{rules, ◌≡◌, ℕ, List, [], ◌∷◌, ◌++◌, Option, Some, None, option_map, Result, Ok, Err, refl, sym, ap, ap₂, ◌∙◌, append_assoc}
 use Rattle.std.specs.Prelude.{IfOk, IsOkAnd, Box}
 use Rattle.std.proofs.lemmas.List.{append-nil}
 use Rattle.language.specs.Tree as T
@@ -9,7 +9,7 @@ use Rattle.flow.specs.declared.statement.Range.{Range}
 use Rattle.flow.specs.declared.statement.Variable.{Variable}
 use Rattle.flow.specs.declared.name.Name.{Name}
 use Rattle.flow.specs.declared.statement.Action.{Action, Declare, Each, Range as RangeOf, the_lemmas}
-use Rattle.flow_listed.specs.Listed.{Declared, declared, Shown, declares, Listed, other, whole, looping, function_of, action_listed, block_listed}
+use Rattle.flow_listed.specs.Listed.{Declared, declared, declares, Listed, other, looping, function_of, action_listed, block_listed}
 use Rattle.lowering.specs.View.{variable_of}
 use Rattle.lowering.specs.Listed.{listed, command_listed, all_listed, own_listed, composite_shown, composites_shown}
 

@@ -1,6 +1,5 @@
 -- What a listing shows of a script beside its core, read off its tree: as `flow_listed/specs/Listed` says it of a flow.
-use Rattle.std.specs.Prelude.{ℕ, List, [], ◌∷◌, ◌++◌, map, Option, None, Some, option_map}
-use Rattle.std.specs.List.{flat_map}
+use Rattle.std.specs.Prelude.{List, [], ◌∷◌, ◌++◌, map, Option, None, Some, option_map}
 use Rattle.language.specs.declared.tree.Shape.{Shape}
 use Rattle.language.specs.Tree as T
 use Rattle.language.specs.Tree.{RightSide, Statement, statement, statements_of, Command, Body, body, Statements, no_statements, and_statement, Composite, Tree, import, function, single}
