@@ -381,7 +381,7 @@ command-returns-in_ok-body-in-Foreach-clause-listed g t c =
     (trees.loop (word_of {A = A} c.in-Foreach.header.value.value) (option_map (word_of {A = A}) c.in-Foreach.header.value.key) (over_of {A = A} c.in-Foreach.header.value.source) (body_view {A = A} c.in-Foreach.body.value))
     (listed_by c.args.found.now.items) (listed_by c.add_made-in-Foreach.new.found.items) _
     (ap command_view c.in-Foreach.is ∙ view-Foreach c.in-Foreach.header c.in-Foreach.body) c.repeated.ensures.listed
-    (ap (λ (l : Listed). looping (as_declared Shape.Scalar (word_of {A = A} c.in-Foreach.header.value.value)) (option_map (as_declared Shape.Scalar) (option_map (word_of {A = A}) c.in-Foreach.header.value.key)) l ∷ []) (c.in_ok-body-in-Foreach.ensures.listed ∙ ap (λ x. body_listed (body_view {A = A} x)) c.deref-in-Foreach.ensures)) adds)
+    (ap₂ (λ (h : Header A) (l : Listed). looping (as_declared Shape.Scalar (word_of {A = A} h.value)) (option_map (as_declared Shape.Scalar) (option_map (word_of {A = A}) h.key)) l ∷ []) c.deref-in-Foreach-2.ensures (c.in_ok-body-in-Foreach.ensures.listed ∙ ap (λ x. body_listed (body_view {A = A} x)) c.deref-in-Foreach.ensures)) adds)
     c.add_made-in-Foreach.ensures.listed
 
 pub command-returns-in_ok-body-in-Wait-clause-listed : goal.command-returns-in_ok-body-in-Wait-clause-listed
