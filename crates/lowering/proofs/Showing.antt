@@ -3,13 +3,13 @@ use Rattle.std.proofs.Common.{rules, ◌≡◌, ℕ, List, [], ◌∷◌, ◌++�
 use Rattle.std.specs.Prelude.{IfOk, IsOkAnd, Box}
 use Rattle.std.proofs.lemmas.List.{append-nil}
 use Rattle.language.specs.Tree as T
-use Rattle.language.specs.Tree.{Declaration, RightSide, Statement, Command, Part, Tree, import, function, single}
+use Rattle.language.specs.Tree.{Composite, Declaration, RightSide, Statement, Command, Part, Tree, import, function, single}
 use Rattle.flow.specs.declared.statement.Block.{Block}
 use Rattle.flow.specs.declared.statement.Range.{Range}
 use Rattle.flow.specs.declared.statement.Variable.{Variable}
 use Rattle.flow.specs.declared.name.Name.{Name}
 use Rattle.flow.specs.declared.statement.Action.{Action, Declare, Each, Range as RangeOf, the_lemmas}
-use Rattle.flow_listed.specs.Listed.{Declared, declared, declares, Listed, other, looping, function_of, action_listed, block_listed}
+use Rattle.flow_listed.specs.Listed.{Declared, declared, declares, Shown, Listed, other, looping, function_of, action_listed, block_listed}
 use Rattle.lowering.specs.View.{variable_of}
 use Rattle.lowering.specs.Listed.{listed, command_listed, all_listed, own_listed, composite_shown, composites_shown}
 
@@ -63,6 +63,15 @@ pub shown_next : (p : Part) (ps : Tree) → composites_shown (p ∷ ps) ≡ comp
 shown_next (import sp) ps = refl
 shown_next (single s) ps = refl
 shown_next (function f) ps = ap (λ ls. ls ++ composites_shown ps) (sym (append-nil (composite_shown f)))
+
+pub shown_alone : (f : Composite) → composites_shown (function f ∷ []) ≡ composite_shown f
+shown_alone f = append-nil (composite_shown f)
+
+pub one_shown : (f : Composite) (p : Part) (before now ls : List Shown) → now ≡ before ++ (ls ++ []) → ls ≡ composite_shown f → p ≡ function f → now ≡ before ++ composites_shown (p ∷ [])
+one_shown f p before now ls adds is part =
+    adds
+    ∙ ap (λ (x : List Shown). before ++ x) (append-nil ls ∙ is ∙ sym (shown_alone f))
+    ∙ ap (λ (q : Part). before ++ composites_shown (q ∷ [])) (sym part)
 
 pub same_function_shown : (at : ℕ) (n n' : List ℕ) (is is' os os' : List Declared) (b b' : Listed) → n ≡ n' → is ≡ is' → os ≡ os' → b ≡ b' → function_of at n is os b ≡ function_of at n' is' os' b'
 same_function_shown at n n' is is' os os' b b' name inputs outputs inside =
