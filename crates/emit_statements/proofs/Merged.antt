@@ -122,4 +122,5 @@ wait_added s n names inner b body hs ks old new priority noted are adds = record
   entry = made s (record { node = n; mark = s.at }) (each_once (waited s.inputs names ++ needs_in (inner_headers s.inputs inner))) (Wait hs body);
   is = adds (waited s.inputs names ++ needs_in (inner_headers s.inputs inner)) noted;
   own = record { at_is = refl; priority_is = priority; needs_is = refl; act_is = ap (λ l. Wait l body) are };
+  mark_is = refl;
 }

@@ -99,4 +99,5 @@ own_added s n d o ks act old new priority noted does is = record {
     act_is = does l ∙ ap (λ ns. simple_act l s.inputs ns (action_of d s.priority o)) (noted.are ∙ needs_done d l s.inputs s.priority o);
   };
   node_is = refl;
+  mark_is = refl;
 }

@@ -36,4 +36,5 @@ put_added s n x i o e d ks act old new priority e_is d_is noted does is = record
   own = own_entry s n (insert x i o) (e ∷ d ∷ []) (put_over s.inputs x) ks act priority
       (λ l suits. ap (λ y. y ∷ d ∷ []) e_is ∙ ap (λ y. seen_last i ∷ y ∷ []) d_is ∙ all_seen l (i ∷ o ∷ []) suits.parts_plain) noted does;
   node_is = refl;
+  mark_is = refl;
 }

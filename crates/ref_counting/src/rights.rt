@@ -1,12 +1,12 @@
 //! Rights: what each entry may read and write.
-ghost use Rattle.dataflow.specs.System.{In};
+ghost use Rattle.dataflow.specs.System.{Distinct, In};
 ghost use Rattle.ref_counting.specs.Rows.{row};
 ghost use Rattle.std.specs.Prelude.{List, ◌≡◌, ℕ, ◌<◌, ◌≤◌, ◌^◌, [], length, map, OnOk, IfOk};
 ghost use Rattle.task_code.specs.Code as pure;
 ghost use Rattle.task_code.specs.Code.{body, entry};
 ghost use Rattle.ref_counting.specs.Uses.{own_of};
 ghost use Rattle.task_code.specs.View.{name_view};
-ghost use Rattle.ref_counting.specs.Leads.{Grows, Has, name_of};
+ghost use Rattle.ref_counting.specs.Leads.{AllPlain, Grows, Has, name_of};
 ghost use Rattle.ref_counting.specs.Makes.{AreMade};
 ghost use Rattle.ref_counting.specs.Openings.{AreHomes, AreOpenings, way_of};
 ghost use Rattle.ref_counting.specs.Passing.{Sees};
@@ -143,6 +143,7 @@ fn pass_all(code: &Draft, index: &Index, leads: &mut IndexSet<Lead>) -> Result<(
     ensures within { OnOk result (AllWithin code.now leads.new.keys) }
     ensures closed { OnOk result (IsClosed code.now leads.new.keys leads.new.keys) }
     ensures kept { OnOk result ((i : ℕ) (r : pure.Name) → Has leads.old.keys i r → Has leads.new.keys i r) }
+    ensures plain { OnOk result (AllPlain leads.old.keys → AllPlain leads.new.keys) }
     ensures sound { OnOk result ((own : pure.Entry → List pure.Name) → AllLead code.now own leads.old.keys → AllLead code.now own leads.new.keys) }
 {
     let mut next = 0;
@@ -169,7 +170,8 @@ fn lay_next(leads: &IndexSet<Lead>, next: usize, found: &mut Rows<Name>) -> Resu
 
 /// The names of each entry's leads.
 fn lay_out(alloc: Global, count: usize, leads: &IndexSet<Lead>) -> Result<Rows<Name>, AllocError>
-    ensures { IfOk result (λ found. LaysOut count leads.now.keys found) }
+    ensures laid { IfOk result (λ found. LaysOut count leads.now.keys found) }
+    ensures distinct { OnOk result (Distinct leads.now.keys) }
 {
     let mut found = Rows::new(alloc, count)?;
     for next in 0..leads.len() {
