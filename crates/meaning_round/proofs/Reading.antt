@@ -11,7 +11,7 @@ use Rattle.language.specs.Core.{Cell, Call, Expr, Outer, Part, Action, inner, ca
 use Rattle.language.specs.Parts.{outer_parts, part_cells}
 use Rattle.meaning_facts.specs.declared.facts.Place.{Place}
 use Rattle.meaning_facts.specs.declared.learned.Learned.{Learned}
-use Rattle.meaning_faults.specs.declared.site.Site.{Site}
+use Rattle.meaning_faults.specs.declared.site.LiveStatement.{LiveStatement}
 use Rattle.meaning_round.specs.declared.tellers.Event.{Event}
 use Rattle.meaning_round.specs.Reads.{cell_reads, cells_reads, elements_reads, expr_reads, exprs_reads, outers_reads, site_reads, under}
 use Rattle.meaning_round.specs.Told.{range_outers}
@@ -25,35 +25,35 @@ only_read xs ys ks e = e ∙ ap (λ (z : List Event). xs ++ z) (sym (append-nil 
 
 -- CELLS
 
-cells_append : (l : Learned) (t : Site) (cs ds : List Cell) → cells_reads l t (cs ++ ds) ≡ cells_reads l t cs ++ cells_reads l t ds
+cells_append : (l : Learned) (t : LiveStatement) (cs ds : List Cell) → cells_reads l t (cs ++ ds) ≡ cells_reads l t cs ++ cells_reads l t ds
 cells_append l t [] ds = refl
 cells_append l t (c ∷ cs) ds = ap (λ (z : List Event). cell_reads l t c ++ z) (cells_append l t cs ds) ∙ sym (append_assoc (cell_reads l t c) (cells_reads l t cs) (cells_reads l t ds))
 
-parts_more : (l : Learned) (t : Site) (ps qs : List Part) → cells_reads l t (part_cells (ps ++ qs)) ≡ cells_reads l t (part_cells ps) ++ cells_reads l t (part_cells qs)
+parts_more : (l : Learned) (t : LiveStatement) (ps qs : List Part) → cells_reads l t (part_cells (ps ++ qs)) ≡ cells_reads l t (part_cells ps) ++ cells_reads l t (part_cells qs)
 parts_more l t ps qs = ap (cells_reads l t) (parts_append ps qs) ∙ cells_append l t (part_cells ps) (part_cells qs)
 
 -- an outermost cell behind the parts inside it
-pub outer_read : (l : Learned) (t : Site) (o : Outer) (xs ys zs : List Event) → ys ≡ xs ++ cells_reads l t (part_cells o.parts) → zs ≡ ys ++ cell_reads l t o.cell → zs ≡ xs ++ outers_reads l t (o ∷ [])
+pub outer_read : (l : Learned) (t : LiveStatement) (o : Outer) (xs ys zs : List Event) → ys ≡ xs ++ cells_reads l t (part_cells o.parts) → zs ≡ ys ++ cell_reads l t o.cell → zs ≡ xs ++ outers_reads l t (o ∷ [])
 outer_read l t o xs ys zs e f =
     read_both xs ys zs (cells_reads l t (part_cells o.parts)) (cell_reads l t o.cell) e f
     ∙ ap (λ (z : List Event). xs ++ z)
     (ap (λ (z : List Event). cells_reads l t (part_cells o.parts) ++ z) (sym (append-nil (cell_reads l t o.cell))) ∙ sym (parts_more l t o.parts (inner o.cell ∷ [])))
 
 -- one outermost cell and then others
-outers_more : (l : Learned) (t : Site) (o : Outer) (os : List Outer) → outers_reads l t (o ∷ os) ≡ outers_reads l t (o ∷ []) ++ outers_reads l t os
+outers_more : (l : Learned) (t : LiveStatement) (o : Outer) (os : List Outer) → outers_reads l t (o ∷ os) ≡ outers_reads l t (o ∷ []) ++ outers_reads l t os
 outers_more l t o os =
     ap (λ (z : List Part). cells_reads l t (part_cells z)) (sym (append_assoc o.parts (inner o.cell ∷ []) (outer_parts os)))
     ∙ parts_more l t (o.parts ++ inner o.cell ∷ []) (outer_parts os)
 
 -- two outermost cells, and then what the statement reads
-pub two_read : (l : Learned) (t : Site) (o p : Outer) (ks vs xs ys zs : List Event) → xs ≡ vs ++ outers_reads l t (o ∷ []) → ys ≡ xs ++ outers_reads l t (p ∷ []) → zs ≡ ys ++ ks
+pub two_read : (l : Learned) (t : LiveStatement) (o p : Outer) (ks vs xs ys zs : List Event) → xs ≡ vs ++ outers_reads l t (o ∷ []) → ys ≡ xs ++ outers_reads l t (p ∷ []) → zs ≡ ys ++ ks
     → zs ≡ vs ++ (outers_reads l t (o ∷ p ∷ []) ++ ks)
 two_read l t o p ks vs xs ys zs e f h =
     read_both vs ys zs (outers_reads l t (o ∷ p ∷ [])) ks
     (read_both vs xs ys (outers_reads l t (o ∷ [])) (outers_reads l t (p ∷ [])) e f ∙ ap (λ (z : List Event). vs ++ z) (sym (outers_more l t o (p ∷ [])))) h
 
 -- the bounds of a range and its step
-pub range_read : {A : Type 0} (l : Learned) (t : Site) (r : Range A) (vs xs ys zs : List Event) → xs ≡ vs ++ outers_reads l t (outer_view r.low ∷ []) → ys ≡ xs ++ outers_reads l t (outer_view r.high ∷ [])
+pub range_read : {A : Type 0} (l : Learned) (t : LiveStatement) (r : Range A) (vs xs ys zs : List Event) → xs ≡ vs ++ outers_reads l t (outer_view r.low ∷ []) → ys ≡ xs ++ outers_reads l t (outer_view r.high ∷ [])
     → zs ≡ ys ++ outers_reads l t (option_to_list (option_map outer_view r.step)) → zs ≡ vs ++ (outers_reads l t (range_outers r) ++ [])
 range_read l t r vs xs ys zs e f h =
     let o = outer_view r.low in
@@ -65,7 +65,7 @@ range_read l t r vs xs ys zs e f h =
     ∙ ap (λ (z : List Event). vs ++ z) (sym (outers_more l t o (p ∷ qs))))
 
 -- the parts of a call
-pub call_read : (l : Learned) (t : Site) (a : Action) (p : ℤ) (ps : List Part) (c : Call) (xs ys : List Event) → a ≡ call_alone p ps c → ys ≡ xs ++ cells_reads l t (part_cells ps)
+pub call_read : (l : Learned) (t : LiveStatement) (a : Action) (p : ℤ) (ps : List Part) (c : Call) (xs ys : List Event) → a ≡ call_alone p ps c → ys ≡ xs ++ cells_reads l t (part_cells ps)
     → ys ≡ xs ++ site_reads l t a
 call_read l t a p ps c xs ys e f =
     only_read xs ys (cells_reads l t (part_cells ps)) f
@@ -74,7 +74,7 @@ call_read l t a p ps c xs ys e f =
 
 -- ONE AFTER ANOTHER
 
-pub parts_next : {A : Type 0} (l : Learned) (t : Site) (ps : List (FlowPart A)) (i : ℕ) (d : FlowPart A) (xs ys zs : List Event) → i < length ps
+pub parts_next : {A : Type 0} (l : Learned) (t : LiveStatement) (ps : List (FlowPart A)) (i : ℕ) (d : FlowPart A) (xs ys zs : List Event) → i < length ps
     → ys ≡ xs ++ cells_reads l t (part_cells (parts_view (take i ps))) → zs ≡ ys ++ cells_reads l t (part_cells (part_view (get_or ps i d) ∷ []))
     → zs ≡ xs ++ cells_reads l t (part_cells (parts_view (take (i + 1) ps)))
 parts_next {A} l t ps i d xs ys zs h e f =

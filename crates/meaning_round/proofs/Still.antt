@@ -26,7 +26,7 @@ use Rattle.meaning_facts.specs.Keeping.{has_kind, kind_of}
 use Rattle.meaning_facts.specs.Sighted.{closed_at, scalar_at, sight_of}
 use Rattle.meaning_facts.specs.Store.{elements_from, is_written_in, value_at, writes_at, writes_under}
 use Rattle.meaning_invariants.specs.Held.{HasPlaces}
-use Rattle.meaning_faults.specs.declared.site.Site.{Site}
+use Rattle.meaning_faults.specs.declared.site.LiveStatement.{LiveStatement}
 use Rattle.meaning_faults.specs.Faults.{sight_at, past_at, path_at, deep_news, each_news, fault_news}
 use Rattle.meaning_round.specs.declared.tellers.Event.{Event}
 use Rattle.meaning_round.specs.More.{KnowsMore}
@@ -62,7 +62,7 @@ outer_in [] o i = elim i [ ]
 outer_in (x ∷ os) o first = now_in x.parts x.cell (outer_parts os)
 outer_in (x ∷ os) o (later i) = past_in x.parts x.cell (outer_parts os) o.cell (outer_in os o i)
 
-module _ (l m : Learned) (more : KnowsMore l m) (t : Site) (placed : HasPlaces l.instances.all.items t.instance) where
+module _ (l m : Learned) (more : KnowsMore l m) (t : LiveStatement) (placed : HasPlaces l.instances.all.items t.instance) where
   abbrev Quiet : List Event → Type 0
   Quiet es = (e : Event) → e ∈ es → IsSame l m e
 

@@ -11,7 +11,7 @@ use Rattle.meaning_facts.specs.declared.facts.Place.{Place}
 use Rattle.meaning_facts.specs.declared.learned.Learned.{Learned}
 use Rattle.meaning_facts.specs.Sighted.{closed_at}
 use Rattle.meaning_facts.specs.Store.{value_at, writes_at, writes_under, spot}
-use Rattle.meaning_faults.specs.declared.site.Site.{Site}
+use Rattle.meaning_faults.specs.declared.site.LiveStatement.{LiveStatement}
 use Rattle.meaning_round.specs.declared.tellers.Event.{Event}
 
 -- EVENTS
@@ -74,15 +74,15 @@ abbrev pub unless_known : Option Value → Place → List Event → List Event
 unless_known (Some v) p es = []
 unless_known None p es = at p ∷ es
 
-abbrev pub cell_reads : Learned → Site → Cell → List Event
+abbrev pub cell_reads : Learned → LiveStatement → Cell → List Event
 cell_reads l t c = unless_known (value_at l.facts (here t.instance c.node)) (here t.instance c.node) (form_reads l t.instance c.form)
 
-abbrev pub cells_reads : Learned → Site → List Cell → List Event
+abbrev pub cells_reads : Learned → LiveStatement → List Cell → List Event
 cells_reads l t [] = []
 cells_reads l t (c ∷ cs) = cell_reads l t c ++ cells_reads l t cs
 
 -- outermost cells, each behind those inside it
-abbrev pub outers_reads : Learned → Site → List Outer → List Event
+abbrev pub outers_reads : Learned → LiveStatement → List Outer → List Event
 outers_reads l t os = cells_reads l t (part_cells (outer_parts os))
 
 -- STATEMENTS
@@ -105,11 +105,11 @@ abbrev pub inserted_reads : Place → Option Value → List Event
 inserted_reads a (Some v) = put_reads a (value_key v)
 inserted_reads a None = []
 
-abbrev pub own_reads : Learned → Site → Action → List Event
+abbrev pub own_reads : Learned → LiveStatement → Action → List Event
 own_reads l t (fill a e) = filled_reads (lies l t.instance a) (value_at l.facts (here t.instance e.cell.node))
 own_reads l t (insert a i e) = inserted_reads (lies l t.instance a) (value_at l.facts (here t.instance i.cell.node))
 own_reads l t (each a x n b) = at (lies l t.instance a) ∷ []
 own_reads l t _ = []
 
-abbrev pub site_reads : Learned → Site → Action → List Event
+abbrev pub site_reads : Learned → LiveStatement → Action → List Event
 site_reads l t a = cells_reads l t (part_cells (parts a)) ++ own_reads l t a

@@ -15,7 +15,7 @@ use Rattle.meaning_facts.specs.Keeping.{kept_of, IsPlaced}
 use Rattle.meaning_facts.specs.Paths.{path_of}
 use Rattle.meaning_invariants.specs.Held.{HasPlaces}
 use Rattle.meaning_invariants.specs.Active.{Active, active, IsListed}
-use Rattle.meaning_faults.specs.declared.site.Site.{Site}
+use Rattle.meaning_faults.specs.declared.site.LiveStatement.{LiveStatement}
 use Rattle.meaning_round.specs.declared.state.Content.{Content}
 use Rattle.meaning_round.specs.declared.state.Deed.{Deed}
 use Rattle.meaning_round.specs.declared.state.Task.{Task}
@@ -35,7 +35,7 @@ active_of t = active t.site.instance (stmt t.site.at t.site.node (deed_view t.de
 abbrev pub active_path : Learned → Active → Path
 active_path l a = path_of l.instances.all.items a.instance
 
-abbrev pub site_of : Active → Site
+abbrev pub site_of : Active → LiveStatement
 site_of a = record { instance = a.instance; at = stmt_at a.statement; node = stmt_node a.statement }
 
 -- what a round tells of it

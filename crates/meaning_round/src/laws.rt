@@ -29,7 +29,7 @@ ghost use Rattle.meaning_facts.specs.Paths.{path_of};
 ghost use Rattle.meaning_facts.specs.Sighted.{sight_of};
 ghost use Rattle.meaning_facts.specs.declared.learned.Learned.{Learned};
 ghost use Rattle.meaning_steps.specs.News.{news};
-ghost use Rattle.meaning_faults.specs.declared.site.Site.{Site};
+ghost use Rattle.meaning_faults.specs.declared.site.LiveStatement.{LiveStatement};
 ghost use Rattle.meaning_round.specs.More.{KnowsMore};
 ghost use Rattle.meaning_round.specs.Reads.{site_reads, IsSame};
 ghost use Rattle.meaning_round.specs.declared.tellers.Event.{Event};
@@ -39,13 +39,13 @@ use meaning_facts::facts::{Fact, Facts};
 
 /// What a live statement tells is `news` of the meaning, where names lie at the places that they denote.
 pub fn told_is_news()
-    ensures { (s : Core) (l : Learned) (t : Site) (a : Action) → ((x : Name) → lies_at l t x ≡ place s (path_of l.instances.all.items t.instance) x)
+    ensures { (s : Core) (l : Learned) (t : LiveStatement) (a : Action) → ((x : Name) → lies_at l t x ≡ place s (path_of l.instances.all.items t.instance) x)
         → site_news l t a ≡ news s (sight_of l t.instance) (past_of l t.instance) (path_of l.instances.all.items t.instance) (stmt t.at t.node a) }
 {}
 
 /// A statement that told nothing when less was known tells nothing still where nothing has come of what it read.
 pub fn silence_stays()
-    ensures { (l m : Learned) → KnowsMore l m → (t : Site) (a : Action) → HasPlaces l.instances.all.items t.instance
+    ensures { (l m : Learned) → KnowsMore l m → (t : LiveStatement) (a : Action) → HasPlaces l.instances.all.items t.instance
         → site_news l t a ≡ [] → ((e : Event) → e ∈ site_reads l t a → IsSame l m e) → site_news m t a ≡ [] }
 {}
 

@@ -15,7 +15,7 @@ use flow::name::Name;
 use flow::statement::{Action, Range};
 use meaning_facts::facts::Place;
 use meaning_facts::learned::Learned;
-use meaning_faults::site::Site;
+use meaning_faults::site::LiveStatement;
 use std::alloc::{AllocError, Allocator};
 use values::key::KeyRef;
 use values::map::Element;
@@ -24,7 +24,7 @@ use values::value::Value;
 /// Adds what a statement reads.
 pub(crate) fn add_reads<A: Allocator>(
     learned: &Learned,
-    site: Site,
+    site: LiveStatement,
     action: &Action<A>,
     events: &mut Vec<Event>,
 ) -> Result<(), AllocError>
@@ -53,7 +53,7 @@ pub(crate) fn add_reads<A: Allocator>(
 #[tactic(auto, using(crate::proofs::Reading::only_read))]
 fn add_only<A: Allocator>(
     learned: &Learned,
-    site: Site,
+    site: LiveStatement,
     outer: &Outer<A>,
     events: &mut Vec<Event>,
 ) -> Result<(), AllocError>
@@ -65,7 +65,7 @@ fn add_only<A: Allocator>(
 /// Adds what the bounds of a range read.
 fn add_range<A: Allocator>(
     learned: &Learned,
-    site: Site,
+    site: LiveStatement,
     range: &Range<A>,
     events: &mut Vec<Event>,
 ) -> Result<(), AllocError>
@@ -79,7 +79,7 @@ fn add_range<A: Allocator>(
 /// Adds what the step of a range reads, where there is one.
 fn add_step<A: Allocator>(
     learned: &Learned,
-    site: Site,
+    site: LiveStatement,
     step: &Option<Outer<A>>,
     events: &mut Vec<Event>,
 ) -> Result<(), AllocError>
@@ -94,7 +94,7 @@ fn add_step<A: Allocator>(
 /// Adds that an array is closed.
 fn add_array(
     learned: &Learned,
-    site: Site,
+    site: LiveStatement,
     array: Name,
     events: &mut Vec<Event>,
 ) -> Result<(), AllocError>
@@ -107,7 +107,7 @@ fn add_array(
 /// Adds what is read to fill an array, and the other writes of its keys.
 fn add_filled<A: Allocator>(
     learned: &Learned,
-    site: Site,
+    site: LiveStatement,
     array: Name,
     right: &Outer<A>,
     events: &mut Vec<Event>,
@@ -121,7 +121,7 @@ fn add_filled<A: Allocator>(
 /// Adds the writes of the keys of the elements that an array is filled with.
 fn add_keys<A: Allocator>(
     learned: &Learned,
-    site: Site,
+    site: LiveStatement,
     array: Name,
     right: &Outer<A>,
     events: &mut Vec<Event>,
@@ -151,7 +151,7 @@ fn add_elements(
 /// Adds what is read to put an element into an array, and the other writes of its key.
 fn add_inserted<A: Allocator>(
     learned: &Learned,
-    site: Site,
+    site: LiveStatement,
     array: Name,
     index: &Outer<A>,
     right: &Outer<A>,
@@ -190,7 +190,7 @@ fn add_key(
 /// Adds what an outermost cell and those inside it read.
 fn add_outer<A: Allocator>(
     learned: &Learned,
-    site: Site,
+    site: LiveStatement,
     outer: &Outer<A>,
     events: &mut Vec<Event>,
 ) -> Result<(), AllocError>
@@ -202,7 +202,7 @@ fn add_outer<A: Allocator>(
 
 fn add_parts<A: Allocator>(
     learned: &Learned,
-    site: Site,
+    site: LiveStatement,
     parts: &Vec<Part<A>, A>,
     events: &mut Vec<Event>,
 ) -> Result<(), AllocError>
@@ -216,7 +216,7 @@ fn add_parts<A: Allocator>(
 
 fn add_part<A: Allocator>(
     learned: &Learned,
-    site: Site,
+    site: LiveStatement,
     part: &Part<A>,
     events: &mut Vec<Event>,
 ) -> Result<(), AllocError>
@@ -231,7 +231,7 @@ fn add_part<A: Allocator>(
 /// Adds what a cell reads that has no value yet.
 fn add_cell<A: Allocator>(
     learned: &Learned,
-    site: Site,
+    site: LiveStatement,
     cell: &Cell<A>,
     events: &mut Vec<Event>,
 ) -> Result<(), AllocError>

@@ -19,7 +19,7 @@ use flow::script::Flow;
 use flow::statement::{Action, Block, Header, Statement};
 use meaning_facts::facts::Place;
 use meaning_facts::learned::Learned;
-use meaning_faults::site::Site;
+use meaning_faults::site::LiveStatement;
 use std::alloc::{AllocError, Allocator, Global};
 use std::collections::HashSet;
 
@@ -41,7 +41,7 @@ pub enum Deed<'a, A: Allocator> {
 /// A live statement: where it stands, and what it does.
 #[derive(Drop)]
 pub struct Task<'a, A: Allocator> {
-    pub site: Site,
+    pub site: LiveStatement,
     pub deed: Deed<'a, A>,
 }
 
@@ -129,7 +129,7 @@ impl<'a, A: Allocator> State<'a, A> {
         match waits {
             [] => self.add_statements(instance, block),
             [wait, inner @ ..] => self.add_task(
-                Site {
+                LiveStatement {
                     instance,
                     at: wait.at,
                     node: wait.node,
@@ -178,7 +178,7 @@ impl<'a, A: Allocator> State<'a, A> {
         ensures waiting { waiting_of self.new ≡ waiting_of self.old }
     {
         add_declared(&mut self.arrays, instance, block, nevers, &statement.action)?;
-        let site = Site {
+        let site = LiveStatement {
             instance,
             at: statement.at,
             node: statement.node,
@@ -186,7 +186,7 @@ impl<'a, A: Allocator> State<'a, A> {
         self.add_task(site, deed_of(&statement.action))
     }
 
-    fn add_task(&mut self, site: Site, deed: Deed<'a, A>) -> Result<(), AllocError>
+    fn add_task(&mut self, site: LiveStatement, deed: Deed<'a, A>) -> Result<(), AllocError>
         ensures tasks { OnOk result (tasks_of self.new ≡ tasks_of self.old ++ active site.instance (stmt site.at site.node (deed_view deed.entry)) ∷ []) }
         ensures tellers { self.new.tellers ≡ self.old.tellers }
         ensures arrays { arrays_of self.new ≡ arrays_of self.old }

@@ -67,21 +67,21 @@ fn pass_body(
 
 /// What is looked up while names are passed on.
 #[derive(Drop)]
-struct Index {
+struct RightsIndex {
     homes: Rows<u32>,
     openings: Rows<Opening>,
     made: IndexSet<Made>,
 }
 
-impl Index {
-    fn new(alloc: Global, code: &Draft) -> Result<Index, AllocError>
+impl RightsIndex {
+    fn new(alloc: Global, code: &Draft) -> Result<RightsIndex, AllocError>
         requires entries { length code.now.entries < 2 ^ 32 }
         requires bodies { length code.now.bodies < 2 ^ 32 }
         ensures homes { IfOk result (λ index. AreHomes code.now index.homes) }
         ensures openings { IfOk result (λ index. AreOpenings code.now index.openings) }
         ensures made { IfOk result (λ index. AreMade code.now index.made.keys) }
     {
-        Ok(Index {
+        Ok(RightsIndex {
             homes: homes(alloc, code)?,
             openings: openings(alloc, code)?,
             made: declarations(alloc, code)?,
@@ -92,7 +92,7 @@ impl Index {
 /// Passes a lead on to each entry that opens a body in which its entry stands.
 fn pass_on(
     code: &Draft,
-    index: &Index,
+    index: &RightsIndex,
     lead: Lead,
     leads: &mut IndexSet<Lead>,
 ) -> Result<(), AllocError>
@@ -112,7 +112,7 @@ fn pass_on(
 /// Passes the lead of a number on.
 fn pass_next(
     code: &Draft,
-    index: &Index,
+    index: &RightsIndex,
     next: usize,
     leads: &mut IndexSet<Lead>,
 ) -> Result<(), AllocError>
@@ -134,7 +134,7 @@ fn pass_next(
 }
 
 /// Passes all leads on, until nothing new is found.
-fn pass_all(code: &Draft, index: &Index, leads: &mut IndexSet<Lead>) -> Result<(), AllocError>
+fn pass_all(code: &Draft, index: &RightsIndex, leads: &mut IndexSet<Lead>) -> Result<(), AllocError>
     requires homes { AreHomes code.now index.now.homes }
     requires openings { AreOpenings code.now index.now.openings }
     requires made { AreMade code.now index.now.made.keys }
@@ -192,7 +192,7 @@ pub fn rights(alloc: Global, code: &Draft, right: Right) -> Result<Rows<Name>, A
     requires marks { HasMarks code.now }
     ensures { IfOk result (λ found. AreRights code.now (own_of right) found) }
 {
-    let index = Index::new(alloc, code)?;
+    let index = RightsIndex::new(alloc, code)?;
     let mut leads = uses(alloc, code, right)?;
     pass_all(code, &index, &mut leads)?;
     let found = lay_out(alloc, code.entry_count(), &leads)?;

@@ -3,7 +3,7 @@
 use compile::compile::read;
 use compile::fault::CompileFault;
 use explain_blocked::blocked::add_all_blocked;
-use explain_blocked::index::Index;
+use explain_blocked::index::ScriptIndex;
 use explain_blocked::scene::Scene;
 use explain_blocked::writers::Writers;
 use explain_faults::faults::{add_all_faults, add_printed_fault, known_for};
@@ -120,7 +120,7 @@ fn explain_known(
     topic: Topic<'_>,
     out: &mut Vec<u8>,
 ) -> Result<(), AllocError> {
-    let index = Index::new(alloc, script.flow)?;
+    let index = ScriptIndex::new(alloc, script.flow)?;
     explain_indexed(alloc, script, known, &index, topic, out)
 }
 
@@ -128,7 +128,7 @@ fn explain_indexed(
     alloc: Global,
     script: Script<'_>,
     known: &Knowledge,
-    index: &Index<'_, Global>,
+    index: &ScriptIndex<'_, Global>,
     topic: Topic<'_>,
     out: &mut Vec<u8>,
 ) -> Result<(), AllocError> {

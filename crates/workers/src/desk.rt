@@ -30,7 +30,7 @@ const MOST_BEGUN: u64 = 1 << 61;
 
 /// Why a run stopped before its end.
 #[derive(Clone, Copy, PartialEq, Eq, Drop)]
-pub enum Stop {
+pub enum StopReason {
     Memory,
     Spawn,
     Stranger,
@@ -42,7 +42,7 @@ pub struct Desk<J: Job, E: Ledger, N: Ledger> {
     board: Board,
     log: Log<J>,
     front: Front<J>,
-    stop: Option<Stop>,
+    stop: Option<StopReason>,
     told: u64,
     events: Book<E>,
     news: Book<N>,
@@ -86,7 +86,7 @@ impl<J: Job, E: Ledger, N: Ledger> Desk<J, E, N> {
     }
 
     /// The run is to stop, for the first of the causes that are given.
-    pub fn halt(&mut self, why: Stop)
+    pub fn halt(&mut self, why: StopReason)
         ensures stops { self.new.stop ≢ None }
         ensures rest { self.new ≡ record self.old { stop = self.new.stop } }
     {
@@ -264,7 +264,7 @@ impl<J: Job, E: Ledger, N: Ledger> Desk<J, E, N> {
             ..
         } = self;
         if stop.is_none() {
-            *stop = Some(Stop::Memory);
+            *stop = Some(StopReason::Memory);
         }
         let _within = board.history();
         let count = count_fresh(board);
@@ -289,7 +289,7 @@ impl<J: Job, E: Ledger, N: Ledger> Desk<J, E, N> {
     }
 
     /// The board, once all shares are gathered: what it shows is in them. And why the run stopped before its end.
-    pub fn close(self, events: &mut Share<E>, news: &mut Share<N>) -> (Board, Option<Stop>)
+    pub fn close(self, events: &mut Share<E>, news: &mut Share<N>) -> (Board, Option<StopReason>)
         requires { (events.old.parts ≡ E.parts) × (news.old.parts ≡ N.parts) }
         ensures code { (result.0.code ≡ J.code) × (result.0.limit ≡ J.limit) }
         ensures within { length result.0.history ≤ J.limit }

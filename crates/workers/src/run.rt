@@ -10,7 +10,7 @@ ghost use Rattle.workers.specs.Reports.{IsReport};
 use crate::bell::Bell;
 use crate::book::Opened;
 use crate::crowd::Crowds;
-use crate::desk::{Desk, Stop};
+use crate::desk::{Desk, StopReason};
 use crate::fault::RunFault;
 use crate::floor::{Floor, Shift};
 use crate::hand::{Ended, Hand};
@@ -152,7 +152,12 @@ fn is_counted(told: &[u32; 64], tallies: &[u64; 64]) -> bool
 }
 
 /// The report of a board on which nothing is left to be done, where no item was lost on its way to the pool, and why there is none else.
-fn report(alloc: Global, board: Board, stop: Option<Stop>, lost: u64) -> Result<Report, RunFault>
+fn report(
+    alloc: Global,
+    board: Board,
+    stop: Option<StopReason>,
+    lost: u64,
+) -> Result<Report, RunFault>
     ensures stopped { IfOk result (λ r. stop ≡ None) }
     ensures tells { IfOk result (Tells board) }
     ensures none_lost { IfOk result (λ r. lost ≡ 0) }
@@ -160,9 +165,9 @@ fn report(alloc: Global, board: Board, stop: Option<Stop>, lost: u64) -> Result<
 {
     match stop {
         None => {}
-        Some(Stop::Memory) => return Err(RunFault::Memory),
-        Some(Stop::Spawn) => return Err(RunFault::Spawn),
-        Some(Stop::Stranger) => return Err(RunFault::Stranger),
+        Some(StopReason::Memory) => return Err(RunFault::Memory),
+        Some(StopReason::Spawn) => return Err(RunFault::Spawn),
+        Some(StopReason::Stranger) => return Err(RunFault::Stranger),
     }
     if board.is_going() && !board.is_quiet() {
         return Err(RunFault::Stranger);

@@ -4,7 +4,7 @@ ghost use Rattle.pool.specs.Seats.{pool_id};
 
 use crate::begun::Finished;
 use crate::bell::Bell;
-use crate::desk::Stop;
+use crate::desk::StopReason;
 use crate::floor::Floor;
 use crate::hand::Hand;
 use crate::job::{Gate, Job, Progress};
@@ -51,7 +51,7 @@ fn halt<J: Job, E: Ledger, N: Ledger, R: Wait>(
     rt: &R,
     floor: &Mutex<Floor<J, E, N>>,
     bell: &Bell,
-    why: Stop,
+    why: StopReason,
 ) {
     {
         let mut guard = floor.lock(rt);
@@ -79,11 +79,11 @@ fn begin_some<J: Job, E: Ledger, N: Ledger>(
             Err(Refusal::NotReady) => break,
             Err(Refusal::Ended) => return Next::Stops,
             Err(Refusal::Memory) => {
-                under.desk.halt(Stop::Memory);
+                under.desk.halt(StopReason::Memory);
                 return Next::Stops;
             }
             Err(_) => {
-                under.desk.halt(Stop::Stranger);
+                under.desk.halt(StopReason::Stranger);
                 return Next::Stops;
             }
         }
@@ -144,7 +144,7 @@ fn back_under<J: Job, E: Ledger, N: Ledger>(
     item: u64,
 ) {
     if hand.give_back(under, item).is_err() {
-        under.desk.halt(Stop::Memory);
+        under.desk.halt(StopReason::Memory);
     }
 }
 
@@ -159,7 +159,7 @@ fn end_one<J: Job, E: Ledger, N: Ledger>(
         Ok(()) => return true,
         Err(Refusal::Ended) => {}
         Err(Refusal::Memory) => back_under(under, hand, item),
-        Err(_) => under.desk.halt(Stop::Stranger),
+        Err(_) => under.desk.halt(StopReason::Stranger),
     }
     false
 }
@@ -364,12 +364,12 @@ fn one_more<J: Job, E: Ledger, N: Ledger, R: Wait>(
     running: &mut Vec<JoinHandle<()>>,
 ) -> bool {
     let why = match thread {
-        None => Stop::Spawn,
+        None => StopReason::Spawn,
         Some(thread) => {
             if running.push(thread).is_ok() {
                 return true;
             }
-            Stop::Memory
+            StopReason::Memory
         }
     };
     halt(rt, floor, bell, why);
