@@ -244,8 +244,11 @@ impl Board {
     /// As `begin`; and `Memory`, once the item has begun, where memory was refused to its computing or its end. It still runs then.
     pub fn perform(&mut self, worker: u8, item: u64) -> Result<bool, Refusal>
         requires { IsWorker worker }
-        ensures performed { IfOk result (λ ended. MatchBool ended ((mid : Seen) × Accepts self.old (Machine.Begin worker item) mid × Accepts mid (Machine.End worker item) self.new) (Accepts self.old (Machine.Begin worker item) self.new × ¬ IsGoing self.new)) }
-        ensures refused { IfErr result (λ e. ((self.new ≡ self.old) × RefusesBegin self.old item e) ⊎ (Accepts self.old (Machine.Begin worker item) self.new × (e ≡ Memory))) }
+        ensures performed { IfOk result (λ ended. MatchBool ended
+            ((mid : Seen) × Accepts self.old (Machine.Begin worker item) mid × Accepts mid (Machine.End worker item) self.new)
+            (Accepts self.old (Machine.Begin worker item) self.new × ¬ IsGoing self.new)) }
+        ensures refused { IfErr result (λ e. ((self.new ≡ self.old) × RefusesBegin self.old item e)
+            ⊎ (Accepts self.old (Machine.Begin worker item) self.new × (e ≡ Memory))) }
     {
         if !self.is_going() {
             return Err(Refusal::Ended);
@@ -398,7 +401,8 @@ impl Board {
     /// read or write. Takes no memory, and looks at none of them.
     pub fn stored(&self) -> usize
         ensures count { AreSoMany self.now.state.places result }
-        ensures exact { (run : Run self.now.code self.now.history self.now.state) → DataAreExact self.now.code self.now.state (run_log self.now.code self.now.history self.now.state run) }
+        ensures exact { (run : Run self.now.code self.now.history self.now.state)
+            → DataAreExact self.now.code self.now.state (run_log self.now.code self.now.history self.now.state run) }
     {
         self.core.world.store.len()
     }
@@ -490,7 +494,9 @@ impl Board {
     pub fn newly(&self, place: usize) -> Option<(Kind, i32, u64)>
         ensures none { IfNone result (length self.now.newly ≤ place) }
         ensures above { IfSome result (λ found. 0 < found.2) }
-        ensures some { IfSome result (λ found. (slice_get self.now.newly place ≡ Some found.2) × ((i : CodeItem) × In i self.now.state.items × (i.number ≡ found.2) × (found.0 ≡ task_kind self.now.code i.task) × (found.1 ≡ task_priority self.now.code i.task))) }
+        ensures some { IfSome result (λ found. (slice_get self.now.newly place ≡ Some found.2)
+            × ((i : CodeItem) × In i self.now.state.items × (i.number ≡ found.2) × (found.0 ≡ task_kind self.now.code i.task)
+            × (found.1 ≡ task_priority self.now.code i.task))) }
     {
         let Some(number) = number_at(&self.core.items.newly, place) else {
             return None;

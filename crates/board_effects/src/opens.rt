@@ -145,7 +145,8 @@ impl<'a> Ended<'a> {
 
     /// It opens the next turns of a range.
     pub(crate) fn counts(self, body: u32, range: &Range) -> Result<Effect, AllocError>
-        ensures { IsEnded self.entry → IsLoop self.entry body → IfOk result (Ends self.entry (Turns (range_turns range.now.low range.now.step 0 range.now.count))) }
+        ensures { IsEnded self.entry → IsLoop self.entry body
+            → IfOk result (Ends self.entry (Turns (range_turns range.now.low range.now.step 0 range.now.count))) }
     {
         let (first, end) = chunk_of(self.chunk, range.count);
         if first < end && self.is_too_deep() {

@@ -67,7 +67,8 @@ fn push_parameters(
     call: u32,
     arguments: &[Passed],
 ) -> Result<(), AllocError>
-    ensures { OnOk result (map slot_view slots.new.items ≡ map slot_view slots.old.items ++ passed_from (frames_view around.entry.instances.now.slots) around.entry.at call 0 arguments.now) }
+    ensures { OnOk result (map slot_view slots.new.items
+        ≡ map slot_view slots.old.items ++ passed_from (frames_view around.entry.instances.now.slots) around.entry.at call 0 arguments.now) }
 {
     for place in 0..arguments.len() {
         let slot = handed(around, call, place, arguments[place]);
@@ -145,8 +146,11 @@ pub fn inner(
     way: LastStep,
     arguments: (u32, &[Passed]),
 ) -> Result<Option<Instance>, AllocError>
-    ensures some { IfOk result (λ found. IfSome found (λ instance. IsInner around.entry.program.now (frames_view around.entry.instances.now.slots) around.entry.at number (option_map step_view way) (passed_from (frames_view around.entry.instances.now.slots) around.entry.at arguments.entry.0 0 arguments.entry.1.now) (frame_view instance))) }
-    ensures none { IfOk result (λ found. IfNone found ((length around.entry.program.now.bodies ≤ number) ⊎ (slot_of (frames_view around.entry.instances.now.slots) around.entry.at ≡ None))) }
+    ensures some { IfOk result (λ found. IfSome found
+        (λ instance. IsInner around.entry.program.now (frames_view around.entry.instances.now.slots) around.entry.at number (option_map step_view way)
+        (passed_from (frames_view around.entry.instances.now.slots) around.entry.at arguments.entry.0 0 arguments.entry.1.now) (frame_view instance))) }
+    ensures none { IfOk result (λ found. IfNone found
+        ((length around.entry.program.now.bodies ≤ number) ⊎ (slot_of (frames_view around.entry.instances.now.slots) around.entry.at ≡ None))) }
 {
     let Some(body) = around.program.code().body(number) else {
         return Ok(None);

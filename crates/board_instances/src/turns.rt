@@ -42,9 +42,12 @@ pub fn push_block(
     arguments: (u32, &[Passed]),
     values: (Option<Scalar>, Option<Scalar>),
 ) -> Result<(), AllocError>
-    ensures added { OnOk result (0 < length (body_of site.entry.around.program.now site.entry.body).entries → IsSome (slot_of (frames_view site.entry.around.instances.now.slots) site.entry.around.at) →
+    ensures added { OnOk result (0 < length (body_of site.entry.around.program.now site.entry.body).entries
+        → IsSome (slot_of (frames_view site.entry.around.instances.now.slots) site.entry.around.at) →
         (o : AnOpening) × (list.new.items ≡ list.old.items ++ o ∷ []) ×
-        IsOpening site.entry.around.program.now (frames_view site.entry.around.instances.now.slots) site.entry.around.at site.entry.body (option_map step_view way) (passed_from (frames_view site.entry.around.instances.now.slots) site.entry.around.at arguments.entry.0 0 arguments.entry.1.now) values.0 values.1 o) }
+        IsOpening site.entry.around.program.now (frames_view site.entry.around.instances.now.slots) site.entry.around.at site.entry.body
+        (option_map step_view way) (passed_from (frames_view site.entry.around.instances.now.slots) site.entry.around.at arguments.entry.0 0
+        arguments.entry.1.now) values.0 values.1 o) }
     ensures none { OnOk result (length (body_of site.entry.around.program.now site.entry.body).entries ≡ 0 → list.new.items ≡ list.old.items) }
 {
     let Some(body) = site.around.program.code().body(site.body) else {
@@ -72,8 +75,10 @@ fn push_turn(
     key: KeyRef<'_>,
     value: Scalar,
 ) -> Result<(), AllocError>
-    ensures added { OnOk result (0 < length (body_of site.entry.around.program.now site.entry.body).entries → IsSome (slot_of (frames_view site.entry.around.instances.now.slots) site.entry.around.at) →
-        AddsTurns site.entry.around.program.now (frames_view site.entry.around.instances.now.slots) site.entry.around.at site.entry.body site.entry.offset ((key_seen key.entry, value) ∷ []) list.old.items list.new.items) }
+    ensures added { OnOk result (0 < length (body_of site.entry.around.program.now site.entry.body).entries
+        → IsSome (slot_of (frames_view site.entry.around.instances.now.slots) site.entry.around.at) →
+        AddsTurns site.entry.around.program.now (frames_view site.entry.around.instances.now.slots) site.entry.around.at site.entry.body site.entry.offset
+        ((key_seen key.entry, value) ∷ []) list.old.items list.new.items) }
     ensures none { OnOk result (length (body_of site.entry.around.program.now site.entry.body).entries ≡ 0 → list.new.items ≡ list.old.items) }
 {
     let turn = key.scalar()?;
@@ -92,8 +97,10 @@ pub fn push_elements(
     list: &mut Vec<Opening>,
     elements: &[Element],
 ) -> Result<(), AllocError>
-    ensures added { OnOk result (0 < length (body_of site.entry.around.program.now site.entry.body).entries → IsSome (slot_of (frames_view site.entry.around.instances.now.slots) site.entry.around.at) →
-        AddsTurns site.entry.around.program.now (frames_view site.entry.around.instances.now.slots) site.entry.around.at site.entry.body site.entry.offset (pairs elements.now) list.old.items list.new.items) }
+    ensures added { OnOk result (0 < length (body_of site.entry.around.program.now site.entry.body).entries
+        → IsSome (slot_of (frames_view site.entry.around.instances.now.slots) site.entry.around.at) →
+        AddsTurns site.entry.around.program.now (frames_view site.entry.around.instances.now.slots) site.entry.around.at site.entry.body site.entry.offset
+        (pairs elements.now) list.old.items list.new.items) }
     ensures none { OnOk result (length (body_of site.entry.around.program.now site.entry.body).entries ≡ 0 → list.new.items ≡ list.old.items) }
 {
     for one in elements {
@@ -110,8 +117,10 @@ fn push_number(
     n: u64,
 ) -> Result<(), AllocError>
     requires { n < range.now.count }
-    ensures added { OnOk result (0 < length (body_of site.entry.around.program.now site.entry.body).entries → IsSome (slot_of (frames_view site.entry.around.instances.now.slots) site.entry.around.at) →
-        AddsTurns site.entry.around.program.now (frames_view site.entry.around.instances.now.slots) site.entry.around.at site.entry.body site.entry.offset ((number_key (pos n), Number (value_in range.now.low range.now.step n)) ∷ []) list.old.items list.new.items) }
+    ensures added { OnOk result (0 < length (body_of site.entry.around.program.now site.entry.body).entries
+        → IsSome (slot_of (frames_view site.entry.around.instances.now.slots) site.entry.around.at) →
+        AddsTurns site.entry.around.program.now (frames_view site.entry.around.instances.now.slots) site.entry.around.at site.entry.body site.entry.offset
+        ((number_key (pos n), Number (value_in range.now.low range.now.step n)) ∷ []) list.old.items list.new.items) }
     ensures none { OnOk result (length (body_of site.entry.around.program.now site.entry.body).entries ≡ 0 → list.new.items ≡ list.old.items) }
 {
     // So many turns are more than memory has room for.
@@ -139,8 +148,10 @@ pub fn push_range(
     first: u64,
     end: u64,
 ) -> Result<(), AllocError>
-    ensures added { OnOk result (0 < length (body_of site.entry.around.program.now site.entry.body).entries → IsSome (slot_of (frames_view site.entry.around.instances.now.slots) site.entry.around.at) →
-        AddsTurns site.entry.around.program.now (frames_view site.entry.around.instances.now.slots) site.entry.around.at site.entry.body site.entry.offset (range_turns range.now.low range.now.step first (min end range.now.count - first)) list.old.items list.new.items) }
+    ensures added { OnOk result (0 < length (body_of site.entry.around.program.now site.entry.body).entries
+        → IsSome (slot_of (frames_view site.entry.around.instances.now.slots) site.entry.around.at) →
+        AddsTurns site.entry.around.program.now (frames_view site.entry.around.instances.now.slots) site.entry.around.at site.entry.body site.entry.offset
+        (range_turns range.now.low range.now.step first (min end range.now.count - first)) list.old.items list.new.items) }
     ensures none { OnOk result (length (body_of site.entry.around.program.now site.entry.body).entries ≡ 0 → list.new.items ≡ list.old.items) }
 {
     let last = end.min(range.count);

@@ -521,7 +521,8 @@ impl Program {
     /// What is worked out of the entry of this number, where there is one.
     #[tactic(auto, using(crate::proofs::Tables::all_at))]
     pub fn entry(&self, number: u32) -> Option<&EntryTable>
-        ensures { MatchOption result (length self.now.entries ≤ number) (λ table. (number < length self.now.entries) × IsEntryTable self.now (body_of self.now number) number table.now) }
+        ensures { MatchOption result (length self.now.entries ≤ number)
+            (λ table. (number < length self.now.entries) × IsEntryTable self.now (body_of self.now number) number table.now) }
     {
         if number as usize >= self.laid.entries.len() {
             return None;

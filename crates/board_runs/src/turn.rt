@@ -94,7 +94,8 @@ fn perform(board: &mut Board, worker: u8, item: u64) -> Result<bool, AllocError>
     requires worker { IsWorker worker }
     requires going { IsGoing board.old }
     requires can { MayBegin board.old item }
-    ensures { IfOk result (λ ended. MatchBool ended ((mid : Seen) × Accepts board.old (Begin worker item) mid × Accepts mid (End worker item) board.new) (Accepts board.old (Begin worker item) board.new × ¬ IsGoing board.new)) }
+    ensures { IfOk result (λ ended. MatchBool ended ((mid : Seen) × Accepts board.old (Begin worker item) mid × Accepts mid (End worker item) board.new)
+        (Accepts board.old (Begin worker item) board.new × ¬ IsGoing board.new)) }
 {
     match board.perform(worker, item) {
         Ok(ended) => Ok(ended),

@@ -97,7 +97,8 @@ pub fn place_before<A: Allocator>(
     before: usize,
 ) -> Result<Option<Span>, AllocError>
     ensures { IfOk result (λ place. place ≡ option_map (λ m. m.at)
-        (last_fitting (fits refused.now.text.now wanted (bytes_at refused.now.text.now name) before) (mentions_around name.from (tree_of refused.now.script.now)))) }
+        (last_fitting (fits refused.now.text.now wanted (bytes_at refused.now.text.now name) before)
+        (mentions_around name.from (tree_of refused.now.script.now)))) }
 {
     let text = refused.text;
     let mentions = mentions_around(refused.alloc, name.from, refused.script)?;

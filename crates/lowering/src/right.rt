@@ -67,7 +67,9 @@ fn outer_operation<A: Allocator + Clone>(
     exprs: &Vec<tree::Expr<A>, A>,
     from: usize,
 ) -> Result<Box<Outer<A>, A>, AllocError>
-    ensures { IfOk result (λ o. outer_view o.value ≡ rules.outer_of place.node (rules.computes (operation_view operation) (rules.operands_of (table_of typed.now) (expressions_of (map expression_view (drop from exprs.now.items)))))) }
+    ensures { IfOk result (λ o. outer_view o.value ≡ rules.outer_of place.node
+        (rules.computes (operation_view operation) (rules.operands_of (table_of typed.now)
+        (expressions_of (map expression_view (drop from exprs.now.items)))))) }
 {
     let mut parts = Vec::new(alloc.clone()?);
     let form = operation_on(alloc, typed, &mut parts, operation, exprs, from)?;
@@ -203,7 +205,8 @@ fn call_alone<A: Allocator + Clone>(
     arguments: &Vec<tree::Expr<A>, A>,
     outputs: Vec<Name, A>,
 ) -> Result<Action<A>, AllocError>
-    ensures core { IfOk result (λ a. action_view a ≡ rules.composite_call priority (word_of name.now) function (rules.arguments_of (table_of typed.now) (expressions_of (map expression_view arguments.now.items))) (names_view outputs.items)) }
+    ensures core { IfOk result (λ a. action_view a ≡ rules.composite_call priority (word_of name.now) function
+        (rules.arguments_of (table_of typed.now) (expressions_of (map expression_view arguments.now.items))) (names_view outputs.items)) }
     ensures declared { IfOk result (λ a. action_declared a ≡ []) }
     ensures listed { IfOk result (λ a. action_listed a ≡ other []) }
 {
@@ -266,7 +269,8 @@ pub fn several<A: Allocator + Clone>(
     call: &Call<A>,
 ) -> Result<Action<A>, AllocError>
     ensures core { IfOk result (λ a. let t = table_of typed.now in let c = calling_of call.now in
-        action_view a ≡ rules.several t c.node.number c.name (expressions_of c.arguments) (map (rules.refers t) (words_view names.now)) (t.callee_of c.name.number)) }
+        action_view a ≡ rules.several t c.node.number c.name (expressions_of c.arguments) (map (rules.refers t) (words_view names.now))
+        (t.callee_of c.name.number)) }
     ensures declared { IfOk result (λ a. action_declared a ≡ []) }
     ensures listed { IfOk result (λ a. action_listed a ≡ other []) }
 {
@@ -309,7 +313,8 @@ fn built_in_assigned<A: Allocator + Clone>(
     call: &Call<A>,
 ) -> Result<Action<A>, AllocError>
     ensures core { IfOk result (λ a. let t = table_of typed.now in let c = calling_of call.now in let es = expressions_of c.arguments in
-        action_view a ≡ core.assign (name_view target) (rules.outer_of c.node.number (rules.call_form t c.name (table.built_in (builtin_name builtin)) es ([], []) (rules.operands_of t es)))) }
+        action_view a ≡ core.assign (name_view target)
+        (rules.outer_of c.node.number (rules.call_form t c.name (table.built_in (builtin_name builtin)) es ([], []) (rules.operands_of t es)))) }
     ensures declared { IfOk result (λ a. action_declared a ≡ []) }
     ensures listed { IfOk result (λ a. action_listed a ≡ other []) }
 {
@@ -325,7 +330,8 @@ fn boxed_built_in<A: Allocator + Clone>(
     call: &Call<A>,
 ) -> Result<Box<Outer<A>, A>, AllocError>
     ensures { IfOk result (λ o. let t = table_of typed.now in let c = calling_of call.now in let es = expressions_of c.arguments in
-        outer_view o.value ≡ rules.outer_of c.node.number (rules.call_form t c.name (table.built_in (builtin_name builtin)) es ([], []) (rules.operands_of t es))) }
+        outer_view o.value ≡ rules.outer_of c.node.number
+        (rules.call_form t c.name (table.built_in (builtin_name builtin)) es ([], []) (rules.operands_of t es))) }
 {
     let mut parts = Vec::new(alloc.clone()?);
     let form = built_in(alloc, typed, &mut parts, builtin, &call.arguments)?;

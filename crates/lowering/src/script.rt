@@ -33,7 +33,8 @@ pub fn lower<A: Allocator + Clone>(
     typed: &Typed,
 ) -> Result<Flow<A>, AllocError>
     ensures core { IfOk result (λ flow. core_of flow ≡ rules.core (table_of typed.now) (tree_of script.now)) }
-    ensures declared { IfOk result (λ flow. declared_of flow ≡ flagged (own_declarations (tree_of script.now)) ++ flagged (function_declarations (tree_of script.now))) }
+    ensures declared { IfOk result (λ flow. declared_of flow
+        ≡ flagged (own_declarations (tree_of script.now)) ++ flagged (function_declarations (tree_of script.now))) }
     ensures kinds { IfOk result (λ flow. kinds_of flow ≡ map kinds_of_signature (signatures (tree_of script.now))) }
     ensures shown { IfOk result (λ flow. shown_of flow ≡ shown (tree_of script.now)) }
 {
@@ -65,7 +66,8 @@ fn add_statements<A: Allocator + Clone>(
     items: &Vec<Item<A>, A>,
     found: &mut Vec<Statement<A>, A>,
 ) -> Result<(), AllocError>
-    ensures core { OnOk result (statements_view found.new.items ≡ statements_view found.old.items ++ own_statements (table_of typed.now) (map part_of items.now.items)) }
+    ensures core { OnOk result (statements_view found.new.items
+        ≡ statements_view found.old.items ++ own_statements (table_of typed.now) (map part_of items.now.items)) }
     ensures declared { OnOk result (declared_by found.new.items ≡ declared_by found.old.items ++ flagged (own_declarations (map part_of items.now.items))) }
     ensures listed { OnOk result (listed_by found.new.items ≡ listed_by found.old.items ++ own_listed (map part_of items.now.items)) }
 {
@@ -82,7 +84,8 @@ fn add_statement<A: Allocator + Clone>(
     item: &Item<A>,
     found: &mut Vec<Statement<A>, A>,
 ) -> Result<(), AllocError>
-    ensures core { OnOk result (statements_view found.new.items ≡ statements_view found.old.items ++ own_statements (table_of typed.now) (part_of item.now ∷ [])) }
+    ensures core { OnOk result (statements_view found.new.items
+        ≡ statements_view found.old.items ++ own_statements (table_of typed.now) (part_of item.now ∷ [])) }
     ensures declared { OnOk result (declared_by found.new.items ≡ declared_by found.old.items ++ flagged (own_declarations (part_of item.now ∷ []))) }
     ensures listed { OnOk result (listed_by found.new.items ≡ listed_by found.old.items ++ own_listed (part_of item.now ∷ [])) }
 {
@@ -101,9 +104,12 @@ fn add_functions<A: Allocator + Clone>(
     items: &Vec<Item<A>, A>,
     found: &mut Vec<Function<A>, A>,
 ) -> Result<(), AllocError>
-    ensures core { OnOk result (map function_view found.new.items ≡ map function_view found.old.items ++ rules.functions_of (table_of typed.now) (map part_of items.now.items)) }
-    ensures declared { OnOk result (functions_declared found.new.items ≡ functions_declared found.old.items ++ flagged (function_declarations (map part_of items.now.items))) }
-    ensures kinds { OnOk result (map kinds_of_function found.new.items ≡ map kinds_of_function found.old.items ++ map kinds_of_signature (signatures (map part_of items.now.items))) }
+    ensures core { OnOk result (map function_view found.new.items
+        ≡ map function_view found.old.items ++ rules.functions_of (table_of typed.now) (map part_of items.now.items)) }
+    ensures declared { OnOk result (functions_declared found.new.items
+        ≡ functions_declared found.old.items ++ flagged (function_declarations (map part_of items.now.items))) }
+    ensures kinds { OnOk result (map kinds_of_function found.new.items
+        ≡ map kinds_of_function found.old.items ++ map kinds_of_signature (signatures (map part_of items.now.items))) }
     ensures shown { OnOk result (functions_shown found.new.items ≡ functions_shown found.old.items ++ composites_shown (map part_of items.now.items)) }
 {
     for item in items {
@@ -119,9 +125,12 @@ fn add_function<A: Allocator + Clone>(
     item: &Item<A>,
     found: &mut Vec<Function<A>, A>,
 ) -> Result<(), AllocError>
-    ensures core { OnOk result (map function_view found.new.items ≡ map function_view found.old.items ++ rules.functions_of (table_of typed.now) (part_of item.now ∷ [])) }
-    ensures declared { OnOk result (functions_declared found.new.items ≡ functions_declared found.old.items ++ flagged (function_declarations (part_of item.now ∷ []))) }
-    ensures kinds { OnOk result (map kinds_of_function found.new.items ≡ map kinds_of_function found.old.items ++ map kinds_of_signature (signatures (part_of item.now ∷ []))) }
+    ensures core { OnOk result (map function_view found.new.items
+        ≡ map function_view found.old.items ++ rules.functions_of (table_of typed.now) (part_of item.now ∷ [])) }
+    ensures declared { OnOk result (functions_declared found.new.items
+        ≡ functions_declared found.old.items ++ flagged (function_declarations (part_of item.now ∷ []))) }
+    ensures kinds { OnOk result (map kinds_of_function found.new.items
+        ≡ map kinds_of_function found.old.items ++ map kinds_of_signature (signatures (part_of item.now ∷ []))) }
     ensures shown { OnOk result (functions_shown found.new.items ≡ functions_shown found.old.items ++ composites_shown (part_of item.now ∷ [])) }
 {
     match item {

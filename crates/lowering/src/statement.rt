@@ -48,7 +48,8 @@ fn add_made<A: Allocator>(
     at: usize,
     action: Result<Action<A>, AllocError>,
 ) -> Result<(), AllocError>
-    ensures core { OnOk result (IsOkAnd action (λ a. statements_view found.new.items ≡ statements_view found.old.items ++ core.stmt at node (action_view a) ∷ [])) }
+    ensures core { OnOk result (IsOkAnd action (λ a. statements_view found.new.items
+        ≡ statements_view found.old.items ++ core.stmt at node (action_view a) ∷ [])) }
     ensures declared { OnOk result (IsOkAnd action (λ a. declared_by found.new.items ≡ declared_by found.old.items ++ action_declared a)) }
     ensures listed { OnOk result (IsOkAnd action (λ a. listed_by found.new.items ≡ listed_by found.old.items ++ action_listed a ∷ [])) }
 {
@@ -82,9 +83,12 @@ fn declaration<A: Allocator + Clone>(
     right: &Option<Right<A>>,
     found: &mut Vec<Statement<A>, A>,
 ) -> Result<(), AllocError>
-    ensures core { OnOk result ((to : ℕ) → statements_view found.new.items ≡ statements_view found.old.items ++ command_alone (table_of typed.now) (record { number = number; first = first; to = to }) (trees.declare (declaration_of decl.now) (option_map right_of right.now))) }
+    ensures core { OnOk result ((to : ℕ) → statements_view found.new.items
+        ≡ statements_view found.old.items ++ command_alone (table_of typed.now) (record { number = number; first = first; to = to })
+        (trees.declare (declaration_of decl.now) (option_map right_of right.now))) }
     ensures declared { OnOk result (declared_by found.new.items ≡ declared_by found.old.items ++ (decl.now.name.number, is_array decl.now.shape) ∷ []) }
-    ensures listed { OnOk result (listed_by found.new.items ≡ listed_by found.old.items ++ command_listed (trees.declare (declaration_of decl.now) (option_map right_of right.now))) }
+    ensures listed { OnOk result (listed_by found.new.items
+        ≡ listed_by found.old.items ++ command_listed (trees.declare (declaration_of decl.now) (option_map right_of right.now))) }
 {
     let variable = variable(alloc, &decl.name, decl.shape)?;
     add(found, number, first.from, Action::Declare(variable))?;
@@ -107,7 +111,8 @@ fn insert<A: Allocator + Clone>(
     index: &Expr<A>,
     value: &Expr<A>,
 ) -> Result<Action<A>, AllocError>
-    ensures core { IfOk result (λ a. let t = table_of typed.now in action_view a ≡ core.insert (rules.refers t (word_of name.now)) (rules.outer t (expression_view index.now)) (rules.outer t (expression_view value.now))) }
+    ensures core { IfOk result (λ a. let t = table_of typed.now in action_view a
+        ≡ core.insert (rules.refers t (word_of name.now)) (rules.outer t (expression_view index.now)) (rules.outer t (expression_view value.now))) }
     ensures declared { IfOk result (λ a. action_declared a ≡ []) }
     ensures listed { IfOk result (λ a. action_listed a ≡ other []) }
 {
@@ -158,7 +163,8 @@ fn boxed_range<A: Allocator + Clone>(
 ) -> Result<Box<Range<A>, A>, AllocError>
     ensures low { IfOk result (λ r. outer_view r.value.low ≡ rules.outer (table_of typed.now) (expression_view over.now.low)) }
     ensures high { IfOk result (λ r. outer_view r.value.high ≡ rules.outer (table_of typed.now) (expression_view over.now.high)) }
-    ensures step { IfOk result (λ r. option_map outer_view r.value.step ≡ option_map (rules.outer (table_of typed.now)) (option_map expression_view over.now.step)) }
+    ensures step { IfOk result (λ r. option_map outer_view r.value.step
+        ≡ option_map (rules.outer (table_of typed.now)) (option_map expression_view over.now.step)) }
 {
     Ok(Box::new(alloc.clone()?, range(alloc, typed, over)?)?)
 }
@@ -188,7 +194,8 @@ fn choice_else<A: Allocator + Clone>(
     then: Box<Block<A>, A>,
     other: Box<Block<A>, A>,
 ) -> Result<Action<A>, AllocError>
-    ensures core { IfOk result (λ a. action_view a ≡ core.choose (rules.outer (table_of typed.now) (expression_view test.now)) (block_view then.value) (block_view other.value)) }
+    ensures core { IfOk result (λ a. action_view a ≡ core.choose (rules.outer (table_of typed.now) (expression_view test.now)) (block_view then.value)
+        (block_view other.value)) }
     ensures declared { IfOk result (λ a. action_declared a ≡ block_declared then.value ++ block_declared other.value) }
     ensures listed { IfOk result (λ a. action_listed a ≡ shows.other (whole (block_listed then.value) ++ whole (block_listed other.value))) }
 {
@@ -207,9 +214,12 @@ fn repeated<A: Allocator + Clone>(
     header: &Header<A>,
     body: Box<Block<A>, A>,
 ) -> Result<Action<A>, AllocError>
-    ensures core { IfOk result (λ a. action_view a ≡ rules.loop_action (table_of typed.now) (word_of header.now.value) (option_map word_of header.now.key) (over_of header.now.source) (block_view body.value)) }
+    ensures core { IfOk result (λ a. action_view a ≡ rules.loop_action (table_of typed.now) (word_of header.now.value) (option_map word_of header.now.key)
+        (over_of header.now.source) (block_view body.value)) }
     ensures declared { IfOk result (λ a. action_declared a ≡ block_declared body.value) }
-    ensures listed { IfOk result (λ a. action_listed a ≡ shows.looping (as_declared Shape.Scalar (word_of header.now.value)) (option_map (as_declared Shape.Scalar) (option_map word_of header.now.key)) (block_listed body.value)) }
+    ensures listed { IfOk result (λ a. action_listed a
+        ≡ shows.looping (as_declared Shape.Scalar (word_of header.now.value)) (option_map (as_declared Shape.Scalar) (option_map word_of header.now.key))
+        (block_listed body.value)) }
 {
     let value = variable(alloc, &header.value, Shape::Scalar)?;
     let key = optional(alloc, &header.key)?;
@@ -261,7 +271,8 @@ pub fn statement<A: Allocator + Clone>(
     stmt: &Stmt<A>,
     found: &mut Vec<Statement<A>, A>,
 ) -> Result<(), AllocError>
-    ensures core { OnOk result (statements_view found.new.items ≡ statements_view found.old.items ++ statement_alone (table_of typed.now) (statement_view stmt.now)) }
+    ensures core { OnOk result (statements_view found.new.items
+        ≡ statements_view found.old.items ++ statement_alone (table_of typed.now) (statement_view stmt.now)) }
     ensures declared { OnOk result (declared_by found.new.items ≡ declared_by found.old.items ++ flagged (statement_declarations (statement_view stmt.now))) }
     ensures listed { OnOk result (listed_by found.new.items ≡ listed_by found.old.items ++ listed (statement_view stmt.now)) }
 {
@@ -278,7 +289,8 @@ fn command<A: Allocator + Clone>(
     kind: &StmtKind<A>,
     found: &mut Vec<Statement<A>, A>,
 ) -> Result<(), AllocError>
-    ensures core { OnOk result ((to : ℕ) → statements_view found.new.items ≡ statements_view found.old.items ++ command_alone (table_of typed.now) (record { number = number; first = first; to = to }) (command_view kind.now)) }
+    ensures core { OnOk result ((to : ℕ) → statements_view found.new.items
+        ≡ statements_view found.old.items ++ command_alone (table_of typed.now) (record { number = number; first = first; to = to }) (command_view kind.now)) }
     ensures declared { OnOk result (declared_by found.new.items ≡ declared_by found.old.items ++ flagged (command_declarations (command_view kind.now))) }
     ensures listed { OnOk result (listed_by found.new.items ≡ listed_by found.old.items ++ command_listed (command_view kind.now)) }
 {
@@ -347,7 +359,8 @@ fn each<A: Allocator + Clone>(
     statements: &Vec<Stmt<A>, A>,
     found: &mut Vec<Statement<A>, A>,
 ) -> Result<(), AllocError>
-    ensures core { OnOk result (statements_view found.new.items ≡ statements_view found.old.items ++ statements_among (table_of typed.now) (map statement_view statements.now.items)) }
+    ensures core { OnOk result (statements_view found.new.items
+        ≡ statements_view found.old.items ++ statements_among (table_of typed.now) (map statement_view statements.now.items)) }
     ensures declared { OnOk result (declared_by found.new.items ≡ declared_by found.old.items ++ flagged (among (map statement_view statements.now.items))) }
     ensures listed { OnOk result (listed_by found.new.items ≡ listed_by found.old.items ++ all_listed (map statement_view statements.now.items)) }
 {

@@ -25,7 +25,8 @@ pub fn close_some<'a, A: Allocator>(
     alloc: Global,
 ) -> Result<bool, AllocError>
     ensures tasks { tasks_of state.new ≡ tasks_of state.old }
-    ensures heard { OnOk result (AreHeard state.old.learned (tasks_of state.old) state.old.tellers [] → AreHeard state.new.learned (tasks_of state.old) state.new.tellers []) }
+    ensures heard { OnOk result (AreHeard state.old.learned (tasks_of state.old) state.old.tellers []
+        → AreHeard state.new.learned (tasks_of state.old) state.new.tellers []) }
     ensures waiting { waiting_of state.new ≡ waiting_of state.old }
     ensures arrays { arrays_of state.new ≡ arrays_of state.old }
     ensures passed { state.new.passed ≡ state.old.passed }
@@ -33,7 +34,8 @@ pub fn close_some<'a, A: Allocator>(
     ensures facts { state.new.learned.facts ≡ state.old.learned.facts }
     ensures instances { state.new.learned.instances ≡ state.old.learned.instances }
     ensures so { OnOk result (AllStaySo (core_of state.old.flow.now) (arrays_of state.old) state.old.learned state.new.learned) }
-    ensures ended { IfOk result (λ is_new. is_new ≡ false → (state.new.learned ≡ state.old.learned) × AreEnded (core_of state.old.flow.now) state.old.learned (arrays_of state.old)) }
+    ensures ended { IfOk result (λ is_new. is_new ≡ false
+        → (state.new.learned ≡ state.old.learned) × AreEnded (core_of state.old.flow.now) state.old.learned (arrays_of state.old)) }
 {
     let closed = close_arrays(
         &mut state.learned,
@@ -66,7 +68,8 @@ fn close_arrays<'a, A: Allocator>(
     ensures instances { learned.new.instances ≡ learned.old.instances }
     ensures so { OnOk result (AllStaySo (core_of flow.now) (map candidate_of arrays.now) learned.old learned.new) }
     ensures others { IfOk result (λ closed. (q : Spot) → (q ∈ closed.items) ⊎ (closed_at learned.new q ≡ closed_at learned.old q)) }
-    ensures ended { IfOk result (λ closed. closed.items ≡ [] → (learned.new ≡ learned.old) × AreEnded (core_of flow.now) learned.old (map candidate_of arrays.now)) }
+    ensures ended { IfOk result (λ closed. closed.items ≡ []
+        → (learned.new ≡ learned.old) × AreEnded (core_of flow.now) learned.old (map candidate_of arrays.now)) }
 {
     let mut closed = Vec::new(alloc);
     for array in arrays {

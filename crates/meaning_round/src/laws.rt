@@ -52,9 +52,11 @@ pub fn silence_stays()
 /// Of an accepted script: where a state stands between rounds, all that is ready is open and all that is finished is closed, it is
 /// that after so many rounds.
 pub fn a_settled_state_is_after()
-    ensures { (s : Core) → WellFormed s → SinglyAssigned s → OffsetsApart s → (n : ℕ) (l : Learned) (ls : List Active) (arrays : List Candidate) (waiting telling : List Active)
+    ensures { (s : Core) → WellFormed s → SinglyAssigned s → OffsetsApart s
+        → (n : ℕ) (l : Learned) (ls : List Active) (arrays : List Candidate) (waiting telling : List Active)
         → StandsBetween s n l ls arrays ls waiting → IsTelling l ls telling → ((a : Active) → a ∈ waiting → IsUnready l a)
-        → ((p : Spot) (b : Block) → ◌∈◌ {X = Candidate} (p, b) arrays → closed_at l p ≡ false → IsDone s l (goal_of p b) → one_writer_in (writes_at l.facts p) ≡ true → ⊥)
+        → ((p : Spot) (b : Block) → ◌∈◌ {X = Candidate} (p, b) arrays → closed_at l p ≡ false → IsDone s l (goal_of p b)
+        → one_writer_in (writes_at l.facts p) ≡ true → ⊥)
         → IsAfter s n l ls telling }
 {}
 

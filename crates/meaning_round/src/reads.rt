@@ -112,7 +112,8 @@ fn add_filled<A: Allocator>(
     right: &Outer<A>,
     events: &mut Vec<Event>,
 ) -> Result<(), AllocError>
-    ensures { OnOk result (events.new.items ≡ events.old.items ++ (outers_reads learned.now site (outer_view right.now ∷ []) ++ own_reads learned.now site (core.fill (name_view array) (outer_view right.now)))) }
+    ensures { OnOk result (events.new.items ≡ events.old.items
+        ++ (outers_reads learned.now site (outer_view right.now ∷ []) ++ own_reads learned.now site (core.fill (name_view array) (outer_view right.now)))) }
 {
     add_outer(learned, site, right, events)?;
     add_keys(learned, site, array, right, events)
@@ -126,7 +127,8 @@ fn add_keys<A: Allocator>(
     right: &Outer<A>,
     events: &mut Vec<Event>,
 ) -> Result<(), AllocError>
-    ensures { OnOk result (events.new.items ≡ events.old.items ++ filled_reads (lies learned.now site.instance (name_view array)) (value_at learned.now.facts (here site.instance (outer_view right.now).cell.node))) }
+    ensures { OnOk result (events.new.items ≡ events.old.items
+        ++ filled_reads (lies learned.now site.instance (name_view array)) (value_at learned.now.facts (here site.instance (outer_view right.now).cell.node))) }
 {
     let place = learned.instances.place(site.instance, array);
     match learned.facts.value(site.place(right.cell.node)) {
@@ -158,7 +160,8 @@ fn add_inserted<A: Allocator>(
     events: &mut Vec<Event>,
 ) -> Result<(), AllocError>
     ensures { OnOk result (events.new.items ≡ events.old.items
-        ++ (outers_reads learned.now site (outer_view index.now ∷ outer_view right.now ∷ []) ++ own_reads learned.now site (core.insert (name_view array) (outer_view index.now) (outer_view right.now)))) }
+        ++ (outers_reads learned.now site (outer_view index.now ∷ outer_view right.now ∷ [])
+        ++ own_reads learned.now site (core.insert (name_view array) (outer_view index.now) (outer_view right.now)))) }
 {
     add_outer(learned, site, index, events)?;
     add_outer(learned, site, right, events)?;

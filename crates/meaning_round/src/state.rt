@@ -118,9 +118,11 @@ impl<'a, A: Allocator> State<'a, A> {
         waits: &'a [Header<A>],
         block: &'a Block<A>,
     ) -> Result<(), AllocError>
-        ensures tasks { OnOk result (tasks_of self.new ≡ tasks_of self.old ++ all_active instance (block_list (waits_around waits.entry.now (block_view block.entry.now)))) }
+        ensures tasks { OnOk result (tasks_of self.new
+            ≡ tasks_of self.old ++ all_active instance (block_list (waits_around waits.entry.now (block_view block.entry.now)))) }
         ensures tellers { self.new.tellers ≡ self.old.tellers }
-        ensures arrays { OnOk result (let inside = waits_around waits.entry.now (block_view block.entry.now) in arrays_of self.new ≡ arrays_of self.old ++ declares_here instance inside (block_list inside)) }
+        ensures arrays { OnOk result (let inside = waits_around waits.entry.now (block_view block.entry.now) in arrays_of self.new
+            ≡ arrays_of self.old ++ declares_here instance inside (block_list inside)) }
         ensures learned { self.new.learned ≡ self.old.learned }
         ensures flow { self.new.flow.now ≡ self.old.flow.now }
         ensures passed { self.new.passed ≡ self.old.passed }
@@ -148,7 +150,8 @@ impl<'a, A: Allocator> State<'a, A> {
     fn add_statements(&mut self, instance: usize, block: &'a Block<A>) -> Result<(), AllocError>
         ensures tasks { OnOk result (tasks_of self.new ≡ tasks_of self.old ++ all_active instance (block_list (block_view block.entry.now))) }
         ensures tellers { self.new.tellers ≡ self.old.tellers }
-        ensures arrays { OnOk result (arrays_of self.new ≡ arrays_of self.old ++ declares_here instance (block_view block.entry.now) (block_list (block_view block.entry.now))) }
+        ensures arrays { OnOk result (arrays_of self.new
+            ≡ arrays_of self.old ++ declares_here instance (block_view block.entry.now) (block_list (block_view block.entry.now))) }
         ensures learned { self.new.learned ≡ self.old.learned }
         ensures flow { self.new.flow.now ≡ self.old.flow.now }
         ensures passed { self.new.passed ≡ self.old.passed }
@@ -171,7 +174,8 @@ impl<'a, A: Allocator> State<'a, A> {
         requires { (n : ℕ) → contains nat_eq nevers.now n ≡ never_in no_calls (local n) (block_view block.now) }
         ensures tasks { OnOk result (tasks_of self.new ≡ tasks_of self.old ++ active instance (statement_view statement.entry.now) ∷ []) }
         ensures tellers { self.new.tellers ≡ self.old.tellers }
-        ensures arrays { OnOk result (arrays_of self.new ≡ arrays_of self.old ++ declares_here instance (block_view block.entry.now) (statement_view statement.entry.now ∷ [])) }
+        ensures arrays { OnOk result (arrays_of self.new
+            ≡ arrays_of self.old ++ declares_here instance (block_view block.entry.now) (statement_view statement.entry.now ∷ [])) }
         ensures learned { self.new.learned ≡ self.old.learned }
         ensures flow { self.new.flow.now ≡ self.old.flow.now }
         ensures passed { self.new.passed ≡ self.old.passed }
@@ -210,7 +214,8 @@ fn add_declared<'a, A: Allocator>(
     action: &'a Action<A>,
 ) -> Result<(), AllocError>
     requires { (n : ℕ) → contains nat_eq nevers.now n ≡ never_in no_calls (local n) (block_view block.now) }
-    ensures { OnOk result (map candidate_of arrays.new.items ≡ map candidate_of arrays.old.items ++ declares_here_by instance (block_view block.entry.now) (action_view action.entry.now)) }
+    ensures { OnOk result (map candidate_of arrays.new.items
+        ≡ map candidate_of arrays.old.items ++ declares_here_by instance (block_view block.entry.now) (action_view action.entry.now)) }
 {
     match action {
         Action::Declare(variable) => add_array(arrays, instance, block, nevers, variable.node),
@@ -237,7 +242,8 @@ fn add_array<'a, A: Allocator>(
 ) -> Result<(), AllocError>
     requires { (n : ℕ) → contains nat_eq nevers.now n ≡ never_in no_calls (local n) (block_view block.now) }
     ensures { OnOk result (map candidate_of arrays.new.items
-        ≡ map candidate_of arrays.old.items ++ unless_never instance (block_view block.entry.now) node (never_in no_calls (local node) (block_view block.entry.now))) }
+        ≡ map candidate_of arrays.old.items ++ unless_never instance (block_view block.entry.now) node
+        (never_in no_calls (local node) (block_view block.entry.now))) }
 {
     if !nevers.contains(&node) {
         arrays.push(Array {

@@ -117,7 +117,8 @@ impl Tellers {
 
     /// Has one called at an event.
     fn call(&mut self, alloc: Global, event: Event, number: usize) -> Result<(), AllocError>
-        ensures called { OnOk result ((e : SomeEvent) (k : ℕ) → is_called self.new e k ≡ (same_event (event_key event) (event_key e) && nat_eq number k) || is_called self.old e k) }
+        ensures called { OnOk result ((e : SomeEvent) (k : ℕ)
+            → is_called self.new e k ≡ (same_event (event_key event) (event_key e) && nat_eq number k) || is_called self.old e k) }
         ensures fresh { self.new.fresh ≡ self.old.fresh }
         ensures awake { self.new.awake.items ≡ self.old.awake.items }
         ensures asleep { self.new.asleep ≡ self.old.asleep }
@@ -143,7 +144,8 @@ impl Tellers {
     /// Puts one on the list of an event, which there is.
     fn put(&mut self, event: Event, number: usize) -> Result<(), AllocError>
         requires { IsSome (get same_event self.old.called (event_key event)) }
-        ensures called { OnOk result ((e : SomeEvent) (k : ℕ) → is_called self.new e k ≡ (same_event (event_key event) (event_key e) && nat_eq number k) || is_called self.old e k) }
+        ensures called { OnOk result ((e : SomeEvent) (k : ℕ)
+            → is_called self.new e k ≡ (same_event (event_key event) (event_key e) && nat_eq number k) || is_called self.old e k) }
         ensures fresh { self.new.fresh ≡ self.old.fresh }
         ensures awake { self.new.awake.items ≡ self.old.awake.items }
         ensures asleep { self.new.asleep ≡ self.old.asleep }

@@ -139,7 +139,8 @@ fn add_inserted<A: Allocator>(
 ) -> Result<(), AllocError>
     ensures told { OnOk result (facts_view learned.now.instances.all.items news.new.items
         ≡ facts_view learned.now.instances.all.items news.old.items
-        ++ (outers_news learned.now site (outer_view index.now ∷ outer_view right.now ∷ []) ++ own_news learned.now site (core.insert (name_view array) (outer_view index.now) (outer_view right.now)))) }
+        ++ (outers_news learned.now site (outer_view index.now ∷ outer_view right.now ∷ [])
+        ++ own_news learned.now site (core.insert (name_view array) (outer_view index.now) (outer_view right.now)))) }
     ensures inside { OnOk result (StayInside learned.now.instances.all.items site.instance news.old.items news.new.items) }
 {
     let index = comes(learned, alloc, site, index, news)?;
@@ -233,7 +234,8 @@ fn add_branch<A: Allocator>(
 ) -> Result<(), AllocError>
     ensures told { OnOk result (facts_view learned.now.instances.all.items news.new.items
         ≡ facts_view learned.now.instances.all.items news.old.items
-        ++ (outers_news learned.now site (outer_view condition.now ∷ []) ++ branch_news learned.now site (comes_at learned.now site (outer_view condition.now).cell) other)) }
+        ++ (outers_news learned.now site (outer_view condition.now ∷ [])
+        ++ branch_news learned.now site (comes_at learned.now site (outer_view condition.now).cell) other)) }
     ensures inside { OnOk result (StayInside learned.now.instances.all.items site.instance news.old.items news.new.items) }
 {
     match comes(learned, alloc, site, condition, news)? {
@@ -252,7 +254,8 @@ fn add_range<A: Allocator>(
 ) -> Result<(), AllocError>
     ensures told { OnOk result (facts_view learned.now.instances.all.items news.new.items
         ≡ facts_view learned.now.instances.all.items news.old.items
-        ++ (outers_news learned.now site (range_outers range.now) ++ range_news learned.now site (comes_all (sight_at learned.now site) (map (λ o. o.cell) (range_outers range.now))))) }
+        ++ (outers_news learned.now site (range_outers range.now)
+        ++ range_news learned.now site (comes_all (sight_at learned.now site) (map (λ o. o.cell) (range_outers range.now))))) }
     ensures inside { OnOk result (StayInside learned.now.instances.all.items site.instance news.old.items news.new.items) }
 {
     let low = comes(learned, alloc, site, &range.low, news)?;
@@ -294,7 +297,8 @@ fn add_stepped(
     news: &mut Vec<Fact>,
 ) -> Result<(), AllocError>
     ensures told { OnOk result (facts_view learned.now.instances.all.items news.new.items
-        ≡ facts_view learned.now.instances.all.items news.old.items ++ range_news learned.now site (with_value low (with_value high (with_value step (Some []))))) }
+        ≡ facts_view learned.now.instances.all.items news.old.items
+        ++ range_news learned.now site (with_value low (with_value high (with_value step (Some []))))) }
     ensures inside { OnOk result (StayInside learned.now.instances.all.items site.instance news.old.items news.new.items) }
 {
     match (low, high, step) {

@@ -34,8 +34,10 @@ impl<'a, A: Allocator> State<'a, A> {
         ensures round { IfOk result (λ news. (bytes : List ℕ) (t : Table) (tree : Tree) → Reads bytes tree → WellTyped tree t → SinglyAssigned (core t tree)
             → (n : ℕ) → IsAfter (core t tree) n self.old.learned (tasks_of self.old) (telling_of self.old)
             → (f : Told) → Known (core t tree) (suc n) f ↔ (Known (core t tree) n f ⊎ (f ∈ facts_view self.old.learned.instances.all.items news.items))) }
-        ensures inside { IfOk result (λ news. HavePlaces self.old.learned.instances.all.items (telling_of self.old) → AreInside self.old.learned.instances.all.items news.items) }
-        ensures heard { OnOk result (HavePlaces self.old.learned.instances.all.items (tasks_of self.old) → AreHeard self.old.learned (tasks_of self.old) self.old.tellers []
+        ensures inside { IfOk result (λ news. HavePlaces self.old.learned.instances.all.items (telling_of self.old)
+            → AreInside self.old.learned.instances.all.items news.items) }
+        ensures heard { OnOk result (HavePlaces self.old.learned.instances.all.items (tasks_of self.old)
+            → AreHeard self.old.learned (tasks_of self.old) self.old.tellers []
             → AreHeard self.old.learned (tasks_of self.old) self.new.tellers []) }
         ensures learned { self.new.learned ≡ self.old.learned }
         ensures tasks { tasks_of self.new ≡ tasks_of self.old }
@@ -55,7 +57,8 @@ impl<'a, A: Allocator> State<'a, A> {
     /// Adds facts, and wakes those that have read what comes with them.
     pub fn learn(&mut self, alloc: Global, news: Vec<Fact>) -> Result<(), AllocError>
         ensures facts { OnOk result (AreAdded self.old.learned.facts news.items self.new.learned.facts) }
-        ensures heard { OnOk result (AreHeard self.old.learned (tasks_of self.old) self.old.tellers [] → AreHeard self.new.learned (tasks_of self.old) self.new.tellers []) }
+        ensures heard { OnOk result (AreHeard self.old.learned (tasks_of self.old) self.old.tellers []
+            → AreHeard self.new.learned (tasks_of self.old) self.new.tellers []) }
         ensures instances { self.new.learned.instances ≡ self.old.learned.instances }
         ensures closed { self.new.learned.closed ≡ self.old.learned.closed }
         ensures tasks { tasks_of self.new ≡ tasks_of self.old }
@@ -77,9 +80,11 @@ fn ask_all<A: Allocator>(
 ) -> Result<Vec<Fact>, AllocError>
     ensures told { IfOk result (λ news. facts_view learned.now.instances.all.items news.items
         ≡ actives_news learned.now (picks (map active_of tasks.now) (numbers_of tellers.old (length (map active_of tasks.now))))) }
-    ensures inside { IfOk result (λ news. HavePlaces learned.now.instances.all.items (picks (map active_of tasks.now) (numbers_of tellers.old (length (map active_of tasks.now))))
+    ensures inside { IfOk result (λ news. HavePlaces learned.now.instances.all.items
+        (picks (map active_of tasks.now) (numbers_of tellers.old (length (map active_of tasks.now))))
         → AreInside learned.now.instances.all.items news.items) }
-    ensures heard { OnOk result (HavePlaces learned.now.instances.all.items (map active_of tasks.now) → AreHeard learned.now (map active_of tasks.now) tellers.old []
+    ensures heard { OnOk result (HavePlaces learned.now.instances.all.items (map active_of tasks.now)
+        → AreHeard learned.now (map active_of tasks.now) tellers.old []
         → AreHeard learned.now (map active_of tasks.now) tellers.new []) }
 {
     let numbers = tellers.take_awake(alloc, tasks.len())?;
@@ -94,10 +99,12 @@ fn ask_each<A: Allocator>(
     tellers: &mut Tellers,
     numbers: Vec<usize>,
 ) -> Result<Vec<Fact>, AllocError>
-    ensures told { IfOk result (λ news. facts_view learned.now.instances.all.items news.items ≡ actives_news learned.now (picks (map active_of tasks.now) numbers.items)) }
+    ensures told { IfOk result (λ news. facts_view learned.now.instances.all.items news.items
+        ≡ actives_news learned.now (picks (map active_of tasks.now) numbers.items)) }
     ensures inside { IfOk result (λ news. HavePlaces learned.now.instances.all.items (picks (map active_of tasks.now) numbers.items)
         → AreInside learned.now.instances.all.items news.items) }
-    ensures heard { OnOk result (HavePlaces learned.now.instances.all.items (map active_of tasks.now) → AreHeard learned.now (map active_of tasks.now) tellers.old numbers.items
+    ensures heard { OnOk result (HavePlaces learned.now.instances.all.items (map active_of tasks.now)
+        → AreHeard learned.now (map active_of tasks.now) tellers.old numbers.items
         → AreHeard learned.now (map active_of tasks.now) tellers.new []) }
 {
     let mut news = Vec::new(alloc);
@@ -141,7 +148,8 @@ fn ask_task<A: Allocator>(
     ensures told { OnOk result (facts_view learned.now.instances.all.items news.new.items
         ≡ facts_view learned.now.instances.all.items news.old.items ++ active_news learned.now (active_of task.now)) }
     ensures inside { OnOk result (StayInside learned.now.instances.all.items task.now.site.instance news.old.items news.new.items) }
-    ensures heard { OnOk result ((ls : List Active) → slice_get ls number ≡ Some (active_of task.now) → HavePlaces learned.now.instances.all.items ls → (asked : List ℕ)
+    ensures heard { OnOk result ((ls : List Active) → slice_get ls number ≡ Some (active_of task.now)
+        → HavePlaces learned.now.instances.all.items ls → (asked : List ℕ)
         → AreHeard learned.now ls tellers.old (number ∷ asked) → AreHeard learned.now ls tellers.new asked) }
 {
     let before = news.len();

@@ -92,21 +92,24 @@ impl Code {
 
     /// The entry of this number, where there is one.
     pub fn entry(&self, number: u32) -> Option<&Entry>
-        ensures { MatchOption result (length self.now.entries ≤ number) (λ found. (number < length self.now.entries) × (entry_view found.now ≡ entry self.now number)) }
+        ensures { MatchOption result (length self.now.entries ≤ number)
+            (λ found. (number < length self.now.entries) × (entry_view found.now ≡ entry self.now number)) }
     {
         self.draft.entry(number)
     }
 
     /// The same for whoever keeps the entry.
     pub fn share_entry(&self, number: u32) -> Result<Option<Arc<Entry>>, AllocError>
-        ensures { IfOk result (λ found. MatchOption found (length self.now.entries ≤ number) (λ shared. (number < length self.now.entries) × (entry_view (arc_value shared) ≡ entry self.now number))) }
+        ensures { IfOk result (λ found. MatchOption found (length self.now.entries ≤ number)
+            (λ shared. (number < length self.now.entries) × (entry_view (arc_value shared) ≡ entry self.now number))) }
     {
         self.draft.share_entry(number)
     }
 
     /// The body of this number, where there is one.
     pub fn body(&self, number: u32) -> Option<&Body>
-        ensures { MatchOption result (length self.now.bodies ≤ number) (λ found. (number < length self.now.bodies) × (body_view found.now ≡ body self.now number)) }
+        ensures { MatchOption result (length self.now.bodies ≤ number)
+            (λ found. (number < length self.now.bodies) × (body_view found.now ≡ body self.now number)) }
     {
         self.draft.body(number)
     }

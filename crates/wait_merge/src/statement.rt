@@ -36,7 +36,8 @@ fn take_in<A: Allocator>(
     only: Statement<A>,
 ) -> Result<(), AllocError>
     requires { IsTrue ((statement_seen only).wait) }
-    ensures core { OnOk result (waits_around inner.new.items (block_view content.new.value) ≡ waits_around inner.old.items (core.stmts (statement_view only) core.no_stmts)) }
+    ensures core { OnOk result (waits_around inner.new.items (block_view content.new.value)
+        ≡ waits_around inner.old.items (core.stmts (statement_view only) core.no_stmts)) }
     ensures declared { OnOk result (block_declared content.new.value ≡ statement_declared only) }
     ensures listed { OnOk result (inside (block_listed content.new.value) ≡ (statement_listed only).shown) }
     ensures alone { OnOk result (IsTrue ((statement_seen only).merged) → (block_seen content.new.value).wait ≡ false) }

@@ -68,7 +68,8 @@ impl<J: Job, E: Ledger, N: Ledger> Hand<J, E, N> {
     /// A number from the pool, of its kind.
     pub fn draw(&mut self, pool: &Pool) -> Option<u64>
         requires { pool_id pool.now ≡ J.pool }
-        ensures did { self.old.offers.drawn < u64.MAX → TakeDid (view self.old.offers.seat) (view self.new.offers.seat) (kind_order (side_of self.old.kind)) result }
+        ensures did { self.old.offers.drawn < u64.MAX
+            → TakeDid (view self.old.offers.seat) (view self.new.offers.seat) (kind_order (side_of self.old.kind)) result }
         ensures pending { self.new.offers.pending ≡ self.old.offers.pending }
     {
         let side = side_of(self.kind);
@@ -154,7 +155,8 @@ impl<J: Job, E: Ledger, N: Ledger> Hand<J, E, N> {
 
     /// Ends an item. What can begin from now on it lists, where there is memory for that.
     pub fn end(&mut self, floor: &mut Floor<J, E, N>, done: Finished<J>) -> Result<(), Refusal>
-        ensures listed { OnOk result (AreListed floor.new.desk.board self.old.offers.list.items self.new.offers.list.items ⊎ (self.new.offers.list.items ≡ self.old.offers.list.items)) }
+        ensures listed { OnOk result (AreListed floor.new.desk.board self.old.offers.list.items self.new.offers.list.items
+            ⊎ (self.new.offers.list.items ≡ self.old.offers.list.items)) }
     {
         let worker = self.worker;
         let Floor { desk, crowds, .. } = floor;
