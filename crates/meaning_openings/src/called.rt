@@ -16,6 +16,8 @@ ghost use Rattle.meaning_round.specs.Standing.{active_of};
 ghost use Rattle.meaning_openings.specs.Opening.{IsGood, IsMore, IsStep};
 
 use crate::children::enter;
+use crate::fault::MeaningFault;
+use crate::room::Room;
 use flow::cell::Call;
 use meaning_cells::parts::calls_of;
 use meaning_facts::instances::Given;
@@ -27,9 +29,9 @@ use values::key::Key;
 /// Makes the bodies of a statement's calls live.
 pub(crate) fn open_calls<'a, A: Allocator>(
     state: &mut State<'a, A>,
-    alloc: Global,
+    room: Room,
     task: &Task<'a, A>,
-) -> Result<(), AllocError>
+) -> Result<(), MeaningFault>
     ensures so { OnOk result ((s : Core) (n : ℕ) → s ≡ core_of state.old.flow.now → WellFormed s → IsGood s n state.old
         → active_of task.now ∈ tasks_of state.old
         → IsStep s n state.old state.new × AreCalled s state.new.learned (tasks_of state.new) (active_of task.now)) }
@@ -41,9 +43,10 @@ pub(crate) fn open_calls<'a, A: Allocator>(
     let Deed::Does(action) = &task.deed else {
         return Ok(());
     };
-    let calls = calls_of(alloc, *action)?;
+    let calls = calls_of(room.alloc, *action)?;
     for call in &calls {
-        open_call(state, alloc, task.site.instance, *call)?;
+        room.hold(state)?;
+        open_call(state, room.alloc, task.site.instance, *call)?;
     }
     Ok(())
 }

@@ -16,6 +16,8 @@ ghost use Rattle.meaning_round.specs.Made.{tasks_of, waiting_of};
 ghost use Rattle.meaning_openings.specs.Opening.{AreTurned, IsGood, IsMore, IsStep};
 
 use crate::children::enter;
+use crate::fault::MeaningFault;
+use crate::room::Room;
 use flow::statement::{Action, Block, Variable as Declared};
 use meaning_cells::choices::{Choice, block_of};
 use meaning_facts::instances::{Given, Variable};
@@ -28,12 +30,12 @@ use values::value::Scalar;
 /// Makes the blocks live that a header opens by its choice.
 pub(crate) fn open_choice<'a, A: Allocator>(
     state: &mut State<'a, A>,
-    alloc: Global,
+    room: Room,
     instance: usize,
     at: usize,
     action: &'a Action<A>,
     choice: &Choice,
-) -> Result<(), AllocError>
+) -> Result<(), MeaningFault>
     ensures so { OnOk result ((s : Core) (n : ℕ) → WellFormed s → OffsetsApart s → IsGood s n state.old → (node : ℕ)
         → active instance (stmt at node (action_view action.entry.now)) ∈ tasks_of state.old
         → chosen_in (sight_of state.old.learned instance) (action_view action.entry.now) ≡ Some (choice_view choice.now)
@@ -50,7 +52,8 @@ pub(crate) fn open_choice<'a, A: Allocator>(
         return Ok(());
     };
     for i in 0..choice.count() {
-        open_turn(state, alloc, instance, at, action, choice, i, block)?;
+        room.hold(state)?;
+        open_turn(state, room.alloc, instance, at, action, choice, i, block)?;
     }
     Ok(())
 }
