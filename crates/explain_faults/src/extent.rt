@@ -13,13 +13,13 @@ use std::alloc::{AllocError, Allocator, Global};
 /// How many rounds of a script are worked out at first.
 const FIRST_ROUNDS: u32 = 16;
 
-/// How many times as many are the next time.
+/// How many times as many are the next time, at most.
 const GROWTH: u32 = 4;
 
 /// The most times.
 const MOST_TRIES: usize = 17;
 
-/// Rounds times blocks: behind so much no more rounds are tried.
+/// Rounds times blocks: so much is tried at last.
 const MOST_WORK: u64 = 50_000_000;
 
 /// Whatever the run, so many turns and statements may be live, and for each of its events so many more.
@@ -74,10 +74,11 @@ fn known_with<A: Allocator>(
         if is_enough(room.alloc, &known, printed)? {
             return Ok(known);
         }
-        limit = limit.saturating_mul(GROWTH);
-        if is_long(&known, limit) {
+        let more = more_rounds(&known, limit);
+        if more <= limit {
             break;
         }
+        limit = more;
     }
     Err(MeaningFault::TooLarge)
 }
@@ -95,10 +96,14 @@ fn is_enough(
     }
 }
 
-/// Whether so many rounds would take too long.
-fn is_long(known: &Knowledge, limit: u32) -> bool {
+/// How many rounds are tried behind so many, by the blocks that were live then.
+fn more_rounds(known: &Knowledge, limit: u32) -> u32 {
     let blocks = known.learned.instances.all.len() as u64;
-    blocks.saturating_mul(u64::from(limit)) > MOST_WORK
+    let most = MOST_WORK / blocks.max(1);
+    match u32::try_from(most) {
+        Ok(most) => most.min(limit.saturating_mul(GROWTH)),
+        Err(_) => limit.saturating_mul(GROWTH),
+    }
 }
 
 /// What is known of a script before anything of it is worked out.

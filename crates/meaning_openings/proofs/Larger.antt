@@ -1,5 +1,6 @@
 -- Where a program counts more turns or statements than so many, more blocks or statements are live.
-use Rattle.std.specs.Prelude.{◌≡◌, ◌⊎◌, ℕ, zero, suc, ◌+◌, ◌<◌, ◌≤◌, Bool, true, false, cond, nat_eq, ◌&&◌, List, [], ◌∷◌, length, drop, Option, Some, None, if◌then◌else◌, refl}
+use Rattle.std.specs.Prelude.{◌≡◌, ◌⊎◌, ℕ, zero, suc, ◌+◌, ◌<◌, ◌≤◌, Bool, true, false, cond, nat_eq, ◌&&◌, List, [], ◌∷◌, length, map, drop, Option, Some, None, if◌then◌else◌, refl, Ok, Err, IfErr}
+use Rattle.std.specs.Result.{IsErrAnd, Result}
 use Rattle.std.proofs.Common.{inl, inr, sym, ap, ◌∙◌, subst, arith, get_or}
 use Rattle.std.proofs.lemmas.Bool.{and_parts, eqb-true}
 use Rattle.std.specs.HashSet.{HashSet, contains}
@@ -25,8 +26,12 @@ use Rattle.meaning_facts.proofs.Keeping.{one_instance}
 use Rattle.meaning_invariants.specs.Active.{Active, Candidate}
 use Rattle.meaning_invariants.specs.Opened.{IsSoFar, Origin, of_call, of_header}
 use Rattle.meaning_round.specs.declared.state.State.{State}
+use Rattle.meaning_round.specs.declared.state.Task.{Task}
 use Rattle.meaning_round.specs.Made.{tasks_of}
-use Rattle.meaning_round.proofs.Listed.{nth_in}
+use Rattle.meaning_round.specs.Standing.{active_of}
+use Rattle.meaning_round.proofs.Listed.{mapped_in, nth_in}
+use Rattle.meaning_openings.specs.declared.fault.MeaningFault.{MeaningFault}
+use Rattle.meaning_openings.specs.declared.fault.MeaningFault.TheVariants.{Memory, TooLarge}
 use Rattle.meaning_openings.specs.Larger.{turns_from, IsLarger, IsOwn, OwnsMore}
 use Rattle.meaning_openings.specs.Opening.{IsGood}
 
@@ -169,6 +174,12 @@ counted_next m [] i d l = absurd (omega (arith, l))
 counted_next m (x ∷ xs) zero d l = counted_one (nat_eq (length x.given.variables.items) 0) m (turns_from (suc m) xs)
 counted_next m (x ∷ xs) (suc i) d l = counted_next m xs i d (omega (arith, l))
 
+pub counted_all : (m : ℕ) (ns : List Instance) (i : ℕ) → length ns ≤ i → length (turns_from m (drop i ns)) ≡ 0
+counted_all m [] zero l = refl
+counted_all m [] (suc i) l = refl
+counted_all m (x ∷ xs) zero l = absurd (omega (arith, l))
+counted_all m (x ∷ xs) (suc i) l = counted_all m xs i (omega (arith, l))
+
 -- STATEMENTS
 
 spot_own : (p : Spot) → same_place p p ≡ true
@@ -191,6 +202,23 @@ key_contained (q ∷ ps) p m = elim (split_in m) [
     by : (b : Bool) → list_any (same_place p) ps ≡ true → cond b true (list_any (same_place p) ps) ≡ true
     by true h = refl
     by false h = h
+
+-- a loop over live statements puts their places into a set
+pub task_own : {A : Type 0} (ts : List (Task A)) (i : ℕ) (t : Task A) → i < length ts → t ≡ get_or ts i t → IsOwn (map active_of ts) (record { instance = t.site.instance; node = t.site.node })
+task_own {A} ts i t l e = record {
+  active = active_of t;
+  there = subst (λ (z : Task A). active_of z ∈ map active_of ts) (sym e) (mapped_in active_of ts (nth_in ts i t l));
+  instance_is = refl;
+  node_is = refl;
+}
+
+pub own_next : (ls : List Active) (old new : Spot → Bool) (k : Spot) → ((p : Spot) → new p ≡ cond (same_place k p) true (old p)) → IsOwn ls k
+    → ((p : Spot) → old p ≡ true → IsOwn ls p) → (p : Spot) → new p ≡ true → IsOwn ls p
+own_next ls old new k updates own was p h = by (same_place k p) refl (sym (updates p) ∙ h)
+  where
+    by : (b : Bool) → same_place k p ≡ b → cond b true (old p) ≡ true → IsOwn ls p
+    by true e q = subst (λ (z : Spot). IsOwn ls z) (spot_parts k p e) own
+    by false e q = was p q
 
 module _ {A : Type 0} (s : Core) (n : ℕ) (state : State A) (most : ℕ) (good : IsGood s n state) (owns : OwnsMore (tasks_of state) most) where
   abbrev zero_spot : Spot
@@ -225,3 +253,15 @@ module _ {A : Type 0} (s : Core) (n : ℕ) (state : State A) (most : ℕ) (good 
 
   pub larger_by_statements : IsLarger s n most
   larger_by_statements = inr (record { place = λ i. place_view state.learned.instances.all.items (nth_spot i); live = spot_live; apart = spots_apart })
+
+-- WHERE A CALL ENDS
+
+-- want of memory is no answer on what is live
+pub memory_is_small : {T X : Type 0} (r : Result T MeaningFault) → IsErrAnd r (λ f. f ≡ Memory) → IfErr r (λ f. f ≡ TooLarge → X)
+memory_is_small (Ok x) h = tt
+memory_is_small (Err f) h = λ e. (let q : Memory ≡ TooLarge = sym h ∙ e in absurd (cc (q)))
+
+-- an answer is passed on
+pub answer_passes : {T X : Type 0} (g : MeaningFault) (r : Result T MeaningFault) → IsErrAnd r (λ f. f ≡ g) → (g ≡ TooLarge → X) → IfErr r (λ f. f ≡ TooLarge → X)
+answer_passes g (Ok x) h so = tt
+answer_passes g (Err f) h so = λ e. so (sym h ∙ e)

@@ -1,6 +1,6 @@
 //! The bodies of the functions that live statements call (Swift/T Guide, on composite functions).
 
-ghost use Rattle.std.specs.Prelude.{◌≡◌, ◌<◌, ℕ, pos, length, Some, slice_get, OnOk};
+ghost use Rattle.std.specs.Prelude.{◌≡◌, ◌<◌, ℕ, pos, length, Some, slice_get, IfErr, OnOk};
 ghost use Rattle.values.specs.declared.key.Key.{Key as StepKey};
 ghost use Rattle.flow.specs.View.{call_view, core_of};
 ghost use Rattle.language.specs.Core.{Core, Function, Stmt};
@@ -13,6 +13,8 @@ ghost use Rattle.meaning_invariants.specs.Active.{active, HasBlock};
 ghost use Rattle.meaning_invariants.specs.Opened.{AreCalled};
 ghost use Rattle.meaning_round.specs.Made.{tasks_of, waiting_of};
 ghost use Rattle.meaning_round.specs.Standing.{active_of};
+ghost use Rattle.meaning_openings.specs.declared.fault.MeaningFault.TheVariants.{TooLarge};
+ghost use Rattle.meaning_openings.specs.Larger.{IsLarger};
 ghost use Rattle.meaning_openings.specs.Opening.{IsGood, IsMore, IsStep};
 
 use crate::children::enter;
@@ -35,6 +37,8 @@ pub(crate) fn open_calls<'a, A: Allocator>(
     ensures so { OnOk result ((s : Core) (n : ℕ) → s ≡ core_of state.old.flow.now → WellFormed s → IsGood s n state.old
         → active_of task.now ∈ tasks_of state.old
         → IsStep s n state.old state.new × AreCalled s state.new.learned (tasks_of state.new) (active_of task.now)) }
+    ensures large { IfErr result (λ fault. fault ≡ TooLarge → (s : Core) (n : ℕ) → s ≡ core_of state.old.flow.now → WellFormed s → IsGood s n state.old
+        → active_of task.now ∈ tasks_of state.old → IsLarger s n room.most) }
     ensures more { OnOk result (IsMore state.old state.new) }
     ensures flow { state.new.flow.now ≡ state.old.flow.now }
     ensures passed { state.new.passed ≡ state.old.passed }

@@ -1,6 +1,6 @@
 //! What a live statement opens as a header, or that it waits for its choice (Swift/T Guide, on conditionals, loops and `wait`).
 
-ghost use Rattle.std.specs.Prelude.{◌≡◌, ◌++◌, ◌∷◌, [], ℕ, map, OnOk};
+ghost use Rattle.std.specs.Prelude.{◌≡◌, ◌++◌, ◌∷◌, [], ℕ, map, IfErr, OnOk};
 ghost use Rattle.flow.specs.View.{action_view, awaited_view, core_of};
 ghost use Rattle.language.specs.Core.{wait, Core};
 ghost use Rattle.language.specs.Members.{◌∈◌};
@@ -9,6 +9,8 @@ ghost use Rattle.language.specs.WellFormed.{WellFormed};
 ghost use Rattle.meaning_invariants.specs.Opened.{OffsetsApart};
 ghost use Rattle.meaning_round.specs.Made.{arrays_of, tasks_of, waiting_of};
 ghost use Rattle.meaning_round.specs.Standing.{active_of, content_view, deed_view};
+ghost use Rattle.meaning_openings.specs.declared.fault.MeaningFault.TheVariants.{TooLarge};
+ghost use Rattle.meaning_openings.specs.Larger.{IsLarger};
 ghost use Rattle.meaning_openings.specs.Opening.{IsGood, IsLookedAt, IsMore, IsStep};
 ghost use Rattle.meaning_openings.specs.Insides.{inside, inside_view};
 
@@ -84,6 +86,8 @@ pub(crate) fn open_header<'a, A: Allocator>(
 ) -> Result<(), MeaningFault>
     ensures so { OnOk result ((s : Core) (n : ℕ) → WellFormed s → OffsetsApart s → IsGood s n state.old → active_of task.entry ∈ tasks_of state.old
         → IsStep s n state.old state.new × IsLookedAt s n state.old (active_of task.entry) state.new) }
+    ensures large { IfErr result (λ fault. fault ≡ TooLarge → (s : Core) (n : ℕ) → WellFormed s → OffsetsApart s → IsGood s n state.old
+        → active_of task.entry ∈ tasks_of state.old → IsLarger s n room.most) }
     ensures more { OnOk result (IsMore state.old state.new) }
     ensures flow { state.new.flow.now ≡ state.old.flow.now }
     ensures passed { state.new.passed ≡ state.old.passed }
@@ -108,6 +112,9 @@ fn open_branches<'a, A: Allocator>(
     ensures so { OnOk result ((s : Core) (n : ℕ) → WellFormed s → OffsetsApart s → IsGood s n state.old → active_of task.entry ∈ tasks_of state.old
         → deed_view task.entry.deed ≡ action_view action.entry.now → Branches (action_view action.entry.now)
         → IsStep s n state.old state.new × IsLookedAt s n state.old (active_of task.entry) state.new) }
+    ensures large { IfErr result (λ fault. fault ≡ TooLarge → (s : Core) (n : ℕ) → WellFormed s → OffsetsApart s → IsGood s n state.old
+        → active_of task.entry ∈ tasks_of state.old → deed_view task.entry.deed ≡ action_view action.entry.now → Branches (action_view action.entry.now)
+        → IsLarger s n room.most) }
     ensures more { OnOk result (IsMore state.old state.new) }
     ensures flow { state.new.flow.now ≡ state.old.flow.now }
     ensures passed { state.new.passed ≡ state.old.passed }

@@ -1,6 +1,6 @@
 //! Makes all live that live statements open (Swift/T Guide, on conditionals, loops and composite functions).
 
-ghost use Rattle.std.specs.Prelude.{◌≡◌, [], ℕ, take, length, OnOk};
+ghost use Rattle.std.specs.Prelude.{◌≡◌, [], ℕ, take, length, IfErr, OnOk};
 ghost use Rattle.flow.specs.View.{core_of};
 ghost use Rattle.language.specs.Core.{Core};
 ghost use Rattle.language.specs.Meaning.{Known};
@@ -9,6 +9,8 @@ ghost use Rattle.language.specs.WellFormed.{WellFormed};
 ghost use Rattle.meaning_invariants.specs.Active.{Active};
 ghost use Rattle.meaning_invariants.specs.Opened.{ArePassed, IsUnready, OffsetsApart};
 ghost use Rattle.meaning_round.specs.Made.{tasks_of, waiting_of};
+ghost use Rattle.meaning_openings.specs.declared.fault.MeaningFault.TheVariants.{TooLarge};
+ghost use Rattle.meaning_openings.specs.Larger.{IsLarger};
 ghost use Rattle.meaning_openings.specs.Opening.{AreWoken, IsGood, IsMore, IsStep};
 
 use crate::called::open_calls;
@@ -27,6 +29,9 @@ pub fn open_all<'a, A: Allocator>(state: &mut State<'a, A>, room: Room) -> Resul
         → ((a : Active) → a ∈ waiting_of state.old → a ∈ tasks_of state.old)
         → IsStep s n state.old state.new × ArePassed s (Known s n) state.new.learned (tasks_of state.new) (tasks_of state.new) (waiting_of state.new)
         × ((a : Active) → a ∈ waiting_of state.new → a ∈ tasks_of state.new) × ((a : Active) → a ∈ waiting_of state.new → IsUnready state.new.learned a)) }
+    ensures large { IfErr result (λ fault. fault ≡ TooLarge → (s : Core) (n : ℕ) → s ≡ core_of state.old.flow.now → WellFormed s → OffsetsApart s
+        → IsGood s n state.old → ArePassed s (Known s n) state.old.learned (tasks_of state.old) (take state.old.passed (tasks_of state.old))
+        (waiting_of state.old) → ((a : Active) → a ∈ waiting_of state.old → a ∈ tasks_of state.old) → IsLarger s n room.most) }
     ensures more { OnOk result (IsMore state.old state.new) }
     ensures passed { OnOk result (state.new.passed ≡ length (tasks_of state.new)) }
     ensures flow { state.new.flow.now ≡ state.old.flow.now }
@@ -51,6 +56,8 @@ fn open_waiting<'a, A: Allocator>(state: &mut State<'a, A>, room: Room) -> Resul
     ensures so { OnOk result ((s : Core) (n : ℕ) → WellFormed s → OffsetsApart s → IsGood s n state.old
         → ((a : Active) → a ∈ waiting_of state.old → a ∈ tasks_of state.old)
         → AreWoken s n state.old state.new []) }
+    ensures large { IfErr result (λ fault. fault ≡ TooLarge → (s : Core) (n : ℕ) → WellFormed s → OffsetsApart s → IsGood s n state.old
+        → ((a : Active) → a ∈ waiting_of state.old → a ∈ tasks_of state.old) → IsLarger s n room.most) }
     ensures more { OnOk result (IsMore state.old state.new) }
     ensures flow { state.new.flow.now ≡ state.old.flow.now }
     ensures passed { state.new.passed ≡ state.old.passed }

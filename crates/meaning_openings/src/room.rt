@@ -1,6 +1,6 @@
 //! How much of a script may be live while its meaning is worked out.
 
-ghost use Rattle.std.specs.Prelude.{◌≡◌, ◌<◌, ℕ, length, map, true, IfErr, IfOk};
+ghost use Rattle.std.specs.Prelude.{◌≡◌, ◌<◌, ℕ, cond, length, map, nat_eq, true, IfErr, IfOk};
 ghost use Rattle.language.specs.Core.{Core};
 ghost use Rattle.meaning_openings.specs.declared.fault.MeaningFault.TheVariants.{TooLarge};
 ghost use Rattle.meaning_openings.specs.Larger.{turns_from, IsLarger, OwnsMore};
@@ -25,10 +25,14 @@ impl Room {
     pub(crate) fn hold<A: Allocator>(self, state: &State<'_, A>) -> Result<(), MeaningFault>
         ensures { IfErr result (λ fault. fault ≡ TooLarge → (s : Core) (n : ℕ) → IsGood s n state.now → IsLarger s n self.most) }
     {
-        if is_near(state, self.most) && is_larger(state, self)? {
-            return Err(MeaningFault::TooLarge);
+        if !is_near(state, self.most) {
+            return Ok(());
         }
-        Ok(())
+        if is_larger(state, self)? {
+            Err(MeaningFault::TooLarge)
+        } else {
+            Ok(())
+        }
     }
 }
 
@@ -56,11 +60,20 @@ fn has_more_turns(instances: &[Instance], most: usize) -> bool
 {
     let mut count: usize = 0;
     for instance in instances {
-        if !instance.given.variables.is_empty() {
-            count = count.saturating_add(1);
-        }
+        count = count.saturating_add(turns_of(instance));
     }
     count > most
+}
+
+/// An instance that has variables is one turn of a loop, and another one is none.
+fn turns_of(instance: &Instance) -> usize
+    ensures { result ≡ cond (nat_eq (length instance.now.given.variables.items) 0) 0 1 }
+{
+    if instance.given.variables.is_empty() {
+        0
+    } else {
+        1
+    }
 }
 
 /// Whether more statements than so many are among these, each counted once.

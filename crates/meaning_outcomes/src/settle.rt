@@ -1,10 +1,12 @@
 //! What is live and closed by the facts that are known.
-ghost use Rattle.std.specs.Prelude.{◌≡◌, ℕ, OnOk};
+ghost use Rattle.std.specs.Prelude.{◌≡◌, ℕ, IfErr, OnOk};
 ghost use Rattle.flow.specs.View.{core_of};
 ghost use Rattle.language.specs.Core.{Core};
 ghost use Rattle.language.specs.Single.{SinglyAssigned};
 ghost use Rattle.language.specs.WellFormed.{WellFormed};
 ghost use Rattle.meaning_invariants.specs.Opened.{OffsetsApart};
+ghost use Rattle.meaning_openings.specs.declared.fault.MeaningFault.TheVariants.{TooLarge};
+ghost use Rattle.meaning_openings.specs.Larger.{IsLarger};
 ghost use Rattle.meaning_round.specs.Going.{IsBetween};
 ghost use Rattle.meaning_round.specs.Made.{tasks_of, telling_of};
 ghost use Rattle.meaning_round.specs.Standing.{IsAfter};
@@ -21,10 +23,13 @@ use std::alloc::Allocator;
 ///
 /// # Errors
 ///
-/// `AllocError` where memory that was asked for was refused, and behind so many turns as there are addresses.
+/// `MeaningFault::TooLarge` where more is live than there is room for, and `MeaningFault::Memory` where memory that was asked for was
+/// refused, and behind so many turns as there are addresses.
 pub fn settle<'a, A: Allocator>(state: &mut State<'a, A>, room: Room) -> Result<(), MeaningFault>
     ensures so { OnOk result ((s : Core) (n : ℕ) → s ≡ core_of state.old.flow.now → WellFormed s → SinglyAssigned s → OffsetsApart s → IsBetween s n state.old
         → IsBetween s n state.new × IsAfter s n state.new.learned (tasks_of state.new) (telling_of state.new)) }
+    ensures large { IfErr result (λ fault. fault ≡ TooLarge → (s : Core) (n : ℕ) → s ≡ core_of state.old.flow.now → WellFormed s → SinglyAssigned s
+        → OffsetsApart s → IsBetween s n state.old → IsLarger s n room.most) }
     ensures flow { state.new.flow.now ≡ state.old.flow.now }
 {
     for _ in 0..usize::MAX {
