@@ -41,8 +41,8 @@ pub fn rounds<A: Allocator>(
     };
     match rounds_within(room, flow, limit) {
         Ok(known) => Ok(known),
-        // No list has more than all addresses.
-        Err(MeaningFault::Memory | MeaningFault::TooLarge) => Err(AllocError),
+        // No list is longer than that, so memory was refused.
+        Err(_) => Err(AllocError),
     }
 }
 

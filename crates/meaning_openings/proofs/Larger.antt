@@ -1,6 +1,5 @@
 -- Where a program counts more turns or statements than so many, more blocks or statements are live.
-use Rattle.std.specs.Prelude.{◌≡◌, ◌⊎◌, ℕ, zero, suc, ◌+◌, ◌<◌, ◌≤◌, Bool, true, false, cond, nat_eq, ◌&&◌, List, [], ◌∷◌, length, map, drop, Option, Some, None, if◌then◌else◌, refl, Ok, Err, IfErr}
-use Rattle.std.specs.Result.{IsErrAnd, Result}
+use Rattle.std.specs.Prelude.{◌≡◌, ◌⊎◌, ℕ, zero, suc, ◌+◌, ◌<◌, ◌≤◌, Bool, true, false, cond, nat_eq, ◌&&◌, ◌||◌, List, [], ◌∷◌, length, map, drop, Option, Some, None, if◌then◌else◌, refl, Ok, Err, IfErr, IsErrAnd, Result}
 use Rattle.std.proofs.Common.{inl, inr, sym, ap, ◌∙◌, subst, arith, get_or}
 use Rattle.std.proofs.lemmas.Bool.{and_parts, eqb-true}
 use Rattle.std.specs.HashSet.{HashSet, contains}
@@ -27,7 +26,7 @@ use Rattle.meaning_invariants.specs.Active.{Active, Candidate}
 use Rattle.meaning_invariants.specs.Opened.{IsSoFar, Origin, of_call, of_header}
 use Rattle.meaning_round.specs.declared.state.State.{State}
 use Rattle.meaning_round.specs.declared.state.Task.{Task}
-use Rattle.meaning_round.specs.Made.{tasks_of}
+use Rattle.meaning_round.specs.Made.{arrays_of, tasks_of}
 use Rattle.meaning_round.specs.Standing.{active_of}
 use Rattle.meaning_round.proofs.Listed.{mapped_in, nth_in}
 use Rattle.meaning_openings.specs.declared.fault.MeaningFault.{MeaningFault}
@@ -145,7 +144,8 @@ module _ (s : Core) (K : Knowledge) (l : Learned) (ls : List Active) (cs : List 
       let up = parent_of l.instances.all.items (suc j) in
       let o = tree.opened (suc j) (omega arith) t.within in
       let c = tree.opens up o.at o.key (suc j) o.opened in
-      let fits = subst (λ (p : Path). length p ≤ most_steps) c.path_is (tree.short (suc j)) in
+      let fits : suc (length (path_of l.instances.all.items (parent_of l.instances.all.items (suc j)))) ≤ most_steps
+      = subst (λ (p : Path). length p ≤ most_steps) c.path_is (tree.short (suc j)) in
       let short : length (path_of l.instances.all.items (parent_of l.instances.all.items (suc j))) < most_steps = omega (arith, fits) in
       subst (λ (p : Path). (b : Block) × Live s K p b) (sym c.path_is)
       (origin_live s K (path_of l.instances.all.items up) o.at o.key (variables_of l.instances.all.items (suc j)) (good.origins up o.at o.key (suc j) o.opened) short t.has)
@@ -158,7 +158,7 @@ larger_by_turns s n state most more good =
     = λ i h. is_turn ns (get_or js i 0) (nth_in js i 0 (omega (arith, h, more))) in
     inl (record {
       path = λ i. path_of ns (get_or js i 0);
-      live = λ i h. turn_live s (Known s n) state.learned (tasks_of state) _ good (get_or js i 0) (turn i h);
+      live = λ i h. turn_live s (Known s n) state.learned (tasks_of state) (arrays_of state) good (get_or js i 0) (turn i h);
       apart = λ i j a b e. apart_at nat_eq number_own 0 js (turns_distinct 0 ns) i j (omega (arith, a, more)) (omega (arith, b, more))
           (one_instance state.learned.instances good.placed.tree (get_or js i 0) (get_or js j 0) (turn i a).within (turn j b).within e);
     })
@@ -168,11 +168,19 @@ counted_one : (b : Bool) (m : ℕ) (js : List ℕ) → length (cond b js (m ∷ 
 counted_one true m js = refl
 counted_one false m js = refl
 
-pub counted_next : (m : ℕ) (ns : List Instance) (i : ℕ) (d : Instance) → i < length ns
+counted_at : (m : ℕ) (ns : List Instance) (i : ℕ) (d : Instance) → i < length ns
     → length (turns_from m (drop i ns)) ≡ cond (nat_eq (length (get_or ns i d).given.variables.items) 0) 0 1 + length (turns_from (suc m) (drop (i + 1) ns))
-counted_next m [] i d l = absurd (omega (arith, l))
-counted_next m (x ∷ xs) zero d l = counted_one (nat_eq (length x.given.variables.items) 0) m (turns_from (suc m) xs)
-counted_next m (x ∷ xs) (suc i) d l = counted_next m xs i d (omega (arith, l))
+counted_at m [] i d l = absurd (omega (arith, l))
+counted_at m (x ∷ xs) zero d l = counted_one (nat_eq (length x.given.variables.items) 0) m (turns_from (suc m) xs)
+counted_at m (x ∷ xs) (suc i) d l = counted_at m xs i d (omega (arith, l))
+
+pub counted_next : (ns : List Instance) (i : ℕ) (x : Instance) → i < length ns → x ≡ get_or ns i x
+    → length (turns_from i (drop i ns)) ≡ cond (nat_eq (length x.given.variables.items) 0) 0 1 + length (turns_from (i + 1) (drop (i + 1) ns))
+counted_next ns i x l e =
+    let one : suc i ≡ i + 1 = omega arith in
+    subst (λ (m : ℕ). length (turns_from i (drop i ns)) ≡ cond (nat_eq (length x.given.variables.items) 0) 0 1 + length (turns_from m (drop (i + 1) ns))) one
+    (subst (λ (y : Instance). length (turns_from i (drop i ns)) ≡ cond (nat_eq (length y.given.variables.items) 0) 0 1 + length (turns_from (suc i) (drop (i + 1) ns))) (sym e)
+    (counted_at i ns i x l))
 
 pub counted_all : (m : ℕ) (ns : List Instance) (i : ℕ) → length ns ≤ i → length (turns_from m (drop i ns)) ≡ 0
 counted_all m [] zero l = refl
@@ -192,16 +200,17 @@ spot_parts p q h =
     let f = eqb-true p.node q.node b.1 in
     λ i. record { instance = e i; node = f i }
 
+any_of : (b r : Bool) → (b ≡ true) ⊎ (r ≡ true) → (b || r) ≡ true
+any_of true r h = refl
+any_of false r (inl e) = clash refl e
+any_of false r (inr e) = e
+
 pub key_contained : (ps : List Spot) (p : Spot) → p ∈ ps → list_any (same_place p) ps ≡ true
 key_contained [] p m = elim m [ ]
-key_contained (q ∷ ps) p m = elim (split_in m) [
-  | inl e ↦ subst (λ (z : Spot). list_any (same_place p) (z ∷ ps) ≡ true) e (rw (spot_own p) refl)
-  | inr i ↦ by (same_place p q) (key_contained ps p i)
-]
-  where
-    by : (b : Bool) → list_any (same_place p) ps ≡ true → cond b true (list_any (same_place p) ps) ≡ true
-    by true h = refl
-    by false h = h
+key_contained (q ∷ ps) p m = any_of (same_place p q) (list_any (same_place p) ps) (elim (split_in m) [
+  | inl e ↦ inl (subst (λ (z : Spot). same_place p z ≡ true) e (spot_own p))
+  | inr i ↦ inr (key_contained ps p i)
+])
 
 -- a loop over live statements puts their places into a set
 pub task_own : {A : Type 0} (ts : List (Task A)) (i : ℕ) (t : Task A) → i < length ts → t ≡ get_or ts i t → IsOwn (map active_of ts) (record { instance = t.site.instance; node = t.site.node })
@@ -256,10 +265,14 @@ module _ {A : Type 0} (s : Core) (n : ℕ) (state : State A) (most : ℕ) (good 
 
 -- WHERE A CALL ENDS
 
+is_large : MeaningFault → Bool
+is_large Memory = false
+is_large TooLarge = true
+
 -- want of memory is no answer on what is live
 pub memory_is_small : {T X : Type 0} (r : Result T MeaningFault) → IsErrAnd r (λ f. f ≡ Memory) → IfErr r (λ f. f ≡ TooLarge → X)
 memory_is_small (Ok x) h = tt
-memory_is_small (Err f) h = λ e. (let q : Memory ≡ TooLarge = sym h ∙ e in absurd (cc (q)))
+memory_is_small (Err f) h = λ e. clash (ap is_large e) (ap is_large h)
 
 -- an answer is passed on
 pub answer_passes : {T X : Type 0} (g : MeaningFault) (r : Result T MeaningFault) → IsErrAnd r (λ f. f ≡ g) → (g ≡ TooLarge → X) → IfErr r (λ f. f ≡ TooLarge → X)
