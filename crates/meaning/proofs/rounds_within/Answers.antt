@@ -115,7 +115,7 @@ returns-in_err-settle-clause-large g c =
     let A = g.row.A.Denot in
     let n = c.loop-round.round in
     let below : n ≤ c.args.limit = search rules in
-    answer_passes c.in_err-settle.field-0 c.from_residual-in_err-settle.result c.from_residual-in_err-settle.ensures.1
+    answer_passes c.in_err-settle.field-0.0 c.from_residual-in_err-settle.result c.from_residual-in_err-settle.ensures.1
     (λ q bytes t tree r w single e. (
     let s = core t tree in
     let same : s ≡ core_of {A = A} c.loop-round.state.flow.now = sym e ∙ ap (core_of {A = A}) (sym c.loop-round.invariant.flow) in
@@ -129,7 +129,7 @@ returns-in_err-settle-2-clause-large g c =
     let n = c.args.limit in
     let ended : c.loop-round.round ≡ n = search rules in
     let within : n ≤ n = omega arith in
-    answer_passes c.in_err-settle-2.field-0 c.from_residual-in_err-settle-2.result c.from_residual-in_err-settle-2.ensures.1
+    answer_passes c.in_err-settle-2.field-0.0 c.from_residual-in_err-settle-2.result c.from_residual-in_err-settle-2.ensures.1
     (λ q bytes t tree r w single e. (
     let s = core t tree in
     let same : s ≡ core_of {A = A} c.loop-round.state.flow.now = sym e ∙ ap (core_of {A = A}) (sym c.loop-round.invariant.flow) in

@@ -72,7 +72,7 @@ pub returns-in_err-calls-clause-large : goal.returns-in_err-calls-clause-large
 returns-in_err-calls-clause-large g c = memory_is_small c.from_residual.result c.from_residual.ensures.1
 
 pub returns-in_err-hold-clause-large : goal.returns-in_err-hold-clause-large
-returns-in_err-hold-clause-large g c = answer_passes c.in_err-hold.field-0 c.from_residual-in_err-hold.result c.from_residual-in_err-hold.ensures.1
+returns-in_err-hold-clause-large g c = answer_passes c.in_err-hold.field-0.0 c.from_residual-in_err-hold.result c.from_residual-in_err-hold.ensures.1
     (λ e s n same w good live. c.in_err-hold.ensures e s n (c.loop-call.invariant.so s n same w good live).step.so)
 
 pub returns-in_err-open_call-clause-large : goal.returns-in_err-open_call-clause-large

@@ -62,11 +62,11 @@ returns-in_default-clause-so g c =
     )
 
 pub returns-in_err-open_waiting-clause-large : goal.returns-in_err-open_waiting-clause-large
-returns-in_err-open_waiting-clause-large g c = answer_passes c.in_err-open_waiting.field-0 c.from_residual.result c.from_residual.ensures.1
+returns-in_err-open_waiting-clause-large g c = answer_passes c.in_err-open_waiting.field-0.0 c.from_residual.result c.from_residual.ensures.1
     (λ e s n same w offsets good passed live. c.in_err-open_waiting.ensures.large e s n w offsets good live)
 
 pub returns-in_err-hold-clause-large : goal.returns-in_err-hold-clause-large
-returns-in_err-hold-clause-large g c = answer_passes c.in_err-hold.field-0 c.from_residual-in_err-hold.result c.from_residual-in_err-hold.ensures.1
+returns-in_err-hold-clause-large g c = answer_passes c.in_err-hold.field-0.0 c.from_residual-in_err-hold.result c.from_residual-in_err-hold.ensures.1
     (λ e s n same w offsets good passed live. c.in_err-hold.ensures e s n (c.loop-i.invariant.so s n same w offsets good passed live).step.so)
 
 pub returns-in_err-open_calls-clause-large : goal.returns-in_err-open_calls-clause-large
@@ -78,7 +78,7 @@ returns-in_err-open_calls-clause-large g c =
     subst (λ (z : List (Task g.row.A.Denot)). slice_get z c.loop-i.i ≡ Some c.in-Some.task.now) c.deref.ensures.value
     (slice_there c.deref.result.now c.loop-i.i c.in-Some.task.now c.in-Some.ensures.lookup.3.0 c.in-Some.ensures.lookup.1) in
     let found = slice_get-map (active_of {A = A}) mid.tasks.items c.loop-i.i ∙ ap (option_map (active_of {A = A})) item ∙ ap (λ (z : Active). Some z) (sym c.again-task.ensures) in
-    answer_passes c.in_err-open_calls.field-0 c.from_residual-in_err-open_calls.result c.from_residual-in_err-open_calls.ensures.1
+    answer_passes c.in_err-open_calls.field-0.0 c.from_residual-in_err-open_calls.result c.from_residual-in_err-open_calls.ensures.1
     (λ e s n same w offsets good passed live. c.in_err-open_calls.ensures.large e s n (same ∙ ap (λ (z : Flow A). core_of z) (sym c.loop-i.invariant.flow)) w
     (c.loop-i.invariant.so s n same w offsets good passed live).step.so (got_in c.loop-i.i (tasks_of {A = A} mid) a found))
 
@@ -91,7 +91,7 @@ returns-in_err-open_header-clause-large g c =
     subst (λ (z : List (Task g.row.A.Denot)). slice_get z c.loop-i.i ≡ Some c.in-Some.task.now) c.deref.ensures.value
     (slice_there c.deref.result.now c.loop-i.i c.in-Some.task.now c.in-Some.ensures.lookup.3.0 c.in-Some.ensures.lookup.1) in
     let found = slice_get-map (active_of {A = A}) mid.tasks.items c.loop-i.i ∙ ap (option_map (active_of {A = A})) item ∙ ap (λ (z : Active). Some z) (sym c.again-task.ensures) in
-    answer_passes c.in_err-open_header.field-0 c.from_residual-in_err-open_header.result c.from_residual-in_err-open_header.ensures.1
+    answer_passes c.in_err-open_header.field-0.0 c.from_residual-in_err-open_header.result c.from_residual-in_err-open_header.ensures.1
     (λ e s n same w offsets good passed live. (
     let there = got_in c.loop-i.i (tasks_of {A = A} mid) a found in
     let called = c.in_ok-open_calls.ensures.so s n (same ∙ ap (λ (z : Flow A). core_of z) (sym c.loop-i.invariant.flow)) w

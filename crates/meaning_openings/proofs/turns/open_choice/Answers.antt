@@ -40,7 +40,7 @@ returns-clause-so g c =
     (c.loop-i.invariant.so s n w offsets good node there chosen)
 
 pub returns-in_err-hold-clause-large : goal.returns-in_err-hold-clause-large
-returns-in_err-hold-clause-large g c = answer_passes c.in_err-hold.field-0 c.from_residual.result c.from_residual.ensures.1
+returns-in_err-hold-clause-large g c = answer_passes c.in_err-hold.field-0.0 c.from_residual.result c.from_residual.ensures.1
     (λ e s n w offsets good node there chosen. c.in_err-hold.ensures e s n (c.loop-i.invariant.so s n w offsets good node there chosen).step.so)
 
 pub returns-in_err-open_turn-clause-large : goal.returns-in_err-open_turn-clause-large

@@ -44,7 +44,7 @@ loop-preserved g c =
 pub returns-in_err-open_all-clause-large : goal.returns-in_err-open_all-clause-large
 returns-in_err-open_all-clause-large g c =
     let A = g.row.A.Denot in
-    answer_passes c.in_err-open_all.field-0 c.from_residual.result c.from_residual.ensures.1
+    answer_passes c.in_err-open_all.field-0.0 c.from_residual.result c.from_residual.ensures.1
     (λ e s n same w single offsets between. (
     let b = c.loop.invariant.so s n same w single offsets between in
     c.in_err-open_all.ensures.large e s n (same ∙ sym (ap (core_of {A = A}) c.loop.invariant.flow)) w offsets b.stands.good b.stands.passed_so b.stands.waiting_live
