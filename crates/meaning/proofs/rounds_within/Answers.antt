@@ -138,7 +138,7 @@ returns-in_err-settle-2-clause-large g c =
     ))
 
 pub returns-in_err-state-clause-large : goal.returns-in_err-state-clause-large
-returns-in_err-state-clause-large g c = memory_is_small c.from_residual-in_err-state.result c.from_residual-in_err-state.ensures.1
+returns-in_err-state-clause-large g c = memory_is_small c.from_residual.result c.from_residual.ensures.1
 
 pub returns-in_err-news-clause-large : goal.returns-in_err-news-clause-large
 returns-in_err-news-clause-large g c = memory_is_small c.from_residual-in_err-news.result c.from_residual-in_err-news.ensures.1
