@@ -20,7 +20,7 @@ const GROWTH: u32 = 4;
 const MOST_TRIES: usize = 17;
 
 /// Rounds times blocks: so much is tried at last.
-const MOST_WORK: u64 = 30_000_000;
+const MOST_WORK: u64 = 60_000_000;
 
 /// Whatever the run, so many turns and statements may be live, and for each of its events so many more.
 const FEWEST_LIVE: usize = 100_000;
