@@ -118,9 +118,12 @@ returns-in_err-settle-clause-large g c =
     answer_passes c.in_err-settle.field-0.0 c.from_residual-in_err-settle.result c.from_residual-in_err-settle.ensures.1
     (λ q bytes t tree r w single e. (
     let s = core t tree in
-    let same : s ≡ core_of {A = A} c.loop-round.state.flow.now = sym e ∙ ap (core_of {A = A}) (sym c.loop-round.invariant.flow) in
-    (n, below, c.in_err-settle.ensures.large q s n same (accepted_formed bytes t tree r w single) single (offsets_apart t tree (read_placed bytes tree r))
-    (c.loop-round.invariant.between bytes t tree r w single e))
+    let same : s ≡ core_of {A = A} c.loop-round.state.flow.now = sym e ∙ ap (core_of {A = A}) (sym c.loop-round.invariant.flow) in (
+      n,
+      below,
+      c.in_err-settle.ensures.large q s n same (accepted_formed bytes t tree r w single) single (offsets_apart t tree (read_placed bytes tree r))
+          (c.loop-round.invariant.between bytes t tree r w single e),
+    )
     ))
 
 pub returns-in_err-settle-2-clause-large : goal.returns-in_err-settle-2-clause-large
