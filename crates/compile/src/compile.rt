@@ -138,12 +138,12 @@ pub fn compile<A: Allocator + Clone>(
 
 /// A text made of a script's code, with what it was made of.
 #[derive(Drop)]
-pub struct Listed<A: Allocator> {
+pub struct CodeText<A: Allocator> {
     text: Vec<u8>,
     compiled: Compiled<A>,
 }
 
-impl<A: Allocator> Listed<A> {
+impl<A: Allocator> CodeText<A> {
     /// The text.
     pub fn text(&self) -> &[u8] {
         self.text.as_slice()
@@ -151,7 +151,7 @@ impl<A: Allocator> Listed<A> {
 
     /// The text alone. What it was made of is not let go part by part, and stays in memory as long as the process does: for whoever ends soon.
     pub fn into_text(self) -> Vec<u8> {
-        let Listed { text, compiled } = self;
+        let CodeText { text, compiled } = self;
         mem::forget(compiled);
         text
     }
@@ -166,13 +166,13 @@ pub fn listed<A: Allocator + Clone>(
     machine: Global,
     alloc: A,
     src: &[u8],
-) -> Result<Listed<A>, CompileFault>
+) -> Result<CodeText<A>, CompileFault>
     ensures script { IsOk result → IsScript src.now }
     ensures unfit { IfErr result (λ fault. IsUnfit src.now fault) }
 {
     let compiled = with_flow(machine, alloc, src)?;
     match listing(machine, &compiled.flow, &compiled.code) {
-        Ok(text) => Ok(Listed { text, compiled }),
+        Ok(text) => Ok(CodeText { text, compiled }),
         Err(_) => Err(CompileFault::Memory),
     }
 }
@@ -186,13 +186,13 @@ pub fn drawn<A: Allocator + Clone>(
     machine: Global,
     alloc: A,
     src: &[u8],
-) -> Result<Listed<A>, CompileFault>
+) -> Result<CodeText<A>, CompileFault>
     ensures script { IsOk result → IsScript src.now }
     ensures unfit { IfErr result (λ fault. IsUnfit src.now fault) }
 {
     let compiled = with_flow(machine, alloc, src)?;
     match graph(machine, &compiled.flow, &compiled.code) {
-        Ok(text) => Ok(Listed { text, compiled }),
+        Ok(text) => Ok(CodeText { text, compiled }),
         Err(_) => Err(CompileFault::Memory),
     }
 }

@@ -180,7 +180,7 @@ fn names_led_to(
 
 /// The names that entries may read, and those that they may write, each with its entry.
 #[derive(Drop)]
-pub struct Rights {
+pub struct Grants {
     pub reads: IndexSet<Lead>,
     pub writes: IndexSet<Lead>,
 }
@@ -191,7 +191,7 @@ pub struct Rights {
 /// # Errors
 ///
 /// `AllocError` where memory that was asked for was refused.
-pub fn rights(alloc: Global, code: &Laid) -> Result<Rights, AllocError>
+pub fn rights(alloc: Global, code: &Laid) -> Result<Grants, AllocError>
     requires entries { length code.now.entries < 2 ^ 32 }
     requires bodies { length code.now.bodies < 2 ^ 32 }
     requires marks { HasMarks code.now }
@@ -201,5 +201,5 @@ pub fn rights(alloc: Global, code: &Laid) -> Result<Rights, AllocError>
     let index = RightsIndex::new(alloc, code)?;
     let reads = names_led_to(alloc, code, &index, Right::Read)?;
     let writes = names_led_to(alloc, code, &index, Right::Write)?;
-    Ok(Rights { reads, writes })
+    Ok(Grants { reads, writes })
 }
