@@ -66,7 +66,7 @@ module _ (C : Code) where
 
   -- these are the names that each entry leads to, each once
   pub record AreRights (own : Entry → List Name) (ls : List Lead) : Type 0 where
-    pub sound : (i : ℕ) (r : Name) → In r (names_of ls i) → Leads own i r
-    pub complete : (i : ℕ) (r : Name) → Leads own i r → In r (names_of ls i)
+    pub sound : (i : ℕ) (r : Name) → In r (names_of ls i) → Leads C own i r
+    pub complete : (i : ℕ) (r : Name) → Leads C own i r → In r (names_of ls i)
     pub once : (i : ℕ) → Distinct (names_of ls i)
     pub within : AllWithin ls

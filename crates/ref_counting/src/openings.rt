@@ -106,7 +106,7 @@ fn note_entries(
 ) -> Result<(), AllocError>
     requires number { number < length code.now.bodies }
     requires openings { AreOpenings code.now openings.now }
-    ensures { OnOk result (NotesOpened code.now openings.now number homes.old homes.new) }
+    ensures { OnOk result (NotesOpened code.now number homes.old homes.new) }
 {
     if openings.at(number as usize).is_empty() {
         return Ok(());
