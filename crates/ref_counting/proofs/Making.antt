@@ -13,6 +13,10 @@ use Rattle.ref_counting.specs.declared.makes.Made.{Made}
 use Rattle.ref_counting.specs.Makes.{IsWaited, MadeUpTo, NotesMade, NotesWaited, made_by, variable_of}
 use Rattle.ref_counting.proofs.Keys.{same_flag, any_in, in_any, put_there, put_kept, put_only}
 use Rattle.ref_counting.specs.declared.openings.Opening.{Opening}
+use Rattle.ref_counting.specs.declared.openings.Way.{Way}
+use Rattle.ref_counting.specs.declared.openings.Way.TheVariants as Is
+use Rattle.ref_counting.specs.contracts.openings.Way as ways_told
+use denote.Enum.Bare.{sameb}
 use Rattle.ref_counting.specs.Openings.{AreOpenings, way_of}
 use Rattle.ref_counting.specs.Rows.{row}
 use Rattle.ref_counting.proofs.Noting.{below_or_at, opened_noted}
@@ -62,6 +66,12 @@ one_more b v vs x y f = record { kept = λ m t. put_kept same_made made_is y (ma
       | inl u ↦ put_kept same_made made_is y (made_by b v) (made_by b w) (f.all w u)
       | inr u ↦ elim u [ inl e ↦ subst (λ z. In (made_by b z) (insert_key same_made y (made_by b v))) (sym e) (put_there same_made made_is y (made_by b v)) | inr q ↦ absurd q ]
     ]
+
+-- another way is not that of a `wait`
+pub not_in_place : (w : Way) → sameb ways_told.the_type w Is.InPlace ≡ false → way_of w ≡ InPlace → ⊥
+not_in_place Is.InPlace e h = absurd (cc)
+not_in_place Is.Through e h = absurd (cc)
+not_in_place Is.Calling e h = absurd (cc)
 
 module _ (C : Code) where
   pub none_made : MadeUpTo C 0 []
