@@ -1,4 +1,5 @@
-use Rattle.std.proofs.Common.{◌∙◌, ◌<◌, ap, map, subst, sym, rules, length}
+use Rattle.std.proofs.Common.{◌∙◌, ◌<◌, ◌≤◌, ap, map, subst, sym, rules, length, arith}
+use Rattle.std.proofs.lemmas.List.{length-map}
 use Rattle.task_code.specs.View.{entry_view}
 use Rattle.emit_rights.specs.Granted.{bare_at}
 use Rattle.emit_rights.proofs.Giving.{bare_all, bare_next, below_count}
@@ -14,3 +15,10 @@ loop-number-preserved c =
     c.clear_at.ensures
     ∙ ap (λ es. bare_at es c.loop-number.number) c.loop-number.invariant
     ∙ bare_next (map entry_view c.args.entries.now.items) c.loop-number.number
+
+pub returns : goal.returns
+returns c =
+    let all : length c.args.entries.now.items ≤ c.loop-number.number = omega (arith, c.loop-number-test.false, c.len-number-end.ensures) in
+    c.loop-number.invariant
+    ∙ bare_all (map entry_view c.args.entries.now.items) c.loop-number.number
+    (subst (λ n. n ≤ c.loop-number.number) (sym (length-map c.args.entries.now.items entry_view)) all)
