@@ -185,16 +185,20 @@ fn warning_value(
 ) -> Result<Value, AllocError> {
     let from = position_in(lines, warning.at.from);
     let end = position_in(lines, warning.at.to);
+    let end = json!(in alloc; {"line": end.line as u64, "column": end.column as u64})?;
+    let name = name_of(warning.oddity);
+    let hint = hint_of(warning.oddity);
+    let related = Value::Array(Vec::new(alloc));
     json!(in alloc; {
         "file": file,
         "line": from.line as u64,
         "column": from.column as u64,
-        "end": {"line": end.line as u64, "column": end.column as u64},
+        "end": end,
         "code": "warning",
-        "name": name_of(warning.oddity),
+        "name": name,
         "message": message,
-        "hint": hint_of(warning.oddity),
-        "related": []
+        "hint": hint,
+        "related": related
     })
 }
 

@@ -1,3 +1,3 @@
 mod Added
-mod Marks
+mod Marking
 mod Views

@@ -55,9 +55,18 @@ abbrev pub declared : Word → List Mention
 declared w = if is_spared w.text then [] else mention Declared w ∷ []
 
 -- the numbers that a range has at its ends, where numbers stand there
+abbrev pub form_literal : Form → Option ℤ
+form_literal (number z) = Some z
+form_literal (text bytes) = None
+form_literal (truth b) = None
+form_literal (variable w) = None
+form_literal (element w i) = None
+form_literal (call w es) = None
+form_literal (prefixed p e) = None
+form_literal (chain os es) = None
+
 abbrev pub literal : Expression → Option ℤ
-literal (expression nd (number z)) = Some z
-literal (expression nd _) = None
+literal (expression nd f) = form_literal f
 
 abbrev pub is_below : Option ℤ → Option ℤ → Bool
 is_below (Some high) (Some low) = int_lt high low

@@ -27,12 +27,12 @@ oddity_by Is.Read read written n = None
 oddity_by Is.Written read written n = None
 oddity_by Is.EmptyRange read written n = Some EmptyRange
 
-abbrev pub oddity : (read written : ℕ → Bool) → Mention → Option Oddity
-oddity read written m = oddity_by m.kind read written m.number
+abbrev pub oddity_at : (read written : ℕ → Bool) → Mention → Option Oddity
+oddity_at read written m = oddity_by m.kind read written m.number
 
 abbrev pub all_said : (read written : ℕ → Bool) → List Mention → List Warning
 all_said read written [] = []
-all_said read written (m ∷ ms) = warned (oddity read written m) m.at ++ all_said read written ms
+all_said read written (m ∷ ms) = warned (oddity_at read written m) m.at ++ all_said read written ms
 
 abbrev pub idle_input : (is_read : Bool) → Declaration → List Warning
 idle_input is_read d = if is_read || is_spared d.name.text then [] else warned (Some IdleInput) d.name.span

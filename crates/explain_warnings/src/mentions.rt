@@ -1,6 +1,6 @@
 //! Where the statements of a script name its variables, and the ranges that are empty.
-ghost use Rattle.std.specs.Prelude.{◌≡◌, ◌++◌, [], OnOk, IfOk, map, option_map};
-ghost use Rattle.syntax_trees.specs.View.{word_of, words_view, expression_view, declaration_of, right_of, calling_of, over_of, range_of, statement_view, command_view, body_view, composite_of, part_of, tree_of};
+ghost use Rattle.std.specs.Prelude.{◌≡◌, ◌++◌, OnOk, IfOk, map, option_map};
+ghost use Rattle.syntax_trees.specs.View.{word_of, words_view, expression_view, form_view, declaration_of, right_of, calling_of, over_of, range_of, statement_view, command_view, body_view, part_of, tree_of};
 ghost use Rattle.language.specs.Tree as trees;
 ghost use Rattle.explain_warnings.specs.Mentions as specs;
 
@@ -112,9 +112,17 @@ fn several<A: Allocator>(
 fn literal<A: Allocator>(expr: &Expr<A>) -> Option<i64>
     ensures { result ≡ specs.literal (expression_view expr.now) }
 {
-    match &expr.kind {
+    form_literal(&expr.kind)
+}
+
+fn form_literal<A: Allocator>(kind: &ExprKind<A>) -> Option<i64>
+    ensures { result ≡ specs.form_literal (form_view kind.now) }
+{
+    match kind {
         ExprKind::Number(number) => Some(*number),
-        _ => None,
+        ExprKind::Text(_) | ExprKind::Truth(_) | ExprKind::Variable(_) => None,
+        ExprKind::Element(_, _) | ExprKind::Call(_, _) => None,
+        ExprKind::Prefixed(_, _) | ExprKind::Chain(_, _) => None,
     }
 }
 

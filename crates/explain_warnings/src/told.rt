@@ -1,7 +1,6 @@
 //! What is said to a person of warnings.
 
 use crate::warning::{Oddity, Warning, warnings};
-use explain_names::lookup::bytes_at;
 use explain_text::lines::Lines;
 use explain_text::words::say;
 use lexer::token::Span;
@@ -63,7 +62,7 @@ pub fn hint_of(oddity: Oddity) -> &'static str {
         Oddity::NeverRead => "read it, or let its name begin with _",
         Oddity::IdleInput => "read it or leave it out, or let its name begin with _",
         Oddity::EmptyRange => {
-            "a range goes up, from the smaller end to the greater: low + high - i goes down"
+            "a range goes upwards: downwards go the values 9 - i in the turns of foreach i in [0:9]"
         }
     }
 }
@@ -110,4 +109,13 @@ fn add_warning(
     say(out, "hint: ")?;
     say(out, hint_of(warning.oddity))?;
     say(out, "\n")
+}
+
+/// The bytes of a place; none where the text has no such place.
+fn bytes_at(text: &[u8], at: Span) -> &[u8] {
+    if at.from <= at.to && at.to <= text.len() {
+        &text[at.from..at.to]
+    } else {
+        &[]
+    }
 }

@@ -1,5 +1,5 @@
 //! Warnings of a script that is accepted.
-ghost use Rattle.std.specs.Prelude.{◌≡◌, ◌++◌, ◌∷◌, [], ℕ, Bool, OnOk, IfOk, map};
+ghost use Rattle.std.specs.Prelude.{◌≡◌, ◌++◌, OnOk, IfOk};
 ghost use Rattle.syntax_trees.specs.View.{declaration_of, declarations_view, composite_of, part_of, tree_of};
 ghost use Rattle.types.specs.Typed.{table_of};
 ghost use Rattle.explain_warnings.specs.Marks.{is_marked};
@@ -155,7 +155,7 @@ fn say_all(uses: Uses<'_>, mentions: &[Mention], found: &mut Vec<Warning>) -> Re
     ensures { OnOk result (found.new.items ≡ found.old.items ++ specs.all_said (is_marked uses.read.now) (is_marked uses.written.now) mentions.now) }
 {
     for mention in mentions {
-        let odd = oddity(uses, *mention);
+        let odd = oddity_at(uses, *mention);
         add(odd, mention.at, found)?;
     }
     Ok(())
@@ -171,8 +171,8 @@ fn add(odd: Option<Oddity>, at: Span, found: &mut Vec<Warning>) -> Result<(), Al
 }
 
 /// What is odd at a mention.
-fn oddity(uses: Uses<'_>, mention: Mention) -> Option<Oddity>
-    ensures { result ≡ specs.oddity (is_marked uses.read.now) (is_marked uses.written.now) mention }
+fn oddity_at(uses: Uses<'_>, mention: Mention) -> Option<Oddity>
+    ensures { result ≡ specs.oddity_at (is_marked uses.read.now) (is_marked uses.written.now) mention }
 {
     match mention.kind {
         Kind::Read | Kind::Written => None,
