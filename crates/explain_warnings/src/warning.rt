@@ -60,17 +60,17 @@ pub fn warnings<A: Allocator>(
         read: read.as_slice(),
         written: written.as_slice(),
     };
-    parts(alloc, typed, uses, script)
+    parts(alloc, typed, &uses, script)
 }
 
 fn parts<A: Allocator>(
     alloc: Global,
     typed: &Typed,
-    uses: Uses<'_>,
+    uses: &Uses<'_>,
     script: &Script<A>,
 ) -> Result<Vec<Warning>, AllocError>
     ensures { IfOk result (λ found. found.items
-        ≡ specs.parts_warnings (table_of typed.now) (is_marked uses.read.now) (is_marked uses.written.now) (tree_of script.now)) }
+        ≡ specs.parts_warnings (table_of typed.now) (is_marked uses.now.read.now) (is_marked uses.now.written.now) (tree_of script.now)) }
 {
     let mut found = Vec::new(alloc);
     for item in &script.items {
@@ -83,12 +83,12 @@ fn parts<A: Allocator>(
 fn part<A: Allocator>(
     alloc: Global,
     typed: &Typed,
-    uses: Uses<'_>,
+    uses: &Uses<'_>,
     item: &Item<A>,
     found: &mut Vec<Warning>,
 ) -> Result<(), AllocError>
     ensures { OnOk result (found.new.items
-        ≡ found.old.items ++ specs.part_warnings (table_of typed.now) (is_marked uses.read.now) (is_marked uses.written.now) (part_of item.now)) }
+        ≡ found.old.items ++ specs.part_warnings (table_of typed.now) (is_marked uses.now.read.now) (is_marked uses.now.written.now) (part_of item.now)) }
 {
     match item {
         Item::Import(_) => Ok(()),
@@ -105,12 +105,12 @@ fn part<A: Allocator>(
 fn function<A: Allocator>(
     alloc: Global,
     typed: &Typed,
-    uses: Uses<'_>,
+    uses: &Uses<'_>,
     function: &Function<A>,
     found: &mut Vec<Warning>,
 ) -> Result<(), AllocError>
     ensures { OnOk result (found.new.items
-        ≡ found.old.items ++ specs.function_warnings (table_of typed.now) (is_marked uses.read.now) (is_marked uses.written.now) (composite_of function.now)) }
+        ≡ found.old.items ++ specs.function_warnings (table_of typed.now) (is_marked uses.now.read.now) (is_marked uses.now.written.now) (composite_of function.now)) }
 {
     let mut mentions = Vec::new(alloc);
     block(&function.body, &mut mentions)?;
@@ -151,8 +151,12 @@ fn idle_input<A: Allocator>(
 }
 
 /// Adds what is odd at mentions.
-fn say_all(uses: Uses<'_>, mentions: &[Mention], found: &mut Vec<Warning>) -> Result<(), AllocError>
-    ensures { OnOk result (found.new.items ≡ found.old.items ++ specs.all_said (is_marked uses.read.now) (is_marked uses.written.now) mentions.now) }
+fn say_all(
+    uses: &Uses<'_>,
+    mentions: &[Mention],
+    found: &mut Vec<Warning>,
+) -> Result<(), AllocError>
+    ensures { OnOk result (found.new.items ≡ found.old.items ++ specs.all_said (is_marked uses.now.read.now) (is_marked uses.now.written.now) mentions.now) }
 {
     for mention in mentions {
         let odd = oddity_at(uses, *mention);
@@ -171,8 +175,8 @@ fn add(odd: Option<Oddity>, at: Span, found: &mut Vec<Warning>) -> Result<(), Al
 }
 
 /// What is odd at a mention.
-fn oddity_at(uses: Uses<'_>, mention: Mention) -> Option<Oddity>
-    ensures { result ≡ specs.oddity_at (is_marked uses.read.now) (is_marked uses.written.now) mention }
+fn oddity_at(uses: &Uses<'_>, mention: Mention) -> Option<Oddity>
+    ensures { result ≡ specs.oddity_at (is_marked uses.now.read.now) (is_marked uses.now.written.now) mention }
 {
     match mention.kind {
         Kind::Read | Kind::Written => None,
