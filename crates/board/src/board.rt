@@ -195,6 +195,9 @@ impl Board {
         ensures handed_back { IfErr result (λ e. e.0 ≡ done) }
         ensures unchanged { OnErr result (self.new ≡ self.old) }
     {
+        if self.core.fault.is_some() {
+            return Err((done, Refusal::Ended));
+        }
         self.end_begun(worker, done)
     }
 

@@ -1,5 +1,6 @@
 -- Who may write a scalar stores it, or always opens a block and hands the right on.
 use Rattle.std.proofs.Common.{◌≡◌, ◌⊎◌, inl, inr, ℕ, suc, ◌+◌, ◌<◌, ◌≤◌, Bool, true, false, List, [], ◌∷◌, ◌++◌, map, length, refl, sym, ap, ap₂, ◌∙◌, subst, Option, Some, None, arith}
+use Rattle.std.proofs.lemmas.Option.{slice_get_within}
 use Rattle.std.specs.Prelude.{slice_get}
 use Rattle.dataflow.specs.System.{In}
 use Rattle.language.specs.Core as Co
@@ -26,7 +27,7 @@ use Rattle.code_rules.specs.NodesOnce.{TellsNode}
 use Rattle.code_whole.specs.Described.{is_array_shape, kinds_of_signature}
 use Rattle.code_whole.specs.Standing.{CallsAreFound}
 use Rattle.code_whole.proofs.Aims.{alone, named_of, Calls, Assigned, Aims, at_cell, at_hidden, at_alone, at_own, aims}
-use Rattle.code_whole.proofs.Arguments.{arg_at, get_below, get_map, get_right, get_some, inputs_length, out_at, some_same}
+use Rattle.code_whole.proofs.Arguments.{arg_at, get_map, get_right, get_some, inputs_length, out_at, some_same}
 use Rattle.code_whole.proofs.Bases.{only, Assigns, names, further_in}
 use Rattle.code_whole.proofs.Openings.{OpensAs, opens_header, opens_wait, opens_call, opens_as, call_of_stmt}
 use Rattle.code_whole.proofs.Owners.{owned_scope, Round, round}
@@ -157,7 +158,7 @@ module _ {s : Core} {fs : List Kinds} {ds : List (ℕ × Bool)} (C : Code) (l : 
       let count = formed.names.call_count (L.table.block_of t) st c f (L.bodies t lt).there m among_calls fn in
       let o = get_some ca.outs r (subst (λ (z : Act). In r (targets_of (entry C i).node z)) (ca.is).act_is u) in
       let y = out_at C l o.0 r ca.outputs o.1 in
-      let below : o.0 < f.outputs = subst (λ (n : ℕ). o.0 < n) count (get_below c.outputs o.0 y.0 y.2) in
+      let below : o.0 < f.outputs = subst (λ (n : ℕ). o.0 < n) count (slice_get_within c.outputs o.0 y.0 y.2) in
       let called = scoped.calls st c (Rattle.code_whole.proofs.Openings.stmt_in C l L t lt m) among_calls in
       let counted : length ca.ins ≡ f.inputs = sym (inputs_length C l ca.inputs) ∙ (called.2 ∙ ap (λ (g : Function). g.inputs) (some_same (sym called.1 ∙ fn))) in
       let target : output o.0 ∈ targets_in f.body = elim (single.output_assigned f o.0 (function_in s.functions c.function f fn) below) [ inl z ↦ named_target z | inr z ↦ written_target z ] in
