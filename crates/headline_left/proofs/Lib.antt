@@ -1,0 +1,9 @@
+pub mod Holder
+pub mod Ending
+pub mod Storing
+pub mod Siblings
+pub mod Homes
+pub mod Needs
+pub mod Names
+pub mod Cells
+pub mod Scalars
