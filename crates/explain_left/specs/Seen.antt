@@ -1,5 +1,5 @@
 -- What is seen of the inputs of a statement where a run has ended: by the needs of an entry whose item is left, and by which items of cells are.
-use Rattle.std.specs.Prelude.{◌≡◌, ℕ, true, List, [], ◌∷◌}
+use Rattle.std.specs.Prelude.{◌≡◌, ℕ, true, List, [], ◌∷◌, ◌++◌}
 use Rattle.dataflow.specs.System.{In}
 use Rattle.language.specs.Core.{Cell, Core, Name, Stmt, read}
 use Rattle.language.specs.Meaning.{LiveStmt, Meaning}
@@ -38,7 +38,8 @@ module _ (C : Code) (st : CodeState) (k : ℕ) (path : List Step) where
 
 -- the entry works out the cell of a statement that is live at the path
 abbrev pub IsCellOf : Core → Code → ℕ → List Step → Cell → Type 0
-IsCellOf s C i path c = (x : Stmt) × LiveStmt s (Meaning s) (script_path path) x × (c ∈ cells x) × ((entry C i).node ≡ c.node) × (is_cell (entry C i).act ≡ true)
+IsCellOf s C i path c =
+    (x : Stmt) × LiveStmt s (Meaning s) (script_path path) x × (c ∈ cells x) × ((entry C i).node ≡ c.node) × (is_cell (entry C i).act ≡ true)
 
 module _ (s : Core) (C : Code) (l : Layout) (st : CodeState) where
   -- what is seen of inputs is what the script knows of them
@@ -52,3 +53,14 @@ module _ (s : Core) (C : Code) (l : Layout) (st : CodeState) where
     -- of other inputs that an item which is left needs just those are not there that are not seen
     pub needed : (j : ℕ) (path : List Step) → IsLeft C st j path → (h : IsHome s C l st j path) → (ys xs : List Input)
         → ((y : Input) → y ∈ ys → IsNeeded C h.inputs j y) → AreUnseen C st h.inputs path ys xs → AreMissing s (Meaning s) (script_path path) ys xs
+
+  -- what a state tells of inputs that are read at a path, piece by piece: of these just these are missing
+  pub data IsTold (path : List Step) : List Input → List Input → Type 0 where
+    reads_nothing : IsTold path [] []
+    cell_is_over : {c : Cell} (t i j : ℕ) → In i (body C t).entries → In j (body C t).entries → IsLeft C st j path → ¬ IsLeft C st i path
+        → IsCellOf s C i path c → IsTold path (form_inputs c.form) []
+    read_is_left : {n i : ℕ} {a : Name} (j : ℕ) → IsLeft C st j path → IsCellOf s C j path (record { node = n; form = read a i })
+        → IsTold path (an_element a i ∷ []) (an_element a i ∷ [])
+    by_needs : {ys xs : List Input} (j : ℕ) → IsLeft C st j path → (h : IsHome s C l st j path) → ((y : Input) → y ∈ ys → IsNeeded C h.inputs j y)
+        → AreUnseen C st h.inputs path ys xs → IsTold path ys xs
+    and_then : {ys xs zs us : List Input} → IsTold path ys xs → IsTold path zs us → IsTold path (ys ++ zs) (xs ++ us)

@@ -8,8 +8,9 @@ ghost use Rattle.code_rules.specs.NodesOnce.{NodesOnce};
 ghost use Rattle.dataflow.specs.Machine.{Event};
 ghost use Rattle.dataflow.specs.System.{In};
 ghost use Rattle.explain_inputs.specs.Inputs.{Input, expr_inputs, form_inputs};
-ghost use Rattle.explain_inputs.specs.Missing.{IsThere};
-ghost use Rattle.explain_left.specs.Seen.{IsNeeded, SeesInputs};
+ghost use Rattle.explain_inputs.specs.Missing.{AreMissing, IsThere};
+ghost use Rattle.explain_left.specs.Seen.{IsNeeded, IsTold, SeesInputs};
+ghost use Rattle.headline.specs.Headline.{script_path};
 ghost use Rattle.language.specs.Core.{Cell, Core, Expr, Stmt};
 ghost use Rattle.language.specs.Facts.{value};
 ghost use Rattle.language.specs.Meaning.{LiveStmt, Meaning};
@@ -25,6 +26,7 @@ ghost use Rattle.std.specs.Prelude.{ℕ, List};
 ghost use Rattle.task_code.specs.Code.{Code, Need, entry};
 ghost use Rattle.task_code.specs.Exact.{IsExact};
 ghost use Rattle.task_code.specs.Machine.{CodeState, Quiet, Run};
+ghost use Rattle.task_code.specs.Places.{Step};
 ghost use Rattle.task_code.specs.Whole.{IsCode};
 ghost use Rattle.values.specs.declared.value.Value.{Value};
 
@@ -43,4 +45,12 @@ pub fn known_cells()
 pub fn left_inputs()
     ensures { (s : Core) (C : Code) → (w : IsCodeOf s C) → IsCode C → IsExact C → NodesOnce C → WellFormed s → SinglyAssigned s → Scoped s
         → TypedValues s (Meaning s) → (events : List Event) (st : CodeState) → Run C events st → Quiet C st → SeesInputs s C w.layout st }
+{}
+
+/// So what such a state tells of the inputs of a statement, cell by cell, is right: of what is read at a path just those inputs are missing in the
+/// script of which that is told.
+pub fn told_inputs()
+    ensures { (s : Core) (C : Code) → (w : IsCodeOf s C) → IsCode C → IsExact C → NodesOnce C → WellFormed s → SinglyAssigned s → Scoped s
+        → TypedValues s (Meaning s) → (events : List Event) (st : CodeState) → Run C events st → Quiet C st
+        → (path : List Step) (ys xs : List Input) → IsTold s C w.layout st path ys xs → AreMissing s (Meaning s) (script_path path) ys xs }
 {}

@@ -4,7 +4,7 @@ use Rattle.dataflow.specs.Facts.{Live, Written}
 use Rattle.dataflow.specs.Laws.{Can}
 use Rattle.dataflow.specs.Log.{Ended, Waits}
 use Rattle.dataflow.specs.Machine.{Event}
-use Rattle.dataflow.specs.System.{In, Answer, Found, Missing, Content, Bad, Effect, Good, Outcome, Write}
+use Rattle.dataflow.specs.System.{In, Found, Missing, Content, Good, Outcome, Write}
 use Rattle.dataflow.proofs.Runs.{ended_is}
 use Rattle.dataflow.proofs.Settled.{can_of_comes}
 use Rattle.values.specs.declared.fault.OpFault.{OpFault}
@@ -16,9 +16,9 @@ use Rattle.values.specs.Values.{scalar_of}
 use Rattle.language.specs.Core as Co
 use Rattle.language.specs.Core.{Cell, Form, compute, read, Part, inner, Stmt, stmt, Action, Block, Name, Core}
 use Rattle.language.specs.Facts.{Fault, value, IsKey, OneWrite}
-use Rattle.language.specs.Meaning.{Gives, found, missing, HasValue, LiveStmt, in_block, Meaning}
+use Rattle.language.specs.Meaning.{Gives, computed, faulty, found, missing, HasValue, LiveStmt, in_block, Meaning}
 use Rattle.language.specs.Members.{◌∈◌}
-use Rattle.language.specs.Parts.{cells, block_list, script_stmts}
+use Rattle.language.specs.Parts.{cells, block_list, parts}
 use Rattle.language.specs.Places.{Path, place}
 use Rattle.language.specs.Places as ScriptPlaces
 use Rattle.language.specs.Single.{SinglyAssigned}
@@ -31,7 +31,7 @@ use Rattle.task_code.specs.Code as code
 use Rattle.task_code.specs.Code.{Variable, Need, Act, Code, Loop, entry, body, scalar, here, loop_of}
 use Rattle.task_code.specs.Compute as Compute
 use Rattle.task_code.specs.Compute.{Computed, EntryFault, answer_at, eval, given, key_of}
-use Rattle.task_code.specs.Effects.{Task, Main, Item, effect_at, only, outcome_of, stored_at, stores}
+use Rattle.task_code.specs.Effects.{Task, Item, effect_at, only, outcome_of, steps_on, stored_at, stores}
 use Rattle.task_code.specs.Exact.{IsExact}
 use Rattle.task_code.specs.Machine.{CodeState, Run, Quiet}
 use Rattle.task_code.specs.Places.{Step, Datum, place_at}
@@ -50,6 +50,7 @@ use Rattle.headline.specs.Backs.{Backs}
 use Rattle.headline.specs.Chains.{Chain}
 use Rattle.headline.specs.Headline.{script_path, script_place}
 use Rattle.headline.specs.Inclusions.{Knows}
+use Rattle.headline.specs.Knows as Know
 use Rattle.headline.proofs.Backing.{backs}
 use Rattle.headline.proofs.Evaluate.{Got, Ans, AnsAll, inputs_of}
 use Rattle.headline.proofs.Facts.{Known, fact_of}
@@ -171,8 +172,8 @@ one_in : {v u : Scalar} → ◌≡◌ {A = Result Value Fault} (Ok (One v)) (Ok 
 one_in h = cc
 
 read_value : {s : Core} {path : Path} {f : Form} {r : Result Value Fault} {a : Name} {i : ℕ} {u : Scalar} → Gives s (Meaning s) path f r → f ≡ read a i → r ≡ Ok (One u) → ReadValue s path a i u
-read_value (Rattle.language.specs.Meaning.computed x) e q = absurd (cc (e))
-read_value (Rattle.language.specs.Meaning.faulty x) e q = absurd (cc (e))
+read_value (computed x) e q = absurd (cc (e))
+read_value (faulty x) e q = absurd (cc (e))
 read_value {s} {path} {u = u} (found {a = b} {i = j} {u = w} {k = k} {v = v} h ik one) e q =
     let ea : b ≡ _ = cc (e) in
     let ei : j ≡ _ = cc (e) in
@@ -187,7 +188,7 @@ read_value (missing h ik cl none) e q = absurd (cc (q))
 
 module _ (s : Core) (C : Code) (w : IsCodeOf s C) (I : IsCode C) (ex : IsExact C) (nodes : NodesOnce C) (wf : WellFormed s) (single : SinglyAssigned s) (sc : Scoped s) (ty : TypedValues s (Meaning s))
     (events : List Event) (st : CodeState) (run : Run C events st) (quiet : Quiet C st) where
-  kn : Rattle.headline.specs.Knows.Knows s (Meaning s)
+  kn : Know.Knows s (Meaning s)
   kn = knows s C w I ex nodes wf single sc ty events st run quiet
 
   bk : Backs s (Meaning s)
@@ -228,24 +229,24 @@ module _ (s : Core) (C : Code) (w : IsCodeOf s C) (I : IsCode C) (ex : IsExact C
             live = alive i there;
             reading = fact_of s C w (Meaning s) wf bk I sc ch i there z 0 (Compute.Gives u)
                 (ap (λ (a : Act). Compute.compute a (answered C p (entry C i).needs z.answers)) en.act_is ∙ ap (λ (l : List Got). Compute.compute code.Read l) inp.back) tt
-                (leaf_deep s C w (Meaning s) wf bk I sc (entry C i).act p _ (ap Rattle.task_code.specs.Effects.steps_on en.act_is));
+                (leaf_deep s C w (Meaning s) wf bk I sc (entry C i).act p _ (ap steps_on en.act_is));
           },
         )
 
     -- once the cell has a value, its item has its effect
     part_fact : {x : Stmt} → x ∈ block_list b → PartOf C w.layout k x i → (v : Value) → Valued (entry C i).node v → HasFact
-    part_fact {stmt at' m a} sm po v kv = by po.as_part po.there po.in_own po.in_stmt
+    part_fact {x = stmt at' m a} sm po v kv = by po.as_part po.there po.in_own po.in_stmt
       where
         value_one : (c : Cell) → inner c ∈ own_parts a → Meaning s (value (script_path p, c.node) v) → (u : Scalar) × (v ≡ One u)
         value_one c ow h = ty.cell_one (script_path p) at' m a c v (stmt_in s (live sm)) ow h
 
-        by : {y : Part} {js : List ℕ} → PartAs C w.layout k po.all po.at po.priority y js → In i js → y ∈ own_parts a → y ∈ Rattle.language.specs.Parts.parts a → HasFact
+        by : {y : Part} {js : List ℕ} → PartAs C w.layout k po.all po.at po.priority y js → In i js → y ∈ own_parts a → y ∈ parts a → HasFact
         by (plain_literal z) j ow pt = absurd j
         by (plain_name z) j ow pt = absurd j
         by (a_cell {n = n} {j = j'} {e = e} z nd en) j ow pt =
             let q = in_one i j' j in
             let c : Cell = record { node = n; form = compute e } in
-            let cm = cell_among (Rattle.language.specs.Parts.parts a) pt in
+            let cm = cell_among (parts a) pt in
             let node_is : (entry C i).node ≡ n = ap (λ (z : ℕ). (entry C z).node) q ∙ nd in
             let kc = subst (λ (z : ℕ). Valued z v) node_is kv in
             let one = value_one c ow kc in
@@ -255,7 +256,7 @@ module _ (s : Core) (C : Code) (w : IsCodeOf s C) (I : IsCode C) (ex : IsExact C
         by (a_read {n = n} {i = ix} {j = j'} {a = y} {need = need} z nd ia en) j ow pt =
             let q = in_one i j' j in
             let c : Cell = record { node = n; form = read y ix } in
-            let cm = cell_among (Rattle.language.specs.Parts.parts a) pt in
+            let cm = cell_among (parts a) pt in
             let node_is : (entry C i).node ≡ n = ap (λ (z : ℕ). (entry C z).node) q ∙ nd in
             let kc = subst (λ (z : ℕ). Valued z v) node_is kv in
             let one = value_one c ow kc in
@@ -278,14 +279,14 @@ module _ (s : Core) (C : Code) (w : IsCodeOf s C) (I : IsCode C) (ex : IsExact C
 
     -- and once its item has an effect, the cell has a value
     part_value : {x : Stmt} → x ∈ block_list b → PartOf C w.layout k x i → (u : Scalar) → HasValue s (Meaning s) (script_path p, (entry C i).node) u → Valued (entry C i).node (One u)
-    part_value {stmt at' m a} sm po u hv = by po.as_part po.there po.in_stmt
+    part_value {x = stmt at' m a} sm po u hv = by po.as_part po.there po.in_stmt
       where
-        at_cell : (c : Cell) → inner c ∈ Rattle.language.specs.Parts.parts a → (entry C i).node ≡ c.node → Valued (entry C i).node (One u)
+        at_cell : (c : Cell) → inner c ∈ parts a → (entry C i).node ≡ c.node → Valued (entry C i).node (One u)
         at_cell c pt e =
             subst (λ (z : ℕ). Valued z (One u)) (sym e)
-            (cell_has s wf (Meaning s) hv (script_path p) (stmt at' m a) c (stmt_in s (live sm)) (cell_among (Rattle.language.specs.Parts.parts a) pt) (λ z. (script_path p, e z)))
+            (cell_has s wf (Meaning s) hv (script_path p) (stmt at' m a) c (stmt_in s (live sm)) (cell_among (parts a) pt) (λ z. (script_path p, e z)))
 
-        by : {y : Part} {js : List ℕ} → PartAs C w.layout k po.all po.at po.priority y js → In i js → y ∈ Rattle.language.specs.Parts.parts a → Valued (entry C i).node (One u)
+        by : {y : Part} {js : List ℕ} → PartAs C w.layout k po.all po.at po.priority y js → In i js → y ∈ parts a → Valued (entry C i).node (One u)
         by (plain_literal z) j pt = absurd j
         by (plain_name z) j pt = absurd j
         by (a_cell {n = n} {j = j'} {e = e} z nd en) j pt = at_cell (record { node = n; form = compute e }) pt (ap (λ (z : ℕ). (entry C z).node) (in_one i j' j) ∙ nd)

@@ -49,16 +49,16 @@ module _ (s : Core) (C : Code) (w : IsCodeOf s C) (I : IsCode C) (ex : IsExact C
   stored = stores_meaning s C w I ex nodes wf single sc ty events st run quiet
 
   -- a name of a scalar means a scalar
-  kind : {d : Bool} {a : Place} {pl : ScriptPlaces.Place} → Stands s C w.layout (Meaning s) d a pl → d ≡ false → (q : List Step) (v : Variable) → a ≡ Datum q v → v.array ≡ false
+  pub kind : {d : Bool} {a : Place} {pl : ScriptPlaces.Place} → Stands s C w.layout (Meaning s) d a pl → d ≡ false → (q : List Step) (v : Variable) → a ≡ Datum q v → v.array ≡ false
   kind (same {p = p} {v = x}) e q v h = sym (ap (λ (z : Variable). z.array) (spot_variable h)) ∙ e
   kind (plain live i pl x) e q v h = kind x refl q v h
   kind (constant live i pl) e q v h = absurd (not_constant h)
 
   module _ (j : ℕ) (p : List Step) (left : IsLeft C st j p) (h : IsHome s C w.layout st j p) (d : Bool) (x : Name) (within : IsIn h.inputs x) (right : In (name_as h.inputs d x) (entry C j).reads) where
-    stands : Stands s C w.layout (Meaning s) d (place_at C p (name_as h.inputs d x)) (place s (script_path p) x)
+    pub stands : Stands s C w.layout (Meaning s) d (place_at C p (name_as h.inputs d x)) (place s (script_path p) x)
     stands = means s C w.layout (Meaning s) wf.names I sc (λ e. e.reads) (covering_reads s C w.layout (Meaning s) wf.names I sc) h.chain j h.there d x right within
 
-    may : (q : List Step) (v : Variable) → place_at C p (name_as h.inputs d x) ≡ Datum q v → MayBeRead C st (Datum q v)
+    pub may : (q : List Step) (v : Variable) → place_at C p (name_as h.inputs d x) ≡ Datum q v → MayBeRead C st (Datum q v)
     may q v e = record {
       item = left.item;
       there = left.there;
@@ -77,7 +77,7 @@ module _ (s : Core) (C : Code) (w : IsCodeOf s C) (I : IsCode C) (ex : IsExact C
     stored_of e (Constant c) z u g = g
     stored_of e Nowhere z u g = absurd g
 
-    array : d ≡ true → IsSame s wf (Meaning s) (place_at C p (name_as h.inputs d x)) (place s (script_path p) x)
+    pub array : d ≡ true → IsSame s wf (Meaning s) (place_at C p (name_as h.inputs d x)) (place s (script_path p) x)
     array e = same_array s wf (Meaning s) stands e
 
     closed_so : d ≡ true → ClosedByRights C st (place_at C p (name_as h.inputs d x)) → Closed s (Meaning s) (place s (script_path p) x)

@@ -24,7 +24,8 @@ ghost use Rattle.task_code.specs.Whole.{IsCode};
 
 /// In every lawful system, behind every log: of the tasks that wait at most one may write a scalar, and none may where it has been written.
 pub fn one_right<T, D, K, V, E>()
-    ensures { (S : System T D K V E) → Laws S → (d : D) → S.is_array d ≡ false → (log : List (T × Effect T D K V)) → IsLog S log → OneRight S d log }
+    ensures { (S : System T D K V E) → Laws S → (d : D) → S.is_array d ≡ false
+        → (log : List (T × Effect T D K V)) → IsLog S log → OneRight S d log }
 {}
 
 /// For the whole language: where a run of a script's code ends quiet without fault, whatever the items that are left may read is known there
