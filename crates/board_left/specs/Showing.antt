@@ -24,7 +24,7 @@ pub record IsRow (F : Fields) (e k : ℕ) (f : Frame) : Type 0 where
   pub row : Row
   pub there : row_of F.rows number ≡ Some row
   pub is : row.job ≡ Does k e chunk
-  pub left : ¬ row.mark ≡ Over
+  pub left : ¬ (row.mark ≡ Over)
   pub frame : slot_at F.frames k ≡ Some f
 
 module _ (s : Core) (C : Code) (l : Rules.Layout) (L : Layout) (F : Fields) (st : CodeState) where

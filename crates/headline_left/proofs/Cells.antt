@@ -4,7 +4,7 @@ use Rattle.dataflow.specs.Facts.{Live, Written}
 use Rattle.dataflow.specs.Laws.{Can}
 use Rattle.dataflow.specs.Log.{Ended, Waits}
 use Rattle.dataflow.specs.Machine.{Event}
-use Rattle.dataflow.specs.System.{In, Found, Missing, Content, Good, Outcome, Write}
+use Rattle.dataflow.specs.System.{In, Found, Missing, Content, Bad, Good, Outcome, Write}
 use Rattle.dataflow.proofs.Runs.{ended_is}
 use Rattle.dataflow.proofs.Settled.{can_of_comes}
 use Rattle.values.specs.declared.fault.OpFault.{OpFault}
@@ -72,14 +72,17 @@ use Rattle.headline_left.proofs.Siblings.{beside}
 abbrev GoodOf : Computed → Bool → TaskEffect → TaskEffect → Type 0
 GoodOf x b d e = ◌≡◌ {A = Outcome Task CodePlaces.Place Key Scalar EntryFault} (outcome_of x b d) (Good e)
 
+bad_good : {f : EntryFault} {e : TaskEffect} → ◌≡◌ {A = Outcome Task CodePlaces.Place Key Scalar EntryFault} (Bad f) (Good e) → ⊥
+bad_good h = absurd (cc (h))
+
 given_good : (r : Result Value OpFault) (b : Bool) (d e : TaskEffect) → GoodOf (given r) b d e → (v : Scalar) × (given r ≡ Compute.Gives v)
 given_good (Ok v) b d e h = (scalar_of v, refl)
-given_good (Err f) b d e h = absurd (cc (h))
+given_good (Err f) b d e h = absurd (bad_good h)
 
 read_good : (o : Option Got) (b : Bool) (d e : TaskEffect) → GoodOf (Compute.read o) b d e → (v : Scalar) × (Compute.read o ≡ Compute.Gives v)
 read_good None b d e h = (_, refl)
 read_good (Some (Found v)) b d e h = (v, refl)
-read_good (Some Missing) b d e h = absurd (cc (h))
+read_good (Some Missing) b d e h = absurd (bad_good h)
 read_good (Some (Content xs)) b d e h = (_, refl)
 
 cell_good : (a : Act) (ys : List Got) (b : Bool) (d e : TaskEffect) → is_cell a ≡ true → GoodOf (Compute.compute a ys) b d e → (v : Scalar) × (Compute.compute a ys ≡ Compute.Gives v)
@@ -174,9 +177,9 @@ one_in h = cc
 read_value : {s : Core} {path : Path} {f : Form} {r : Result Value Fault} {a : Name} {i : ℕ} {u : Scalar} → Gives s (Meaning s) path f r → f ≡ read a i → r ≡ Ok (One u) → ReadValue s path a i u
 read_value (computed x) e q = absurd (cc (e))
 read_value (faulty x) e q = absurd (cc (e))
-read_value {s} {path} {u = u} (found {a = b} {i = j} {u = w} {k = k} {v = v} h ik one) e q =
-    let ea : b ≡ _ = cc (e) in
-    let ei : j ≡ _ = cc (e) in
+read_value {s} {path} {a = a} {i = i} {u = u} (found {a = b} {i = j} {u = w} {k = k} {v = v} h ik one) e q =
+    let ea : b ≡ a = cc (e) in
+    let ei : j ≡ i = cc (e) in
     record {
       index = w;
       key = k;

@@ -44,7 +44,7 @@ module _ {T D K V E : Type 0} (S : System T D K V E) (L : Laws S) (d : D) (scala
       where
         by : {u : T} → Live S (Logged S more) u → (Ended S log u → ⊥) → Waits S log u ⊎ IsOpened u
         by live_main n = inl (record { live = live_main; open_yet = n })
-        by {u} (live_opened v u f o l h io iu) n =
+        by (live_opened v u f o l h io iu) n =
             elim h [
               | inl q ↦ inr (o, subst (λ (z : T × Effect T D K V). In o z.1.opens) q io, iu)
               | inr i ↦ inl (record { live = live_opened v u f o (settled.comes v f i).live i io iu; open_yet = n })
