@@ -1,5 +1,5 @@
 -- Of the cells in the blocks of items that are left, just those have no value whose own items are left.
-use Rattle.std.proofs.Common.{◌≡◌, ◌⊎◌, inl, inr, ℕ, Bool, true, false, List, [], ◌∷◌, refl, sym, ap, ◌∙◌, subst, Option, None, Some, Result, Ok, Err}
+use Rattle.std.proofs.Common.{ℤ, ◌≡◌, ◌⊎◌, inl, inr, ℕ, Bool, true, false, List, [], ◌∷◌, refl, sym, ap, ◌∙◌, subst, Option, None, Some, Result, Ok, Err}
 use Rattle.dataflow.specs.Facts.{Live, Written}
 use Rattle.dataflow.specs.Laws.{Can}
 use Rattle.dataflow.specs.Log.{Ended, Waits}
