@@ -219,8 +219,8 @@ module _ (s : Core) (C : Code) (w : IsCodeOf s C) (I : IsCode C) (ex : IsExact C
     scoped m = sc.statements k b _ (chain_scope s C w.layout (Meaning s) wf.names I sc ch) m
 
     -- an element that is read
-    read_reading : {need : Need} {u : Scalar} {at : ℕ} {pr : ℤ} → IsEntry (entry C i) at pr (need ∷ []) code.Read → Ans s C (Meaning s) p need (Found u) → HasFact
-    read_reading {need} {u} en an =
+    read_reading : {need : Need} (u : Scalar) {at : ℕ} {pr : ℤ} → IsEntry (entry C i) at pr (need ∷ []) code.Read → Ans s C (Meaning s) p need (Found u) → HasFact
+    read_reading {need} u en an =
         let inp = inputs_of s C (Meaning s) p (entry C i).needs (Found u ∷ []) (subst (λ (l : List Need). AnsAll s C (Meaning s) p l (Found u ∷ [])) (sym en.needs_is) (an, tt)) in
         let z : Known s C w (Meaning s) wf bk I sc ch i there = record {
           answers = inp.answers;
@@ -267,7 +267,7 @@ module _ (s : Core) (C : Code) (w : IsCodeOf s C) (I : IsCode C) (ex : IsExact C
             let r = read_value gv refl refl in
             let en' = subst (λ (z : ℕ). IsEntry (entry C z) po.at po.priority (need ∷ []) code.Read) (sym q) en in
             let key = key_as r.is_key in
-            read_reading en' (index_answer s C w (Meaning s) wf bk I sc ch alive i there (Found one.0) key.0 (live sm) po.cells_in (scoped sm) ia (subst (λ (l : List Need). In need l) (sym en'.needs_is) (inl refl))
+            read_reading one.0 en' (index_answer s C w (Meaning s) wf bk I sc ch alive i there (Found one.0) key.0 (live sm) po.cells_in (scoped sm) ia (subst (λ (l : List Need). In need l) (sym en'.needs_is) (inl refl))
             ((scoped sm).in_cells c cm) (subst (λ (z : Value). Valued ix z) key.1 r.index_known) key.2 (λ q' d e'. subst (λ (z : ScriptPlaces.Place). OneWrite (Meaning s) z r.key one.0) e' r.write))
         by (a_call {j = j'} ca) j ow pt = absurd (no_cell_as C w.layout (ap (λ (z : ℕ). (entry C z).act) (in_one i j' j) ∙ ca.is.act_is) refl cell)
 
