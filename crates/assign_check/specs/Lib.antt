@@ -2,6 +2,7 @@ pub mod Outline
 pub mod Through
 pub mod Ways
 pub mod Sets
+pub mod FaultNames
 pub mod Faults
 pub mod Breaks
 pub mod View

@@ -21,7 +21,8 @@ pub fn add_declared<A: Allocator>(
     decl: &Decl<A>,
     steps: &mut Vec<Step>,
 ) -> Result<(), AllocError>
-    ensures { OnOk result (steps_view steps.new.items ≡ steps_view steps.old.items ++ outline.declared_as (role_of role) (owned_name what) (declaration_of decl.now) ∷ []) }
+    ensures { OnOk result (steps_view steps.new.items
+        ≡ steps_view steps.old.items ++ outline.declared_as (role_of role) (owned_name what) (declaration_of decl.now) ∷ []) }
 {
     steps.push(Step::Declares(Declared {
         what,
@@ -39,7 +40,8 @@ fn declaration<A: Allocator>(
     right: &Option<Right<A>>,
     steps: &mut Vec<Step>,
 ) -> Result<(), AllocError>
-    ensures { OnOk result (steps_view steps.new.items ≡ steps_view steps.old.items ++ outline.declaration_steps (table_of typed.now) (declaration_of decl.now) (option_map right_of right.now)) }
+    ensures { OnOk result (steps_view steps.new.items
+        ≡ steps_view steps.old.items ++ outline.declaration_steps (table_of typed.now) (declaration_of decl.now) (option_map right_of right.now)) }
 {
     let of = Owned::Local(decl.name.number);
     add_declared(Role::Own, of, decl, steps)?;
@@ -89,7 +91,8 @@ fn targets<A: Allocator>(
     names: &Vec<Name<A>, A>,
     steps: &mut Vec<Step>,
 ) -> Result<(), AllocError>
-    ensures { OnOk result (steps_view steps.new.items ≡ steps_view steps.old.items ++ map (outline.use_of (table_of typed.now) outline.named) (words_view names.now)) }
+    ensures { OnOk result (steps_view steps.new.items
+        ≡ steps_view steps.old.items ++ map (outline.use_of (table_of typed.now) outline.named) (words_view names.now)) }
 {
     for name in names {
         add_use(typed, Kind::Named, name, steps)?;
@@ -105,7 +108,9 @@ fn write<A: Allocator>(
     value: &Expr<A>,
     steps: &mut Vec<Step>,
 ) -> Result<(), AllocError>
-    ensures { OnOk result (steps_view steps.new.items ≡ steps_view steps.old.items ++ outline.use_of (table_of typed.now) outline.written (word_of name.now) ∷ (outline.read_in (table_of typed.now) (expression_view index.now) ++ outline.read_in (table_of typed.now) (expression_view value.now))) }
+    ensures { OnOk result (steps_view steps.new.items
+        ≡ steps_view steps.old.items ++ outline.use_of (table_of typed.now) outline.written (word_of name.now) ∷
+        (outline.read_in (table_of typed.now) (expression_view index.now) ++ outline.read_in (table_of typed.now) (expression_view value.now))) }
 {
     add_use(typed, Kind::Written, name, steps)?;
     read(typed, index, steps)?;
@@ -135,7 +140,8 @@ fn command<A: Allocator>(
     kind: &StmtKind<A>,
     steps: &mut Vec<Step>,
 ) -> Result<(), AllocError>
-    ensures { OnOk result ((to : ℕ) → steps_view steps.new.items ≡ steps_view steps.old.items ++ outline.command_steps (table_of typed.now) (record { number = number; first = at; to = to }) (command_view kind.now)) }
+    ensures { OnOk result ((to : ℕ) → steps_view steps.new.items
+        ≡ steps_view steps.old.items ++ outline.command_steps (table_of typed.now) (record { number = number; first = at; to = to }) (command_view kind.now)) }
 {
     match kind {
         StmtKind::Declare(decl, right) => declaration(typed, decl, right, steps),
@@ -212,7 +218,8 @@ fn each<A: Allocator>(
     statements: &Vec<Stmt<A>, A>,
     steps: &mut Vec<Step>,
 ) -> Result<(), AllocError>
-    ensures { OnOk result (steps_view steps.new.items ≡ steps_view steps.old.items ++ outline.all_steps (table_of typed.now) (trees.statements_of (map statement_view statements.now.items))) }
+    ensures { OnOk result (steps_view steps.new.items
+        ≡ steps_view steps.old.items ++ outline.all_steps (table_of typed.now) (trees.statements_of (map statement_view statements.now.items))) }
 {
     for stmt in statements {
         statement(alloc, typed, stmt, steps)?;

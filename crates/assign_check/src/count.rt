@@ -74,7 +74,9 @@ fn hand_up(
     other: &mut Sets,
     up: &mut Vec<Part>,
 ) -> Result<(), AllocError>
-    ensures sums { OnOk result ((of : core.Owned) → Same (faults.sums (part_sums of up.new.items) (numbers (set_at one.new of) ++ numbers (set_at other.new of))) (faults.sums (part_sums of up.old.items) (numbers (set_at one.old of) ++ numbers (set_at other.old of)))) }
+    ensures sums { OnOk result ((of : core.Owned) → Same
+        (faults.sums (part_sums of up.new.items) (numbers (set_at one.new of) ++ numbers (set_at other.new of)))
+        (faults.sums (part_sums of up.old.items) (numbers (set_at one.old of) ++ numbers (set_at other.old of)))) }
     ensures one { OnOk result ((of : core.Owned) → set_at one.new of ≡ cond (faults.is_among of (names parts.now)) [] (set_at one.old of)) }
     ensures other { OnOk result ((of : core.Owned) → set_at other.new of ≡ cond (faults.is_among of (names parts.now)) [] (set_at other.old of)) }
 {
@@ -98,7 +100,8 @@ fn join(
 ) -> Result<bool, AllocError>
     requires { are_empty branches.old }
     ensures uneven { IfOk result (λ uneven. uneven ≡ list_any (parts_apart number first.now second.now) (names first.now ++ names second.now)) }
-    ensures sums { OnOk result ((of : core.Owned) → Same (part_sums of up.new.items) (faults.sums (part_sums of up.old.items) (part_sums of first.now ++ part_sums of second.now))) }
+    ensures sums { OnOk result ((of : core.Owned) → Same (part_sums of up.new.items)
+        (faults.sums (part_sums of up.old.items) (part_sums of first.now ++ part_sums of second.now))) }
     ensures empty { OnOk result (are_empty branches.new) }
 {
     add_all(alloc, &mut branches.one, first)?;
@@ -124,7 +127,8 @@ fn target(
     one: Use,
     parts: &mut Vec<Part>,
 ) -> Result<(), AllocError>
-    ensures { OnOk result ((of : core.Owned) → Same (part_sums of parts.new.items) (faults.sums (part_sums of parts.old.items) (faults.times of (faults.named_by inside (use_view one).kind (use_view one).of) ∷ []))) }
+    ensures { OnOk result ((of : core.Owned) → Same (part_sums of parts.new.items)
+        (faults.sums (part_sums of parts.old.items) (faults.times of (faults.named_by inside (use_view one).kind (use_view one).of) ∷ []))) }
 {
     match one.kind {
         Kind::Written | Kind::Read => Ok(()),
@@ -159,7 +163,8 @@ pub fn count(
     best: &mut Option<AssignFault>,
 ) -> Result<(), AllocError>
     requires { are_empty branches.old }
-    ensures sums { OnOk result ((of : core.Owned) → Same (part_sums of parts.new.items) (faults.sums (part_sums of parts.old.items) (faults.counts inside of (outline_view steps.now.items)))) }
+    ensures sums { OnOk result ((of : core.Owned) → Same (part_sums of parts.new.items)
+        (faults.sums (part_sums of parts.old.items) (faults.counts inside of (outline_view steps.now.items)))) }
     ensures best { OnOk result (best.new ≡ faults.first_among best.old (faults.split_faults inside (outline_view steps.now.items))) }
     ensures empty { OnOk result (are_empty branches.new) }
 {
@@ -179,7 +184,8 @@ fn count_step(
     best: &mut Option<AssignFault>,
 ) -> Result<(), AllocError>
     requires { are_empty branches.old }
-    ensures sums { OnOk result ((of : core.Owned) → Same (part_sums of parts.new.items) (faults.sums (part_sums of parts.old.items) (faults.step_counts inside of (step_view step.now)))) }
+    ensures sums { OnOk result ((of : core.Owned) → Same (part_sums of parts.new.items)
+        (faults.sums (part_sums of parts.old.items) (faults.step_counts inside of (step_view step.now)))) }
     ensures best { OnOk result (best.new ≡ faults.first_among best.old (faults.split_step inside (step_view step.now))) }
     ensures empty { OnOk result (are_empty branches.new) }
 {

@@ -1,34 +1,29 @@
 //! Why a script is not singly assigned.
-ghost use Rattle.std.specs.Prelude.{◌≡◌};
+ghost use Rattle.std.specs.Prelude.{◌≡◌, ◌≤◌, length};
+ghost use Rattle.assign_check.specs.FaultNames.{assign_name};
 ghost use Rattle.assign_check.specs.Places.{span_of};
 
 use lexer::token::Span;
 use std::alloc::{AllocError, AllocFailed};
-use thiserror::Error;
+use std::error::Error;
+use std::fmt;
 
 /// The broken rule of single assignment that is answered, with the place where it is broken.
-#[derive(Clone, Copy, PartialEq, Eq, Debug, Drop, Error)]
+#[derive(Clone, Copy, PartialEq, Eq, Debug, Drop)]
 pub enum AssignFault {
     /// A way assigns a variable twice, at the first target that is the second on some way.
-    #[error("S1 AssignedTwice")]
     AssignedTwice(Span),
     /// The branches of an `if` assign a variable differently often, at the `if`.
-    #[error("S2 PartlyAssigned")]
     PartlyAssigned(Span),
     /// A scalar that is read and never assigned, at its declared name.
-    #[error("S3 NeverAssigned")]
     NeverAssigned(Span),
     /// A variable that is assigned by its name in a loop inside which it is not declared, at the target.
-    #[error("S4 OuterInLoop")]
     OuterInLoop(Span),
     /// An array that is assigned both whole and by elements, at the first target of the other form than the first.
-    #[error("S5 WholeAndElements")]
     WholeAndElements(Span),
     /// An output that is never assigned, neither by name nor by an element, at its declared name.
-    #[error("S6 OutputUnassigned")]
     OutputUnassigned(Span),
     /// Memory that was asked for was refused.
-    #[error("no memory")]
     Memory,
 }
 
@@ -47,7 +42,31 @@ impl AssignFault {
             AssignFault::Memory => None,
         }
     }
+
+    /// Its number and its name.
+    pub fn name(self) -> &'static str
+        ensures text { result.now ≡ assign_name self }
+        ensures short { length result.now ≤ 20 }
+    {
+        match self {
+            AssignFault::AssignedTwice(_) => "S1 AssignedTwice",
+            AssignFault::PartlyAssigned(_) => "S2 PartlyAssigned",
+            AssignFault::NeverAssigned(_) => "S3 NeverAssigned",
+            AssignFault::OuterInLoop(_) => "S4 OuterInLoop",
+            AssignFault::WholeAndElements(_) => "S5 WholeAndElements",
+            AssignFault::OutputUnassigned(_) => "S6 OutputUnassigned",
+            AssignFault::Memory => "no memory",
+        }
+    }
 }
+
+impl fmt::Display for AssignFault {
+    fn fmt<W: fmt::Write>(&self, f: &mut fmt::Formatter<W>) -> fmt::Result {
+        write!(f, "{}", self.name())
+    }
+}
+
+impl Error for AssignFault {}
 
 impl From<AllocError> for AssignFault {
     ghost use Rattle.assign_check.specs.declared.fault.AssignFault.TheVariants.{Memory};

@@ -24,5 +24,6 @@ pub fn refusals_name_broken_rules()
     ensures first { (t : Table) (tree : Tree) (f g : AssignFault) → first_fault (faults t tree) ≡ Some f → g ∈ faults t tree → precedes g f ≡ false }
     ensures names { (n : ℕ) (u tree : Tree) (t : Table) (f : AssignFault) → tree ≡ numbered n u → WellTyped tree t → f ∈ faults t tree → Breaks t tree f }
     ensures all { (n : ℕ) (u tree : Tree) (t : Table) (f : AssignFault) → tree ≡ numbered n u → WellTyped tree t → Breaks t tree f → f ∈ faults t tree }
-    ensures none_before { (n : ℕ) (u tree : Tree) (t : Table) (f g : AssignFault) → tree ≡ numbered n u → WellTyped tree t → first_fault (faults t tree) ≡ Some f → Breaks t tree g → precedes g f ≡ false }
+    ensures none_before { (n : ℕ) (u tree : Tree) (t : Table) (f g : AssignFault) → tree ≡ numbered n u → WellTyped tree t
+        → first_fault (faults t tree) ≡ Some f → Breaks t tree g → precedes g f ≡ false }
 {}

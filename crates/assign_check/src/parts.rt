@@ -14,7 +14,8 @@ use types::typed::{Owned, Typed};
 
 /// Adds outputs, each by its place.
 fn outputs<A: Allocator>(decls: &Vec<Decl<A>, A>, steps: &mut Vec<Step>) -> Result<(), AllocError>
-    ensures { OnOk result (steps_view steps.new.items ≡ steps_view steps.old.items ++ outline.parameters outline.result output 0 (declarations_view decls.now)) }
+    ensures { OnOk result (steps_view steps.new.items
+        ≡ steps_view steps.old.items ++ outline.parameters outline.result output 0 (declarations_view decls.now)) }
 {
     for i in 0..decls.len() {
         add_declared(Role::Output, Owned::Output(i), &decls[i], steps)?;

@@ -18,7 +18,8 @@ pub fn add_use<A: Allocator>(
     name: &Name<A>,
     steps: &mut Vec<Step>,
 ) -> Result<(), AllocError>
-    ensures { OnOk result (steps_view steps.new.items ≡ steps_view steps.old.items ++ outline.use_of (table_of typed.now) (kind_of kind) (word_of name.now) ∷ []) }
+    ensures { OnOk result (steps_view steps.new.items
+        ≡ steps_view steps.old.items ++ outline.use_of (table_of typed.now) (kind_of kind) (word_of name.now) ∷ []) }
 {
     let one = Use {
         kind,
@@ -80,7 +81,8 @@ pub fn read_all<A: Allocator>(
     exprs: &Vec<Expr<A>, A>,
     steps: &mut Vec<Step>,
 ) -> Result<(), AllocError>
-    ensures { OnOk result (steps_view steps.new.items ≡ steps_view steps.old.items ++ outline.read_all (table_of typed.now) (expressions_of (map expression_view exprs.now.items))) }
+    ensures { OnOk result (steps_view steps.new.items
+        ≡ steps_view steps.old.items ++ outline.read_all (table_of typed.now) (expressions_of (map expression_view exprs.now.items))) }
 {
     for expr in exprs {
         read(typed, expr, steps)?;
@@ -144,7 +146,8 @@ fn read_step<A: Allocator>(
     step: &Option<Expr<A>>,
     steps: &mut Vec<Step>,
 ) -> Result<(), AllocError>
-    ensures { OnOk result (steps_view steps.new.items ≡ steps_view steps.old.items ++ outline.read_step (table_of typed.now) (option_map expression_view step.now)) }
+    ensures { OnOk result (steps_view steps.new.items
+        ≡ steps_view steps.old.items ++ outline.read_step (table_of typed.now) (option_map expression_view step.now)) }
 {
     match step {
         None => Ok(()),

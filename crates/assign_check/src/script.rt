@@ -42,12 +42,17 @@ pub fn check<A: Allocator>(
     typed: &Typed,
 ) -> Result<(), AssignFault>
     ensures accepted { IfOk result (λ _. faults.faults (table_of typed.now) (tree_of script.now) ≡ []) }
-    ensures refused { IfErr result (λ fault. fault ≢ AssignFault.Memory → faults.first_fault (faults.faults (table_of typed.now) (tree_of script.now)) ≡ Some fault) }
+    ensures refused { IfErr result (λ fault. fault ≢ AssignFault.Memory
+        → faults.first_fault (faults.faults (table_of typed.now) (tree_of script.now)) ≡ Some fault) }
 
-    ensures single { IfOk result (λ _. IsTyped (table_of typed.now) (tree_of script.now) → SinglyAssigned (resolved.core (table_of typed.now) (tree_of script.now))) }
-    ensures not_single { IfErr result (λ fault. fault ≢ AssignFault.Memory → IsTyped (table_of typed.now) (tree_of script.now) → ¬ SinglyAssigned (resolved.core (table_of typed.now) (tree_of script.now))) }
-    ensures broken { IfErr result (λ fault. fault ≢ AssignFault.Memory → IsTyped (table_of typed.now) (tree_of script.now) → Breaks (table_of typed.now) (tree_of script.now) fault) }
-    ensures none_before { IfErr result (λ fault. fault ≢ AssignFault.Memory → IsTyped (table_of typed.now) (tree_of script.now) → (other : AssignFault) → Breaks (table_of typed.now) (tree_of script.now) other → faults.precedes other fault ≡ false) }
+    ensures single { IfOk result (λ _. IsTyped (table_of typed.now) (tree_of script.now)
+        → SinglyAssigned (resolved.core (table_of typed.now) (tree_of script.now))) }
+    ensures not_single { IfErr result (λ fault. fault ≢ AssignFault.Memory → IsTyped (table_of typed.now) (tree_of script.now)
+        → ¬ SinglyAssigned (resolved.core (table_of typed.now) (tree_of script.now))) }
+    ensures broken { IfErr result (λ fault. fault ≢ AssignFault.Memory → IsTyped (table_of typed.now) (tree_of script.now)
+        → Breaks (table_of typed.now) (tree_of script.now) fault) }
+    ensures none_before { IfErr result (λ fault. fault ≢ AssignFault.Memory → IsTyped (table_of typed.now) (tree_of script.now) → (other : AssignFault)
+        → Breaks (table_of typed.now) (tree_of script.now) other → faults.precedes other fault ≡ false) }
 {
     match answer(alloc, script, typed)? {
         None => Ok(()),
@@ -104,7 +109,8 @@ fn own_block<A: Allocator>(
     requires way { listed way.old ≡ [] }
     requires branches { are_empty branches.old }
     requires tallied { (of : core.Owned) → at tallied.old of ≡ tallies.unused }
-    ensures best { OnOk result (best.new ≡ faults.first_among best.old (faults.faults_of (outlined (outlines.script_steps (table_of typed.now) (tree_of script.now))))) }
+    ensures best { OnOk result (best.new ≡ faults.first_among best.old
+        (faults.faults_of (outlined (outlines.script_steps (table_of typed.now) (tree_of script.now))))) }
     ensures way { OnOk result (listed way.new ≡ []) }
     ensures branches { OnOk result (are_empty branches.new) }
     ensures tallied { OnOk result ((of : core.Owned) → at tallied.new of ≡ tallies.unused) }
@@ -126,7 +132,8 @@ fn part<A: Allocator>(
     requires way { listed way.old ≡ [] }
     requires branches { are_empty branches.old }
     requires tallied { (of : core.Owned) → at tallied.old of ≡ tallies.unused }
-    ensures best { OnOk result (best.new ≡ faults.first_among best.old (flat_map faults.faults_of (function_outlines (table_of typed.now) (part_of item.now ∷ [])))) }
+    ensures best { OnOk result (best.new ≡ faults.first_among best.old
+        (flat_map faults.faults_of (function_outlines (table_of typed.now) (part_of item.now ∷ [])))) }
     ensures way { OnOk result (listed way.new ≡ []) }
     ensures branches { OnOk result (are_empty branches.new) }
     ensures tallied { OnOk result ((of : core.Owned) → at tallied.new of ≡ tallies.unused) }

@@ -57,7 +57,8 @@ impl<T: Copy + Drop> Table<T> {
 
     /// Puts another value of a variable that has one.
     pub fn put(&mut self, of: Owned, value: T)
-        ensures put { at self.old (owned_name of) ≢ self.old.empty → (other : core.Owned) → at self.new other ≡ cond (faults.same (owned_name of) other) value (at self.old other) }
+        ensures put { at self.old (owned_name of) ≢ self.old.empty → (other : core.Owned)
+            → at self.new other ≡ cond (faults.same (owned_name of) other) value (at self.old other) }
         ensures empty { self.new.empty ≡ self.old.empty }
     {
         match of {
@@ -70,7 +71,8 @@ impl<T: Copy + Drop> Table<T> {
 
 /// Puts another value at its number.
 fn replace<T: Copy + Drop>(values: &mut Vec<T>, number: usize, value: T)
-    ensures { (empty : T) → or_empty empty (slice_get values.old.items number) ≢ empty → (other : ℕ) → or_empty empty (slice_get values.new.items other) ≡ cond (nat_eq number other) value (or_empty empty (slice_get values.old.items other)) }
+    ensures { (empty : T) → or_empty empty (slice_get values.old.items number) ≢ empty → (other : ℕ)
+        → or_empty empty (slice_get values.new.items other) ≡ cond (nat_eq number other) value (or_empty empty (slice_get values.old.items other)) }
 {
     if number < values.len() {
         values[number] = value;
@@ -94,7 +96,8 @@ fn place<T: Copy + Drop>(
     value: T,
     empty: T,
 ) -> Result<(), AllocError>
-    ensures set { OnOk result ((other : ℕ) → or_empty empty (slice_get values.new.items other) ≡ cond (nat_eq number other) value (or_empty empty (slice_get values.old.items other))) }
+    ensures set { OnOk result ((other : ℕ) → or_empty empty (slice_get values.new.items other)
+        ≡ cond (nat_eq number other) value (or_empty empty (slice_get values.old.items other))) }
     ensures kept { OnErr result ((other : ℕ) → or_empty empty (slice_get values.new.items other) ≡ or_empty empty (slice_get values.old.items other)) }
 {
     for _ in values.len()..number {

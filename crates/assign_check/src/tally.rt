@@ -156,7 +156,8 @@ fn note_variable(role: Role, shape: Shape, at: Span, tally: Tally, best: &mut Op
 
 /// The faults of declared variables.
 pub fn note_all(table: &Table<Tally>, declared: &[Declared], best: &mut Option<AssignFault>)
-    ensures { best.new ≡ faults.first_among best.old (flat_map (λ d. tallies.tally_faults d.role d.shape d.span (at table.now d.what)) (map declared_view declared.now)) }
+    ensures { best.new ≡ faults.first_among best.old (flat_map (λ d. tallies.tally_faults d.role d.shape d.span (at table.now d.what))
+        (map declared_view declared.now)) }
 {
     for one in declared {
         let tally = table.get(one.what);
@@ -172,7 +173,8 @@ pub fn collect(
     declared: &mut Vec<Declared>,
 ) -> Result<(), AllocError>
     ensures uses { OnOk result (map use_view uses.new.items ≡ map use_view uses.old.items ++ faults.uses_in (outline_view steps.now.items)) }
-    ensures declared { OnOk result (map declared_view declared.new.items ≡ map declared_view declared.old.items ++ faults.declared_in (outline_view steps.now.items)) }
+    ensures declared { OnOk result (map declared_view declared.new.items
+        ≡ map declared_view declared.old.items ++ faults.declared_in (outline_view steps.now.items)) }
 {
     for step in steps {
         collect_step(step, uses, declared)?;

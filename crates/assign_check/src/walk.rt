@@ -42,7 +42,8 @@ fn used(
     best: &mut Option<AssignFault>,
 ) -> Result<(), AllocError>
     ensures way { OnOk result (listed way.new ≡ listed way.old ++ faults.named_by inside (use_view one).kind (use_view one).of) }
-    ensures best { OnOk result (best.new ≡ faults.first_among best.old (faults.target_faults inside (listed way.old) (use_view one).kind (use_view one).of one.span)) }
+    ensures best { OnOk result (best.new ≡ faults.first_among best.old
+        (faults.target_faults inside (listed way.old) (use_view one).kind (use_view one).of one.span)) }
 {
     match one.kind {
         Kind::Named => target(inside, one.of, one.span, way, best),

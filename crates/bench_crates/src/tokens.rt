@@ -1,6 +1,6 @@
 //! How long the tokens of 1 MiB take.
 
-use lexer::lexer::Lexer;
+use lexer::Lexer;
 use std::alloc::{AllocError, Global};
 use std::io;
 use std::time::{Clock, Instant};

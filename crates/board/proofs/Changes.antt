@@ -18,7 +18,6 @@ use Rattle.work_queue.specs.Both.{Both, of, with_changed}
 use Rattle.work_queue.specs.Waiting as Waits
 use Rattle.work_queue.proofs.InOrder.{holds_exactly}
 use Rattle.board_program.specs.Spots.{layout_of}
-use Rattle.board_program.specs.Tables.{queue_kind}
 use Rattle.board_instances.specs.View.{frames_view, rows_view}
 use Rattle.paths.specs.declared.faults.Fault.{Fault as Noted}
 use Rattle.board_data.specs.Wanted.{FewSlots}
@@ -95,17 +94,17 @@ module _ (C : Code) (I : IsCode C) (es : List Event) (old new : Core) (s : Stand
   noted = subst (λ (f : Option Noted). IsNoted C s.told.fault f) (sym fault) s.fault
 
   -- an entry that stands there
-  pub begun_there : (n : ℕ) (j : Job) → IsReady (rows_view old.items.rows.items) n j → Contains (of (queue_kind (job_kind C j)) old.items.queue).entries (record { priority = job_priority C j; no = n })
+  pub begun_there : (n : ℕ) (j : Job) → IsReady (rows_view old.items.rows.items) n j → Contains (of (job_kind C j) old.items.queue).entries (record { priority = job_priority C j; no = n })
   begun_there n j h = by (job_kind C j) (ready_queued C I (layout_of C) es (fields_view s.told old) x n j h)
     where
-      by : (k : Kind) → In n (queue_view old.items.queue k (job_priority C j)) → Contains (of (queue_kind k) old.items.queue).entries (record { priority = job_priority C j; no = n })
+      by : (k : Kind) → In n (queue_view old.items.queue k (job_priority C j)) → Contains (of k old.items.queue).entries (record { priority = job_priority C j; no = n })
       by Control m = (holds_exactly (record { priority = job_priority C j; no = n }) old.items.queue.control.entries).0 (number_held (job_priority C j) n old.items.queue.control.entries m)
       by Leaf m = (holds_exactly (record { priority = job_priority C j; no = n }) old.items.queue.leaf.entries).0 (number_held (job_priority C j) n old.items.queue.leaf.entries m)
 
   -- fields that have become the begun ones stand for the state of the history with that event
   pub begun_core : (w n : ℕ) (j : Job) → IsReady (rows_view old.items.rows.items) n j → rows_view new.items.rows.items ≡ mark_at (rows_view old.items.rows.items) n (Running w)
-      → new.items.queue ≡ with_changed (queue_kind (job_kind C j)) (Waits.without (record { priority = job_priority C j; no = n })) old.items.queue
-      → new.items.running ≡ old.items.running + 1 → new.items.newly.items ≡ [] → new.items.apart ≡ one_more (queue_kind (job_kind C j)) old.items.apart → vec_capacity new.items.newly ≡ vec_capacity old.items.newly
+      → new.items.queue ≡ with_changed (job_kind C j) (Waits.without (record { priority = job_priority C j; no = n })) old.items.queue
+      → new.items.running ≡ old.items.running + 1 → new.items.newly.items ≡ [] → new.items.apart ≡ one_more (job_kind C j) old.items.apart → vec_capacity new.items.newly ≡ vec_capacity old.items.newly
       → length (rows_view old.items.rows.items) + 1 ≤ 2 ^ 64 - 1 → Stand C (es ++ Begin w n ∷ []) new
   begun_core w n j ready rows queue running newly apart capacity few =
       record {
@@ -139,8 +138,8 @@ module _ (C : Code) (I : IsCode C) (es : List Event) (old new : Core) (s : Stand
 
   -- fields that have become the returned ones do so too
   pub back_core : (w n : ℕ) (j : Job) → RunsOn (rows_view old.items.rows.items) w n j → rows_view new.items.rows.items ≡ mark_at (rows_view old.items.rows.items) n Ready
-      → new.items.queue ≡ with_changed (queue_kind (job_kind C j)) (Waits.with_put (record { priority = job_priority C j; no = n })) old.items.queue
-      → new.items.running ≡ old.items.running - 1 → new.items.newly.items ≡ n ∷ [] → new.items.apart ≡ one_less (queue_kind (job_kind C j)) old.items.apart → 0 < vec_capacity new.items.newly
+      → new.items.queue ≡ with_changed (job_kind C j) (Waits.with_put (record { priority = job_priority C j; no = n })) old.items.queue
+      → new.items.running ≡ old.items.running - 1 → new.items.newly.items ≡ n ∷ [] → new.items.apart ≡ one_less (job_kind C j) old.items.apart → 0 < vec_capacity new.items.newly
       → Stand C (es ++ Back w n ∷ []) new
   back_core w n j runs rows queue running newly apart capacity =
       record {
@@ -164,5 +163,5 @@ module _ (C : Code) (I : IsCode C) (es : List Event) (old new : Core) (s : Stand
           cc
 
   -- and it has room
-  pub back_room : (w n : ℕ) (j : Job) → RunsOn (rows_view old.items.rows.items) w n j → 0 < (of (queue_kind (job_kind C j)) old.items.queue).room
+  pub back_room : (w n : ℕ) (j : Job) → RunsOn (rows_view old.items.rows.items) w n j → 0 < (of (job_kind C j) old.items.queue).room
   back_room w n j runs = back_fits C old.items n w j s.kept.roomy runs

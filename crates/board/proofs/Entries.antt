@@ -10,6 +10,7 @@ use Rattle.work_queue.specs.Entries.{erased, holds, inserted}
 use Rattle.work_queue.specs.Order.{precedes, same}
 use Rattle.work_queue.proofs.OrderLaws.{equal_same, same_itself}
 use Rattle.board_items.specs.View.{numbers_at}
+use Rattle.std.proofs.lemmas.Bool.{or_right}
 
 pub int_sound : (a b : ℤ) → int_eq a b ≡ true → a ≡ b
 int_sound a b h = grind (arith, ints)
@@ -172,10 +173,6 @@ erased_gone x (y ∷ ys) d t u =
         let both : x ≡ y = entry_same x y p.0 (sym p.1) in
         yes_no (subst (λ (q : Entry). same x q ≡ true) both (same_itself x)) e
     by e (inr g) f = f g
-
-or_right : (a b : Bool) → b ≡ true → (a || b) ≡ true
-or_right true b e = refl
-or_right false b e = e
 
 abbrev one : ℤ → ℕ → Entry
 one z m = record { priority = z; no = m }

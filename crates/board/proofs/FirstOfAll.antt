@@ -11,7 +11,6 @@ use Rattle.work_queue.specs.Entries.{IsForemost, first_of}
 use Rattle.work_queue.specs.Order.{precedes}
 use Rattle.work_queue.specs.declared.entry.Entry.{Entry}
 use Rattle.work_queue.proofs.OrderLaws.{no_later, precedes_order}
-use Rattle.board_program.specs.Tables.{queue_kind}
 use Rattle.board.specs.Board.{IsGoing, Seen}
 use Rattle.board.specs.Inside.{IsSound, seen_of}
 use Rattle.board.specs.Ready.{HasKind, IsFirst, IsNext, IsReady, Precedes}
@@ -136,16 +135,16 @@ module _ (a : Inside) (s : IsSound a) (going : IsGoing (seen_of a)) where
     next : IsNext (seen_of a) k e.no
     priority_is : task_priority a.program next.item.task ≡ e.priority
 
-  foremost : (k : Kind) (e : Entry) → IsForemost e (of (queue_kind k) a.core.items.queue).entries → Foremost k e
+  foremost : (k : Kind) (e : Entry) → IsForemost e (of k a.core.items.queue).entries → Foremost k e
   foremost k e f =
       let n = next_some a s k e.no (e, refl, f) going in
-      let t = stood a s k e (contains_in (of (queue_kind k) a.core.items.queue).entries e f.0) in
+      let t = stood a s k e (contains_in (of k a.core.items.queue).entries e f.0) in
       record {
         next = n;
         priority_is = ap (λ (i : CodeItem). task_priority a.program i.task) (one_item a s n.item t.item n.ready t.ready (n.number_is ∙ sym t.number_is)) ∙ t.priority_is;
       }
 
-  pub kind_of_foremost : (k : Kind) (e : Entry) → IsForemost e (of (queue_kind k) a.core.items.queue).entries → HasKind (seen_of a) e.no k
+  pub kind_of_foremost : (k : Kind) (e : Entry) → IsForemost e (of k a.core.items.queue).entries → HasKind (seen_of a) e.no k
   kind_of_foremost k e f = let n = (foremost k e f).next in (n.item, n.ready.there, n.number_is, sym n.kind_is)
 
   kinds_differ : Control ≡ Leaf → ⊥

@@ -17,7 +17,6 @@ use Rattle.work_queue.specs.Both.{of}
 use Rattle.work_queue.specs.Entries.{ComesNoLater, IsTakenFirst, first_number, first_of}
 use Rattle.work_queue.specs.declared.entry.Entry.{Entry}
 use Rattle.board_program.specs.Spots.{layout_of}
-use Rattle.board_program.specs.Tables.{queue_kind}
 use Rattle.board_instances.specs.View.{frames_view, rows_view}
 use Rattle.board_items.specs.View.{numbers_at, queue_view}
 use Rattle.board.specs.Board.{IsGoing}
@@ -143,7 +142,7 @@ module _ (a : Inside) (s : IsSound a) where
   there : (i : CodeItem) → In i (state_of a.program (map event_view a.history.items)).items → RowIs (frames_view a.core.world.instances.slots) (rows_view a.core.items.rows.items) 1 i
   there i h = row_there a.program s.whole (layout_of a.program) (map event_view a.history.items) (fields_view s.stand.told a.core) s.stand.stands i (subst (λ (t : CodeState). In i t.items) here h)
 
-  queue_is : (k : Kind) (z : ℤ) → queue_view a.core.items.queue k z ≡ numbers_at z (of (queue_kind k) a.core.items.queue).entries
+  queue_is : (k : Kind) (z : ℤ) → queue_view a.core.items.queue k z ≡ numbers_at z (of k a.core.items.queue).entries
   queue_is Control z = refl
   queue_is Leaf z = refl
 
@@ -155,9 +154,9 @@ module _ (a : Inside) (s : IsSound a) where
     pub priority_is : task_priority a.program item.task ≡ z
     pub number_is : item.number ≡ n
 
-  pub stood : (k : Kind) (e : Entry) → In e (of (queue_kind k) a.core.items.queue).entries → Stood k e.priority e.no
+  pub stood : (k : Kind) (e : Entry) → In e (of k a.core.items.queue).entries → Stood k e.priority e.no
   stood k e h =
-      let y = x.queue.only k e.priority e.no (subst (λ (ns : List ℕ). In e.no ns) (sym (queue_is k e.priority)) (listed_at e (of (queue_kind k) a.core.items.queue).entries h)) in
+      let y = x.queue.only k e.priority e.no (subst (λ (ns : List ℕ). In e.no ns) (sym (queue_is k e.priority)) (listed_at e (of k a.core.items.queue).entries h)) in
       record {
         item = y.item;
         ready = record {
@@ -170,9 +169,9 @@ module _ (a : Inside) (s : IsSound a) where
         number_is = y.number_is;
       }
 
-  pub in_queue : (k : Kind) (i : CodeItem) → IsReady (seen_of a) i → task_kind a.program i.task ≡ k → In (record { priority = task_priority a.program i.task; no = i.number }) (of (queue_kind k) a.core.items.queue).entries
+  pub in_queue : (k : Kind) (i : CodeItem) → IsReady (seen_of a) i → task_kind a.program i.task ≡ k → In (record { priority = task_priority a.program i.task; no = i.number }) (of k a.core.items.queue).entries
   in_queue k i r h =
-      held (task_priority a.program i.task) i.number (of (queue_kind k) a.core.items.queue).entries
+      held (task_priority a.program i.task) i.number (of k a.core.items.queue).entries
       (subst (λ (ns : List ℕ). In i.number ns) (queue_is k (task_priority a.program i.task))
       (x.queue.all k (task_priority a.program i.task) i.number (record {
         item = i;
@@ -184,7 +183,7 @@ module _ (a : Inside) (s : IsSound a) where
         priority_is = refl;
       })))
 
-  pub once_each : (k : Kind) (z : ℤ) → Distinct (numbers_at z (of (queue_kind k) a.core.items.queue).entries)
+  pub once_each : (k : Kind) (z : ℤ) → Distinct (numbers_at z (of k a.core.items.queue).entries)
   once_each k z = subst (λ (ns : List ℕ). Distinct ns) (queue_is k z) (x.queue.once k z)
 
   -- numbers tell items apart
@@ -202,14 +201,14 @@ module _ (a : Inside) (s : IsSound a) where
       same i j e t r = λ z. record { number = e z; task = t z; runs = r z }
 
   -- none waits, or the first one
-  pub next_none : (k : Kind) → first_number (of (queue_kind k) a.core.items.queue).entries ≡ None → (i : CodeItem) → IsReady (seen_of a) i → task_kind a.program i.task ≡ k → ⊥
+  pub next_none : (k : Kind) → first_number (of k a.core.items.queue).entries ≡ None → (i : CodeItem) → IsReady (seen_of a) i → task_kind a.program i.task ≡ k → ⊥
   next_none k h i r e =
-      subst (λ (ys : List Entry). In (entry (task_priority a.program i.task) i.number) ys) (none_first (of (queue_kind k) a.core.items.queue).entries h) (in_queue k i r e)
+      subst (λ (ys : List Entry). In (entry (task_priority a.program i.task) i.number) ys) (none_first (of k a.core.items.queue).entries h) (in_queue k i r e)
 
-  pub next_some : (k : Kind) (n : ℕ) → IsTakenFirst n (of (queue_kind k) a.core.items.queue).entries → IsGoing (seen_of a) → IsNext (seen_of a) k n
+  pub next_some : (k : Kind) (n : ℕ) → IsTakenFirst n (of k a.core.items.queue).entries → IsGoing (seen_of a) → IsNext (seen_of a) k n
   next_some k n h going =
       let e = h.0 in
-      let y = stood k e (contains_in (of (queue_kind k) a.core.items.queue).entries e h.2.0) in
+      let y = stood k e (contains_in (of k a.core.items.queue).entries e h.2.0) in
       record {
         going = going;
         item = y.item;
@@ -218,8 +217,8 @@ module _ (a : Inside) (s : IsSound a) where
         number_is = y.number_is ∙ h.1;
         first = λ other r same p.
             not_before e.priority (task_priority a.program other.task) e.no other.number
-            (All-contains (ComesNoLater e) (of (queue_kind k) a.core.items.queue).entries (entry (task_priority a.program other.task) other.number) h.2.1
-            (in_contains (of (queue_kind k) a.core.items.queue).entries (entry (task_priority a.program other.task) other.number) (in_queue k other r same)))
+            (All-contains (ComesNoLater e) (of k a.core.items.queue).entries (entry (task_priority a.program other.task) other.number) h.2.1
+            (in_contains (of k a.core.items.queue).entries (entry (task_priority a.program other.task) other.number) (in_queue k other r same)))
             (subst (λ (m : ℕ). (int_lt e.priority (task_priority a.program other.task) ≡ true) ⊎ ((task_priority a.program other.task ≡ e.priority) × (other.number < m))) y.number_is
             (subst (λ (z : ℤ). (int_lt z (task_priority a.program other.task) ≡ true) ⊎ ((task_priority a.program other.task ≡ z) × (other.number < y.item.number))) y.priority_is p));
       }
@@ -262,14 +261,14 @@ module _ (a : Inside) (s : IsSound a) where
           let f = x.items.running in
           absurd (no_running (some_running (rows_view a.core.items.rows.items) (omega arith)))
 
-      no_entry : (k : Kind) (ys : List Entry) → (of (queue_kind k) a.core.items.queue).entries ≡ ys → first_number ys ≡ None
+      no_entry : (k : Kind) (ys : List Entry) → (of k a.core.items.queue).entries ≡ ys → first_number ys ≡ None
       no_entry k [] e = refl
       no_entry k (y ∷ ys) e =
           let t = stood k y (subst (λ (l : List Entry). In y l) (sym e) (inl refl)) in
           absurd (q.none_enabled t.item t.ready.there t.ready.enabled)
 
-      none_is : (k : Kind) → first_number (of (queue_kind k) a.core.items.queue).entries ≡ None
-      none_is k = no_entry k (of (queue_kind k) a.core.items.queue).entries refl
+      none_is : (k : Kind) → first_number (of k a.core.items.queue).entries ≡ None
+      none_is k = no_entry k (of k a.core.items.queue).entries refl
 
 pub not_quiet : (a : Inside) → IsSound a → (a.core.fault ≡ None → ⊥) → (b : Bool) → b ≡ false
     → (IsTrue b → Quiet a.program (state_of a.program (map event_view a.history.items))) × (Quiet a.program (state_of a.program (map event_view a.history.items)) → IsTrue b)

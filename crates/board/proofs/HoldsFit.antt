@@ -1,5 +1,5 @@
 -- The holds that new instances add to data fit, where as many names as all items can have fit.
-use Rattle.std.proofs.Common.{◌≡◌, inl, inr, ◌∙◌, ℕ, suc, ◌+◌, ◌*◌, ◌<◌, ◌≤◌, Bool, not, List, [], ◌∷◌, ◌++◌, map, length, refl, sym, ap, subst, arith, Option, Some, None}
+use Rattle.std.proofs.Common.{◌≡◌, inl, inr, ◌∙◌, ℕ, suc, ◌+◌, ◌*◌, ◌<◌, ◌≤◌, Bool, not, List, [], ◌∷◌, map, length, refl, sym, ap, subst, arith, Option, Some, None}
 use Rattle.std.specs.Prelude.{◌^◌, option_map}
 use Rattle.std.specs.List.{filter, flat_map}
 use Rattle.dataflow.specs.System.{In}
@@ -35,6 +35,7 @@ use Rattle.board_changes.proofs.MadeData.{body_is, makes_data}
 use Rattle.board_changes.specs.Blocks.{AreBlocks}
 use Rattle.board_changes.specs.Data.{MakesData}
 use Rattle.board.proofs.WorldEnded.{HoldsFit}
+use Rattle.std.proofs.lemmas.List.{length-append}
 
 -- sums
 times_more : (n m : ℕ) → suc n * m ≡ m + n * m
@@ -52,10 +53,6 @@ below_sum y z m b = omega arith
 none_more : (n m y : ℕ) → y ≤ n * m → y ≤ suc n * m
 none_more n m y b = subst (λ z. y ≤ z) (sym (times_more n m)) (below_sum y (n * m) m b)
 
-length_append : {X : Type 0} (xs ys : List X) → length (xs ++ ys) ≡ length xs + length ys
-length_append [] ys = omega arith
-length_append (x ∷ xs) ys = let h = length_append xs ys in omega arith
-
 map_length : {X Y : Type 0} (f : X → Y) (xs : List X) → length (map f xs) ≡ length xs
 map_length f [] = refl
 map_length f (x ∷ xs) = ap suc (map_length f xs)
@@ -68,7 +65,7 @@ filter_below p (x ∷ xs) =
 
 flat_below : {X Y : Type 0} (f : X → List Y) (most : ℕ) → ((x : X) → length (f x) ≤ most) → (xs : List X) → length (flat_map f xs) ≤ length xs * most
 flat_below f most each [] = omega arith
-flat_below f most each (x ∷ xs) = subst (λ n. n ≤ suc (length xs) * most) (sym (length_append (f x) (flat_map f xs))) (one_more (length xs) most _ _ (each x) (flat_below f most each xs))
+flat_below f most each (x ∷ xs) = subst (λ n. n ≤ suc (length xs) * most) (sym (length-append (f x) (flat_map f xs))) (one_more (length xs) most _ _ (each x) (flat_below f most each xs))
 
 -- the holds of names, and how often one stands among them
 abbrev total : List Hold → ℕ

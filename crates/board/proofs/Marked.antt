@@ -11,7 +11,6 @@ use Rattle.work_queue.specs.Both.{of, with_changed}
 use Rattle.work_queue.specs.Waiting.{with_put, without}
 use Rattle.work_queue.specs.declared.entry.Entry.{Entry}
 use Rattle.work_queue.specs.declared.entry.Kind.{Kind}
-use Rattle.board_program.specs.Tables.{queue_kind}
 use Rattle.board_instances.specs.View.{row_view, rows_view}
 use Rattle.board.specs.Marked.{HasBegun, HasReturned}
 use Rattle.board_items.specs.Settled.{StaysButOrder, one_more, one_less}
@@ -28,7 +27,7 @@ marked_here (q ∷ rows) (suc zero) r m h = ap (λ (y : Row). Some (record { job
 marked_here (q ∷ rows) (suc (suc n)) r m h = marked_here rows (suc n) r m h
 
 module _ (C : Code) (old new : Core) (n : ℕ) (j : Job) (world : new.world ≡ old.world) (lines : new.lines ≡ old.lines) (fault : new.fault ≡ old.fault) (order : StaysButOrder old.items new.items) where
-  pub has_begun : (w : ℕ) (k : Kind) (z : ℤ) → k ≡ queue_kind (job_kind C j) → z ≡ job_priority C j
+  pub has_begun : (w : ℕ) (k : Kind) (z : ℤ) → k ≡ job_kind C j → z ≡ job_priority C j
       → rows_view new.items.rows.items ≡ mark_at (rows_view old.items.rows.items) n (Running w)
       → (Contains (of k old.items.queue).entries (entry z n) → new.items.queue ≡ with_changed k (without (entry z n)) old.items.queue)
       → (old.items.running + 1 < 2 ^ 64 → new.items.running ≡ old.items.running + 1) → new.items.newly.items ≡ [] → vec_capacity new.items.newly ≡ vec_capacity old.items.newly
@@ -45,12 +44,12 @@ module _ (C : Code) (old new : Core) (n : ℕ) (j : Job) (world : new.world ≡ 
         runs = λ ready. ap (λ (rs : List Row). row_of rs n) rows ∙ marked_here (rows_view old.items.rows.items) n (record { job = j; mark = Ready }) (Running w) ready;
       }
     where
-      taken : Contains (of (queue_kind (job_kind C j)) old.items.queue).entries (entry (job_priority C j) n) → new.items.queue ≡ with_changed (queue_kind (job_kind C j)) (without (entry (job_priority C j) n)) old.items.queue
+      taken : Contains (of (job_kind C j) old.items.queue).entries (entry (job_priority C j) n) → new.items.queue ≡ with_changed (job_kind C j) (without (entry (job_priority C j) n)) old.items.queue
       taken =
           subst (λ (l : Kind). Contains (of l old.items.queue).entries (entry (job_priority C j) n) → new.items.queue ≡ with_changed l (without (entry (job_priority C j) n)) old.items.queue) kind
           (subst (λ (y : ℤ). Contains (of k old.items.queue).entries (entry y n) → new.items.queue ≡ with_changed k (without (entry y n)) old.items.queue) priority queue)
 
-  pub has_returned : (k : Kind) (z : ℤ) → k ≡ queue_kind (job_kind C j) → z ≡ job_priority C j
+  pub has_returned : (k : Kind) (z : ℤ) → k ≡ job_kind C j → z ≡ job_priority C j
       → rows_view new.items.rows.items ≡ mark_at (rows_view old.items.rows.items) n Ready
       → (0 < (of k old.items.queue).room → new.items.queue ≡ with_changed k (with_put (entry z n)) old.items.queue)
       → new.items.running ≡ old.items.running - 1 → (0 < vec_capacity old.items.newly → new.items.newly.items ≡ n ∷ []) → vec_capacity old.items.newly ≤ vec_capacity new.items.newly
@@ -65,7 +64,7 @@ module _ (C : Code) (old new : Core) (n : ℕ) (j : Job) (world : new.world ≡ 
         fault = fault;
       }
     where
-      put : 0 < (of (queue_kind (job_kind C j)) old.items.queue).room → new.items.queue ≡ with_changed (queue_kind (job_kind C j)) (with_put (entry (job_priority C j) n)) old.items.queue
+      put : 0 < (of (job_kind C j) old.items.queue).room → new.items.queue ≡ with_changed (job_kind C j) (with_put (entry (job_priority C j) n)) old.items.queue
       put =
           subst (λ (l : Kind). 0 < (of l old.items.queue).room → new.items.queue ≡ with_changed l (with_put (entry (job_priority C j) n)) old.items.queue) kind
           (subst (λ (y : ℤ). 0 < (of k old.items.queue).room → new.items.queue ≡ with_changed k (with_put (entry y n)) old.items.queue) priority queue)

@@ -11,7 +11,6 @@ use Rattle.work_queue.specs.Both.{Both, with_changed}
 use Rattle.work_queue.specs.Entries.{erased, inserted}
 use Rattle.work_queue.specs.Waiting as Changes
 use Rattle.work_queue.specs.declared.entry.Entry.{Entry}
-use Rattle.board_program.specs.Tables.{queue_kind}
 use Rattle.board_items.specs.View.{numbers_at, queue_view}
 use Rattle.board.specs.Queues.{SameNumbers}
 use Rattle.board.proofs.Entries.{erased_gone, erased_old, erased_once, erased_only, inserted_new, inserted_old, inserted_once, inserted_only, int_same, int_sound, number_held}
@@ -59,13 +58,13 @@ kinds_other : {A : Type 0} → Leaf ≡ Control → A
 kinds_other h = absurd (cc)
 
 -- the queue without the number
-begun_part : (q : Both) (k : Kind) (z : ℤ) (n : ℕ) → IsAlone q k z n → ((l : Kind) (y : ℤ) → Distinct (queue_view q l y)) → (l : Kind) (y : ℤ) → SameIn (without n (queue_view q l y)) (queue_view (with_changed (queue_kind k) (Changes.without (record { priority = z; no = n })) q) l y)
+begun_part : (q : Both) (k : Kind) (z : ℤ) (n : ℕ) → IsAlone q k z n → ((l : Kind) (y : ℤ) → Distinct (queue_view q l y)) → (l : Kind) (y : ℤ) → SameIn (without n (queue_view q l y)) (queue_view (with_changed k (Changes.without (record { priority = z; no = n })) q) l y)
 begun_part q Control z n a d Control y = shorter (record { priority = z; no = n }) q.control.entries y (d Control z) (d Control y) a.there (a.same_priority Control y)
 begun_part q Control z n a d Leaf y = untouched n (queue_view q Leaf y) (d Leaf y) (λ h. kinds_other (a.same_kind Leaf y h))
 begun_part q Leaf z n a d Control y = untouched n (queue_view q Control y) (d Control y) (λ h. kinds_differ (a.same_kind Control y h))
 begun_part q Leaf z n a d Leaf y = shorter (record { priority = z; no = n }) q.leaf.entries y (d Leaf z) (d Leaf y) a.there (a.same_priority Leaf y)
 
-pub begun_order : (q : Both) (k : Kind) (z : ℤ) (n : ℕ) → IsAlone q k z n → ((l : Kind) (y : ℤ) → Distinct (queue_view q l y)) → SameNumbers (λ l y. without n (queue_view q l y)) (queue_view (with_changed (queue_kind k) (Changes.without (record { priority = z; no = n })) q))
+pub begun_order : (q : Both) (k : Kind) (z : ℤ) (n : ℕ) → IsAlone q k z n → ((l : Kind) (y : ℤ) → Distinct (queue_view q l y)) → SameNumbers (λ l y. without n (queue_view q l y)) (queue_view (with_changed k (Changes.without (record { priority = z; no = n })) q))
 begun_order q k z n a d =
     record {
       all = λ l y m h. (begun_part q k z n a d l y).all m h;
@@ -101,13 +100,13 @@ longer x es y d not =
 same_list : (ns : List ℕ) → Distinct ns → SameIn ns ns
 same_list ns d = record { all = λ m h. h; only = λ m h. h; once = d }
 
-returned_part : (q : Both) (k : Kind) (z : ℤ) (n : ℕ) → ((l : Kind) (y : ℤ) → In n (queue_view q l y) → ⊥) → ((l : Kind) (y : ℤ) → Distinct (queue_view q l y)) → (l : Kind) (y : ℤ) → SameIn (if kind_eq k l && int_eq z y then n ∷ queue_view q l y else queue_view q l y) (queue_view (with_changed (queue_kind k) (Changes.with_put (record { priority = z; no = n })) q) l y)
+returned_part : (q : Both) (k : Kind) (z : ℤ) (n : ℕ) → ((l : Kind) (y : ℤ) → In n (queue_view q l y) → ⊥) → ((l : Kind) (y : ℤ) → Distinct (queue_view q l y)) → (l : Kind) (y : ℤ) → SameIn (if kind_eq k l && int_eq z y then n ∷ queue_view q l y else queue_view q l y) (queue_view (with_changed k (Changes.with_put (record { priority = z; no = n })) q) l y)
 returned_part q Control z n not d Control y = longer (record { priority = z; no = n }) q.control.entries y (d Control y) (not Control y)
 returned_part q Control z n not d Leaf y = same_list (queue_view q Leaf y) (d Leaf y)
 returned_part q Leaf z n not d Control y = same_list (queue_view q Control y) (d Control y)
 returned_part q Leaf z n not d Leaf y = longer (record { priority = z; no = n }) q.leaf.entries y (d Leaf y) (not Leaf y)
 
-pub returned_order : (q : Both) (k : Kind) (z : ℤ) (n : ℕ) → ((l : Kind) (y : ℤ) → In n (queue_view q l y) → ⊥) → ((l : Kind) (y : ℤ) → Distinct (queue_view q l y)) → SameNumbers (λ l y. if kind_eq k l && int_eq z y then n ∷ queue_view q l y else queue_view q l y) (queue_view (with_changed (queue_kind k) (Changes.with_put (record { priority = z; no = n })) q))
+pub returned_order : (q : Both) (k : Kind) (z : ℤ) (n : ℕ) → ((l : Kind) (y : ℤ) → In n (queue_view q l y) → ⊥) → ((l : Kind) (y : ℤ) → Distinct (queue_view q l y)) → SameNumbers (λ l y. if kind_eq k l && int_eq z y then n ∷ queue_view q l y else queue_view q l y) (queue_view (with_changed k (Changes.with_put (record { priority = z; no = n })) q))
 returned_order q k z n not d =
     record {
       all = λ l y m h. (returned_part q k z n not d l y).all m h;

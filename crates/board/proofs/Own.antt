@@ -1,5 +1,5 @@
 -- What holds of a board, and of one that has accepted an event more.
-use Rattle.std.proofs.Common.{◌≡◌, ◌⊎◌, inl, inr, ℕ, zero, suc, ◌+◌, ◌<◌, ◌≤◌, Bool, true, false, List, [], ◌∷◌, ◌++◌, map, refl, sym, ap, ◌∙◌, subst, Option, None, Some, is_none, IsTrue, arith}
+use Rattle.std.proofs.Common.{◌≡◌, ◌⊎◌, inl, inr, ℕ, zero, suc, ◌+◌, ◌<◌, ◌≤◌, Bool, true, false, List, [], ◌∷◌, ◌++◌, map, refl, sym, ap, ◌∙◌, subst, Option, None, Some, is_none, is_some, IsTrue, arith}
 use Rattle.std.specs.Prelude.{◌^◌, vec_capacity, vec_len}
 use Rattle.dataflow.specs.System.{In}
 use Rattle.dataflow.specs.Events.{NewlyAt, worker_of}
@@ -50,6 +50,9 @@ none_of (Some x) h = absurd (cc)
 
 pub some_of : {A : Type 0} (o : Option A) → is_none o ≡ false → o ≡ None → ⊥
 some_of o h e = let p : true ≡ false = ap is_none (sym e) ∙ h in absurd (cc)
+
+pub is_met : {A : Type 0} (o : Option A) → is_some o ≡ true → o ≡ None → ⊥
+is_met o h e = let p : false ≡ true = ap is_some (sym e) ∙ h in absurd (cc)
 
 pub not_true : (b : Bool) → b ≡ false → IsTrue b → ⊥
 not_true b off t = let clash : true ≡ false = sym t ∙ off in absurd (cc)

@@ -1,5 +1,5 @@
 -- The order of statements, and lists in it.
-use Rattle.std.proofs.Common.{◌≡◌, ◌↔◌, ◌⊎◌, inl, inr, ℕ, zero, suc, ◌+◌, ◌-◌, ◌<◌, Bool, true, false, ◌&&◌, ◌||◌, List, [], ◌∷◌, ◌++◌, drop, length, map, Option, None, Some, refl, sym, ap, ◌∙◌, subst, arith}
+use Rattle.std.proofs.Common.{◌≡◌, ◌↔◌, ◌⊎◌, inl, inr, ℕ, zero, suc, ◌+◌, ◌-◌, ◌<◌, Bool, true, false, ◌&&◌, List, [], ◌∷◌, ◌++◌, drop, length, map, Option, None, Some, refl, sym, ap, ◌∙◌, subst, arith}
 use Rattle.std.specs.Prelude.{if◌then◌else◌, nat_eq, nat_lt, reverse, slice_get, slice_index_or}
 use Rattle.std.specs.Cmp.{IsStrictWeakOrder}
 use Rattle.std.specs.List.Sorted.{IsPermutation, IsSortedBy}
@@ -15,6 +15,7 @@ use Rattle.board.specs.Blocked.{InTextOrder, comes_before}
 use Rattle.board.specs.Stuck.{Place, place_of}
 use Rattle.board.specs.Sorting.{each_once, is_last}
 use Rattle.board.specs.View.{path_view}
+use Rattle.std.proofs.lemmas.Bool.{or_parts, false_from_ne_true, or_cases, or_right, or_left}
 
 lt_sound : (n m : ℕ) → nat_lt n m ≡ true → n < m
 lt_sound n m h = grind arith
@@ -25,22 +26,6 @@ lt_complete n m h = grind arith
 other : (n m : ℕ) → nat_lt n m ≡ false → nat_eq n m ≡ false → m < n
 other n m h g = grind arith
 
-or_split : (a b : Bool) → (a || b) ≡ true → (a ≡ true) ⊎ (b ≡ true)
-or_split true b h = inl refl
-or_split false b h = inr h
-
-or_none : (a b : Bool) → (a || b) ≡ false → (a ≡ false) × (b ≡ false)
-or_none true b h = absurd (cc (h))
-or_none false b h = (refl, h)
-
-left : (a b : Bool) → a ≡ true → (a || b) ≡ true
-left true b h = refl
-left false b h = absurd (cc (h))
-
-right : (a b : Bool) → b ≡ true → (a || b) ≡ true
-right true b h = refl
-right false b h = h
-
 and_none : (a b : Bool) → a ≡ true → (a && b) ≡ false → b ≡ false
 and_none true b h g = g
 and_none false b h g = absurd (cc (h))
@@ -50,7 +35,7 @@ abbrev Before : Statement → Statement → Type 0
 Before s t = (path_below s.path.items t.path.items ≡ true) ⊎ ((s.path.items ≡ t.path.items) × (s.at < t.at))
 
 before_sound : (s t : Statement) → statement_below s t ≡ true → Before s t
-before_sound s t h = by (or_split (path_below s.path.items t.path.items) _ h)
+before_sound s t h = by (or_cases (path_below s.path.items t.path.items) _ h)
   where
     by : (path_below s.path.items t.path.items ≡ true) ⊎ ((same_path s.path.items t.path.items && nat_lt s.at t.at) ≡ true) → Before s t
     by (inl a) = inl a
@@ -63,7 +48,7 @@ before_trans s t u (inr a) (inl b) = inl (subst (λ z. path_below z u.path.items
 before_trans s t u (inr a) (inr b) = (let x = a.1 in let y = b.1 in inr (a.0 ∙ b.0, omega (arith, x, y)))
 
 before_total : (s t : Statement) → statement_below s t ≡ false → same_statement s t ≡ false → Before t s
-before_total s t h g = (let x = or_none (path_below s.path.items t.path.items) _ h in by (same_path s.path.items t.path.items) refl x.0 x.1)
+before_total s t h g = (let x = or_parts (path_below s.path.items t.path.items) _ h in by (same_path s.path.items t.path.items) refl x.0 x.1)
   where
     by : (b : Bool) → same_path s.path.items t.path.items ≡ b → path_below s.path.items t.path.items ≡ false → (same_path s.path.items t.path.items && nat_lt s.at t.at) ≡ false → Before t s
     by true e l k = inr (sym (path_order.is s.path.items t.path.items e), other s.at t.at (and_none (same_path s.path.items t.path.items) _ e k) (and_none (same_path s.path.items t.path.items) _ e g))
@@ -85,8 +70,8 @@ false_true e = absurd (cc (e))
 
 -- it is an order with the same statements as ties
 before_is : (s t : Statement) → Before s t → statement_below s t ≡ true
-before_is s t (inl a) = left (path_below s.path.items t.path.items) _ a
-before_is s t (inr a) = right (path_below s.path.items t.path.items) _ (both_true (same_path s.path.items t.path.items) _ (subst (λ p. same_path s.path.items p ≡ true) a.0 (path_order.own s.path.items)) (lt_complete s.at t.at a.1))
+before_is s t (inl a) = or_left (path_below s.path.items t.path.items) _ a
+before_is s t (inr a) = or_right (path_below s.path.items t.path.items) _ (both_true (same_path s.path.items t.path.items) _ (subst (λ p. same_path s.path.items p ≡ true) a.0 (path_order.own s.path.items)) (lt_complete s.at t.at a.1))
 
 before_not : (s t : Statement) → Before s t → Before t s → ⊥
 before_not s t a b = by (before_trans s t s a b)
@@ -95,18 +80,14 @@ before_not s t a b = by (before_trans s t s a b)
     by (inl h) = path_order.not_own s.path.items h
     by (inr h) = let x = h.1 in omega arith
 
-false_if : (b : Bool) → (b ≡ true → ⊥) → b ≡ false
-false_if true f = absurd (f refl)
-false_if false f = refl
-
 same_before : (s t : Statement) → same_statement s t ≡ true → (s.path.items ≡ t.path.items) × (s.at ≡ t.at)
 same_before s t h = let x = true_and (same_path s.path.items t.path.items) _ h in (path_order.is s.path.items t.path.items x.0, nat_sound s.at t.at x.1)
 
 pub before_order : IsStrictWeakOrder statement_below
 before_order =
     record {
-      one_way = λ s t h. false_if (statement_below t s) (λ g. before_not s t (before_sound s t h) (before_sound t s g));
-      chain = λ s t u h g. false_if (statement_below s u) (λ k. chained s t u h g (before_sound s u k));
+      one_way = λ s t h. false_from_ne_true (statement_below t s) (λ g. before_not s t (before_sound s t h) (before_sound t s g));
+      chain = λ s t u h g. false_from_ne_true (statement_below s u) (λ k. chained s t u h g (before_sound s u k));
     }
   where
     chained : (s t u : Statement) → statement_below s t ≡ false → statement_below t u ≡ false → Before s u → ⊥

@@ -11,10 +11,7 @@ use Rattle.work_queue.specs.Both.{of}
 use Rattle.work_queue.specs.Entries.{IsListedInOrder, entry_of, listed}
 use Rattle.work_queue.specs.Order.{precedes}
 use Rattle.work_queue.specs.declared.entry.Entry.{Entry}
-use Rattle.work_queue.specs.declared.entry.Kind.{Kind as QueueKind}
-use Rattle.work_queue.specs.declared.entry.Kind.TheVariants as Queues
 use Rattle.work_queue.proofs.OrderLaws.{no_later, precedes_order}
-use Rattle.board_program.specs.Tables.{queue_kind}
 use Rattle.board_items.specs.View.{numbers_at}
 use Rattle.board_items.proofs.Lists.{distinct_moved, in_back, in_moved}
 use Rattle.board.specs.Inside.{IsSound, seen_of}
@@ -23,7 +20,7 @@ use Rattle.board.specs.declared.board.Board.TheInside.{Inside}
 use Rattle.board.proofs.Firsts.{Stood, behind_once, in_queue, is_before, not_again, once_each, one_item, stood}
 
 abbrev Listed : Type 0
-Listed = QueueKind × ℤ × ℕ
+Listed = Kind × ℤ × ℕ
 
 -- in a list in order each is before those behind it, or the same
 behind : (x : Listed) (xs : List Listed) → IsListedInOrder (x ∷ xs) → IsListedInOrder xs
@@ -81,16 +78,16 @@ module _ (a : Inside) (s : IsSound a) where
           }
 
   abbrev all : List Listed
-  all = map (listed Queues.Control) a.core.items.queue.control.entries ++ map (listed Queues.Leaf) a.core.items.queue.leaf.entries
+  all = map (listed Control) a.core.items.queue.control.entries ++ map (listed Leaf) a.core.items.queue.leaf.entries
 
-  shown_in : (k : Kind) (l : Listed) → In l (map (listed (queue_kind k)) (of (queue_kind k) a.core.items.queue).entries) → (e : Entry) × Stood a s k e.priority e.no × (e.priority ≡ l.1) × (e.no ≡ l.2)
+  shown_in : (k : Kind) (l : Listed) → In l (map (listed k) (of k a.core.items.queue).entries) → (e : Entry) × Stood a s k e.priority e.no × (e.priority ≡ l.1) × (e.no ≡ l.2)
   shown_in k l h =
-      let u = in_unmap (listed (queue_kind k)) l (of (queue_kind k) a.core.items.queue).entries h in
+      let u = in_unmap (listed k) l (of k a.core.items.queue).entries h in
       (u.0, stood a s k u.0 u.1, ap (λ (y : Listed). y.1) u.2, ap (λ (y : Listed). y.2) u.2)
 
   shown : (l : Listed) → In l all → Shown l
   shown l h =
-      elim (in_split l (map (listed Queues.Control) a.core.items.queue.control.entries) (map (listed Queues.Leaf) a.core.items.queue.leaf.entries) h) [
+      elim (in_split l (map (listed Control) a.core.items.queue.control.entries) (map (listed Leaf) a.core.items.queue.leaf.entries) h) [
         | inl g ↦ on Control (shown_in Control l g)
         | inr g ↦ on Leaf (shown_in Leaf l g)
       ]
@@ -104,26 +101,26 @@ module _ (a : Inside) (s : IsSound a) where
     where
       by : (k : Kind) → task_kind a.program i.task ≡ k → (l : Listed) × In l all × (l.2 ≡ i.number)
       by Control h = (
-        listed Queues.Control (record { priority = task_priority a.program i.task; no = i.number }),
-        in_left (listed Queues.Control (record { priority = task_priority a.program i.task; no = i.number })) (map (listed Queues.Control) a.core.items.queue.control.entries) (map (listed Queues.Leaf) a.core.items.queue.leaf.entries)
-            (in_map (listed Queues.Control) (record { priority = task_priority a.program i.task; no = i.number }) a.core.items.queue.control.entries (in_queue a s Control i r h)),
+        listed Control (record { priority = task_priority a.program i.task; no = i.number }),
+        in_left (listed Control (record { priority = task_priority a.program i.task; no = i.number })) (map (listed Control) a.core.items.queue.control.entries) (map (listed Leaf) a.core.items.queue.leaf.entries)
+            (in_map (listed Control) (record { priority = task_priority a.program i.task; no = i.number }) a.core.items.queue.control.entries (in_queue a s Control i r h)),
         refl,
       )
       by Leaf h = (
-        listed Queues.Leaf (record { priority = task_priority a.program i.task; no = i.number }),
-        in_right (listed Queues.Leaf (record { priority = task_priority a.program i.task; no = i.number })) (map (listed Queues.Control) a.core.items.queue.control.entries) (map (listed Queues.Leaf) a.core.items.queue.leaf.entries)
-            (in_map (listed Queues.Leaf) (record { priority = task_priority a.program i.task; no = i.number }) a.core.items.queue.leaf.entries (in_queue a s Leaf i r h)),
+        listed Leaf (record { priority = task_priority a.program i.task; no = i.number }),
+        in_right (listed Leaf (record { priority = task_priority a.program i.task; no = i.number })) (map (listed Control) a.core.items.queue.control.entries) (map (listed Leaf) a.core.items.queue.leaf.entries)
+            (in_map (listed Leaf) (record { priority = task_priority a.program i.task; no = i.number }) a.core.items.queue.leaf.entries (in_queue a s Leaf i r h)),
         refl,
       )
 
   -- each number is listed once
-  entry_named : (k : Kind) (n : ℕ) (ys : List Entry) → In n (map (λ (l : Listed). l.2) (map (listed (queue_kind k)) ys)) → (e : Entry) × In e ys × (e.no ≡ n)
+  entry_named : (k : Kind) (n : ℕ) (ys : List Entry) → In n (map (λ (l : Listed). l.2) (map (listed k) ys)) → (e : Entry) × In e ys × (e.no ≡ n)
   entry_named k n ys h =
-      let l = in_unmap (λ (l : Listed). l.2) n (map (listed (queue_kind k)) ys) h in
-      let e = in_unmap (listed (queue_kind k)) l.0 ys l.1 in
+      let l = in_unmap (λ (l : Listed). l.2) n (map (listed k) ys) h in
+      let e = in_unmap (listed k) l.0 ys l.1 in
       (e.0, e.1, ap (λ (y : Listed). y.2) e.2 ∙ l.2)
 
-  once : (k : Kind) (ys : List Entry) → ((z : ℤ) → Distinct (numbers_at z ys)) → ((e : Entry) → In e ys → Stood a s k e.priority e.no) → Distinct (map (λ (l : Listed). l.2) (map (listed (queue_kind k)) ys))
+  once : (k : Kind) (ys : List Entry) → ((z : ℤ) → Distinct (numbers_at z ys)) → ((e : Entry) → In e ys → Stood a s k e.priority e.no) → Distinct (map (λ (l : Listed). l.2) (map (listed k) ys))
   once k [] d f = tt
   once k (y ∷ ys) d f = (
     (λ h.
@@ -140,8 +137,8 @@ module _ (a : Inside) (s : IsSound a) where
 
   all_once : Distinct (map (λ (l : Listed). l.2) all)
   all_once =
-      subst (λ (ns : List ℕ). Distinct ns) (sym (map_append (λ (l : Listed). l.2) (map (listed Queues.Control) a.core.items.queue.control.entries) (map (listed Queues.Leaf) a.core.items.queue.leaf.entries)))
-      (distinct_append (map (λ (l : Listed). l.2) (map (listed Queues.Control) a.core.items.queue.control.entries)) (map (λ (l : Listed). l.2) (map (listed Queues.Leaf) a.core.items.queue.leaf.entries))
+      subst (λ (ns : List ℕ). Distinct ns) (sym (map_append (λ (l : Listed). l.2) (map (listed Control) a.core.items.queue.control.entries) (map (listed Leaf) a.core.items.queue.leaf.entries)))
+      (distinct_append (map (λ (l : Listed). l.2) (map (listed Control) a.core.items.queue.control.entries)) (map (λ (l : Listed). l.2) (map (listed Leaf) a.core.items.queue.leaf.entries))
       (once Control a.core.items.queue.control.entries (λ z. once_each a s Control z) (λ e h. stood a s Control e h))
       (once Leaf a.core.items.queue.leaf.entries (λ z. once_each a s Leaf z) (λ e h. stood a s Leaf e h))
       (λ n c l.
@@ -152,7 +149,7 @@ module _ (a : Inside) (s : IsSound a) where
       let same = one_item a s u.item v.item u.ready v.ready (u.number_is ∙ d.2 ∙ sym e.2 ∙ sym v.number_is) in
       kinds_differ (sym u.kind_is ∙ ap (λ (i : CodeItem). task_kind a.program i.task) same ∙ v.kind_is)))
 
-  pub all_ready : (ls : List Listed) → IsPermutation (map (listed Queues.Control) a.core.items.queue.control.entries ++ map (listed Queues.Leaf) a.core.items.queue.leaf.entries) ls → IsListedInOrder ls → AreReady (seen_of a) (map (λ (l : Listed). l.2) ls)
+  pub all_ready : (ls : List Listed) → IsPermutation (map (listed Control) a.core.items.queue.control.entries ++ map (listed Leaf) a.core.items.queue.leaf.entries) ls → IsListedInOrder ls → AreReady (seen_of a) (map (λ (l : Listed). l.2) ls)
   all_ready ls p o =
       let r = items_of ls o (distinct_moved (map (λ (l : Listed). l.2) all) (map (λ (l : Listed). l.2) ls) (IsPermutation-map (λ (l : Listed). l.2) all ls p) all_once) (λ l h. shown l (in_back all ls l p h)) in
       record {

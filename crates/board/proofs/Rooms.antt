@@ -8,7 +8,6 @@ use Rattle.task_code.specs.Code.{Code, Control, Kind, Leaf}
 use Rattle.work_queue.specs.Both.{Both, of, with_changed}
 use Rattle.work_queue.specs.Waiting.{with_put, without}
 use Rattle.work_queue.specs.declared.entry.Entry.{Entry as Queued}
-use Rattle.board_program.specs.Tables.{queue_kind}
 use Rattle.board_instances.specs.View.{rows_view}
 use Rattle.board_items.specs.Settled.{one_more, one_less}
 use Rattle.board_items.specs.Room.{IsRoomy, apart_in, is_apart}
@@ -30,20 +29,20 @@ apart_few C k (r ∷ rows) =
     omega arith
 
 -- one more of a kind, and one less in the queue
-more_of : (k l : Kind) (a : Counts) (m : ℕ) → m ≤ counted_of k a + one_if (kind_eq k l) → m ≤ 2 ^ 64 - 1 → m ≤ counted_of k (one_more (queue_kind l) a)
+more_of : (k l : Kind) (a : Counts) (m : ℕ) → m ≤ counted_of k a + one_if (kind_eq k l) → m ≤ 2 ^ 64 - 1 → m ≤ counted_of k (one_more l a)
 more_of Control Control a m h f = omega arith
 more_of Control Leaf a m h f = omega arith
 more_of Leaf Control a m h f = omega arith
 more_of Leaf Leaf a m h f = omega arith
 
-taken_of : (k l : Kind) (x : Queued) (q : Both) → room_of k (with_changed (queue_kind l) (without x) q) ≡ room_of k q + one_if (kind_eq k l)
+taken_of : (k l : Kind) (x : Queued) (q : Both) → room_of k (with_changed l (without x) q) ≡ room_of k q + one_if (kind_eq k l)
 taken_of Control Control x q = refl
 taken_of Control Leaf x q = omega arith
 taken_of Leaf Control x q = omega arith
 taken_of Leaf Leaf x q = refl
 
 -- an item that begins keeps room for itself
-pub roomy_begun : (C : Code) (old new : Items) (n w : ℕ) (j : Job) (x : Queued) → IsRoomy C old → IsReady (rows_view old.rows.items) n j → rows_view new.rows.items ≡ mark_at (rows_view old.rows.items) n (Running w) → new.queue ≡ with_changed (queue_kind (job_kind C j)) (without x) old.queue → new.apart ≡ one_more (queue_kind (job_kind C j)) old.apart → 0 < vec_capacity new.newly → length (rows_view old.rows.items) + 1 ≤ 2 ^ 64 - 1 → IsRoomy C new
+pub roomy_begun : (C : Code) (old new : Items) (n w : ℕ) (j : Job) (x : Queued) → IsRoomy C old → IsReady (rows_view old.rows.items) n j → rows_view new.rows.items ≡ mark_at (rows_view old.rows.items) n (Running w) → new.queue ≡ with_changed (job_kind C j) (without x) old.queue → new.apart ≡ one_more (job_kind C j) old.apart → 0 < vec_capacity new.newly → length (rows_view old.rows.items) + 1 ≤ 2 ^ 64 - 1 → IsRoomy C new
 roomy_begun C old new n w j x room ready rows queue apart noted few = roomy_of C new fits noted
   where
     fits : (k : Kind) → Fits C k new
@@ -60,9 +59,9 @@ roomy_begun C old new n w j x room ready rows queue apart noted few = roomy_of C
         record { counted = subst (λ (z : Counts). apart_in C k (rows_view new.rows.items) ≤ counted_of k z) (sym apart) c; fits = omega arith }
 
 -- one that is given back has room
-pub back_fits : (C : Code) (old : Items) (n w : ℕ) (j : Job) → IsRoomy C old → RunsOn (rows_view old.rows.items) w n j → 0 < (of (queue_kind (job_kind C j)) old.queue).room
+pub back_fits : (C : Code) (old : Items) (n w : ℕ) (j : Job) → IsRoomy C old → RunsOn (rows_view old.rows.items) w n j → 0 < (of (job_kind C j) old.queue).room
 back_fits C old n w j room runs = one_counted C old n (record { job = j; mark = Running w }) runs refl room
 
-pub roomy_back : (C : Code) (old new : Items) (n w : ℕ) (j : Job) (x : Queued) → IsRoomy C old → RunsOn (rows_view old.rows.items) w n j → rows_view new.rows.items ≡ mark_at (rows_view old.rows.items) n Ready → new.queue ≡ with_changed (queue_kind (job_kind C j)) (with_put x) old.queue → new.apart ≡ one_less (queue_kind (job_kind C j)) old.apart → 0 < vec_capacity new.newly → IsRoomy C new
+pub roomy_back : (C : Code) (old new : Items) (n w : ℕ) (j : Job) (x : Queued) → IsRoomy C old → RunsOn (rows_view old.rows.items) w n j → rows_view new.rows.items ≡ mark_at (rows_view old.rows.items) n Ready → new.queue ≡ with_changed (job_kind C j) (with_put x) old.queue → new.apart ≡ one_less (job_kind C j) old.apart → 0 < vec_capacity new.newly → IsRoomy C new
 roomy_back C old new n w j x room runs rows queue apart noted =
     less_roomy C old new n (record { job = j; mark = Running w }) Ready runs refl refl rows room apart (λ k. let e = ap (room_of k) queue ∙ put_of k (job_kind C j) x old.queue in omega arith) noted

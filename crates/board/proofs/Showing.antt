@@ -13,7 +13,6 @@ use Rattle.task_code.specs.View.{event_view}
 use Rattle.task_code.specs.System.{task_kind, task_priority}
 use Rattle.task_code.specs.Whole.{IsCode}
 use Rattle.board_program.specs.Spots.{layout_of}
-use Rattle.board_program.specs.Tables.{queue_kind}
 use Rattle.board_instances.specs.View.{frames_view, mark_view, rows_view}
 use Rattle.board_instances.specs.declared.item.Mark.{Mark}
 use Rattle.board_instances.specs.declared.item.Mark.TheVariants as Marks
@@ -25,12 +24,6 @@ use Rattle.board.specs.declared.state.Core.{Core}
 use Rattle.board.proofs.Moves.{begins_ready, item_there, kind_of_job, priority_of_job, row_there}
 use Rattle.board.proofs.Own.{state_here}
 use Rattle.board.proofs.OwnWork.{ready_live}
-
-kind_same : (k l : Kind) → queue_kind k ≡ queue_kind l → k ≡ l
-kind_same Control Control h = refl
-kind_same Leaf Leaf h = refl
-kind_same Control Leaf h = absurd (cc)
-kind_same Leaf Control h = absurd (cc)
 
 in_place : (ns : List ℕ) (k n : ℕ) → slice_get ns k ≡ Some n → In n ns
 in_place [] k n h = none_some h
@@ -60,7 +53,7 @@ module _ (C : Code) (I : IsCode C) (es : List Event) (core : Core) (s : Stand C 
       f.not_over (ap (λ (q : Row). q.mark) (some_same (sym f.there ∙ ap (λ (k : ℕ). row_of (rows_view core.items.rows.items) k) place ∙ h)) ∙ over)
 
   -- the same with its priority
-  pub some_ranked : (n : ℕ) (r : Row) → row_of (rows_view core.items.rows.items) n ≡ Some r → (r.mark ≡ Over → ⊥) → (k : Kind) → queue_kind k ≡ queue_kind (job_kind C r.job) → (z : ℤ) → z ≡ job_priority C r.job → (i : CodeItem) × In i (state_of C es).items × (i.number ≡ n) × (k ≡ task_kind C i.task) × (z ≡ task_priority C i.task)
+  pub some_ranked : (n : ℕ) (r : Row) → row_of (rows_view core.items.rows.items) n ≡ Some r → (r.mark ≡ Over → ⊥) → (k : Kind) → k ≡ job_kind C r.job → (z : ℤ) → z ≡ job_priority C r.job → (i : CodeItem) × In i (state_of C es).items × (i.number ≡ n) × (k ≡ task_kind C i.task) × (z ≡ task_priority C i.task)
   some_ranked n r h live k e z p =
       elim (mark_is r.mark) [
         | inl over ↦ absurd (live over)
@@ -68,13 +61,13 @@ module _ (C : Code) (I : IsCode C) (es : List Event) (core : Core) (s : Stand C 
           item n (task_of (frames_view core.world.instances.slots) r.job) y.runs,
           subst (λ (t : CodeState). In (item n (task_of (frames_view core.world.instances.slots) r.job) y.runs) t.items) (sym (state_here C I es core s)) (item_there C I (layout_of C) es (fields_view s.told core) s.stands n r h y),
           refl,
-          kind_same k (job_kind C r.job) e ∙ sym (kind_of_job C (frames_view core.world.instances.slots) r.job),
+          e ∙ sym (kind_of_job C (frames_view core.world.instances.slots) r.job),
           p ∙ sym (priority_of_job C (frames_view core.world.instances.slots) r.job),
         )
       ]
 
   -- a live row is an item
-  pub some_item : (n : ℕ) (r : Row) → row_of (rows_view core.items.rows.items) n ≡ Some r → (r.mark ≡ Over → ⊥) → (k : Kind) → queue_kind k ≡ queue_kind (job_kind C r.job) → (i : CodeItem) × In i (state_of C es).items × (i.number ≡ n) × (k ≡ task_kind C i.task)
+  pub some_item : (n : ℕ) (r : Row) → row_of (rows_view core.items.rows.items) n ≡ Some r → (r.mark ≡ Over → ⊥) → (k : Kind) → k ≡ job_kind C r.job → (i : CodeItem) × In i (state_of C es).items × (i.number ≡ n) × (k ≡ task_kind C i.task)
   some_item n r h live k e =
       elim (mark_is r.mark) [
         | inl over ↦ absurd (live over)
@@ -82,7 +75,7 @@ module _ (C : Code) (I : IsCode C) (es : List Event) (core : Core) (s : Stand C 
           item n (task_of (frames_view core.world.instances.slots) r.job) y.runs,
           subst (λ (t : CodeState). In (item n (task_of (frames_view core.world.instances.slots) r.job) y.runs) t.items) (sym (state_here C I es core s)) (item_there C I (layout_of C) es (fields_view s.told core) s.stands n r h y),
           refl,
-          kind_same k (job_kind C r.job) e ∙ sym (kind_of_job C (frames_view core.world.instances.slots) r.job),
+          e ∙ sym (kind_of_job C (frames_view core.world.instances.slots) r.job),
         )
       ]
 

@@ -1,13 +1,12 @@
 -- No instance has more slots than numbers, after an End too.
-use Rattle.std.proofs.Common.{◌≡◌, ◌⊎◌, inl, inr, ◌∙◌, ℕ, suc, ◌<◌, ◌≤◌, Bool, true, false, List, [], ◌∷◌, map, length, refl, sym, ap, subst, arith, Option, Some}
-use Rattle.std.specs.Prelude.{◌^◌, nat_eq, slice_get}
+use Rattle.std.proofs.Common.{◌≡◌, inl, inr, ◌∙◌, ℕ, suc, ◌<◌, ◌≤◌, List, [], ◌∷◌, map, length, refl, sym, ap, subst, arith, Option, Some}
+use Rattle.std.specs.Prelude.{◌^◌, slice_get}
 use Rattle.dataflow.specs.System.{In}
 use Rattle.dataflow.proofs.Lists.{in_unmap}
 use Rattle.data_store.specs.Stores.{Store}
 use Rattle.board_history.specs.Ending.{FramesOpen, Instance, TakenOff, goes, home, outside, stays}
 use Rattle.board_history.specs.Fields.{Frame, Job, Row, slot_at}
-use Rattle.board_history.proofs.Next.{nat_same, nat_sound}
-use Rattle.board_history.proofs.Tests.{none_some, some_same, yes_no}
+use Rattle.board_history.proofs.Tests.{none_some, some_same}
 use Rattle.task_code.specs.Code.{Code}
 use Rattle.task_code.specs.Compute.{Computed}
 use Rattle.task_code.specs.Whole.{IsCode}
@@ -21,27 +20,20 @@ use Rattle.board_changes.proofs.Frames.{frames_open}
 use Rattle.board_changes.proofs.MadeData.{one_of}
 use Rattle.board_changes.specs.Blocks.{AreBlocks}
 use Rattle.board_changes.specs.Opened.{AreOpened}
-
--- two numbers are the same or not
-same_or : (a b : ℕ) → (a ≡ b) ⊎ (a ≡ b → ⊥)
-same_or a b = by (nat_eq a b) refl
-  where
-    by : (t : Bool) → nat_eq a b ≡ t → (a ≡ b) ⊎ (a ≡ b → ⊥)
-    by true e = inl (nat_sound a b e)
-    by false e = inr (λ q. yes_no (nat_same a) (ap (nat_eq a) q ∙ e))
+use Rattle.std.proofs.lemmas.Bool.{cases_eq}
 
 -- an item leaves its instance
 pub few_left : (gs fs : List (Option Frame)) (at : Option ℕ) → TakenOff gs fs at → FewSlots fs → FewSlots gs
 few_left gs fs at (outside _ _ e same) few k f h = few k f (sym (same k) ∙ h)
 few_left gs fs at (stays _ _ j n g e there live set) few k f h =
-    elim (same_or k j) [
+    elim (cases_eq k j) [
       | inl q ↦ subst (λ (x : Frame). length x.slots ≤ 2 ^ 64) (some_same (sym set.here ∙ ap (slot_at gs) (sym q) ∙ h)) (few j g there)
       | inr d ↦ few k f (sym (set.others k d) ∙ h)
     ]
 few_left gs fs at (goes _ hs _ j g e there live set rest) few k f h =
     few_left gs hs g.parent rest
     (λ i y z.
-    elim (same_or i j) [
+    elim (cases_eq i j) [
       | inl q ↦ none_some (sym set.here ∙ ap (slot_at hs) (sym q) ∙ z)
       | inr d ↦ few i y (sym (set.others i d) ∙ z)
     ]) k f h

@@ -1,7 +1,13 @@
 -- Work of an item stays its own.
 use Rattle.std.proofs.Common.{◌≡◌, ℕ, List, map, refl, sym, ap, ◌∙◌, subst}
 use Rattle.dataflow.specs.System.{Answer}
-use Rattle.dataflow.specs.Machine.{SeesAll}
+use Rattle.dataflow.specs.Machine.{Event, SeesAll}
+use Rattle.dataflow.specs.History.{log_of}
+use Rattle.dataflow.proofs.Steps.{run_follows}
+use Rattle.dataflow.proofs.Staying.{knows_later, knows_seen}
+use Rattle.task_code.specs.Machine.{Run}
+use Rattle.task_code.specs.Whole.{IsCode}
+use Rattle.task_code.proofs.Kept.{code_laws}
 use Rattle.dataflow.specs.Staying.{Knows}
 use Rattle.task_code.specs.Code.{Code}
 use Rattle.task_code.specs.Effects.{Task}
@@ -10,7 +16,7 @@ use Rattle.board_work.specs.Assigned.{Assigned}
 use Rattle.board_history.specs.Fields.{Job}
 use Rattle.board_instances.specs.View.{rows_view}
 use Rattle.task_code.specs.View.{event_view}
-use Rattle.board.specs.Board.{IsItems, IsOwn, IsTheirs, Seen, answers_to, job_of}
+use Rattle.board.specs.Board.{Accepts, IsItems, IsOwn, IsTheirs, Seen, answers_to, job_of}
 use Rattle.board.specs.Inside.{IsSound, seen_of}
 use Rattle.board.specs.Rows.{RunsOn}
 use Rattle.board.specs.declared.board.Board.TheInside.{Inside}
@@ -38,6 +44,17 @@ items_later old new same work i k =
       job = i.job;
       answers = i.answers;
     })
+
+-- so own work is that of its item in every run
+pub work_begun : (b : Seen) → Run b.code b.history b.state → (w : ℕ) (work : Assigned) → IsOwn b w work → IsItems b work
+work_begun b run w work o = begun_items b w work o (knows_seen (code_system b.code) b.history b.state run o.item o.there o.own.inputs o.own.known)
+
+-- and stays so, whatever is accepted next
+pub work_later : (old new : Seen) → IsCode old.code → Run old.code old.history old.state → (e : Event) → Accepts old e new → (work : Assigned) → IsItems old work → IsItems new work
+work_later old new I run e a work i =
+    let S = code_system old.code in
+    let L = code_laws old.code I in
+    items_later old new a.code work i (knows_later S L old.state new.state (log_of S old.history old.state run) (run_follows S L old.history old.state run) e a.step work.item i.task i.inputs i.knows)
 
 -- where its item runs, it is its own there
 pub items_own : (b : Seen) (w : ℕ) (work : Assigned) → IsItems b work → IsTheirs b w work.item → IsOwn b w work

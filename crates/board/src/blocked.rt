@@ -112,7 +112,9 @@ impl Core {
         body: u32,
         need: &Need,
     ) -> Result<bool, AllocError>
-        ensures { IfOk result (λ yes. yes ≡ misses_none (wanted_missed program.now (cells_view self.now.world.store.cells) (led_slot (frames_view self.now.world.instances.slots) at) (wanted_in program.now body (need_view need.now)))) }
+        ensures { IfOk result (λ yes. yes ≡ misses_none
+            (wanted_missed program.now (cells_view self.now.world.store.cells) (led_slot (frames_view self.now.world.instances.slots) at)
+            (wanted_in program.now body (need_view need.now)))) }
     {
         let wanted = program.wanted(body, need)?;
         Ok(self.view(program, at).missing(&wanted).is_none())
@@ -126,7 +128,8 @@ impl Core {
         body: u32,
         header: &Header,
     ) -> Result<bool, AllocError>
-        ensures { IfOk result (λ yes. yes ≡ is_header_known program.now (frames_view self.now.world.instances.slots) (cells_view self.now.world.store.cells) at body (header_view header.now).needs) }
+        ensures { IfOk result (λ yes. yes ≡ is_header_known program.now (frames_view self.now.world.instances.slots) (cells_view self.now.world.store.cells) at
+            body (header_view header.now).needs) }
     {
         for need in &header.needs {
             if !self.is_need_known(program, at, body, need)? {
@@ -144,7 +147,8 @@ impl Core {
         body: u32,
         headers: &[Header],
     ) -> Result<Option<usize>, AllocError>
-        ensures { IfOk result (λ found. found ≡ first_unknown program.now (frames_view self.now.world.instances.slots) (cells_view self.now.world.store.cells) at body (map header_view headers.now)) }
+        ensures { IfOk result (λ found. found ≡ first_unknown program.now (frames_view self.now.world.instances.slots) (cells_view self.now.world.store.cells)
+            at body (map header_view headers.now)) }
     {
         for header in headers {
             if !self.is_header_known(program, at, body, header)? {
@@ -162,7 +166,8 @@ impl Core {
         own: usize,
         act: &Act,
     ) -> Result<Option<usize>, AllocError>
-        ensures { IfOk result (λ found. found ≡ blocked_offset program.now (frames_view self.now.world.instances.slots) (cells_view self.now.world.store.cells) instance own (act_view act.now)) }
+        ensures { IfOk result (λ found. found ≡ blocked_offset program.now (frames_view self.now.world.instances.slots) (cells_view self.now.world.store.cells)
+            instance own (act_view act.now)) }
     {
         match act {
             Act::Wait(headers, _) => match body_at(&self.world.instances, instance) {
@@ -180,7 +185,8 @@ impl Core {
         program: &Program,
         item: Item,
     ) -> Result<Option<(usize, usize)>, AllocError>
-        ensures { IfOk result (λ found. option_map (λ (p : ℕ × ℕ). at_place p.1 (path_in (frames_view self.now.world.instances.slots) p.0)) found ≡ blocked_row program.now (frames_view self.now.world.instances.slots) (cells_view self.now.world.store.cells) (row_view item)) }
+        ensures { IfOk result (λ found. option_map (λ (p : ℕ × ℕ). at_place p.1 (path_in (frames_view self.now.world.instances.slots) p.0)) found
+            ≡ blocked_row program.now (frames_view self.now.world.instances.slots) (cells_view self.now.world.store.cells) (row_view item)) }
     {
         if item.mark() == Mark::Over {
             return Ok(None);
@@ -205,7 +211,9 @@ impl Core {
 
     /// The blocked statements of all items, in no order.
     fn list_blocked(&self, program: &Program) -> Result<Vec<Statement>, AllocError>
-        ensures { IfOk result (λ statements. map place_of statements.items ≡ filter_map (blocked_row program.now (frames_view self.now.world.instances.slots) (cells_view self.now.world.store.cells)) (rows_view self.now.items.rows.items)) }
+        ensures { IfOk result (λ statements. map place_of statements.items
+            ≡ filter_map (blocked_row program.now (frames_view self.now.world.instances.slots) (cells_view self.now.world.store.cells))
+            (rows_view self.now.items.rows.items)) }
     {
         let mut statements = Vec::new(self.alloc);
         for item in &self.items.rows {
@@ -221,7 +229,10 @@ impl Core {
 
     /// The blocked statements in their order, each once.
     pub fn blocked(&self, program: &Program) -> Result<Vec<Statement>, AllocError>
-        ensures places { IfOk result (λ statements. (p : Place) → In p (map place_of statements.items) ↔ In p (filter_map (blocked_row program.now (frames_view self.now.world.instances.slots) (cells_view self.now.world.store.cells)) (rows_view self.now.items.rows.items))) }
+        ensures places { IfOk result (λ statements. (p : Place)
+            → In p (map place_of statements.items) ↔ In p
+            (filter_map (blocked_row program.now (frames_view self.now.world.instances.slots) (cells_view self.now.world.store.cells))
+            (rows_view self.now.items.rows.items))) }
         ensures order { IfOk result (λ statements. InTextOrder statements.items) }
     {
         in_order(self.alloc, self.list_blocked(program)?)

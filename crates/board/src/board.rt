@@ -4,10 +4,9 @@ ghost use Rattle.dataflow.specs.Machine.{start};
 ghost use Rattle.dataflow.specs.Machine as Machine;
 ghost use Rattle.task_code.specs.Machine.{CodeItem, DataAreExact, Quiet, Run, run_log};
 ghost use Rattle.task_code.specs.System.{code_system, task_kind, task_priority};
-ghost use Rattle.task_code.specs.View.{event_view, kind_view};
+ghost use Rattle.task_code.specs.View.{event_view};
 ghost use Rattle.task_code.specs.Whole.{IsCode};
-ghost use Rattle.work_queue.specs.declared.entry.Kind.{Kind as QueueKind};
-ghost use Rattle.board_program.specs.Tables.{queue_kind};
+ghost use Rattle.work_queue.specs.declared.entry.Kind.{Kind as AKind};
 ghost use Rattle.board_work.specs.Assigned.{Assigned};
 ghost use Rattle.board_compute.specs.View.{answers_view};
 ghost use Rattle.board.specs.Board.{Seen, AreByWorkers, IsWorker, IsGoing, Accepts, IsItems, IsOwn, RefusesBegin, RefusesEnd, RefusesBack, RefusesWork};
@@ -18,7 +17,6 @@ ghost use Rattle.board.specs.Ready.{AreReady, HasKind, IsFirst, IsNext, IsReady}
 ghost use Rattle.board.specs.Blocked.{AreBlocked, IsFaultOf};
 ghost use Rattle.dataflow.specs.System.{In};
 
-use crate::laws::work_stays;
 use crate::refusal::Refusal;
 use crate::state::Core;
 use board_compute::answer::Answer;
@@ -89,26 +87,6 @@ pub struct Remains {
     pub history: Vec<Event>,
     /// The lines that were printed, in their order.
     pub lines: Vec<Scalar>,
-}
-
-/// The kind as the queue has it.
-fn queue_kind(kind: Kind) -> work_queue::entry::Kind
-    ensures { result ≡ queue_kind (kind_view kind) }
-{
-    match kind {
-        Kind::Control => work_queue::entry::Kind::Control,
-        Kind::Leaf => work_queue::entry::Kind::Leaf,
-    }
-}
-
-/// The same, as code has it.
-fn code_kind(kind: work_queue::entry::Kind) -> Kind
-    ensures { queue_kind (kind_view result) ≡ kind }
-{
-    match kind {
-        work_queue::entry::Kind::Control => Kind::Control,
-        work_queue::entry::Kind::Leaf => Kind::Leaf,
-    }
 }
 
 impl Board {
@@ -217,8 +195,9 @@ impl Board {
         ensures handed_back { IfErr result (λ e. e.0 ≡ done) }
         ensures unchanged { OnErr result (self.new ≡ self.old) }
     {
-        work_stays();
-        let _events = self.history();
+        if self.core.fault.is_some() {
+            return Err((done, Refusal::Ended));
+        }
         self.end_begun(worker, done)
     }
 
@@ -268,8 +247,11 @@ impl Board {
     /// As `begin`; and `Memory`, once the item has begun, where memory was refused to its computing or its end. It still runs then.
     pub fn perform(&mut self, worker: u8, item: u64) -> Result<bool, Refusal>
         requires { IsWorker worker }
-        ensures performed { IfOk result (λ ended. MatchBool ended ((mid : Seen) × Accepts self.old (Machine.Begin worker item) mid × Accepts mid (Machine.End worker item) self.new) (Accepts self.old (Machine.Begin worker item) self.new × ¬ IsGoing self.new)) }
-        ensures refused { IfErr result (λ e. ((self.new ≡ self.old) × RefusesBegin self.old item e) ⊎ (Accepts self.old (Machine.Begin worker item) self.new × (e ≡ Memory))) }
+        ensures performed { IfOk result (λ ended. MatchBool ended
+            ((mid : Seen) × Accepts self.old (Machine.Begin worker item) mid × Accepts mid (Machine.End worker item) self.new)
+            (Accepts self.old (Machine.Begin worker item) self.new × ¬ IsGoing self.new)) }
+        ensures refused { IfErr result (λ e. ((self.new ≡ self.old) × RefusesBegin self.old item e)
+            ⊎ (Accepts self.old (Machine.Begin worker item) self.new × (e ≡ Memory))) }
     {
         if !self.is_going() {
             return Err(Refusal::Ended);
@@ -422,7 +404,8 @@ impl Board {
     /// read or write. Takes no memory, and looks at none of them.
     pub fn stored(&self) -> usize
         ensures count { AreSoMany self.now.state.places result }
-        ensures exact { (run : Run self.now.code self.now.history self.now.state) → DataAreExact self.now.code self.now.state (run_log self.now.code self.now.history self.now.state run) }
+        ensures exact { (run : Run self.now.code self.now.history self.now.state)
+            → DataAreExact self.now.code self.now.state (run_log self.now.code self.now.history self.now.state run) }
     {
         self.core.world.store.len()
     }
@@ -448,7 +431,7 @@ impl Board {
     /// Who runs the item of this number, where there is one that has not ended.
     pub fn kind(&self, item: u64) -> Option<Kind>
         ensures none { IfNone result ((i : CodeItem) → In i self.now.state.items → i.number ≡ item → ⊥) }
-        ensures some { IfSome result (λ kind. HasKind self.now item (kind_view kind)) }
+        ensures some { IfSome result (λ kind. HasKind self.now item kind) }
     {
         let Some(found) = item_of(self.core.items.rows.as_slice(), item) else {
             return None;
@@ -457,7 +440,7 @@ impl Board {
             Mark::Over => None,
             _ => {
                 let (kind, _) = order_of(&self.program, found.job());
-                Some(code_kind(kind))
+                Some(kind)
             }
         }
     }
@@ -465,13 +448,13 @@ impl Board {
     /// The first item of the kind that can begin: of the greatest priority, and then of the smallest number. None after a
     /// fault or at the limit. Takes no memory.
     pub fn next(&self, kind: Kind) -> Option<u64>
-        ensures none { IfNone result (IsGoing self.now → (i : CodeItem) → IsReady self.now i → task_kind self.now.code i.task ≡ kind_view kind → ⊥) }
-        ensures some { IfSome result (λ number. IsNext self.now (kind_view kind) number) }
+        ensures none { IfNone result (IsGoing self.now → (i : CodeItem) → IsReady self.now i → task_kind self.now.code i.task ≡ kind → ⊥) }
+        ensures some { IfSome result (λ number. IsNext self.now kind number) }
     {
         if !self.is_going() {
             return None;
         }
-        self.core.items.queue.first(queue_kind(kind))
+        self.core.items.queue.first(kind)
     }
 
     /// The first item that can begin, with who runs it: of the greatest priority, and then of the smallest number. None after a
@@ -479,14 +462,14 @@ impl Board {
     pub fn first(&self) -> Option<(Kind, u64)>
         ensures none { IfNone result (IsGoing self.now → (i : CodeItem) → IsReady self.now i → ⊥) }
         ensures some { IfSome result (λ found. IsFirst self.now found.1) }
-        ensures kind { IfSome result (λ found. HasKind self.now found.1 (kind_view found.0)) }
+        ensures kind { IfSome result (λ found. HasKind self.now found.1 found.0) }
     {
         if !self.is_going() {
             return None;
         }
         let queue = &self.core.items.queue;
-        let control = queue.first_entry(work_queue::entry::Kind::Control);
-        let leaf = queue.first_entry(work_queue::entry::Kind::Leaf);
+        let control = queue.first_entry(Kind::Control);
+        let leaf = queue.first_entry(Kind::Leaf);
         match (control, leaf) {
             (Some(control), Some(leaf)) => {
                 if leaf.precedes(&control) {
@@ -514,7 +497,9 @@ impl Board {
     pub fn newly(&self, place: usize) -> Option<(Kind, i32, u64)>
         ensures none { IfNone result (length self.now.newly ≤ place) }
         ensures above { IfSome result (λ found. 0 < found.2) }
-        ensures some { IfSome result (λ found. (slice_get self.now.newly place ≡ Some found.2) × ((i : CodeItem) × In i self.now.state.items × (i.number ≡ found.2) × (kind_view found.0 ≡ task_kind self.now.code i.task) × (found.1 ≡ task_priority self.now.code i.task))) }
+        ensures some { IfSome result (λ found. (slice_get self.now.newly place ≡ Some found.2)
+            × ((i : CodeItem) × In i self.now.state.items × (i.number ≡ found.2) × (found.0 ≡ task_kind self.now.code i.task)
+            × (found.1 ≡ task_priority self.now.code i.task))) }
     {
         let Some(number) = number_at(&self.core.items.newly, place) else {
             return None;
@@ -523,7 +508,7 @@ impl Board {
             return None;
         };
         let (kind, priority) = order_of(&self.program, item.job());
-        Some((code_kind(kind), priority, number))
+        Some((kind, priority, number))
     }
 
     /// The numbers of all items that can begin, by greatest priority and then by smallest number.
@@ -561,11 +546,8 @@ fn number_at(numbers: &Vec<u64>, place: usize) -> Option<u64>
 }
 
 /// The numbers of listed items.
-fn numbers_of(
-    alloc: Global,
-    listed: &[(work_queue::entry::Kind, i32, u64)],
-) -> Result<Vec<u64>, AllocError>
-    ensures { IfOk result (λ numbers. numbers.items ≡ map (λ (l : QueueKind × ℤ × ℕ). l.2) listed.now) }
+fn numbers_of(alloc: Global, listed: &[(Kind, i32, u64)]) -> Result<Vec<u64>, AllocError>
+    ensures { IfOk result (λ numbers. numbers.items ≡ map (λ (l : AKind × ℤ × ℕ). l.2) listed.now) }
 {
     let mut numbers = Vec::new(alloc);
     for one in listed {

@@ -18,7 +18,8 @@ impl Core {
     /// Whether what is opened can be counted: the instances around the item, and the names of all items.
     fn can_open(&self, program: &Program, most: usize, job: Job, openings: &Openings) -> bool
         requires { AreAtMost program.now most }
-        ensures { IsTrue result → CanOpen program.now (frames_view self.now.world.instances.slots) (length self.now.items.rows.items) (job_view job) openings.now }
+        ensures { IsTrue result → CanOpen program.now (frames_view self.now.world.instances.slots) (length self.now.items.rows.items)
+            (job_view job) openings.now }
     {
         let count = openings.list.len();
         let _slots = slots_of(openings);
@@ -40,7 +41,8 @@ impl Core {
         change: &Change,
     ) -> bool
         requires { AreAtMost program.now most }
-        ensures { IsTrue result → CanChange program.now (frames_view self.now.world.instances.slots) (length self.now.items.rows.items) (job_view job) change.now }
+        ensures { IsTrue result → CanChange program.now (frames_view self.now.world.instances.slots) (length self.now.items.rows.items)
+            (job_view job) change.now }
     {
         if !has_next_chunk(job, change) {
             return false;

@@ -52,7 +52,8 @@ impl Core {
     /// What the item of a job does, which comes to this.
     fn effect_of(&self, program: &Program, job: Job, outcome: Outcome) -> Result<Effect, AllocError>
         requires { IsThere program.now (job_view job) }
-        ensures { IfOk result (λ e. (done : Assigned) → result_in outcome ≡ job_result done.job done.answers → control_in outcome ≡ job_control done.job done.answers → IsEffectOf program.now self.now (job_view job) done e) }
+        ensures { IfOk result (λ e. (done : Assigned) → result_in outcome ≡ job_result done.job done.answers
+            → control_in outcome ≡ job_control done.job done.answers → IsEffectOf program.now self.now (job_view job) done e) }
     {
         match job {
             Job::Script => return script_effect(self.alloc, program),
@@ -133,8 +134,10 @@ impl Core {
         known: &mut Vec<Input>,
     ) -> Result<(), AllocError>
         requires { AreAtMost program.now most }
-        ensures ended { OnOk result ((done : Assigned) → IsEffectOf program.now self.old (job_view job) done effect → HasEnded program.now number (job_view job) done self.old self.new) }
-        ensures same { OnErr result ((done : Assigned) → IsEffectOf program.now self.old (job_view job) done effect → StaysIf program.now number (job_view job) done self.old self.new) }
+        ensures ended { OnOk result ((done : Assigned) → IsEffectOf program.now self.old (job_view job) done effect
+            → HasEnded program.now number (job_view job) done self.old self.new) }
+        ensures same { OnErr result ((done : Assigned) → IsEffectOf program.now self.old (job_view job) done effect
+            → StaysIf program.now number (job_view job) done self.old self.new) }
     {
         match effect {
             Effect::Fails(fault) => {
@@ -180,8 +183,10 @@ impl Core {
     ) -> Result<(), AllocError>
         requires there { IsThere program.now (job_view job) }
         requires names { AreAtMost program.now most }
-        ensures ended { OnOk result ((done : Assigned) → done.job ≡ work_of program.now (job_view job) → done.answers ≡ answers_view answers.now → HasEnded program.now number (job_view job) done self.old self.new) }
-        ensures same { OnErr result ((done : Assigned) → done.job ≡ work_of program.now (job_view job) → done.answers ≡ answers_view answers.now → StaysIf program.now number (job_view job) done self.old self.new) }
+        ensures ended { OnOk result ((done : Assigned) → done.job ≡ work_of program.now (job_view job) → done.answers ≡ answers_view answers.now
+            → HasEnded program.now number (job_view job) done self.old self.new) }
+        ensures same { OnErr result ((done : Assigned) → done.job ≡ work_of program.now (job_view job) → done.answers ≡ answers_view answers.now
+            → StaysIf program.now number (job_view job) done self.old self.new) }
     {
         let outcome = outcome_for(self.alloc, program, job, answers)?;
         let effect = self.effect_of(program, job, outcome)?;

@@ -11,53 +11,6 @@ ghost use Rattle.board_history.specs.Stands.{Stands};
 ghost use Rattle.task_code.specs.Code.{Code, Kind};
 ghost use Rattle.board.specs.Queues.{SameNumbers, with_queue};
 
-use dataflow::knowledge_stays;
-use std::marker::Model;
-use values::key::Key;
-use values::value::Scalar;
-
-/// Stands for tasks of code, in a law on them.
-struct Tasks;
-
-impl Model for Tasks {
-    ghost use Rattle.std.specs.Coded.{codes};
-    ghost use Rattle.task_code.specs.Effects.{Task, Main};
-
-    ghost Value = { Task };
-
-    ghost coded = { Prim.hlevel codes };
-
-    ghost view = { λ t. Main };
-}
-
-/// Stands for places of data.
-struct Places;
-
-impl Model for Places {
-    ghost use Rattle.std.specs.Coded.{codes};
-    ghost use Rattle.task_code.specs.Places.{Place, Nowhere};
-
-    ghost Value = { Place };
-
-    ghost coded = { Prim.hlevel codes };
-
-    ghost view = { λ p. Nowhere };
-}
-
-/// Stands for faults of entries.
-struct Faults;
-
-impl Model for Faults {
-    ghost use Rattle.std.specs.Coded.{codes};
-    ghost use Rattle.task_code.specs.Compute.{EntryFault, NoElement};
-
-    ghost Value = { EntryFault };
-
-    ghost coded = { Prim.hlevel codes };
-
-    ghost view = { λ f. NoElement };
-}
-
 /// Fields with the same numbers in the queue, each once, stand for the same state.
 #[tactic(auto, using(crate::proofs::Queues::queue_kept))]
 pub fn queues_by_members()
@@ -73,6 +26,4 @@ pub fn work_stays()
     ensures stays { (old new : Seen) → IsCode old.code → Run old.code old.history old.state →
         (e : Event) → Accepts old e new → (work : Assigned) → IsItems old work → IsItems new work }
     ensures own { (b : Seen) (w : ℕ) (work : Assigned) → IsItems b work → IsTheirs b w work.item → IsOwn b w work }
-{
-    knowledge_stays::<Tasks, Places, Key, Scalar, Faults>()
-}
+{}

@@ -17,6 +17,7 @@ mod state;
 mod telling;
 mod working;
 
+pub use board::{Board, Remains};
 pub use board_compute::answer::Answer;
 pub use board_compute::outcome::EntryFault;
 pub use board_work::work::{Done, Work};

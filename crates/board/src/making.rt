@@ -42,7 +42,8 @@ impl Core {
     ) -> Result<Vec<Inputs>, AllocError>
         ensures made { OnOk result (known.old.items ≡ [] → HasMade program.now (job_view job) change line self.old self.new) }
         ensures spare { IfOk result (λ spare. spare.items ≡ spare_of change) }
-        ensures succeeds { vec_len self.old.lines + 1 ≤ vec_capacity self.old.lines → HasRoomToEnd program.now (job_view job) change self.old.world self.old.items.rows known.old → IsOk result }
+        ensures succeeds { vec_len self.old.lines + 1 ≤ vec_capacity self.old.lines
+            → HasRoomToEnd program.now (job_view job) change self.old.world self.old.items.rows known.old → IsOk result }
     {
         self.items.newly.clear();
         self.items.woken.clear();

@@ -94,7 +94,8 @@ impl Core {
     ) -> Result<(), AllocError>
         ensures same { StaysSo program.now self.old self.new }
         ensures items { OnOk result (HasRoomForItems program.now (new_controls program.now change.now) (new_leaves program.now change.now) self.old self.new) }
-        ensures world { OnOk result (OpensWell program.now (job_view job) change.now → HasRoomToEnd program.now (job_view job) change.now self.new.world self.new.items.rows known.new) }
+        ensures world { OnOk result (OpensWell program.now (job_view job) change.now
+            → HasRoomToEnd program.now (job_view job) change.now self.new.world self.new.items.rows known.new) }
         ensures takes { OnOk result (TakesMore change.now self.new.world.store) }
         ensures known { known.new.items ≡ known.old.items }
         ensures rows { self.new.items.rows.items ≡ self.old.items.rows.items }

@@ -63,7 +63,8 @@ impl Core {
     ) -> Result<(), AllocError>
         requires { IsThere program.now (job_view job) }
         ensures same { self.new ≡ self.old }
-        ensures answers { OnOk result (answers_view list.new.items ≡ answers_at program.now (frames_view self.old.world.instances.slots) (cells_view self.old.world.store.cells) (job_view job)) }
+        ensures answers { OnOk result (answers_view list.new.items
+            ≡ answers_at program.now (frames_view self.old.world.instances.slots) (cells_view self.old.world.store.cells) (job_view job)) }
     {
         if let Job::Does {
             instance,
@@ -93,7 +94,8 @@ impl Core {
     ) -> Result<Work, AllocError>
         requires { IsThere program.now (job_view job) }
         ensures number { IfOk result (λ work. work.item ≡ number) }
-        ensures own { IfOk result (λ work. IsWorkAt program.now (frames_view self.now.world.instances.slots) (cells_view self.now.world.store.cells) (job_view job) work) }
+        ensures own { IfOk result (λ work. IsWorkAt program.now (frames_view self.now.world.instances.slots)
+            (cells_view self.now.world.store.cells) (job_view job) work) }
     {
         if let Job::Does {
             instance,
@@ -118,7 +120,8 @@ impl Core {
     pub fn is_done_for(&self, program: &Program, job: Job, done: &Done) -> bool
         requires there { IsThere program.now (job_view job) }
         requires rising { AreRising self.now.world.store }
-        ensures { IsTrue result ↔ IsWorkAt program.now (frames_view self.now.world.instances.slots) (cells_view self.now.world.store.cells) (job_view job) done.now }
+        ensures { IsTrue result ↔ IsWorkAt program.now (frames_view self.now.world.instances.slots) (cells_view self.now.world.store.cells)
+            (job_view job) done.now }
     {
         let Job::Does {
             instance,

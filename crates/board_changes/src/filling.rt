@@ -55,7 +55,8 @@ pub fn fill_all(
     ensures filled { OnOk result (AreFilled own.now slots list.old.items store.old list.new.items store.new) }
     ensures len { vec_len list.new ≡ vec_len list.old }
     ensures rising { OnOk result (AreRising store.old → AreRising store.new) }
-    ensures succeeds { ((o : AnOpening) → In o list.old.items → HasSlots (length own.now) o) → vec_len list.old * length own.now ≤ store.old.room → store.old.bound ≤ 2 ^ 32 → IsOk result }
+    ensures succeeds { ((o : AnOpening) → In o list.old.items → HasSlots (length own.now) o) → vec_len list.old * length own.now ≤ store.old.room
+        → store.old.bound ≤ 2 ^ 32 → IsOk result }
 {
     for at in 0..list.len() {
         if let Some(opening) = list.get_mut(at) {

@@ -32,15 +32,20 @@ ghost use Rattle.board_changes.specs.Opened.{AreOpened};
 /// Where instances were opened that are of the blocks of an End, those that were put in are the instances that the End makes, with
 /// the rows of their items and with their data: a datum for each variable that some entry names, under a number of its own.
 pub fn opened_blocks()
-    ensures made { (C : Code) (j : Job) (x : Computed) (o : TheOpenings) (fs gs : List (Option Frame)) (old new : List Row) (s t : Store) → AreBlocks C fs j x o → (w : AreOpened C j o fs gs old new s t) →
+    ensures made { (C : Code) (j : Job) (x : Computed) (o : TheOpenings) (fs gs : List (Option Frame)) (old new : List Row) (s t : Store) → AreBlocks C fs j x o
+        → (w : AreOpened C j o fs gs old new s t) →
         AreMade C (map (made_as fs (home j)) w.placed.puts) (task_of fs j) x }
-    ensures rows { (C : Code) (j : Job) (x : Computed) (o : TheOpenings) (fs gs : List (Option Frame)) (old new : List Row) (s t : Store) → AreBlocks C fs j x o → (w : AreOpened C j o fs gs old new s t) →
+    ensures rows { (C : Code) (j : Job) (x : Computed) (o : TheOpenings) (fs gs : List (Option Frame)) (old new : List Row) (s t : Store) → AreBlocks C fs j x o
+        → (w : AreOpened C j o fs gs old new s t) →
         new ≡ old ++ map new_row (made_jobs C (map (made_as fs (home j)) w.placed.puts)) }
-    ensures opens { (C : Code) (j : Job) (x : Computed) (o : TheOpenings) (fs gs : List (Option Frame)) (old new : List Row) (s t : Store) → AreBlocks C fs j x o → (w : AreOpened C j o fs gs old new s t) →
+    ensures opens { (C : Code) (j : Job) (x : Computed) (o : TheOpenings) (fs gs : List (Option Frame)) (old new : List Row) (s t : Store)
+        → AreBlocks C fs j x o → (w : AreOpened C j o fs gs old new s t) →
         FitsAround fs (home j) (length o.list.items) → FramesOpen C fs (home j) (map (made_as fs (home j)) w.placed.puts) gs }
-    ensures nested { (C : Code) (j : Job) (x : Computed) (o : TheOpenings) (fs gs : List (Option Frame)) (old new : List Row) (s t : Store) → AreBlocks C fs j x o → AreOpened C j o fs gs old new s t →
+    ensures nested { (C : Code) (j : Job) (x : Computed) (o : TheOpenings) (fs gs : List (Option Frame)) (old new : List Row) (s t : Store)
+        → AreBlocks C fs j x o → AreOpened C j o fs gs old new s t →
         FitsAround fs (home j) (length o.list.items) → IsNested fs → IsNested gs }
-    ensures makes { (C : Code) → IsCode C → (j : Job) (x : Computed) (o : TheOpenings) (fs gs : List (Option Frame)) (old new : List Row) (s t : Store) → AreBlocks C fs j x o → (w : AreOpened C j o fs gs old new s t) →
+    ensures makes { (C : Code) → IsCode C → (j : Job) (x : Computed) (o : TheOpenings) (fs gs : List (Option Frame)) (old new : List Row) (s t : Store)
+        → AreBlocks C fs j x o → (w : AreOpened C j o fs gs old new s t) →
         MakesData C (layout_of C) fs gs j x (map (made_as fs (home j)) w.placed.puts) s w.made }
 {}
 
@@ -52,23 +57,30 @@ pub fn entry_opens()
     ensures leads { (C : Code) → IsCode C → (es : List Event) (F : Fields) → Stands C (layout_of C) es F →
         (n k e c : ℕ) (row : Row) → row_of F.rows n ≡ Some row → row.job ≡ Does k e c → (row.mark ≡ Over → ⊥) →
         (x : Computed) (o : TheOpenings) (hs : List (Option Frame)) (rows : List Row) (stored more : Store) → AreBlocks C F.frames (Does k e c) x o →
-        (w : AreOpened C (Does k e c) o F.frames hs F.rows rows stored more) → FitsAround F.frames (Some k) (length o.list.items) → ((q : Put) → In q w.placed.puts → length q.frame.slots < 2 ^ 64) →
+        (w : AreOpened C (Does k e c) o F.frames hs F.rows rows stored more) → FitsAround F.frames (Some k) (length o.list.items)
+        → ((q : Put) → In q w.placed.puts → length q.frame.slots < 2 ^ 64) →
         (m : Instance) → In m (map (made_as F.frames (Some k)) w.placed.puts) → NamesLead C (layout_of C) F.frames hs k e c m }
     ensures cells { (C : Code) → IsCode C → (es : List Event) (F : Fields) → Stands C (layout_of C) es F →
         (n k e c : ℕ) (row : Row) → row_of F.rows n ≡ Some row → row.job ≡ Does k e c → (row.mark ≡ Over → ⊥) →
         (x : Computed) (o : TheOpenings) (hs : List (Option Frame)) (rows : List Row) (s stored more : Store) → AreBlocks C F.frames (Does k e c) x o →
-        (w : AreOpened C (Does k e c) o F.frames hs F.rows rows stored more) → FitsAround F.frames (Some k) (length o.list.items) → ((q : Put) → In q w.placed.puts → length q.frame.slots < 2 ^ 64) →
-        ((d : ℕ) → Fit (added_times C (layout_of C) (λ y. y.reads) hs d (map (made_as F.frames (Some k)) w.placed.puts)) (added_times C (layout_of C) (λ y. y.writes) hs d (map (made_as F.frames (Some k)) w.placed.puts)) (at w.made d)) →
-        (gs : List (Option Frame)) (t : Store) (closed : List ℕ) (goes_on : Bool) → Goes C goes_on (Does k e c) hs gs more t closed → goes_on ≡ is_some_list (rests C (task_of F.frames (Does k e c)) x) →
+        (w : AreOpened C (Does k e c) o F.frames hs F.rows rows stored more) → FitsAround F.frames (Some k) (length o.list.items)
+        → ((q : Put) → In q w.placed.puts → length q.frame.slots < 2 ^ 64) →
+        ((d : ℕ) → Fit (added_times C (layout_of C) (λ y. y.reads) hs d (map (made_as F.frames (Some k)) w.placed.puts))
+        (added_times C (layout_of C) (λ y. y.writes) hs d (map (made_as F.frames (Some k)) w.placed.puts)) (at w.made d)) →
+        (gs : List (Option Frame)) (t : Store) (closed : List ℕ) (goes_on : Bool) → Goes C goes_on (Does k e c) hs gs more t closed
+        → goes_on ≡ is_some_list (rests C (task_of F.frames (Does k e c)) x) →
         F.cells ≡ cells_view s.cells → StoresIn None [] s stored → ((d : ℕ) → [] ≡ job_stores C (layout_of C) F.frames (Does k e c) x d) →
-        CellsAfter C (layout_of C) F.frames hs (Does k e c) x (map (made_as F.frames (Some k)) w.placed.puts) (rests C (task_of F.frames (Does k e c)) x) F.cells (cells_view t.cells)
+        CellsAfter C (layout_of C) F.frames hs (Does k e c) x (map (made_as F.frames (Some k)) w.placed.puts) (rests C (task_of F.frames (Does k e c)) x)
+        F.cells (cells_view t.cells)
         × TakenOff gs hs (leaving (Does k e c) (rests C (task_of F.frames (Does k e c)) x)) }
 {}
 
 /// An item that is not over gives up no more holds than there are, where the fields stand for the state of a history.
 pub fn given_up()
-    ensures { (C : Code) → IsCode C → (L : Layout) (es : List Event) (F : Fields) → Stands C L es F → (n : ℕ) (row : Row) → row_of F.rows n ≡ Some row → (row.mark ≡ Over → ⊥) →
-        (os : List (Opening Task Place)) (s : Store) → F.cells ≡ cells_view s.cells → Covers (λ d. given_times C L (λ e. e.reads) F.frames d row.job os) (λ d. given_times C L (λ e. e.writes) F.frames d row.job os) s }
+    ensures { (C : Code) → IsCode C → (L : Layout) (es : List Event) (F : Fields) → Stands C L es F → (n : ℕ) (row : Row) → row_of F.rows n ≡ Some row
+        → (row.mark ≡ Over → ⊥) →
+        (os : List (Opening Task Place)) (s : Store) → F.cells ≡ cells_view s.cells
+        → Covers (λ d. given_times C L (λ e. e.reads) F.frames d row.job os) (λ d. given_times C L (λ e. e.writes) F.frames d row.job os) s }
 {}
 
 /// The same where the item of an entry ends that opens nothing: it may have stored something.
@@ -76,14 +88,17 @@ pub fn entry_stores()
     ensures opens { (C : Code) (fs : List (Option Frame)) (around : Option ℕ) → FramesOpen C fs around [] fs }
     ensures cells { (C : Code) → IsCode C → (es : List Event) (F : Fields) → Stands C (layout_of C) es F →
         (n k e c : ℕ) (row : Row) → row_of F.rows n ≡ Some row → row.job ≡ Does k e c → (row.mark ≡ Over → ⊥) →
-        (x : Computed) (os : List (Opening Task Place)) (target : Option ℕ) (values : Elements) (gs : List (Option Frame)) (s stored t : Store) (closed : List ℕ) → os ≡ [] → F.cells ≡ cells_view s.cells →
-        StoresIn target values s stored → LetsGo C (Does k e c) F.frames gs stored t closed → ((d : ℕ) → (if is_place d target then values else []) ≡ job_stores C (layout_of C) F.frames (Does k e c) x d) →
+        (x : Computed) (os : List (Opening Task Place)) (target : Option ℕ) (values : Elements) (gs : List (Option Frame)) (s stored t : Store)
+        (closed : List ℕ) → os ≡ [] → F.cells ≡ cells_view s.cells →
+        StoresIn target values s stored → LetsGo C (Does k e c) F.frames gs stored t closed
+        → ((d : ℕ) → (if is_place d target then values else []) ≡ job_stores C (layout_of C) F.frames (Does k e c) x d) →
         CellsAfter C (layout_of C) F.frames F.frames (Does k e c) x [] os F.cells (cells_view t.cells) × TakenOff gs F.frames (leaving (Does k e c) os) }
 {}
 
 /// The openings of an item are of its blocks, where the instances' paths have as many steps as they tell.
 pub fn openings_of_item()
-    ensures { (C : Code) (fs : List (Option Frame)) → ((k : ℕ) (g : Frame) → slot_at fs k ≡ Some g → g.depth ≡ length (path_of fs k)) → (x : Computed) (o : TheOpenings) (j : Job) → AreOpenings C fs j x o → AreBlocks C fs j x o }
+    ensures { (C : Code) (fs : List (Option Frame)) → ((k : ℕ) (g : Frame) → slot_at fs k ≡ Some g → g.depth ≡ length (path_of fs k))
+        → (x : Computed) (o : TheOpenings) (j : Job) → AreOpenings C fs j x o → AreBlocks C fs j x o }
 {}
 
 /// The list of what becomes known at the End of an entry's item is just that: where it stores, or nothing is opened, what was stored
@@ -91,15 +106,20 @@ pub fn openings_of_item()
 pub fn becomes_known()
     ensures stores { (C : Code) → IsCode C → (es : List Event) (F : Fields) → Stands C (layout_of C) es F →
         (n k e c : ℕ) (row : Row) → row_of F.rows n ≡ Some row → row.job ≡ Does k e c → (row.mark ≡ Over → ⊥) →
-        (x : Computed) (os : List (Opening Task Place)) (change : TheChange) (gs : List (Option Frame)) (s stored t : Store) (closed : List ℕ) → os ≡ [] → F.cells ≡ cells_view s.cells → CanStore change s →
-        StoresIn (target_of change) (values_of change) s stored → LetsGo C (Does k e c) F.frames gs stored t closed → ((d : ℕ) → (if is_place d (target_of change) then values_of change else []) ≡ job_stores C (layout_of C) F.frames (Does k e c) x d) →
+        (x : Computed) (os : List (Opening Task Place)) (change : TheChange) (gs : List (Option Frame)) (s stored t : Store) (closed : List ℕ) → os ≡ []
+        → F.cells ≡ cells_view s.cells → CanStore change s →
+        StoresIn (target_of change) (values_of change) s stored → LetsGo C (Does k e c) F.frames gs stored t closed
+        → ((d : ℕ) → (if is_place d (target_of change) then values_of change else []) ≡ job_stores C (layout_of C) F.frames (Does k e c) x d) →
         BecomesKnown C (layout_of C) (job_stores C (layout_of C) F.frames (Does k e c) x) F.cells (cells_view t.cells) (told_of change ++ map Whole closed) }
     ensures opens { (C : Code) → IsCode C → (es : List Event) (F : Fields) → Stands C (layout_of C) es F →
         (n k e c : ℕ) (row : Row) → row_of F.rows n ≡ Some row → row.job ≡ Does k e c → (row.mark ≡ Over → ⊥) →
         (x : Computed) (o : TheOpenings) (hs : List (Option Frame)) (rows : List Row) (s stored more : Store) → AreBlocks C F.frames (Does k e c) x o →
-        (w : AreOpened C (Does k e c) o F.frames hs F.rows rows stored more) → FitsAround F.frames (Some k) (length o.list.items) → ((q : Put) → In q w.placed.puts → length q.frame.slots < 2 ^ 64) →
-        ((d : ℕ) → Fit (added_times C (layout_of C) (λ y. y.reads) hs d (map (made_as F.frames (Some k)) w.placed.puts)) (added_times C (layout_of C) (λ y. y.writes) hs d (map (made_as F.frames (Some k)) w.placed.puts)) (at w.made d)) →
-        (gs : List (Option Frame)) (t : Store) (closed : List ℕ) (goes_on : Bool) → Goes C goes_on (Does k e c) hs gs more t closed → goes_on ≡ is_some_list (rests C (task_of F.frames (Does k e c)) x) →
+        (w : AreOpened C (Does k e c) o F.frames hs F.rows rows stored more) → FitsAround F.frames (Some k) (length o.list.items)
+        → ((q : Put) → In q w.placed.puts → length q.frame.slots < 2 ^ 64) →
+        ((d : ℕ) → Fit (added_times C (layout_of C) (λ y. y.reads) hs d (map (made_as F.frames (Some k)) w.placed.puts))
+        (added_times C (layout_of C) (λ y. y.writes) hs d (map (made_as F.frames (Some k)) w.placed.puts)) (at w.made d)) →
+        (gs : List (Option Frame)) (t : Store) (closed : List ℕ) (goes_on : Bool) → Goes C goes_on (Does k e c) hs gs more t closed
+        → goes_on ≡ is_some_list (rests C (task_of F.frames (Does k e c)) x) →
         F.cells ≡ cells_view s.cells → StoresIn None [] s stored → ((d : ℕ) → [] ≡ job_stores C (layout_of C) F.frames (Does k e c) x d) →
         BecomesKnown C (layout_of C) (job_stores C (layout_of C) F.frames (Does k e c) x) F.cells (cells_view t.cells) (map Whole closed) }
 {}
@@ -108,9 +128,12 @@ pub fn becomes_known()
 pub fn script_opens()
     ensures { (C : Code) → IsCode C → (es : List Event) (F : Fields) → Stands C (layout_of C) es F →
         (n : ℕ) (row : Row) → row_of F.rows n ≡ Some row → row.job ≡ Script → (row.mark ≡ Over → ⊥) →
-        (x : Computed) (o : TheOpenings) (hs : List (Option Frame)) (rows : List Row) (s stored more : Store) → AreBlocks C F.frames Script x o → (w : AreOpened C Script o F.frames hs F.rows rows stored more) →
-        ((d : ℕ) → Fit (added_times C (layout_of C) (λ y. y.reads) hs d (map (made_as F.frames None) w.placed.puts)) (added_times C (layout_of C) (λ y. y.writes) hs d (map (made_as F.frames None) w.placed.puts)) (at w.made d)) →
-        (gs : List (Option Frame)) (t : Store) (closed : List ℕ) → LetsGo C Script hs gs more t closed → F.cells ≡ cells_view s.cells → StoresIn None [] s stored →
+        (x : Computed) (o : TheOpenings) (hs : List (Option Frame)) (rows : List Row) (s stored more : Store) → AreBlocks C F.frames Script x o
+        → (w : AreOpened C Script o F.frames hs F.rows rows stored more) →
+        ((d : ℕ) → Fit (added_times C (layout_of C) (λ y. y.reads) hs d (map (made_as F.frames None) w.placed.puts))
+        (added_times C (layout_of C) (λ y. y.writes) hs d (map (made_as F.frames None) w.placed.puts)) (at w.made d)) →
+        (gs : List (Option Frame)) (t : Store) (closed : List ℕ) → LetsGo C Script hs gs more t closed → F.cells ≡ cells_view s.cells
+        → StoresIn None [] s stored →
         CellsAfter C (layout_of C) F.frames hs Script x (map (made_as F.frames None) w.placed.puts) [] F.cells (cells_view t.cells) × TakenOff gs hs None
         × BecomesKnown C (layout_of C) (job_stores C (layout_of C) F.frames Script x) F.cells (cells_view t.cells) (map Whole closed) }
 {}

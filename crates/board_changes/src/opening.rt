@@ -48,8 +48,10 @@ pub(crate) fn own_of(program: &Program, number: u32) -> &[Own]
 
 /// The holds of a body on data outside of it.
 fn outer_of(program: &Program, number: u32) -> &[Hold]
-    ensures reads { (f : ASpot → ASlot) (d : ℕ) → hold_times f (λ h. h.reads) d result.now ≡ held_times (at_name program.now number f) d (outer_holds program.now (λ e. e.reads) number) }
-    ensures writes { (f : ASpot → ASlot) (d : ℕ) → hold_times f (λ h. h.writes) d result.now ≡ held_times (at_name program.now number f) d (outer_holds program.now (λ e. e.writes) number) }
+    ensures reads { (f : ASpot → ASlot) (d : ℕ) → hold_times f (λ h. h.reads) d result.now
+        ≡ held_times (at_name program.now number f) d (outer_holds program.now (λ e. e.reads) number) }
+    ensures writes { (f : ASpot → ASlot) (d : ℕ) → hold_times f (λ h. h.writes) d result.now
+        ≡ held_times (at_name program.now number f) d (outer_holds program.now (λ e. e.writes) number) }
 {
     match program.body(number) {
         Some(table) => table.outer.as_slice(),
@@ -107,7 +109,8 @@ pub fn open_all(
     job: Job,
     openings: Openings,
 ) -> Result<(), AllocError>
-    ensures opened { OnOk result (AreOpened program.now (job_view job) openings (frames_view instances.old.slots) (frames_view instances.new.slots) (rows_view rows.old.items) (rows_view rows.new.items) store.old store.new) }
+    ensures opened { OnOk result (AreOpened program.now (job_view job) openings (frames_view instances.old.slots) (frames_view instances.new.slots)
+        (rows_view rows.old.items) (rows_view rows.new.items) store.old store.new) }
     ensures rising { OnOk result (AreRising store.old → AreRising store.new) }
     ensures len { OnOk result (vec_len rows.new ≡ vec_len rows.old + vec_len openings.list * length (body_at program.now openings.body).entries) }
     ensures capacity { vec_capacity rows.old ≤ vec_capacity rows.new }
@@ -150,7 +153,8 @@ pub fn open_all(
 /// `AllocError` where memory that was asked for was refused, and where the chunks are more than numbers.
 pub fn go_on_if(rows: &mut Vec<PackedItem>, job: Job, goes_on: bool) -> Result<(), AllocError>
     ensures rows { OnOk result (rows_view rows.new.items ≡ rows_view rows.old.items ++ map new_row (going (job_view job) goes_on)) }
-    ensures succeeds { CanGoOn (job_view job) goes_on → IsShort (job_view job) goes_on → vec_len rows.old + more_of goes_on ≤ vec_capacity rows.old → IsOk result }
+    ensures succeeds { CanGoOn (job_view job) goes_on → IsShort (job_view job) goes_on
+        → vec_len rows.old + more_of goes_on ≤ vec_capacity rows.old → IsOk result }
 {
     if let Job::Does {
         instance,

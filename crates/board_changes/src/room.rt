@@ -98,7 +98,8 @@ impl World {
         job: Job,
         openings: &Openings,
     ) -> Result<(), AllocError>
-        ensures room { OnOk result (OpensWell program.now (job_view job) (OpensAll openings.now) → CanOpen program.now (job_view job) (OpensAll openings.now) self.new.instances self.new.store rows.new) }
+        ensures room { OnOk result (OpensWell program.now (job_view job) (OpensAll openings.now)
+            → CanOpen program.now (job_view job) (OpensAll openings.now) self.new.instances self.new.store rows.new) }
         ensures only { OnlyRoom self.old self.new }
         ensures closed { self.new.closed ≡ self.old.closed }
         ensures rows { rows.new.items ≡ rows.old.items }
@@ -130,7 +131,8 @@ impl World {
         job: Job,
         change: &Change,
     ) -> Result<(), AllocError>
-        ensures room { OnOk result (OpensWell program.now (job_view job) change.now → CanOpen program.now (job_view job) change.now self.new.instances self.new.store rows.new) }
+        ensures room { OnOk result (OpensWell program.now (job_view job) change.now
+            → CanOpen program.now (job_view job) change.now self.new.instances self.new.store rows.new) }
         ensures takes { OnOk result (TakesMore change.now self.new.store) }
         ensures only { OnlyRoom self.old self.new }
         ensures closed { self.new.closed ≡ self.old.closed }
@@ -156,7 +158,8 @@ impl World {
         change: &Change,
     ) -> Result<(), AllocError>
         ensures closed { OnOk result (closes_of program.now (job_view job) (goes_on change.now) ≤ vec_capacity self.new.closed) }
-        ensures told { OnOk result (vec_len known.new + told_by change.now + closes_of program.now (job_view job) (goes_on change.now) ≤ vec_capacity known.new) }
+        ensures told { OnOk result (vec_len known.new + told_by change.now + closes_of program.now (job_view job) (goes_on change.now) ≤
+            vec_capacity known.new) }
         ensures instances { self.new.instances ≡ self.old.instances }
         ensures store { self.new.store ≡ self.old.store }
         ensures known { known.new.items ≡ known.old.items }
@@ -181,7 +184,8 @@ impl World {
         job: Job,
         change: &Change,
     ) -> Result<(), AllocError>
-        ensures room { OnOk result (OpensWell program.now (job_view job) change.now → HasRoomToEnd program.now (job_view job) change.now self.new rows.new known.new) }
+        ensures room { OnOk result (OpensWell program.now (job_view job) change.now
+            → HasRoomToEnd program.now (job_view job) change.now self.new rows.new known.new) }
         ensures takes { OnOk result (TakesMore change.now self.new.store) }
         ensures only { OnlyRoom self.old self.new }
         ensures rows { rows.new.items ≡ rows.old.items }

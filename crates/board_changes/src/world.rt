@@ -176,7 +176,8 @@ impl World {
         key: Key,
         value: Scalar,
     ) -> Result<(), AllocError>
-        ensures stores { OnOk result (((n : ℕ) → target ≡ Some n → Takes n (element key value ∷ []) self.old.store) → StoresIn target ((key, value) ∷ []) self.old.store self.new.store) }
+        ensures stores { OnOk result (((n : ℕ) → target ≡ Some n → Takes n (element key value ∷ []) self.old.store)
+            → StoresIn target ((key, value) ∷ []) self.old.store self.new.store) }
         ensures told { OnOk result (map want_view known.new.items ≡ map want_view known.old.items ++ elements_of target (element key value ∷ [])) }
         ensures instances { self.new.instances ≡ self.old.instances }
         ensures len { OnOk result (vec_len known.new ≤ vec_len known.old + 1) }
@@ -199,7 +200,8 @@ impl World {
         target: Option<usize>,
         elements: Vec<Element>,
     ) -> Result<(), AllocError>
-        ensures stores { OnOk result (((n : ℕ) → target ≡ Some n → Takes n elements.items self.old.store) → StoresIn target (pairs elements.items) self.old.store self.new.store) }
+        ensures stores { OnOk result (((n : ℕ) → target ≡ Some n → Takes n elements.items self.old.store)
+            → StoresIn target (pairs elements.items) self.old.store self.new.store) }
         ensures told { OnOk result (map want_view known.new.items ≡ map want_view known.old.items ++ elements_of target elements.items) }
         ensures instances { self.new.instances ≡ self.old.instances }
         ensures len { OnOk result (vec_len known.new ≤ vec_len known.old + vec_len elements) }
@@ -222,7 +224,8 @@ impl World {
         job: Job,
         openings: Openings,
     ) -> Result<Vec<Inputs>, AllocError>
-        ensures opens { OnOk result (Opens program.now (job_view job) openings (frames_view self.old.instances.slots) (frames_view self.new.instances.slots) (rows_view rows.old.items) (rows_view rows.new.items) self.old.store self.new.store) }
+        ensures opens { OnOk result (Opens program.now (job_view job) openings (frames_view self.old.instances.slots) (frames_view self.new.instances.slots)
+            (rows_view rows.old.items) (rows_view rows.new.items) self.old.store self.new.store) }
         ensures spare { IfOk result (λ spare. spare.items ≡ openings.spare.items) }
         ensures closed { self.new.closed ≡ self.old.closed }
         ensures rising { OnOk result (AreRising self.old.store → AreRising self.new.store) }
@@ -252,12 +255,17 @@ impl World {
         at: usize,
     ) -> Result<(), AllocError>
         ensures gives { OnOk result ((closed : List ℕ)
-            × GivesUp (λ d. led_times (spot_slot (frames_view self.old.instances.slots) at) d (spots_in program.now (body_of program.now number) (entry program.now number).reads)) (λ d. led_times (spot_slot (frames_view self.old.instances.slots) at) d (spots_in program.now (body_of program.now number) (entry program.now number).writes)) self.old.store self.new.store
-            × Closes (λ d. led_times (spot_slot (frames_view self.old.instances.slots) at) d (spots_in program.now (body_of program.now number) (entry program.now number).writes)) self.old.store closed
+            × GivesUp (λ d. led_times (spot_slot (frames_view self.old.instances.slots) at) d
+            (spots_in program.now (body_of program.now number) (entry program.now number).reads))
+            (λ d. led_times (spot_slot (frames_view self.old.instances.slots) at) d
+            (spots_in program.now (body_of program.now number) (entry program.now number).writes)) self.old.store self.new.store
+            × Closes (λ d. led_times (spot_slot (frames_view self.old.instances.slots) at) d
+            (spots_in program.now (body_of program.now number) (entry program.now number).writes)) self.old.store closed
             × (map want_view known.new.items ≡ map want_view known.old.items ++ map Whole closed)) }
         ensures instances { self.new.instances ≡ self.old.instances }
         ensures rising { OnOk result (AreRising self.old.store → AreRising self.new.store) }
-        ensures succeeds { spots_number program.now number ≤ vec_capacity self.old.closed → vec_len known.old + spots_number program.now number ≤ vec_capacity known.old → IsOk result }
+        ensures succeeds { spots_number program.now number ≤ vec_capacity self.old.closed
+            → vec_len known.old + spots_number program.now number ≤ vec_capacity known.old → IsOk result }
     {
         let writes = writes_of(program, number);
         self.closed.clear();
@@ -280,9 +288,12 @@ impl World {
         program: &Program,
         job: Job,
     ) -> Result<(), AllocError>
-        ensures goes { OnOk result ((closed : List ℕ) × LetsGo program.now (job_view job) (frames_view self.old.instances.slots) (frames_view self.new.instances.slots) self.old.store self.new.store closed × (map want_view known.new.items ≡ map want_view known.old.items ++ map Whole closed)) }
+        ensures goes { OnOk result ((closed : List ℕ)
+            × LetsGo program.now (job_view job) (frames_view self.old.instances.slots) (frames_view self.new.instances.slots) self.old.store self.new.store
+            closed × (map want_view known.new.items ≡ map want_view known.old.items ++ map Whole closed)) }
         ensures rising { OnOk result (AreRising self.old.store → AreRising self.new.store) }
-        ensures succeeds { holds_of program.now (job_view job) ≤ vec_capacity self.old.closed → vec_len known.old + holds_of program.now (job_view job) ≤ vec_capacity known.old → IsOk result }
+        ensures succeeds { holds_of program.now (job_view job) ≤ vec_capacity self.old.closed
+            → vec_len known.old + holds_of program.now (job_view job) ≤ vec_capacity known.old → IsOk result }
     {
         match job {
             Job::Script => {}
@@ -308,14 +319,16 @@ impl World {
         job: Job,
         change: Change,
     ) -> Result<Vec<Inputs>, AllocError>
-        ensures changed { OnOk result (Changed program.now (job_view job) change (frames_view self.old.instances.slots) (frames_view self.new.instances.slots) (rows_view rows.old.items) (rows_view rows.new.items) self.old.store self.new.store) }
+        ensures changed { OnOk result (Changed program.now (job_view job) change (frames_view self.old.instances.slots) (frames_view self.new.instances.slots)
+            (rows_view rows.old.items) (rows_view rows.new.items) self.old.store self.new.store) }
         ensures told { OnOk result (map want_view known.new.items ≡ map want_view known.old.items ++ told_of change) }
         ensures spare { IfOk result (λ spare. spare.items ≡ spare_of change) }
         ensures rising { OnOk result (AreRising self.old.store → AreRising self.new.store) }
         ensures len { OnOk result (vec_len known.new ≤ vec_len known.old + told_by change) }
         ensures capacity { vec_capacity known.old ≤ vec_capacity known.new }
         ensures closed { self.new.closed ≡ self.old.closed }
-        ensures succeeds { CanOpen program.now (job_view job) change self.old.instances self.old.store rows.old → vec_len known.old + told_by change ≤ vec_capacity known.old → IsOk result }
+        ensures succeeds { CanOpen program.now (job_view job) change self.old.instances self.old.store rows.old
+            → vec_len known.old + told_by change ≤ vec_capacity known.old → IsOk result }
     {
         match change {
             Change::Nothing => {}
@@ -344,7 +357,8 @@ impl World {
         change: Change,
     ) -> Result<Vec<Inputs>, AllocError>
         ensures ends { OnOk result ((news : List (Want ℕ)) × (map want_view known.new.items ≡ map want_view known.old.items ++ news)
-            × WorldEnds program.now (job_view job) change (frames_view self.old.instances.slots) (frames_view self.new.instances.slots) (rows_view rows.old.items) (rows_view rows.new.items) self.old.store self.new.store news) }
+            × WorldEnds program.now (job_view job) change (frames_view self.old.instances.slots) (frames_view self.new.instances.slots)
+            (rows_view rows.old.items) (rows_view rows.new.items) self.old.store self.new.store news) }
         ensures spare { IfOk result (λ spare. spare.items ≡ spare_of change) }
         ensures rising { OnOk result (AreRising self.old.store → AreRising self.new.store) }
         ensures succeeds { HasRoomToEnd program.now (job_view job) change self.old rows.old known.old → IsOk result }

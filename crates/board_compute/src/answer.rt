@@ -63,7 +63,8 @@ impl Answer {
 
 /// The answer to the need at this place.
 pub(crate) fn answer_to(answers: &[Answer], place: u32) -> Option<&Answer>
-    ensures { MatchOption result (answer_at (answers_view answers.now) place ≡ None) (λ answer. answer_at (answers_view answers.now) place ≡ Some (answer_view answer.now)) }
+    ensures { MatchOption result (answer_at (answers_view answers.now) place ≡ None)
+        (λ answer. answer_at (answers_view answers.now) place ≡ Some (answer_view answer.now)) }
 {
     match answers.get(place as usize) {
         Some(answer) => Some(answer),

@@ -89,7 +89,8 @@ fn operate(
     answers: &[Answer],
 ) -> Result<Value, OpFault>
     ensures value { IfOk result (λ value. evaluated (operation_of op.now) (evals (answers_view answers.now) (exprs_view operands.now.items)) ≡ Ok value) }
-    ensures fault { IfErr result (λ fault. fault ≢ OpFault.Memory → evaluated (operation_of op.now) (evals (answers_view answers.now) (exprs_view operands.now.items)) ≡ Err fault) }
+    ensures fault { IfErr result (λ fault. fault ≢ OpFault.Memory
+        → evaluated (operation_of op.now) (evals (answers_view answers.now) (exprs_view operands.now.items)) ≡ Err fault) }
 {
     match operands.as_slice() {
         [one] => {
@@ -118,7 +119,8 @@ fn append_values(
     answers: &[Answer],
 ) -> Result<(), OpFault>
     ensures value { OnOk result (in_front values.old.items (all_values (evals (answers_view answers.now) (exprs_view exprs.now.items))) ≡ Ok values.new.items) }
-    ensures fault { IfErr result (λ fault. fault ≢ OpFault.Memory → in_front values.old.items (all_values (evals (answers_view answers.now) (exprs_view exprs.now.items))) ≡ Err fault) }
+    ensures fault { IfErr result (λ fault. fault ≢ OpFault.Memory
+        → in_front values.old.items (all_values (evals (answers_view answers.now) (exprs_view exprs.now.items))) ≡ Err fault) }
 {
     for expr in exprs {
         values.push(value_of(alloc, expr, answers)?)?;

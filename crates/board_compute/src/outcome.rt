@@ -171,7 +171,8 @@ fn written(
     right: &Expr,
     answers: &[Answer],
 ) -> Result<Computed, AllocError>
-    ensures { IfOk result (λ c. computed_view c ≡ put (eval (answers_view answers.now) (expr_view index.now)) (eval (answers_view answers.now) (expr_view right.now))) }
+    ensures { IfOk result (λ c. computed_view c ≡ put (eval (answers_view answers.now) (expr_view index.now))
+        (eval (answers_view answers.now) (expr_view right.now))) }
 {
     let index = match evaluate(alloc, index, answers)? {
         Ok(index) => index,
@@ -212,7 +213,8 @@ fn counted(
     step: &Expr,
     answers: &[Answer],
 ) -> Result<Computed, AllocError>
-    ensures { IfOk result (λ c. computed_view c ≡ ranged (eval (answers_view answers.now) (expr_view low.now)) (eval (answers_view answers.now) (expr_view high.now)) (eval (answers_view answers.now) (expr_view step.now))) }
+    ensures { IfOk result (λ c. computed_view c ≡ ranged (eval (answers_view answers.now) (expr_view low.now))
+        (eval (answers_view answers.now) (expr_view high.now)) (eval (answers_view answers.now) (expr_view step.now))) }
 {
     let low = match evaluate(alloc, low, answers)? {
         Ok(low) => low.number(),

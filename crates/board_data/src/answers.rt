@@ -47,7 +47,9 @@ fn content(store: &Store, d: usize) -> Result<Answer, AllocError>
 /// The answer to what is waited for.
 #[inline(always)]
 fn answer(view: View<'_>, wanted: &Wanted) -> Result<Answer, AllocError>
-    ensures { IfOk result (λ answer. answer_view answer ≡ wanted_answer view.entry.program.now (cells_view view.entry.store.now.cells) (led_slot (frames_view view.entry.instances.now.slots) view.entry.at) wanted.now) }
+    ensures { IfOk result (λ answer. answer_view answer
+        ≡ wanted_answer view.entry.program.now (cells_view view.entry.store.now.cells)
+        (led_slot (frames_view view.entry.instances.now.slots) view.entry.at) wanted.now) }
 {
     match wanted {
         Wanted::Closed(spot) => match view.datum(*spot) {
@@ -65,7 +67,9 @@ fn answer(view: View<'_>, wanted: &Wanted) -> Result<Answer, AllocError>
 /// `AllocError` where memory that was asked for was refused. None is asked for where the list has room.
 #[inline(always)]
 pub fn answers(list: &mut Vec<Answer>, view: View<'_>, needs: &[Wanted]) -> Result<(), AllocError>
-    ensures { OnOk result (answers_view list.new.items ≡ map (wanted_answer view.entry.program.now (cells_view view.entry.store.now.cells) (led_slot (frames_view view.entry.instances.now.slots) view.entry.at)) needs.now) }
+    ensures { OnOk result (answers_view list.new.items
+        ≡ map (wanted_answer view.entry.program.now (cells_view view.entry.store.now.cells)
+        (led_slot (frames_view view.entry.instances.now.slots) view.entry.at)) needs.now) }
 {
     list.clear();
     list.reserve_exact(needs.len())?;
@@ -127,7 +131,8 @@ fn is_content(store: &Store, d: usize, map: &Map) -> bool
 /// Whether this is the answer that is the whole array.
 #[tactic(auto, using(crate::proofs::Compared::content_listed, crate::proofs::Compared::content_unlisted, crate::proofs::Compared::missing_listed, crate::proofs::Compared::found_unlisted))]
 fn is_listed(store: &Store, d: usize, answer: &Answer) -> bool
-    ensures { IsTrue (rising (array_at store.now d).elements) → IsTrue result ↔ (answer_view answer.now ≡ cell_answer (slot_at (cells_view store.now.cells) d)) }
+    ensures { IsTrue (rising (array_at store.now d).elements)
+        → IsTrue result ↔ (answer_view answer.now ≡ cell_answer (slot_at (cells_view store.now.cells) d)) }
 {
     match answer {
         Answer::Content(map) => is_array(store, d) && is_content(store, d, map),
@@ -139,7 +144,9 @@ fn is_listed(store: &Store, d: usize, answer: &Answer) -> bool
 /// Whether this is the answer to what is waited for.
 #[tactic(auto, using(crate::proofs::Compared::answer_is))]
 fn is_answer(view: View<'_>, wanted: &Wanted, answer: &Answer) -> bool
-    ensures { ((d : ℕ) → IsTrue (rising (array_at view.entry.store.now d).elements)) → IsTrue result ↔ (answer_view answer.now ≡ wanted_answer view.entry.program.now (cells_view view.entry.store.now.cells) (led_slot (frames_view view.entry.instances.now.slots) view.entry.at) wanted.now) }
+    ensures { ((d : ℕ) → IsTrue (rising (array_at view.entry.store.now d).elements))
+        → IsTrue result ↔ (answer_view answer.now ≡ wanted_answer view.entry.program.now (cells_view view.entry.store.now.cells)
+        (led_slot (frames_view view.entry.instances.now.slots) view.entry.at) wanted.now) }
 {
     match wanted {
         Wanted::Closed(spot) => match view.datum(*spot) {
@@ -155,7 +162,10 @@ fn is_answer(view: View<'_>, wanted: &Wanted, answer: &Answer) -> bool
 
 /// Whether these are the answers to all that is waited for, in order, where each array lists its elements by rising key.
 pub fn are_answers(view: View<'_>, needs: &[Wanted], answers: &[Answer]) -> bool
-    ensures { ((d : ℕ) → IsTrue (rising (array_at view.entry.store.now d).elements)) → IsTrue result ↔ (answers_view answers.now ≡ map (wanted_answer view.entry.program.now (cells_view view.entry.store.now.cells) (led_slot (frames_view view.entry.instances.now.slots) view.entry.at)) needs.now) }
+    ensures { ((d : ℕ) → IsTrue (rising (array_at view.entry.store.now d).elements))
+        → IsTrue result ↔ (answers_view answers.now ≡ map
+        (wanted_answer view.entry.program.now (cells_view view.entry.store.now.cells)
+        (led_slot (frames_view view.entry.instances.now.slots) view.entry.at)) needs.now) }
 {
     let mut rest = answers;
     for wanted in needs {

@@ -74,8 +74,10 @@ pub fn put(store: &mut Store, d: usize, value: Scalar)
 
 /// Gives an array an element. One that nobody may write, or that has this key, takes none; there is room for it.
 pub fn insert(store: &mut Store, d: usize, key: Key, value: Scalar)
-    ensures took { IsArrayAt store.old d → 0 < (datum store.old d).writes → found key (array_at store.old d).elements ≡ None → 0 < room_for key (array_at store.old d) → store.new ≡ changed d (with_array (with_element key value)) store.old }
-    ensures exact { (store.new ≡ store.old) ⊎ (IsArrayAt store.old d × (0 < (datum store.old d).writes) × (found key (array_at store.old d).elements ≡ None) × (store.new ≡ changed d (with_array (with_element key value)) store.old)) }
+    ensures took { IsArrayAt store.old d → 0 < (datum store.old d).writes → found key (array_at store.old d).elements ≡ None
+        → 0 < room_for key (array_at store.old d) → store.new ≡ changed d (with_array (with_element key value)) store.old }
+    ensures exact { (store.new ≡ store.old) ⊎ (IsArrayAt store.old d × (0 < (datum store.old d).writes) × (found key (array_at store.old d).elements ≡ None)
+        × (store.new ≡ changed d (with_array (with_element key value)) store.old)) }
 {
     if let Some(Shape::Keyed) = store.shape(d) {
         let _inserted = store.insert(d, key, value);

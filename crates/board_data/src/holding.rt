@@ -29,7 +29,8 @@ fn hold_often(store: &mut Store, d: usize, reads: u64, writes: u64, times: u64)
 
 /// Adds a hold for each of so many instances, seen from one of them.
 fn hold_spot(store: &mut Store, instances: &Slab<Instance>, at: usize, hold: &Hold, times: u64)
-    ensures { store.new ≡ held_at (datum_of (spot_slot (frames_view instances.now.slots) at hold.now.spot)) (times * hold.now.reads) (times * hold.now.writes) store.old }
+    ensures { store.new ≡ held_at (datum_of (spot_slot (frames_view instances.now.slots) at hold.now.spot)) (times * hold.now.reads)
+        (times * hold.now.writes) store.old }
 {
     if let Some(d) = datum_at(instances, at, Some(hold.spot)) {
         hold_often(store, d, hold.reads, hold.writes, times);
@@ -54,7 +55,8 @@ fn close_spot(
     spot: Spot,
 )
     ensures store { store.new ≡ closed_at (datum_of (spot_slot (frames_view instances.now.slots) at spot)) store.old }
-    ensures closed { vec_len closed.old < vec_capacity closed.old → closed.new.items ≡ closed.old.items ++ closing (datum_of (spot_slot (frames_view instances.now.slots) at spot)) store.old }
+    ensures closed { vec_len closed.old < vec_capacity closed.old
+        → closed.new.items ≡ closed.old.items ++ closing (datum_of (spot_slot (frames_view instances.now.slots) at spot)) store.old }
     ensures room { (n : ℕ) → vec_len closed.old + (n + 1) ≤ vec_capacity closed.old → vec_len closed.new + n ≤ vec_capacity closed.new }
 {
     if let Some(d) = datum_at(instances, at, Some(spot)) {
@@ -74,7 +76,8 @@ pub fn hold_outer(
 )
     ensures added { let f = spot_slot (frames_view instances.now.slots) at in (d : ℕ) →
         Fit (times * hold_times f (λ h. h.reads) d outer.now) (times * hold_times f (λ h. h.writes) d outer.now) (cell store.old d) →
-        cell store.new d ≡ option_map (with_holds (times * hold_times f (λ h. h.reads) d outer.now) (times * hold_times f (λ h. h.writes) d outer.now)) (cell store.old d) }
+        cell store.new d ≡ option_map (with_holds (times * hold_times f (λ h. h.reads) d outer.now)
+        (times * hold_times f (λ h. h.writes) d outer.now)) (cell store.old d) }
     ensures rising { AreRising store.old → AreRising store.new }
 {
     for hold in outer {
@@ -101,7 +104,9 @@ fn close_all(
     writes: &[Spot],
 )
     ensures store { GivesUp (λ d. 0) (λ d. led_times (spot_slot (frames_view instances.now.slots) at) d writes.now) store.old store.new }
-    ensures closed { vec_len closed.old + length writes.now ≤ vec_capacity closed.old → (added : List ℕ) × (closed.new.items ≡ closed.old.items ++ added) × (length added ≤ length writes.now) × Closes (λ d. led_times (spot_slot (frames_view instances.now.slots) at) d writes.now) store.old added }
+    ensures closed { vec_len closed.old + length writes.now ≤ vec_capacity closed.old
+        → (added : List ℕ) × (closed.new.items ≡ closed.old.items ++ added) × (length added ≤ length writes.now)
+        × Closes (λ d. led_times (spot_slot (frames_view instances.now.slots) at) d writes.now) store.old added }
     ensures rising { AreRising store.old → AreRising store.new }
 {
     for spot in writes {
@@ -119,8 +124,11 @@ pub fn give_up(
     reads: &[Spot],
     writes: &[Spot],
 )
-    ensures store { GivesUp (λ d. led_times (spot_slot (frames_view instances.now.slots) at) d reads.now) (λ d. led_times (spot_slot (frames_view instances.now.slots) at) d writes.now) store.old store.new }
-    ensures closed { vec_len closed.old + length writes.now ≤ vec_capacity closed.old → (added : List ℕ) × (closed.new.items ≡ closed.old.items ++ added) × (length added ≤ length writes.now) × Closes (λ d. led_times (spot_slot (frames_view instances.now.slots) at) d writes.now) store.old added }
+    ensures store { GivesUp (λ d. led_times (spot_slot (frames_view instances.now.slots) at) d reads.now)
+        (λ d. led_times (spot_slot (frames_view instances.now.slots) at) d writes.now) store.old store.new }
+    ensures closed { vec_len closed.old + length writes.now ≤ vec_capacity closed.old
+        → (added : List ℕ) × (closed.new.items ≡ closed.old.items ++ added) × (length added ≤ length writes.now)
+        × Closes (λ d. led_times (spot_slot (frames_view instances.now.slots) at) d writes.now) store.old added }
     ensures rising { AreRising store.old → AreRising store.new }
 {
     close_all(store, closed, instances, at, writes);

@@ -25,12 +25,15 @@ ghost use Rattle.board_data.specs.Wanted.{FewSlots, wanted_missed};
 /// datum that was there has become what an End makes of it; one that was made, to which nobody adds holds, is as it was made;
 /// and there is no other.
 pub fn ended_data()
-    ensures old { (C : Code) (L : Layout) (fs hs : List (Option Frame)) (j : Job) (x : Computed) (made : List Instance) (os : List (Opening Task Place)) (target : Option ℕ) (values : Elements) (s t : Store) →
+    ensures old { (C : Code) (L : Layout) (fs hs : List (Option Frame)) (j : Job) (x : Computed) (made : List Instance) (os : List (Opening Task Place))
+        (target : Option ℕ) (values : Elements) (s t : Store) →
         JobChanges C L fs hs j x made os target values s t →
         (d : ℕ) (c : Counted) → slot_at (cells_view s.cells) d ≡ Some c → CellAfter C L fs hs j x made os d c (slot_at (cells_view t.cells) d) }
-    ensures new { (target : Option ℕ) (values : Elements) (ar aw gr gw : ℕ → ℕ) (s t : Store) → (changes : Changes target values ar aw gr gw s t) → Covers gr gw s →
+    ensures new { (target : Option ℕ) (values : Elements) (ar aw gr gw : ℕ → ℕ) (s t : Store)
+        → (changes : Changes target values ar aw gr gw s t) → Covers gr gw s →
         (d : ℕ) (y : Datum) → at s d ≡ None → at changes.made d ≡ Some y → is_spent y ≡ false → ar d ≡ 0 → aw d ≡ 0 → at t d ≡ Some y }
-    ensures only { (target : Option ℕ) (values : Elements) (ar aw gr gw : ℕ → ℕ) (s t : Store) → (changes : Changes target values ar aw gr gw s t) → Covers gr gw s →
+    ensures only { (target : Option ℕ) (values : Elements) (ar aw gr gw : ℕ → ℕ) (s t : Store)
+        → (changes : Changes target values ar aw gr gw s t) → Covers gr gw s →
         (d : ℕ) (y : Datum) → at t d ≡ Some y → (x : Datum) × (at changes.made d ≡ Some x) }
 {}
 

@@ -180,7 +180,8 @@ impl<'a> View<'a> {
     #[tactic(auto, using(crate::proofs::Cells::value_there))]
     #[inline(always)]
     pub fn scalar(self, spot: Option<Spot>) -> Option<&'a Scalar>
-        ensures { option_copied result ≡ scalar_in self.entry.program.now (cells_view self.entry.store.now.cells) (led_slot (frames_view self.entry.instances.now.slots) self.entry.at spot) }
+        ensures { option_copied result ≡ scalar_in self.entry.program.now (cells_view self.entry.store.now.cells)
+            (led_slot (frames_view self.entry.instances.now.slots) self.entry.at spot) }
     {
         match self.slot(spot) {
             Slot::Datum(d) => value(self.store, d),
@@ -193,7 +194,8 @@ impl<'a> View<'a> {
     #[tactic(auto, using(crate::proofs::Cells::element_there))]
     #[inline(always)]
     pub fn found(self, wanted: &Wanted) -> Option<&'a Scalar>
-        ensures { option_copied result ≡ wanted_found self.entry.program.now (cells_view self.entry.store.now.cells) (led_slot (frames_view self.entry.instances.now.slots) self.entry.at) wanted.now }
+        ensures { option_copied result ≡ wanted_found self.entry.program.now (cells_view self.entry.store.now.cells)
+            (led_slot (frames_view self.entry.instances.now.slots) self.entry.at) wanted.now }
     {
         match wanted {
             Wanted::Stored(spot) => self.scalar(*spot),
@@ -209,7 +211,8 @@ impl<'a> View<'a> {
     /// What is missing now: an element whose index is not known waits for the index first.
     #[inline(always)]
     pub fn missing(self, wanted: &Wanted) -> Option<Input>
-        ensures { wants_in result ≡ wanted_missed self.entry.program.now (cells_view self.entry.store.now.cells) (led_slot (frames_view self.entry.instances.now.slots) self.entry.at) wanted.now }
+        ensures { wants_in result ≡ wanted_missed self.entry.program.now (cells_view self.entry.store.now.cells)
+            (led_slot (frames_view self.entry.instances.now.slots) self.entry.at) wanted.now }
     {
         match wanted {
             Wanted::Stored(spot) => missing_scalar(self.store, self.slot(*spot)),
@@ -229,7 +232,8 @@ impl<'a> View<'a> {
     /// Whether something is missing now.
     #[tactic(auto, using(crate::proofs::Missed::value_of_slot))]
     pub fn misses(self, wanted: &Wanted) -> bool
-        ensures { result ≡ not (is_nil (wanted_missed self.entry.program.now (cells_view self.entry.store.now.cells) (led_slot (frames_view self.entry.instances.now.slots) self.entry.at) wanted.now)) }
+        ensures { result ≡ not (is_nil (wanted_missed self.entry.program.now (cells_view self.entry.store.now.cells)
+            (led_slot (frames_view self.entry.instances.now.slots) self.entry.at) wanted.now)) }
     {
         match wanted {
             Wanted::Stored(spot) => lacks_value(self.store, self.datum(*spot)),
@@ -242,7 +246,9 @@ impl<'a> View<'a> {
 
     /// Puts what is missing behind the inputs, if anything is.
     fn push_missing(self, wanted: &Wanted, inputs: &mut Inputs) -> Result<(), AllocError>
-        ensures pushed { OnOk result (map want_view inputs.new.items ≡ map want_view inputs.old.items ++ wanted_missed self.entry.program.now (cells_view self.entry.store.now.cells) (led_slot (frames_view self.entry.instances.now.slots) self.entry.at) wanted.now) }
+        ensures pushed { OnOk result (map want_view inputs.new.items
+            ≡ map want_view inputs.old.items ++ wanted_missed self.entry.program.now (cells_view self.entry.store.now.cells)
+            (led_slot (frames_view self.entry.instances.now.slots) self.entry.at) wanted.now) }
         ensures succeeds { HasRoomFor inputs.old 1 → IsOk result }
         ensures room { (n : ℕ) → HasRoomFor inputs.old (n + 1) → HasRoomFor inputs.new n }
     {
@@ -261,7 +267,10 @@ impl<'a> View<'a> {
     #[tactic(auto, using(crate::proofs::Missed::missed_end))]
     #[inline(always)]
     pub fn list_missing(self, needs: &[Wanted], inputs: &mut Inputs) -> Result<(), AllocError>
-        ensures listed { OnOk result (map want_view inputs.new.items ≡ map want_view inputs.old.items ++ flat_map (wanted_missed self.entry.program.now (cells_view self.entry.store.now.cells) (led_slot (frames_view self.entry.instances.now.slots) self.entry.at)) needs.now) }
+        ensures listed { OnOk result (map want_view inputs.new.items
+            ≡ map want_view inputs.old.items ++ flat_map
+            (wanted_missed self.entry.program.now (cells_view self.entry.store.now.cells)
+            (led_slot (frames_view self.entry.instances.now.slots) self.entry.at)) needs.now) }
         ensures succeeds { HasRoomFor inputs.old (length needs.now) → IsOk result }
     {
         for wanted in needs {

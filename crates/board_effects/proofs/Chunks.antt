@@ -7,6 +7,7 @@ use Rattle.values.specs.Ranges.{value_in}
 use Rattle.values.specs.declared.key.Key.TheVariants.{Number as number_key}
 use Rattle.values.specs.declared.map.Element.{Element}
 use Rattle.values.specs.declared.value.Scalar.TheVariants.{Number}
+use Rattle.values.specs.Limits.{chunk_size}
 
 drop_none : {X : Type 0} (n : ℕ) → ◌≡◌ {A = List X} (drop n []) []
 drop_none zero = refl
@@ -24,11 +25,11 @@ drop_twice (suc m) n (x ∷ xs) = drop_twice m n xs ∙ ap (λ i. drop i (x ∷ 
     later m n = omega arith
 
 -- what is left before a chunk
-pub left_by : {X : Type 0} (c : ℕ) (xs : List X) → left_at c xs ≡ drop (c * 64) xs
+pub left_by : {X : Type 0} (c : ℕ) (xs : List X) → left_at c xs ≡ drop (c * chunk_size) xs
 left_by zero xs = refl
-left_by (suc c) xs = left_by c (drop 64 xs) ∙ drop_twice 64 (c * 64) xs ∙ ap (λ n. drop n xs) (next c)
+left_by (suc c) xs = left_by c (drop chunk_size xs) ∙ drop_twice chunk_size (c * chunk_size) xs ∙ ap (λ n. drop n xs) (next c)
   where
-    next : (c : ℕ) → 64 + c * 64 ≡ suc c * 64
+    next : (c : ℕ) → chunk_size + c * chunk_size ≡ suc c * chunk_size
     next c = omega arith
 
 -- turns of a range
@@ -75,16 +76,16 @@ same_range : (low step : ℤ) (a b m n : ℕ) → m ≡ n → (0 < n → a ≡ b
 same_range low step a b m zero e h = ap (range_turns low step a) e
 same_range low step a b m (suc n) e h = ap (range_turns low step a) e ∙ ap (λ i. range_turns low step i (suc n)) (h (omega arith))
 
-pub range_chunk : (low step : ℤ) (c count : ℕ) → range_turns low step (min (c * 64) count) (min (min (c * 64 + 64) count) count - min (c * 64) count) ≡ chunk c (range_turns low step 0 count)
+pub range_chunk : (low step : ℤ) (c count : ℕ) → range_turns low step (min (c * chunk_size) count) (min (min (c * chunk_size + chunk_size) count) count - min (c * chunk_size) count) ≡ chunk c (range_turns low step 0 count)
 range_chunk low step c count =
-    same_range low step (min (c * 64) count) (0 + c * 64) (min (min (c * 64 + 64) count) count - min (c * 64) count) (min 64 (count - c * 64)) (here (c * 64) count) (there (c * 64) count)
-    ∙ sym (take_range low step 64 (0 + c * 64) (count - c * 64))
-    ∙ ap (take 64) (sym (left_by c (range_turns low step 0 count) ∙ drop_range low step (c * 64) 0 count))
+    same_range low step (min (c * chunk_size) count) (0 + c * chunk_size) (min (min (c * chunk_size + chunk_size) count) count - min (c * chunk_size) count) (min chunk_size (count - c * chunk_size)) (here (c * chunk_size) count) (there (c * chunk_size) count)
+    ∙ sym (take_range low step chunk_size (0 + c * chunk_size) (count - c * chunk_size))
+    ∙ ap (take chunk_size) (sym (left_by c (range_turns low step 0 count) ∙ drop_range low step (c * chunk_size) 0 count))
   where
-    here : (m n : ℕ) → min (min (m + 64) n) n - min m n ≡ min 64 (n - m)
+    here : (m n : ℕ) → min (min (m + chunk_size) n) n - min m n ≡ min chunk_size (n - m)
     here m n = omega arith
 
-    there : (m n : ℕ) → 0 < min 64 (n - m) → min m n ≡ 0 + m
+    there : (m n : ℕ) → 0 < min chunk_size (n - m) → min m n ≡ 0 + m
     there m n h = omega (arith, h)
 
 -- whether there are turns in a chunk, and whether some are left behind it
@@ -103,17 +104,17 @@ some_left (suc k) (x ∷ xs) = some_left k xs ∙ next k (length xs)
     next : (k n : ℕ) → nat_lt k n ≡ nat_lt (suc k) (suc n)
     next k n = grind arith
 
-some_first : {X : Type 0} (xs : List X) → is_some_list (take 64 xs) ≡ is_some_list xs
+some_first : {X : Type 0} (xs : List X) → is_some_list (take chunk_size xs) ≡ is_some_list xs
 some_first [] = refl
 some_first (x ∷ xs) = refl
 
-pub some_chunk : {X : Type 0} (c : ℕ) (xs : List X) → is_some_list (chunk c xs) ≡ nat_lt (c * 64) (length xs)
-some_chunk c xs = some_first (left_at c xs) ∙ ap is_some_list (left_by c xs) ∙ some_left (c * 64) xs
+pub some_chunk : {X : Type 0} (c : ℕ) (xs : List X) → is_some_list (chunk c xs) ≡ nat_lt (c * chunk_size) (length xs)
+some_chunk c xs = some_first (left_at c xs) ∙ ap is_some_list (left_by c xs) ∙ some_left (c * chunk_size) xs
 
-pub some_behind : {X : Type 0} (c : ℕ) (xs : List X) → is_some_list (left_at (suc c) xs) ≡ nat_lt (c * 64 + 64) (length xs)
-some_behind c xs = ap is_some_list (left_by (suc c) xs) ∙ some_left (suc c * 64) xs ∙ ap (λ n. nat_lt n (length xs)) (next c)
+pub some_behind : {X : Type 0} (c : ℕ) (xs : List X) → is_some_list (left_at (suc c) xs) ≡ nat_lt (c * chunk_size + chunk_size) (length xs)
+some_behind c xs = ap is_some_list (left_by (suc c) xs) ∙ some_left (suc c * chunk_size) xs ∙ ap (λ n. nat_lt n (length xs)) (next c)
   where
-    next : (c : ℕ) → suc c * 64 ≡ c * 64 + 64
+    next : (c : ℕ) → suc c * chunk_size ≡ c * chunk_size + chunk_size
     next c = omega arith
 
 -- elements of an array
@@ -131,13 +132,13 @@ pub pairs_length : (es : List Element) → length (pairs es) ≡ length es
 pairs_length [] = refl
 pairs_length (e ∷ es) = ap suc (pairs_length es)
 
-pub elements_chunk : (c : ℕ) (es : List Element) (first end : ℕ) → first ≡ min (c * 64) (length es) → end ≡ min (c * 64 + 64) (length es) → pairs (take (end - first) (drop first es)) ≡ chunk c (pairs es)
+pub elements_chunk : (c : ℕ) (es : List Element) (first end : ℕ) → first ≡ min (c * chunk_size) (length es) → end ≡ min (c * chunk_size + chunk_size) (length es) → pairs (take (end - first) (drop first es)) ≡ chunk c (pairs es)
 elements_chunk c es first end begins ends =
-    ap (λ l. pairs (take (end - first) l)) (ap (λ n. drop n es) begins ∙ drop_min (c * 64) es)
-    ∙ ap (λ n. pairs (take n (drop (c * 64) es))) (here (c * 64) (length es) first end begins ends ∙ ap (min 64) (sym (length-drop (c * 64) es)))
-    ∙ ap pairs (take_min 64 (drop (c * 64) es))
-    ∙ sym (take_pairs 64 (drop (c * 64) es))
-    ∙ ap (take 64) (sym (drop_pairs (c * 64) es) ∙ sym (left_by c (pairs es)))
+    ap (λ l. pairs (take (end - first) l)) (ap (λ n. drop n es) begins ∙ drop_min (c * chunk_size) es)
+    ∙ ap (λ n. pairs (take n (drop (c * chunk_size) es))) (here (c * chunk_size) (length es) first end begins ends ∙ ap (min chunk_size) (sym (length-drop (c * chunk_size) es)))
+    ∙ ap pairs (take_min chunk_size (drop (c * chunk_size) es))
+    ∙ sym (take_pairs chunk_size (drop (c * chunk_size) es))
+    ∙ ap (take chunk_size) (sym (drop_pairs (c * chunk_size) es) ∙ sym (left_by c (pairs es)))
   where
-    here : (m n f e : ℕ) → f ≡ min m n → e ≡ min (m + 64) n → e - f ≡ min 64 (n - m)
+    here : (m n f e : ℕ) → f ≡ min m n → e ≡ min (m + chunk_size) n → e - f ≡ min chunk_size (n - m)
     here m n f e q r = omega (arith, q, r)

@@ -13,7 +13,7 @@ use Rattle.task_code.specs.Code.{Code, Entry, Loop, body, entry, loop_of}
 use Rattle.task_code.specs.Compute.{Elements, TooDeep, Turns}
 use Rattle.task_code.specs.Effects.{chunk, effect_at, instances, is_some_list, left_at, prints, rest, rest_if, step_at, steps_on}
 use Rattle.task_code.specs.Places.{Step}
-use Rattle.values.specs.Limits.{most_steps}
+use Rattle.values.specs.Limits.{chunk_size, most_steps}
 use Rattle.values.specs.declared.key.Key.{Key}
 use Rattle.values.specs.declared.value.Scalar.{Scalar}
 use Rattle.board_instances.specs.Made.{block_of}
@@ -129,12 +129,12 @@ lt_from : (a b : ℕ) → nat_lt a b ≡ true → a < b
 lt_from a b h = grind (arith, h)
 
 -- it is over a chunk that begins and ends there
-module _ (p : Ended) (w : IsEnded p) (b : ℕ) (l : IsLoop p b) (ts : Elements) (count first end : ℕ) (begins : first ≡ min (p.chunk * 64) count) (ends : end ≡ min (p.chunk * 64 + 64) count) (all : length ts ≡ count) where
-  has_turns : is_some_list (chunk p.chunk ts) ≡ nat_lt (p.chunk * 64) count
-  has_turns = some_chunk p.chunk ts ∙ ap (λ n. nat_lt (p.chunk * 64) n) all
+module _ (p : Ended) (w : IsEnded p) (b : ℕ) (l : IsLoop p b) (ts : Elements) (count first end : ℕ) (begins : first ≡ min (p.chunk * chunk_size) count) (ends : end ≡ min (p.chunk * chunk_size + chunk_size) count) (all : length ts ≡ count) where
+  has_turns : is_some_list (chunk p.chunk ts) ≡ nat_lt (p.chunk * chunk_size) count
+  has_turns = some_chunk p.chunk ts ∙ ap (λ n. nat_lt (p.chunk * chunk_size) n) all
 
   has_more : nat_lt end count ≡ is_some_list (left_at (suc p.chunk) ts)
-  has_more = ap (λ n. nat_lt n count) ends ∙ least (p.chunk * 64 + 64) count ∙ sym (some_behind p.chunk ts ∙ ap (λ n. nat_lt (p.chunk * 64 + 64) n) all)
+  has_more = ap (λ n. nat_lt n count) ends ∙ least (p.chunk * chunk_size + chunk_size) count ∙ sym (some_behind p.chunk ts ∙ ap (λ n. nat_lt (p.chunk * chunk_size + chunk_size) n) all)
     where
       least : (m n : ℕ) → nat_lt (min m n) n ≡ nat_lt m n
       least m n = elim (cases_Bool (nat_lt m n)) [
@@ -146,18 +146,18 @@ module _ (p : Ended) (w : IsEnded p) (b : ℕ) (l : IsLoop p b) (ts : Elements) 
       ]
 
   pub chunk_deep : first < end → nat_le most_steps (length (path_of (frames_of p) p.view.at)) ≡ true → (e : Effect) → FailsWith p (OfTask TooDeep) e → Ends p (Turns ts) e
-  chunk_deep h d e f = fails_ends p (Turns ts) (OfTask TooDeep) e (loop_deep p w l.0 ts l.1 (has_turns ∙ lt_true (p.chunk * 64) count (here (p.chunk * 64) count first end begins ends h)) d) f
+  chunk_deep h d e f = fails_ends p (Turns ts) (OfTask TooDeep) e (loop_deep p w l.0 ts l.1 (has_turns ∙ lt_true (p.chunk * chunk_size) count (here (p.chunk * chunk_size) count first end begins ends h)) d) f
     where
-      here : (m n f e : ℕ) → f ≡ min m n → e ≡ min (m + 64) n → f < e → m < n
+      here : (m n f e : ℕ) → f ≡ min m n → e ≡ min (m + chunk_size) n → f < e → m < n
       here m n f e q r h = omega (arith, q, r, h)
 
   not_deep : (first < end → nat_le most_steps (length (path_of (frames_of p) p.view.at)) ≡ false) → (is_some_list (chunk p.chunk ts) && nat_le most_steps (length (path_of (frames_of p) p.view.at))) ≡ false
-  not_deep h = elim (cases_Bool (nat_lt (p.chunk * 64) count)) [
-    | inl t ↦ and_right _ _ (h (here (p.chunk * 64) count first end begins ends (lt_from (p.chunk * 64) count t)))
+  not_deep h = elim (cases_Bool (nat_lt (p.chunk * chunk_size) count)) [
+    | inl t ↦ and_right _ _ (h (here (p.chunk * chunk_size) count first end begins ends (lt_from (p.chunk * chunk_size) count t)))
     | inr f ↦ and_left _ _ (has_turns ∙ f)
   ]
     where
-      here : (m n f e : ℕ) → f ≡ min m n → e ≡ min (m + 64) n → m < n → f < e
+      here : (m n f e : ℕ) → f ≡ min m n → e ≡ min (m + chunk_size) n → m < n → f < e
       here m n f e q r h = omega (arith, q, r, h)
 
   pub chunk_opens : (list : List Opening) → (0 < length (body (code_of p) b).entries → IsSome (slot_at (frames_of p) p.view.at) → AddsTurns (code_of p) (frames_of p) p.view.at b (entry_view p.entry.now).mark (chunk p.chunk ts) [] list) → (length (body (code_of p) b).entries ≡ 0 → list ≡ []) → (first < end → nat_le most_steps (length (path_of (frames_of p) p.view.at)) ≡ false) → (e : Effect) → OpensList p b list (nat_lt end count) e → Ends p (Turns ts) e

@@ -15,8 +15,8 @@ use crate::effect::{Effect, Ended};
 use crate::spare::spare_lists;
 use board_chunks::{are_left, chunk_of};
 use board_instances::opening::{Around, Opening, Openings, outermost};
-use board_instances::outer::Way;
-use board_instances::turns::{Site, push_block, push_elements, push_range};
+use board_instances::outer::LastStep;
+use board_instances::turns::{InnerBody, push_block, push_elements, push_range};
 use board_program::program::Program;
 use paths::FaultKind;
 use std::alloc::{AllocError, Global};
@@ -48,10 +48,10 @@ impl<'a> Ended<'a> {
 
     /// The step to a block that it opens.
     #[inline(always)]
-    fn step(self, number: i64) -> Way
+    fn step(self, number: i64) -> LastStep
         ensures { IsEnded self.entry → option_map step_view result ≡ Some (record { offset = self.entry.entry.now.mark; key = number_key number }) }
     {
-        Way::to_number(self.table.mark, number)
+        LastStep::to_number(self.table.mark, number)
     }
 
     /// It opens these instances of a body.
@@ -72,7 +72,7 @@ impl<'a> Ended<'a> {
 
     /// It opens one block, where it is not one that goes on.
     #[inline(always)]
-    fn opens(self, body: u32, way: Way) -> Result<Effect, AllocError>
+    fn opens(self, body: u32, way: LastStep) -> Result<Effect, AllocError>
         ensures { IsEnded self.entry → (x : Computed) → OpensBlock self.entry x body (option_map step_view way) → IfOk result (Ends self.entry x) }
     {
         if self.chunk > 0 {
@@ -81,7 +81,7 @@ impl<'a> Ended<'a> {
         if way.is_step() && self.is_too_deep() {
             return self.fails_too_deep();
         }
-        let site = Site {
+        let site = InnerBody {
             alloc: self.alloc,
             around: Around {
                 program: self.view.program,
@@ -123,7 +123,7 @@ impl<'a> Ended<'a> {
         ensures { IsEnded self.entry → enters_block (act_of self.entry) ≡ true → IfOk result (Ends self.entry OpensOne) }
     {
         match &self.entry.act {
-            Act::Wait(_, body) => self.opens(*body, Way::none()),
+            Act::Wait(_, body) => self.opens(*body, LastStep::none()),
             Act::Call {
                 body,
                 inputs: _,
@@ -145,13 +145,14 @@ impl<'a> Ended<'a> {
 
     /// It opens the next turns of a range.
     pub(crate) fn counts(self, body: u32, range: &Range) -> Result<Effect, AllocError>
-        ensures { IsEnded self.entry → IsLoop self.entry body → IfOk result (Ends self.entry (Turns (range_turns range.now.low range.now.step 0 range.now.count))) }
+        ensures { IsEnded self.entry → IsLoop self.entry body
+            → IfOk result (Ends self.entry (Turns (range_turns range.now.low range.now.step 0 range.now.count))) }
     {
         let (first, end) = chunk_of(self.chunk, range.count);
         if first < end && self.is_too_deep() {
             return self.fails_too_deep();
         }
-        let site = Site {
+        let site = InnerBody {
             alloc: self.alloc,
             around: Around {
                 program: self.view.program,
@@ -175,7 +176,7 @@ impl<'a> Ended<'a> {
         if first < end && self.is_too_deep() {
             return self.fails_too_deep();
         }
-        let site = Site {
+        let site = InnerBody {
             alloc: self.alloc,
             around: Around {
                 program: self.view.program,

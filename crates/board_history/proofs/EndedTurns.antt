@@ -37,11 +37,12 @@ use Rattle.task_code.specs.Whole.{IsCode}
 use Rattle.values.specs.declared.key.Key.{Key}
 use Rattle.values.specs.declared.value.Scalar.{Scalar}
 use Rattle.board_history.proofs.EndedWants.{none_left}
+use Rattle.values.specs.Limits.{chunk_size}
 
 -- what is left a chunk further
-left_more : (c : ℕ) (ts : Elements) → drop 64 (left_at c ts) ≡ left_at (suc c) ts
+left_more : (c : ℕ) (ts : Elements) → drop chunk_size (left_at c ts) ≡ left_at (suc c) ts
 left_more zero ts = refl
-left_more (suc c) ts = left_more c (drop 64 ts)
+left_more (suc c) ts = left_more c (drop chunk_size ts)
 
 module _ (C : Code) (I : IsCode C) (L : Layout) (es : List Event) (F : Fields) (w n : ℕ) (t : CodeState) (G : Fields) (P : Ending C L es F w n t G) where
   abbrev fs : List (Option Frame)

@@ -14,6 +14,7 @@ use Rattle.task_code.specs.Whole.{Declared, Seen}
 use Rattle.values.specs.Keys.{mark_of}
 use Rattle.values.specs.declared.key.Key.{Key}
 use Rattle.values.specs.declared.value.Scalar.{Scalar}
+use Rattle.values.specs.Limits.{chunk_size}
 
 -- the number is one of the list
 abbrev pub is_one : ℕ → List ℕ → Bool
@@ -157,9 +158,9 @@ or_else (x ∷ xs) ys = x ∷ xs
 
 -- some are left
 abbrev pub turns_after : Computed → (chunk : ℕ) → Option Elements → Option Elements
-turns_after x zero kept = Some (drop 64 (turns_of x))
+turns_after x zero kept = Some (drop chunk_size (turns_of x))
 turns_after x (suc c) None = None
-turns_after x (suc c) (Some ts) = Some (drop 64 ts)
+turns_after x (suc c) (Some ts) = Some (drop chunk_size ts)
 
 -- what a new item keeps of them
 abbrev pub turns_of_new : Computed → Option Elements → Job → Option Elements

@@ -154,7 +154,8 @@ pub fn worked_replays()
 pub fn standing_fields()
     ensures first { (C : Code) (L : Layout) → Stands C L [] first_fields }
     ensures missing { (C : Code) → IsCode C → (L : Layout) (events : List Event) (F : Fields) (x : Stands C L events F) →
-        (i : CodeItem) → In i x.state.items → (((w : Waiter) → In w F.waiting → w.item ≡ i.number → ⊥) → Enabled C x.state i.task) × (Enabled C x.state i.task → (w : Waiter) → In w F.waiting → w.item ≡ i.number → ⊥) }
+        (i : CodeItem) → In i x.state.items → (((w : Waiter) → In w F.waiting → w.item ≡ i.number → ⊥) → Enabled C x.state i.task)
+        × (Enabled C x.state i.task → (w : Waiter) → In w F.waiting → w.item ≡ i.number → ⊥) }
     ensures writes { (C : Code) → IsCode C → (L : Layout) (events : List Event) (F : Fields) (x : Stands C L events F) →
         (d : ℕ) (a : Place) (c : Counted) → In (d, a) x.names → slot_at F.cells d ≡ Some c →
         (c.writes ≡ 0 → ClosedInCode C x.state a) × (ClosedInCode C x.state a → c.writes ≡ 0) }
@@ -193,7 +194,8 @@ pub fn standing_fields()
         (made : List Instance) (middle : List (Option Frame)) → FramesOpen C F.frames (Some k) made middle → (m : Instance) → In m made →
         ((f : Frame) → slot_at middle m.key ≡ Some f → In (Calling, m.body) (ways (entry C e).act) → Passes C L F.frames k e c m f) →
         NamesLead C L F.frames middle k e c m }
-    ensures once { (C : Code) (L : Layout) (rights : Entry → List Name) (middle : List (Option Frame)) (d body : ℕ) (leads : Name → Slot) (made : List Instance) →
+    ensures once { (C : Code) (L : Layout) (rights : Entry → List Name) (middle : List (Option Frame)) (d body : ℕ) (leads : Name → Slot)
+        (made : List Instance) →
         ((m : Instance) → In m made → m.body ≡ body) →
         ((m : Instance) (r : Name) → In m made → In r (names_in C rights body) → (Declared C body r → ⊥) → slot_for L middle m.key body r ≡ leads r) →
         added_times C L rights middle d made ≡ length made * held_times leads d (outer_holds C rights body) }

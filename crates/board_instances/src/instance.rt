@@ -7,7 +7,7 @@ ghost use Rattle.board_instances.specs.Names.{datum_of, led_slot, slot_in, spot_
 ghost use Rattle.board_instances.specs.Nested.{IsNested};
 ghost use Rattle.board_instances.specs.View.{frame_view, frames_view, slot_view, step_view};
 
-use crate::outer::{Outer, Way};
+use crate::outer::{LastStep, Outer};
 use crate::packed::PackedSlot;
 use board_program::spot::Spot;
 use paths::Step;
@@ -41,7 +41,7 @@ pub struct Instance {
     pub depth: u32,
     pub body: u32,
     /// The last step of its path; the content of a `wait` adds none.
-    pub way: Way,
+    pub way: LastStep,
     /// How many items that have not ended and how many instances it has.
     pub live: usize,
     pub slots: Slots,
@@ -115,7 +115,8 @@ fn push_step(
     instances: &Slab<Instance>,
     at: usize,
 ) -> Result<Option<usize>, AllocError>
-    ensures { IfOk result (λ outer. (n : ℕ) → map step_view steps.new.items ++ path_from (frames_view instances.now.slots) n outer ≡ map step_view steps.old.items ++ path_from (frames_view instances.now.slots) (suc n) (Some at)) }
+    ensures { IfOk result (λ outer. (n : ℕ) → map step_view steps.new.items ++ path_from (frames_view instances.now.slots) n outer
+        ≡ map step_view steps.old.items ++ path_from (frames_view instances.now.slots) (suc n) (Some at)) }
 {
     let Some(instance) = instances.get(at) else {
         return Ok(None);
@@ -164,7 +165,8 @@ const LAST: usize = 1;
 
 /// One item or instance less is in the instance. Where it was the last, the instance goes, and the answer is the one around it.
 fn leave_one(instances: &mut Slab<Instance>, at: usize) -> Option<usize>
-    ensures goes { IfSome result (λ outer. (f : Frame) × (slot_of (frames_view instances.old.slots) at ≡ Some f) × (f.parent ≡ Some outer) × Sets (frames_view instances.old.slots) at None (frames_view instances.new.slots)) }
+    ensures goes { IfSome result (λ outer. (f : Frame) × (slot_of (frames_view instances.old.slots) at ≡ Some f) × (f.parent ≡ Some outer)
+        × Sets (frames_view instances.old.slots) at None (frames_view instances.new.slots)) }
     ensures fewer { OnSome result (slab_len instances.new + 1 ≡ slab_len instances.old) }
     ensures len { slab_len instances.new ≤ slab_len instances.old }
     ensures leaves { (f : Frame) → slot_of (frames_view instances.old.slots) at ≡ Some f → 0 < f.live →
@@ -181,7 +183,8 @@ fn leave_one(instances: &mut Slab<Instance>, at: usize) -> Option<usize>
 
 /// One item or instance less is in the instance; where it was the last, the instance goes, and so on outwards.
 pub fn leave(instances: &mut Slab<Instance>, at: usize)
-    ensures { IsNested (frames_view instances.old.slots) → IsSome (slot_of (frames_view instances.old.slots) at) → TakenOff (frames_view instances.new.slots) (frames_view instances.old.slots) (Some at) }
+    ensures { IsNested (frames_view instances.old.slots) → IsSome (slot_of (frames_view instances.old.slots) at)
+        → TakenOff (frames_view instances.new.slots) (frames_view instances.old.slots) (Some at) }
 {
     let mut next = Some(at);
     while let Some(key) = next {
@@ -192,7 +195,8 @@ pub fn leave(instances: &mut Slab<Instance>, at: usize)
 /// So many items or instances more are in the instance.
 #[tactic(auto, using(crate::proofs::Slots::view_there))]
 pub fn enter(instances: &mut Slab<Instance>, at: usize, count: usize)
-    ensures there { (f : Frame) → slot_of (frames_view instances.old.slots) at ≡ Some f → f.live + count < 2 ^ 64 → Sets (frames_view instances.old.slots) at (Some (with_live (f.live + count) f)) (frames_view instances.new.slots) }
+    ensures there { (f : Frame) → slot_of (frames_view instances.old.slots) at ≡ Some f → f.live + count < 2 ^ 64
+        → Sets (frames_view instances.old.slots) at (Some (with_live (f.live + count) f)) (frames_view instances.new.slots) }
     ensures absent { slot_of (frames_view instances.old.slots) at ≡ None → instances.new ≡ instances.old }
     ensures len { slab_len instances.new ≡ slab_len instances.old }
     ensures capacity { instances.new.capacity ≡ instances.old.capacity }

@@ -35,19 +35,25 @@ pub fn opened_instances()
         IsInner C fs at number way passed f → IsOpened C fs (Some at) (with_slots xs f) }
     ensures outermost { (C : Code) (fs : List (Option Frame)) (xs : List Slot) → 0 < length (body C 0).entries →
         IsOpened C fs None (with_slots xs (unfilled None 0 0 None 0 (body C 0) [])) }
-    ensures opens { (C : Code) (fs middle gs : List (Option Frame)) (around : Option ℕ) (frames : List Frame) (entries : List ℕ) (old new : List Row) (last : Option ℕ) →
+    ensures opens { (C : Code) (fs middle gs : List (Option Frame)) (around : Option ℕ) (frames : List Frame) (entries : List ℕ)
+        (old new : List Row) (last : Option ℕ) →
         ((f : Frame) → In f frames → IsOpened C fs around f) → FitsAround fs around (length frames) → WithMore fs around (length frames) middle →
         (x : ArePlaced frames entries middle gs old new last) → FramesOpen C fs around (map (made_as fs around) x.puts) gs }
-    ensures made { (C : Code) (fs middle gs : List (Option Frame)) (around : Option ℕ) (frames : List Frame) (entries : List ℕ) (old new : List Row) (last : Option ℕ) (t : Task) (computed : Computed) →
+    ensures made { (C : Code) (fs middle gs : List (Option Frame)) (around : Option ℕ) (frames : List Frame) (entries : List ℕ) (old new : List Row)
+        (last : Option ℕ) (t : Task) (computed : Computed) →
         map (block_of fs around) frames ≡ filter (has_entries C) (opened C t computed) →
         (x : ArePlaced frames entries middle gs old new last) → AreMade C (map (made_as fs around) x.puts) t computed }
-    ensures rows { (C : Code) (fs middle gs : List (Option Frame)) (around : Option ℕ) (frames : List Frame) (entries : List ℕ) (old new : List Row) (last : Option ℕ) →
+    ensures rows { (C : Code) (fs middle gs : List (Option Frame)) (around : Option ℕ) (frames : List Frame) (entries : List ℕ)
+        (old new : List Row) (last : Option ℕ) →
         ((f : Frame) → In f frames → (body C f.body).entries ≡ entries) →
         (x : ArePlaced frames entries middle gs old new last) → new ≡ old ++ map new_row (made_jobs C (map (made_as fs around) x.puts)) }
-    ensures nested { (C : Code) (fs middle gs : List (Option Frame)) (around : Option ℕ) (frames : List Frame) (entries : List ℕ) (old new : List Row) (last : Option ℕ) →
+    ensures nested { (C : Code) (fs middle gs : List (Option Frame)) (around : Option ℕ) (frames : List Frame) (entries : List ℕ)
+        (old new : List Row) (last : Option ℕ) →
         IsNested fs → ((f : Frame) → In f frames → IsOpened C fs around f) → FitsAround fs around (length frames) → WithMore fs around (length frames) middle →
         ArePlaced frames entries middle gs old new last → IsNested gs }
-    ensures passes { (C : Code) (fs : List (Option Frame)) (k e chunk : ℕ) (m : Instance) (f : Frame) → 0 < length C.bodies → HandsOver C fs k e m f → Passes C (layout_of C) fs k e chunk m f }
-    ensures turns { (C : Code) (fs : List (Option Frame)) (at number offset : ℕ) (turns : Elements) (added : List AnOpening) → AllZip (IsTurn C fs at number offset) turns added →
+    ensures passes { (C : Code) (fs : List (Option Frame)) (k e chunk : ℕ) (m : Instance) (f : Frame) → 0 < length C.bodies → HandsOver C fs k e m f
+        → Passes C (layout_of C) fs k e chunk m f }
+    ensures turns { (C : Code) (fs : List (Option Frame)) (at number offset : ℕ) (turns : Elements) (added : List AnOpening)
+        → AllZip (IsTurn C fs at number offset) turns added →
         map (block_of fs (Some at)) (map opening_frame added) ≡ map (λ (t : Key × Scalar). (number, step_at offset t.0 (path_of fs at))) turns }
 {}

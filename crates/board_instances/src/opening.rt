@@ -6,7 +6,7 @@ ghost use Rattle.board_instances.specs.Openings.{IsInner, passed_from, passed_sl
 ghost use Rattle.board_instances.specs.View.{frame_view, frames_view, slot_view, step_view};
 
 use crate::instance::{INLINE_SLOTS, Instance, Slot, Slots, slot_at};
-use crate::outer::{Outer, Way};
+use crate::outer::{LastStep, Outer};
 use crate::packed::PackedSlot;
 use board_program::program::{Passed, Program};
 use rules::input::Input;
@@ -67,7 +67,8 @@ fn push_parameters(
     call: u32,
     arguments: &[Passed],
 ) -> Result<(), AllocError>
-    ensures { OnOk result (map slot_view slots.new.items ≡ map slot_view slots.old.items ++ passed_from (frames_view around.entry.instances.now.slots) around.entry.at call 0 arguments.now) }
+    ensures { OnOk result (map slot_view slots.new.items
+        ≡ map slot_view slots.old.items ++ passed_from (frames_view around.entry.instances.now.slots) around.entry.at call 0 arguments.now) }
 {
     for place in 0..arguments.len() {
         let slot = handed(around, call, place, arguments[place]);
@@ -105,7 +106,7 @@ pub fn outermost(alloc: Global, body: &Body) -> Result<Instance, AllocError>
         level: 0,
         depth: 0,
         body: 0,
-        way: Way::none(),
+        way: LastStep::none(),
         live: body.entries.len(),
         slots: empty_slots(alloc, body.makes.len(), 0)?,
     })
@@ -122,7 +123,7 @@ fn one_more(count: u32) -> Result<u32, AllocError>
 }
 
 /// How many steps a path has with this one.
-fn depth_of(depth: u32, way: &Way) -> Result<u32, AllocError>
+fn depth_of(depth: u32, way: &LastStep) -> Result<u32, AllocError>
     ensures { IfOk result (λ more. more ≡ depth + steps_in (option_map step_view way.now)) }
 {
     if way.is_step() {
@@ -142,11 +143,14 @@ pub fn inner(
     alloc: Global,
     around: Around<'_>,
     number: u32,
-    way: Way,
+    way: LastStep,
     arguments: (u32, &[Passed]),
 ) -> Result<Option<Instance>, AllocError>
-    ensures some { IfOk result (λ found. IfSome found (λ instance. IsInner around.entry.program.now (frames_view around.entry.instances.now.slots) around.entry.at number (option_map step_view way) (passed_from (frames_view around.entry.instances.now.slots) around.entry.at arguments.entry.0 0 arguments.entry.1.now) (frame_view instance))) }
-    ensures none { IfOk result (λ found. IfNone found ((length around.entry.program.now.bodies ≤ number) ⊎ (slot_of (frames_view around.entry.instances.now.slots) around.entry.at ≡ None))) }
+    ensures some { IfOk result (λ found. IfSome found
+        (λ instance. IsInner around.entry.program.now (frames_view around.entry.instances.now.slots) around.entry.at number (option_map step_view way)
+        (passed_from (frames_view around.entry.instances.now.slots) around.entry.at arguments.entry.0 0 arguments.entry.1.now) (frame_view instance))) }
+    ensures none { IfOk result (λ found. IfNone found
+        ((length around.entry.program.now.bodies ≤ number) ⊎ (slot_of (frames_view around.entry.instances.now.slots) around.entry.at ≡ None))) }
 {
     let Some(body) = around.program.code().body(number) else {
         return Ok(None);

@@ -70,11 +70,11 @@ enum Kept {
 
 /// The last step of a path, if it has one of its own.
 #[derive(Drop)]
-pub struct Way {
+pub struct LastStep {
     kept: Kept,
 }
 
-impl Model for Way {
+impl Model for LastStep {
     ghost use Rattle.std.specs.Prelude.{Option};
     ghost use Rattle.board_instances.specs.Outer.{step_in};
     ghost use Rattle.paths.specs.declared.steps.Step.{Step};
@@ -84,22 +84,22 @@ impl Model for Way {
     ghost view = { λ a. step_in a.kept };
 }
 
-impl Way {
+impl LastStep {
     /// No step.
-    pub fn none() -> Way
+    pub fn none() -> LastStep
         ensures { result ≡ None }
     {
-        Way {
+        LastStep {
             kept: Kept::Nothing,
         }
     }
 
     /// A step to the key of this number.
     #[inline(always)]
-    pub fn to_number(offset: u32, number: i64) -> Way
+    pub fn to_number(offset: u32, number: i64) -> LastStep
         ensures { result ≡ Some (record { offset = offset; key = number_key number }) }
     {
-        Way {
+        LastStep {
             kept: Kept::ToNumber(offset, number),
         }
     }
@@ -110,12 +110,12 @@ impl Way {
     ///
     /// `AllocError` where a text has too many owners to count.
     #[inline(always)]
-    pub fn to(offset: u32, key: KeyRef<'_>) -> Result<Way, AllocError>
+    pub fn to(offset: u32, key: KeyRef<'_>) -> Result<LastStep, AllocError>
         ensures { IfOk result (λ way. way ≡ Some (record { offset = offset; key = key_seen key.entry })) }
     {
         match key {
-            KeyRef::Number(number) => Ok(Way::to_number(offset, number)),
-            KeyRef::Text(text) => Ok(Way {
+            KeyRef::Number(number) => Ok(LastStep::to_number(offset, number)),
+            KeyRef::Text(text) => Ok(LastStep {
                 kept: Kept::ToText(offset, text.share()?),
             }),
         }

@@ -43,7 +43,8 @@ fn place(
     ensures lens { OnOk result (vec_len items.new ≡ vec_len items.old + length entries.now) }
     ensures capacity { (instances.old.capacity ≤ instances.new.capacity) × (vec_capacity items.old ≤ vec_capacity items.new) }
     ensures room_kept { HasRoomFor instances.old 1 → instances.new.capacity ≡ instances.old.capacity }
-    ensures succeeds { HasRoomFor instances.old 1 → instances.old.capacity ≤ 2 ^ 32 → vec_len items.old + length entries.now ≤ vec_capacity items.old → IsOk result }
+    ensures succeeds { HasRoomFor instances.old 1 → instances.old.capacity ≤ 2 ^ 32
+        → vec_len items.old + length entries.now ≤ vec_capacity items.old → IsOk result }
 {
     let key = instances.insert(instance)?;
     push_items(items, key, entries)?;
@@ -64,7 +65,8 @@ fn place_opening(
     ensures lens { OnOk result (vec_len items.new ≡ vec_len items.old + length entries.now) }
     ensures capacity { (instances.old.capacity ≤ instances.new.capacity) × (vec_capacity items.old ≤ vec_capacity items.new) }
     ensures room_kept { HasRoomFor instances.old 1 → instances.new.capacity ≡ instances.old.capacity }
-    ensures succeeds { HasRoomFor instances.old 1 → instances.old.capacity ≤ 2 ^ 32 → vec_len items.old + length entries.now ≤ vec_capacity items.old → IsOk result }
+    ensures succeeds { HasRoomFor instances.old 1 → instances.old.capacity ≤ 2 ^ 32
+        → vec_len items.old + length entries.now ≤ vec_capacity items.old → IsOk result }
 {
     place(instances, items, entries, opening.instance)
 }
@@ -76,9 +78,11 @@ fn place_each(
     entries: &[u32],
     list: Vec<Opening>,
 ) -> Result<Option<usize>, AllocError>
-    ensures placed { IfOk result (λ last. ArePlaced (map opening_frame list.items) entries.now (frames_view instances.old.slots) (frames_view instances.new.slots) (rows_view items.old.items) (rows_view items.new.items) last) }
+    ensures placed { IfOk result (λ last. ArePlaced (map opening_frame list.items) entries.now (frames_view instances.old.slots)
+        (frames_view instances.new.slots) (rows_view items.old.items) (rows_view items.new.items) last) }
     ensures capacity { vec_capacity items.old ≤ vec_capacity items.new }
-    ensures succeeds { HasRoomFor instances.old (vec_len list) → instances.old.capacity ≤ 2 ^ 32 → vec_len items.old + vec_len list * length entries.now ≤ vec_capacity items.old → IsOk result }
+    ensures succeeds { HasRoomFor instances.old (vec_len list) → instances.old.capacity ≤ 2 ^ 32
+        → vec_len items.old + vec_len list * length entries.now ≤ vec_capacity items.old → IsOk result }
 {
     let mut last = None;
     for opening in list {
@@ -100,9 +104,12 @@ pub fn place_all(
     entries: &[u32],
     list: Vec<Opening>,
 ) -> Result<Option<usize>, AllocError>
-    ensures placed { IfOk result (λ last. (middle : List (Option Frame)) × WithMore (frames_view instances.old.slots) around (vec_len list) middle × ArePlaced (map opening_frame list.items) entries.now middle (frames_view instances.new.slots) (rows_view items.old.items) (rows_view items.new.items) last) }
+    ensures placed { IfOk result (λ last. (middle : List (Option Frame)) × WithMore (frames_view instances.old.slots) around (vec_len list) middle
+        × ArePlaced (map opening_frame list.items) entries.now middle (frames_view instances.new.slots) (rows_view items.old.items)
+        (rows_view items.new.items) last) }
     ensures capacity { vec_capacity items.old ≤ vec_capacity items.new }
-    ensures succeeds { HasRoomFor instances.old (vec_len list) → instances.old.capacity ≤ 2 ^ 32 → vec_len items.old + vec_len list * length entries.now ≤ vec_capacity items.old → IsOk result }
+    ensures succeeds { HasRoomFor instances.old (vec_len list) → instances.old.capacity ≤ 2 ^ 32
+        → vec_len items.old + vec_len list * length entries.now ≤ vec_capacity items.old → IsOk result }
 {
     if let Some(outer) = around {
         enter(instances, outer, list.len());

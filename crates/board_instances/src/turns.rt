@@ -13,7 +13,7 @@ ghost use Rattle.values.specs.Keys.{key_seen};
 ghost use Rattle.board_instances.specs.declared.opening.Opening.{Opening as AnOpening};
 
 use crate::opening::{Around, Opening, inner};
-use crate::outer::Way;
+use crate::outer::LastStep;
 use board_program::program::Passed;
 use std::alloc::{AllocError, Global};
 use values::key::KeyRef;
@@ -21,9 +21,9 @@ use values::map::Element;
 use values::range::Range;
 use values::value::Scalar;
 
-/// Where instances of a body are made: inside of the one that is looked at, by steps at this offset.
+/// A body of which instances are made: inside of the one that is looked at, by steps at this offset.
 #[derive(Clone, Copy)]
-pub struct Site<'a> {
+pub struct InnerBody<'a> {
     pub alloc: Global,
     pub around: Around<'a>,
     pub body: u32,
@@ -36,15 +36,18 @@ pub struct Site<'a> {
 ///
 /// `AllocError` where memory that was asked for was refused.
 pub fn push_block(
-    site: Site<'_>,
+    site: InnerBody<'_>,
     list: &mut Vec<Opening>,
-    way: Way,
+    way: LastStep,
     arguments: (u32, &[Passed]),
     values: (Option<Scalar>, Option<Scalar>),
 ) -> Result<(), AllocError>
-    ensures added { OnOk result (0 < length (body_of site.entry.around.program.now site.entry.body).entries → IsSome (slot_of (frames_view site.entry.around.instances.now.slots) site.entry.around.at) →
+    ensures added { OnOk result (0 < length (body_of site.entry.around.program.now site.entry.body).entries
+        → IsSome (slot_of (frames_view site.entry.around.instances.now.slots) site.entry.around.at) →
         (o : AnOpening) × (list.new.items ≡ list.old.items ++ o ∷ []) ×
-        IsOpening site.entry.around.program.now (frames_view site.entry.around.instances.now.slots) site.entry.around.at site.entry.body (option_map step_view way) (passed_from (frames_view site.entry.around.instances.now.slots) site.entry.around.at arguments.entry.0 0 arguments.entry.1.now) values.0 values.1 o) }
+        IsOpening site.entry.around.program.now (frames_view site.entry.around.instances.now.slots) site.entry.around.at site.entry.body
+        (option_map step_view way) (passed_from (frames_view site.entry.around.instances.now.slots) site.entry.around.at arguments.entry.0 0
+        arguments.entry.1.now) values.0 values.1 o) }
     ensures none { OnOk result (length (body_of site.entry.around.program.now site.entry.body).entries ≡ 0 → list.new.items ≡ list.old.items) }
 {
     let Some(body) = site.around.program.code().body(site.body) else {
@@ -67,17 +70,19 @@ pub fn push_block(
 /// Adds an instance for a turn of a loop.
 #[inline(always)]
 fn push_turn(
-    site: Site<'_>,
+    site: InnerBody<'_>,
     list: &mut Vec<Opening>,
     key: KeyRef<'_>,
     value: Scalar,
 ) -> Result<(), AllocError>
-    ensures added { OnOk result (0 < length (body_of site.entry.around.program.now site.entry.body).entries → IsSome (slot_of (frames_view site.entry.around.instances.now.slots) site.entry.around.at) →
-        AddsTurns site.entry.around.program.now (frames_view site.entry.around.instances.now.slots) site.entry.around.at site.entry.body site.entry.offset ((key_seen key.entry, value) ∷ []) list.old.items list.new.items) }
+    ensures added { OnOk result (0 < length (body_of site.entry.around.program.now site.entry.body).entries
+        → IsSome (slot_of (frames_view site.entry.around.instances.now.slots) site.entry.around.at) →
+        AddsTurns site.entry.around.program.now (frames_view site.entry.around.instances.now.slots) site.entry.around.at site.entry.body site.entry.offset
+        ((key_seen key.entry, value) ∷ []) list.old.items list.new.items) }
     ensures none { OnOk result (length (body_of site.entry.around.program.now site.entry.body).entries ≡ 0 → list.new.items ≡ list.old.items) }
 {
     let turn = key.scalar()?;
-    let way = Way::to(site.offset, key)?;
+    let way = LastStep::to(site.offset, key)?;
     push_block(site, list, way, (0, &[]), (Some(value), Some(turn)))?;
     Ok(())
 }
@@ -88,12 +93,14 @@ fn push_turn(
 ///
 /// `AllocError` where memory that was asked for was refused. Some of the instances may be there then.
 pub fn push_elements(
-    site: Site<'_>,
+    site: InnerBody<'_>,
     list: &mut Vec<Opening>,
     elements: &[Element],
 ) -> Result<(), AllocError>
-    ensures added { OnOk result (0 < length (body_of site.entry.around.program.now site.entry.body).entries → IsSome (slot_of (frames_view site.entry.around.instances.now.slots) site.entry.around.at) →
-        AddsTurns site.entry.around.program.now (frames_view site.entry.around.instances.now.slots) site.entry.around.at site.entry.body site.entry.offset (pairs elements.now) list.old.items list.new.items) }
+    ensures added { OnOk result (0 < length (body_of site.entry.around.program.now site.entry.body).entries
+        → IsSome (slot_of (frames_view site.entry.around.instances.now.slots) site.entry.around.at) →
+        AddsTurns site.entry.around.program.now (frames_view site.entry.around.instances.now.slots) site.entry.around.at site.entry.body site.entry.offset
+        (pairs elements.now) list.old.items list.new.items) }
     ensures none { OnOk result (length (body_of site.entry.around.program.now site.entry.body).entries ≡ 0 → list.new.items ≡ list.old.items) }
 {
     for one in elements {
@@ -104,14 +111,16 @@ pub fn push_elements(
 
 /// Adds an instance for a turn of a range.
 fn push_number(
-    site: Site<'_>,
+    site: InnerBody<'_>,
     list: &mut Vec<Opening>,
     range: &Range,
     n: u64,
 ) -> Result<(), AllocError>
     requires { n < range.now.count }
-    ensures added { OnOk result (0 < length (body_of site.entry.around.program.now site.entry.body).entries → IsSome (slot_of (frames_view site.entry.around.instances.now.slots) site.entry.around.at) →
-        AddsTurns site.entry.around.program.now (frames_view site.entry.around.instances.now.slots) site.entry.around.at site.entry.body site.entry.offset ((number_key (pos n), Number (value_in range.now.low range.now.step n)) ∷ []) list.old.items list.new.items) }
+    ensures added { OnOk result (0 < length (body_of site.entry.around.program.now site.entry.body).entries
+        → IsSome (slot_of (frames_view site.entry.around.instances.now.slots) site.entry.around.at) →
+        AddsTurns site.entry.around.program.now (frames_view site.entry.around.instances.now.slots) site.entry.around.at site.entry.body site.entry.offset
+        ((number_key (pos n), Number (value_in range.now.low range.now.step n)) ∷ []) list.old.items list.new.items) }
     ensures none { OnOk result (length (body_of site.entry.around.program.now site.entry.body).entries ≡ 0 → list.new.items ≡ list.old.items) }
 {
     // So many turns are more than memory has room for.
@@ -133,14 +142,16 @@ fn push_number(
 ///
 /// `AllocError` where memory that was asked for was refused. Some of the instances may be there then.
 pub fn push_range(
-    site: Site<'_>,
+    site: InnerBody<'_>,
     list: &mut Vec<Opening>,
     range: &Range,
     first: u64,
     end: u64,
 ) -> Result<(), AllocError>
-    ensures added { OnOk result (0 < length (body_of site.entry.around.program.now site.entry.body).entries → IsSome (slot_of (frames_view site.entry.around.instances.now.slots) site.entry.around.at) →
-        AddsTurns site.entry.around.program.now (frames_view site.entry.around.instances.now.slots) site.entry.around.at site.entry.body site.entry.offset (range_turns range.now.low range.now.step first (min end range.now.count - first)) list.old.items list.new.items) }
+    ensures added { OnOk result (0 < length (body_of site.entry.around.program.now site.entry.body).entries
+        → IsSome (slot_of (frames_view site.entry.around.instances.now.slots) site.entry.around.at) →
+        AddsTurns site.entry.around.program.now (frames_view site.entry.around.instances.now.slots) site.entry.around.at site.entry.body site.entry.offset
+        (range_turns range.now.low range.now.step first (min end range.now.count - first)) list.old.items list.new.items) }
     ensures none { OnOk result (length (body_of site.entry.around.program.now site.entry.body).entries ≡ 0 → list.new.items ≡ list.old.items) }
 {
     let last = end.min(range.count);

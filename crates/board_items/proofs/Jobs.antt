@@ -6,7 +6,7 @@ use Rattle.board_program.specs.Spots.{layout_of}
 use Rattle.board_program.proofs.Found.{home_found}
 use Rattle.dataflow.specs.System.{In}
 use Rattle.task_code.specs.Whole.{IsCode}
-use Rattle.board_program.specs.Tables.{body_of, body_or_script, queue_kind, wanted_in}
+use Rattle.board_program.specs.Tables.{body_of, body_or_script, wanted_in}
 use Rattle.board_program.specs.declared.program.Wanted.{Wanted}
 use Rattle.board_data.specs.Wanted.{FewSlots, is_nil, wanted_missed}
 use Rattle.board_data.proofs.Named.{all_missed}
@@ -29,8 +29,8 @@ nth_past (x ∷ xs) zero h = absurd (omega arith)
 nth_past (x ∷ xs) (suc i) h = nth_past xs i (omega arith)
 
 -- there is no such entry
-pub kind_past : (C : Code) (k e c : ℕ) (j : Job) → j ≡ Does k e c → length C.entries ≤ e → Leaf ≡ queue_kind (job_kind C j)
-kind_past C k e c j q h = sym (ap (λ (x : Job). queue_kind (job_kind C x)) q ∙ ap (λ (x : Entry). queue_kind (kind_of x.act)) (nth_past C.entries e h))
+pub kind_past : (C : Code) (k e c : ℕ) (j : Job) → j ≡ Does k e c → length C.entries ≤ e → Leaf ≡ job_kind C j
+kind_past C k e c j q h = sym (ap (λ (x : Job). job_kind C x) q ∙ ap (λ (x : Entry). kind_of x.act) (nth_past C.entries e h))
 
 pub priority_past : (C : Code) (k e c : ℕ) (j : Job) → j ≡ Does k e c → length C.entries ≤ e → pos 0 ≡ job_priority C j
 priority_past C k e c j q h = sym (ap (job_priority C) q ∙ ap (λ (x : Entry). x.priority) (nth_past C.entries e h))

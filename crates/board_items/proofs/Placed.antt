@@ -1,7 +1,6 @@
 -- Items that are settled, told by their rows.
 use Rattle.std.proofs.Common.{◌≡◌, ◌∙◌, ℕ, ◌+◌, ◌-◌, ◌<◌, List, length, sym, ap, subst, arith, Option, Some}
 use Rattle.std.specs.Prelude.{ℤ, slice_index_or}
-use Rattle.board_program.specs.Tables.{queue_kind}
 use Rattle.board_instances.proofs.Rows.{row_there}
 use Rattle.board_instances.specs.View.{job_view, row_view, rows_view}
 use Rattle.board_instances.specs.declared.item.Item.{Item}
@@ -26,10 +25,10 @@ job_placed xs place i j r same l e h =
     same ∙ ap (λ (x : Row). x.job) (some_same (ap (λ (x : Item). Some (row_view x)) e ∙ ap (λ (k : ℕ). Some (row_view (slice_index_or xs k i))) (sym b) ∙ sym a ∙ h))
 
 -- an item that misses this is settled
-pub settles_by : (C : Code) (fs : List (Option Frame)) (f : Job → List (Want ℕ)) (n : ℕ) (old new : Items) (j j' : Job) (k : Kind) (p : ℤ) (ms : List (Want ℕ)) → j ≡ j' → IsSeen C fs j' → (IsSeen C fs j → ms ≡ f j) → k ≡ queue_kind (job_kind C j) → p ≡ job_priority C j → Settles n ms k p old new → Settles n (f j') (queue_kind (job_kind C j')) (job_priority C j') old new
+pub settles_by : (C : Code) (fs : List (Option Frame)) (f : Job → List (Want ℕ)) (n : ℕ) (old new : Items) (j j' : Job) (k : Kind) (p : ℤ) (ms : List (Want ℕ)) → j ≡ j' → IsSeen C fs j' → (IsSeen C fs j → ms ≡ f j) → k ≡ job_kind C j → p ≡ job_priority C j → Settles n ms k p old new → Settles n (f j') (job_kind C j') (job_priority C j') old new
 settles_by C fs f n old new j j' k p ms e seen is a b s =
     let m = is (subst (λ (x : Job). IsSeen C fs x) (sym e) seen) in
-    subst (λ (x : Job). Settles n (f x) (queue_kind (job_kind C x)) (job_priority C x) old new) e
-    (subst (λ (x : List (Want ℕ)). Settles n x (queue_kind (job_kind C j)) (job_priority C j) old new) m
+    subst (λ (x : Job). Settles n (f x) (job_kind C x) (job_priority C x) old new) e
+    (subst (λ (x : List (Want ℕ)). Settles n x (job_kind C j) (job_priority C j) old new) m
     (subst (λ (x : Kind). Settles n ms x (job_priority C j) old new) a
     (subst (λ (x : ℤ). Settles n ms k x old new) b s)))

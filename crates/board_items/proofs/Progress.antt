@@ -16,7 +16,6 @@ use Rattle.board_history.proofs.Rows.{no_row}
 use Rattle.board_history.proofs.Tests.{choose, in_kept, none_some, some_same}
 use Rattle.std.specs.Prelude.{nat_eq, nat_lt}
 use Rattle.task_code.specs.Code.{Code, Control, Kind, Leaf}
-use Rattle.board_program.specs.Tables.{queue_kind}
 use Rattle.board_instances.specs.View.{rows_view}
 use Rattle.work_queue.specs.Both.{Both, of, with_changed}
 use Rattle.work_queue.specs.Waiting.{with_put}
@@ -91,7 +90,7 @@ counted_of Control a = a.controls
 counted_of Leaf a = a.leaves
 
 abbrev pub room_of : Kind → Both → ℕ
-room_of k q = (of (queue_kind k) q).room
+room_of k q = (of k q).room
 
 -- the items of a kind that wait or run are counted, and the queue has room for them
 pub record Fits (C : Code) (k : Kind) (items : Items) : Type 0 where
@@ -112,13 +111,13 @@ roomy_of C items f noted = record {
 }
 
 -- one less of a kind, and one more in the queue
-less_of : (k l : Kind) (a : Counts) → counted_of k (one_less (queue_kind l) a) ≡ counted_of k a - one_if (kind_eq k l)
+less_of : (k l : Kind) (a : Counts) → counted_of k (one_less l a) ≡ counted_of k a - one_if (kind_eq k l)
 less_of Control Control a = refl
 less_of Control Leaf a = omega arith
 less_of Leaf Control a = omega arith
 less_of Leaf Leaf a = refl
 
-pub put_of : (k l : Kind) (x : Entry) (q : Both) → room_of k (with_changed (queue_kind l) (with_put x) q) ≡ room_of k q - one_if (kind_eq k l)
+pub put_of : (k l : Kind) (x : Entry) (q : Both) → room_of k (with_changed l (with_put x) q) ≡ room_of k q - one_if (kind_eq k l)
 put_of Control Control x q = refl
 put_of Control Leaf x q = omega arith
 put_of Leaf Control x q = omega arith
@@ -148,7 +147,7 @@ module _ (C : Code) (old new : Items) (n : ℕ) (r : Row) (m : Mark) (there : ro
       omega arith
 
   -- so there is room for what still does, where the queue has at most one entry more of its kind
-  pub less_roomy : new.apart ≡ one_less (queue_kind (job_kind C r.job)) old.apart → ((k : Kind) → room_of k old.queue - one_if (kind_eq k (job_kind C r.job)) ≤ room_of k new.queue) → 0 < vec_capacity new.newly → IsRoomy C new
+  pub less_roomy : new.apart ≡ one_less (job_kind C r.job) old.apart → ((k : Kind) → room_of k old.queue - one_if (kind_eq k (job_kind C r.job)) ≤ room_of k new.queue) → 0 < vec_capacity new.newly → IsRoomy C new
   less_roomy z q noted = roomy_of C new fits noted
     where
       fits : (k : Kind) → Fits C k new
@@ -179,7 +178,7 @@ module _ (C : Code) (fs : List (Option Frame)) (cs : List (Option Counted)) (row
   abbrev Far : List ℕ → ℕ → Items → Type 0
   Far = Progress C fs cs rows first number before queued
 
-  pub progress_more : (done : List ℕ) (left : ℕ) (old new : Items) (m : ℕ) (r : Row) → Far done (suc left) old → row_of rows m ≡ Some r → r.mark ≡ Waiting → (m ≡ number → ⊥) → (In m done → ⊥) → Settles m (missed_at C fs cs rows first m) (queue_kind (job_kind C r.job)) (job_priority C r.job) old new → Far (done ++ m ∷ []) left new
+  pub progress_more : (done : List ℕ) (left : ℕ) (old new : Items) (m : ℕ) (r : Row) → Far done (suc left) old → row_of rows m ≡ Some r → r.mark ≡ Waiting → (m ≡ number → ⊥) → (In m done → ⊥) → Settles m (missed_at C fs cs rows first m) (job_kind C r.job) (job_priority C r.job) old new → Far (done ++ m ∷ []) left new
   progress_more done left old new m r far h w d e s = by (nil_or (missed_at C fs cs rows first m))
     where
       a : AreSettled C fs cs rows first number before queued done (rows_view old.rows.items) (waiters_view old.rules.waiting) (queue_view old.queue) old.newly.items
@@ -278,12 +277,12 @@ module _ (C : Code) (fs : List (Option Frame)) (cs : List (Option Counted)) (row
         let g = far.room.rules_fit in
         f (remarked old m w.0) (row_now (take i woken) ((length woken - i) + left) old m w.0 far w.1) few (can.seen_job m w.0 there w.1) (short m w.0 there w.1) (omega arith)
 
-    pub woken_step : (new : Items) → AreShort C fs cs rows first woken → ((r : Row) → row_of (rows_view old.rows.items) m ≡ Some r → FewSlots fs → IsSeen C fs r.job → IsShort C fs cs r.job → Settles m (misses C fs cs r.job) (queue_kind (job_kind C r.job)) (job_priority C r.job) old new) → Far (take (i + 1) woken) ((length woken - (i + 1)) + left) new
+    pub woken_step : (new : Items) → AreShort C fs cs rows first woken → ((r : Row) → row_of (rows_view old.rows.items) m ≡ Some r → FewSlots fs → IsSeen C fs r.job → IsShort C fs cs r.job → Settles m (misses C fs cs r.job) (job_kind C r.job) (job_priority C r.job) old new) → Far (take (i + 1) woken) ((length woken - (i + 1)) + left) new
     woken_step new short s =
         let e : (length woken - i) + left ≡ suc ((length woken - (i + 1)) + left) = omega arith in
         subst (λ (l : List ℕ). Far l ((length woken - (i + 1)) + left) new) (sym (take_more woken i m within ∙ ap (λ (k : ℕ). take i woken ++ k ∷ []) (sym is)))
         (progress_more (take i woken) ((length woken - (i + 1)) + left) old new m w.0 (subst (λ (n : ℕ). Far (take i woken) n old) e far) w.1 w.2 (can.others m there) fresh
-        (subst (λ (us : List (Want ℕ)). Settles m us (queue_kind (job_kind C w.0.job)) (job_priority C w.0.job) old new) (sym (missed_old m w.0 w.1 (aged m there)))
+        (subst (λ (us : List (Want ℕ)). Settles m us (job_kind C w.0.job) (job_priority C w.0.job) old new) (sym (missed_old m w.0 w.1 (aged m there)))
         (s (remarked old m w.0) (row_now (take i woken) ((length woken - i) + left) old m w.0 far w.1) few (can.seen_job m w.0 there w.1) (short m w.0 there w.1))))
 
   -- the next one that is new
@@ -318,12 +317,12 @@ module _ (C : Code) (fs : List (Option Frame)) (cs : List (Option Counted)) (row
     pub new_spare : (at : ℕ) (ls ls' : List (SmallVec Input)) → m ≡ at + 1 → AreSpare C (jobs_behind at rows) ls → ((r : Row) (jobs : List Job) → row_of (rows_view old.rows.items) m ≡ Some r → AreSpare C (r.job ∷ jobs) ls → AreSpare C jobs ls') → AreSpare C (jobs_behind (at + 1) rows) ls'
     new_spare at ls ls' e s f = f (remarked old m v.0) (jobs_behind (at + 1) rows) row_there (subst (λ (js : List Job). AreSpare C js ls) (jobs_are at e) s)
 
-    pub new_step : (new : Items) → ((r : Row) → row_of (rows_view old.rows.items) m ≡ Some r → FewSlots fs → IsSeen C fs r.job → Settles m (misses_first C fs cs r.job) (queue_kind (job_kind C r.job)) (job_priority C r.job) old new) → Far (start ++ numbers_behind first (suc k)) ((count - suc k) + left) new
+    pub new_step : (new : Items) → ((r : Row) → row_of (rows_view old.rows.items) m ≡ Some r → FewSlots fs → IsSeen C fs r.job → Settles m (misses_first C fs cs r.job) (job_kind C r.job) (job_priority C r.job) old new) → Far (start ++ numbers_behind first (suc k)) ((count - suc k) + left) new
     new_step new s =
         let e : (count - k) + left ≡ suc ((count - suc k) + left) = omega arith in
         subst (λ (l : List ℕ). Far l ((count - suc k) + left) new) (append_assoc start (numbers_behind first k) (m ∷ []) ∙ ap (λ (n : ℕ). start ++ (numbers_behind first k ++ n ∷ [])) is)
         (progress_more (start ++ numbers_behind first k) ((count - suc k) + left) old new m v.0 (subst (λ (n : ℕ). Far (start ++ numbers_behind first k) n old) e far) v.1 v.2 (can.others m new_in) new_fresh
-        (subst (λ (us : List (Want ℕ)). Settles m us (queue_kind (job_kind C v.0.job)) (job_priority C v.0.job) old new) (sym (missed_new m v.0 v.1 (omega arith)))
+        (subst (λ (us : List (Want ℕ)). Settles m us (job_kind C v.0.job) (job_priority C v.0.job) old new) (sym (missed_new m v.0 v.1 (omega arith)))
         (s (remarked old m v.0) row_there few (can.seen_job m v.0 new_in v.1))))
 
   -- what else there is does not matter
@@ -349,7 +348,7 @@ module _ (C : Code) (fs : List (Option Frame)) (cs : List (Option Counted)) (num
   abbrev pub count : ℕ
   count = length old.rows.items - first
 
-  pub closed : (new : Items) → rows_view new.rows.items ≡ mark_at was number Over → new.rules ≡ old.rules → new.queue ≡ old.queue → new.newly.items ≡ [] → vec_capacity new.newly ≡ vec_capacity old.newly → new.apart ≡ one_less (queue_kind (job_kind C job)) old.apart → Progress C fs cs was first number (waiters_view old.rules.waiting) (queue_view old.queue) [] (length old.woken.items + (count + 0)) new
+  pub closed : (new : Items) → rows_view new.rows.items ≡ mark_at was number Over → new.rules ≡ old.rules → new.queue ≡ old.queue → new.newly.items ≡ [] → vec_capacity new.newly ≡ vec_capacity old.newly → new.apart ≡ one_less (job_kind C job) old.apart → Progress C fs cs was first number (waiters_view old.rules.waiting) (queue_view old.queue) [] (length old.woken.items + (count + 0)) new
   closed new er eu eq en ec ea =
       let f = can.rules_fit in
       let g = can.newly_fit in
@@ -363,7 +362,7 @@ module _ (C : Code) (fs : List (Option Frame)) (cs : List (Option Counted)) (num
             (subst (λ ru. AreSettled C fs cs was first number (waiters_view old.rules.waiting) (queue_view old.queue) [] (rows_view new.rows.items) (waiters_view ru) (queue_view new.queue) []) (sym (ap (λ l. l.waiting) eu))
             (subst (λ (q : Both). AreSettled C fs cs was first number (waiters_view old.rules.waiting) (queue_view old.queue) [] (rows_view new.rows.items) (waiters_view old.rules.waiting) (queue_view q) []) (sym eq)
             (settled_none C fs cs was first number (waiters_view old.rules.waiting) (queue_view old.queue) (rows_view new.rows.items) can.row can.there er)));
-        room = record { roomy = less_roomy C old new number can.row Over can.there can.runs refl er can.roomy (ea ∙ ap (λ (j : Job). one_less (queue_kind (job_kind C j)) old.apart) (sym can.job_is)) (λ k. let e = ap (room_of k) eq in omega arith) (omega arith); rules_fit = omega arith; newly_fit = omega arith };
+        room = record { roomy = less_roomy C old new number can.row Over can.there can.runs refl er can.roomy (ea ∙ ap (λ (j : Job). one_less (job_kind C j) old.apart) (sym can.job_is)) (λ k. let e = ap (room_of k) eq in omega arith) (omega arith); rules_fit = omega arith; newly_fit = omega arith };
       }
 
   -- those that were woken, and the new ones

@@ -5,7 +5,6 @@ use Rattle.std.specs.Prelude.{ℤ, if◌then◌else◌, IsPermutation}
 use Rattle.std.proofs.lemmas.List.Sorted.{IsPermutation-append_comm, IsPermutation-cons, IsPermutation-refl}
 use Rattle.board_history.specs.Marking.{kind_eq}
 use Rattle.task_code.specs.Code.{Control, Kind, Leaf}
-use Rattle.board_program.specs.Tables.{queue_kind}
 use Rattle.work_queue.specs.Both.{Both, with_changed}
 use Rattle.work_queue.specs.Entries.{inserted}
 use Rattle.work_queue.specs.Order.{precedes}
@@ -30,7 +29,7 @@ numbers_inserted z e (y ∷ xs) = by (precedes e y) (numbers_inserted z e xs)
     by false rest = behind (int_eq y.priority z) rest
 
 -- an item is put in
-pub queue_put : (j : Kind) (p : ℤ) (m : ℕ) (q : Both) (k : Kind) (z : ℤ) → IsPermutation (queue_view q k z ++ (if kind_eq j k && int_eq p z then m ∷ [] else [])) (queue_view (with_changed (queue_kind j) (with_put (record { priority = p; no = m })) q) k z)
+pub queue_put : (j : Kind) (p : ℤ) (m : ℕ) (q : Both) (k : Kind) (z : ℤ) → IsPermutation (queue_view q k z ++ (if kind_eq j k && int_eq p z then m ∷ [] else [])) (queue_view (with_changed j (with_put (record { priority = p; no = m })) q) k z)
 queue_put Control p m q Control z = numbers_inserted z (record { priority = p; no = m }) q.control.entries
 queue_put Leaf p m q Leaf z = numbers_inserted z (record { priority = p; no = m }) q.leaf.entries
 queue_put Control p m q Leaf z = subst (λ (l : List ℕ). IsPermutation l (queue_view q Leaf z)) (sym (append-nil (queue_view q Leaf z))) (IsPermutation-refl _)

@@ -8,7 +8,6 @@ ghost use Rattle.board_history.specs.Marking.{mark_at};
 ghost use Rattle.rules.specs.Waiting.{GivesRoomBack};
 ghost use Rattle.work_queue.specs.Both.{of, with_changed};
 ghost use Rattle.work_queue.specs.Waiting.{with_put, without};
-ghost use Rattle.board_program.specs.Tables.{queue_kind};
 ghost use Rattle.board_data.specs.View.{want_view};
 ghost use Rattle.board_instances.specs.View.{job_view, rows_view};
 ghost use Rattle.board_items.specs.Learnt.{HaveLearnt};
@@ -71,7 +70,7 @@ impl Counts {
 
 /// Who runs a job, and its priority.
 pub fn order_of(program: &Program, job: Job) -> (Kind, i32)
-    ensures kind { result.0 ≡ queue_kind (job_kind program.now (job_view job)) }
+    ensures kind { result.0 ≡ job_kind program.now (job_view job) }
     ensures priority { result.1 ≡ job_priority program.now (job_view job) }
 {
     match job {
@@ -116,7 +115,8 @@ impl Items {
 
     /// Whether no item runs or can begin.
     pub fn is_still(&self) -> bool
-        ensures { IsTrue result ↔ ((self.now.running ≡ 0) × (first_number self.now.queue.control.entries ≡ None) × (first_number self.now.queue.leaf.entries ≡ None)) }
+        ensures { IsTrue result ↔ ((self.now.running ≡ 0) × (first_number self.now.queue.control.entries ≡ None)
+            × (first_number self.now.queue.leaf.entries ≡ None)) }
     {
         self.running == 0
             && self.queue.first(Kind::Control).is_none()
@@ -127,7 +127,8 @@ impl Items {
     pub fn begin(&mut self, worker: u8, number: u64, order: (Kind, i32))
         ensures stays { StaysButOrder self.old self.new }
         ensures rows { rows_view self.new.rows.items ≡ mark_at (rows_view self.old.rows.items) number (running_mark worker) }
-        ensures queue { Contains (of order.0 self.old.queue).entries (record { priority = order.1; no = number }) → self.new.queue ≡ with_changed order.0 (without (record { priority = order.1; no = number })) self.old.queue }
+        ensures queue { Contains (of order.0 self.old.queue).entries (record { priority = order.1; no = number })
+            → self.new.queue ≡ with_changed order.0 (without (record { priority = order.1; no = number })) self.old.queue }
         ensures running { self.old.running + 1 < 2 ^ 64 → self.new.running ≡ self.old.running + 1 }
         ensures newly { self.new.newly.items ≡ [] }
         ensures capacity { vec_capacity self.new.newly ≡ vec_capacity self.old.newly }
@@ -145,7 +146,8 @@ impl Items {
     pub fn back(&mut self, number: u64, order: (Kind, i32))
         ensures stays { StaysButOrder self.old self.new }
         ensures rows { rows_view self.new.rows.items ≡ mark_at (rows_view self.old.rows.items) number ready_mark }
-        ensures queue { 0 < (of order.0 self.old.queue).room → self.new.queue ≡ with_changed order.0 (with_put (record { priority = order.1; no = number })) self.old.queue }
+        ensures queue { 0 < (of order.0 self.old.queue).room
+            → self.new.queue ≡ with_changed order.0 (with_put (record { priority = order.1; no = number })) self.old.queue }
         ensures running { self.new.running ≡ self.old.running - 1 }
         ensures newly { 0 < vec_capacity self.old.newly → self.new.newly.items ≡ number ∷ [] }
         ensures apart { self.new.apart ≡ one_less order.0 self.old.apart }
@@ -163,7 +165,8 @@ impl Items {
         ensures len { vec_len self.new.rows ≡ vec_len self.old.rows }
         ensures stays { StaysButOrder self.old self.new }
         ensures rows { rows_view self.new.rows.items ≡ mark_at (rows_view self.old.rows.items) number ready_mark }
-        ensures queue { 0 < (of order.0 self.old.queue).room → self.new.queue ≡ with_changed order.0 (with_put (record { priority = order.1; no = number })) self.old.queue }
+        ensures queue { 0 < (of order.0 self.old.queue).room
+            → self.new.queue ≡ with_changed order.0 (with_put (record { priority = order.1; no = number })) self.old.queue }
         ensures running { self.new.running ≡ self.old.running }
         ensures newly { vec_len self.old.newly < vec_capacity self.old.newly → self.new.newly.items ≡ self.old.newly.items ++ number ∷ [] }
         ensures capacity { vec_capacity self.old.newly ≤ vec_capacity self.new.newly }
@@ -179,7 +182,9 @@ impl Items {
     pub fn tell(&mut self, input: &Input)
         ensures stays { StaysButWaits self.old self.new }
         ensures told { length self.old.rules.waiting + vec_len self.old.woken ≤ vec_capacity self.old.woken → IsTold input.now self.old self.new }
-        ensures learnt { length self.old.rules.waiting + vec_len self.old.woken ≤ vec_capacity self.old.woken → (known : List (Want ℕ)) (start : List Waiter) → HaveLearnt known start self.old.rules.waiting self.old.woken.items → HaveLearnt (known ++ want_view input.now ∷ []) start self.new.rules.waiting self.new.woken.items }
+        ensures learnt { length self.old.rules.waiting + vec_len self.old.woken ≤ vec_capacity self.old.woken → (known : List (Want ℕ)) (start : List Waiter)
+            → HaveLearnt known start self.old.rules.waiting self.old.woken.items
+            → HaveLearnt (known ++ want_view input.now ∷ []) start self.new.rules.waiting self.new.woken.items }
         ensures woken_capacity { vec_capacity self.new.woken ≡ vec_capacity self.old.woken }
         ensures count { length self.new.rules.waiting + vec_len self.new.woken ≡ length self.old.rules.waiting + vec_len self.old.woken }
     {

@@ -29,27 +29,32 @@ ghost use Rattle.board_items.specs.View.{waiters_view};
 pub fn fitting_items()
     ensures stands { (C : Code) → IsCode C → (L : Layout) (events : List Event) (F : Fields) → Stands C L events F → ItemsFit F }
     ensures nothing { (F : Fields) (start : List Waiting) → ItemsFit F → F.waiting ≡ waiters_view start → HaveLearnt [] F.waiting start [] }
-    ensures seen { (C : Code) → IsCode C → (fs : List (Option Frame)) (k e c : ℕ) (f : Frame) → slot_at fs k ≡ Some f → In e (body C f.body).entries → IsSeen C fs (Does k e c) }
+    ensures seen { (C : Code) → IsCode C → (fs : List (Option Frame)) (k e c : ℕ) (f : Frame) → slot_at fs k ≡ Some f → In e (body C f.body).entries
+        → IsSeen C fs (Does k e c) }
 {}
 
 /// New rows for which room was made, and which were counted, leave room for all items that wait or run.
 pub fn roomy_items()
-    ensures placed { (C : Code) (controls leaves : ℕ) (old new : AllItems) (more : List Row) → IsRoomyFor C controls leaves old → rows_view new.rows.items ≡ rows_view old.rows.items ++ more → apart_in C Control more ≤ controls → apart_in C Leaf more ≤ leaves →
+    ensures placed { (C : Code) (controls leaves : ℕ) (old new : AllItems) (more : List Row) → IsRoomyFor C controls leaves old
+        → rows_view new.rows.items ≡ rows_view old.rows.items ++ more → apart_in C Control more ≤ controls → apart_in C Leaf more ≤ leaves →
         new.queue ≡ old.queue → new.apart ≡ old.apart → new.newly ≡ old.newly → IsRoomy C new }
 {}
 
 /// Lists with room for what the items of the instances that are made may wait for, in order, are those for all new items.
 pub fn spare_lists()
     ensures made { (C : Code) (made : List Instance) (j : Job) (os : List (Opening Task Place)) (rows : List Row) (lists : List (SmallVec Input)) →
-        AllZip (λ n (l : SmallVec Input). n ≤ l.capacity) (flat_map (λ (m : Instance). filter (nat_lt 2) (map (λ e. length (entry C e).needs) (body C m.body).entries)) made) lists →
+        AllZip (λ n (l : SmallVec Input). n ≤ l.capacity)
+        (flat_map (λ (m : Instance). filter (nat_lt 2) (map (λ e. length (entry C e).needs) (body C m.body).entries)) made) lists →
         AreSpare C (jobs_behind (length rows) (rows ++ map new_row (jobs_after C made j os))) lists }
 {}
 
 /// The items that have learnt of their last input, and the new ones behind the rows that there were, wait, each once, and the item
 /// that ended is none of them.
 pub fn items_to_settle()
-    ensures old { (F : Fields) (jobs : List Job) (known : List (Want ℕ)) (left : List Waiting) (woken : List ℕ) → ItemsFit F → HaveLearnt known F.waiting left woken → AreOld (length F.rows) woken }
-    ensures all { (F : Fields) (jobs : List Job) (known : List (Want ℕ)) (left : List Waiting) (woken : List ℕ) → ItemsFit F → HaveLearnt known F.waiting left woken →
+    ensures old { (F : Fields) (jobs : List Job) (known : List (Want ℕ)) (left : List Waiting) (woken : List ℕ) → ItemsFit F
+        → HaveLearnt known F.waiting left woken → AreOld (length F.rows) woken }
+    ensures all { (F : Fields) (jobs : List Job) (known : List (Want ℕ)) (left : List Waiting) (woken : List ℕ) → ItemsFit F
+        → HaveLearnt known F.waiting left woken →
         (C : Code) (fs : List (Option Frame)) (cs : List (Option Counted)) (n : ℕ) (own : Row) → row_of F.rows n ≡ Some own → (own.mark ≡ waiting_mark → ⊥) →
         ((m : ℕ) (r : Row) → row_of (F.rows ++ map new_row jobs) m ≡ Some r → r.mark ≡ waiting_mark → IsSeen C fs r.job) →
         AreToSettle C fs cs (F.rows ++ map new_row jobs) (length F.rows) n (woken ++ numbers_behind (length F.rows) (length jobs)) }
@@ -58,16 +63,24 @@ pub fn items_to_settle()
 /// What becomes of rows, waiters, those newly enabled and the queue at the end of an item, where the items that learnt of their
 /// last input, and the new ones, were settled.
 pub fn ended_items()
-    ensures waits { (C : Code) (F G : Fields) (n : ℕ) (jobs : List Job) (known : List (Want ℕ)) (left : List Waiting) (woken : List ℕ) → ItemsFit F → HaveLearnt known F.waiting left woken →
-        AreSettled C G.frames G.cells (F.rows ++ map new_row jobs) (length F.rows) n (waiters_view left) F.queue (woken ++ numbers_behind (length F.rows) (length jobs)) G.rows G.waiting G.queue G.newly →
+    ensures waits { (C : Code) (F G : Fields) (n : ℕ) (jobs : List Job) (known : List (Want ℕ)) (left : List Waiting) (woken : List ℕ) → ItemsFit F
+        → HaveLearnt known F.waiting left woken →
+        AreSettled C G.frames G.cells (F.rows ++ map new_row jobs) (length F.rows) n (waiters_view left) F.queue
+        (woken ++ numbers_behind (length F.rows) (length jobs)) G.rows G.waiting G.queue G.newly →
         WaitsAfter C (layout_of C) F G (F.rows ++ map new_row jobs) known }
-    ensures newly { (C : Code) (F G : Fields) (n : ℕ) (jobs : List Job) (known : List (Want ℕ)) (left : List Waiting) (woken : List ℕ) → ItemsFit F → HaveLearnt known F.waiting left woken →
-        AreSettled C G.frames G.cells (F.rows ++ map new_row jobs) (length F.rows) n (waiters_view left) F.queue (woken ++ numbers_behind (length F.rows) (length jobs)) G.rows G.waiting G.queue G.newly →
+    ensures newly { (C : Code) (F G : Fields) (n : ℕ) (jobs : List Job) (known : List (Want ℕ)) (left : List Waiting) (woken : List ℕ) → ItemsFit F
+        → HaveLearnt known F.waiting left woken →
+        AreSettled C G.frames G.cells (F.rows ++ map new_row jobs) (length F.rows) n (waiters_view left) F.queue
+        (woken ++ numbers_behind (length F.rows) (length jobs)) G.rows G.waiting G.queue G.newly →
         NewlyAfter G (F.rows ++ map new_row jobs) }
-    ensures rows { (C : Code) (F G : Fields) (n : ℕ) (jobs : List Job) (known : List (Want ℕ)) (left : List Waiting) (woken : List ℕ) → ItemsFit F → HaveLearnt known F.waiting left woken →
-        AreSettled C G.frames G.cells (F.rows ++ map new_row jobs) (length F.rows) n (waiters_view left) F.queue (woken ++ numbers_behind (length F.rows) (length jobs)) G.rows G.waiting G.queue G.newly →
+    ensures rows { (C : Code) (F G : Fields) (n : ℕ) (jobs : List Job) (known : List (Want ℕ)) (left : List Waiting) (woken : List ℕ) → ItemsFit F
+        → HaveLearnt known F.waiting left woken →
+        AreSettled C G.frames G.cells (F.rows ++ map new_row jobs) (length F.rows) n (waiters_view left) F.queue
+        (woken ++ numbers_behind (length F.rows) (length jobs)) G.rows G.waiting G.queue G.newly →
         G.rows ≡ ended_rows F.rows n G.newly jobs }
-    ensures queue { (C : Code) (F G : Fields) (n : ℕ) (jobs : List Job) (known : List (Want ℕ)) (left : List Waiting) (woken : List ℕ) → ItemsFit F → HaveLearnt known F.waiting left woken →
-        AreSettled C G.frames G.cells (F.rows ++ map new_row jobs) (length F.rows) n (waiters_view left) F.queue (woken ++ numbers_behind (length F.rows) (length jobs)) G.rows G.waiting G.queue G.newly →
+    ensures queue { (C : Code) (F G : Fields) (n : ℕ) (jobs : List Job) (known : List (Want ℕ)) (left : List Waiting) (woken : List ℕ) → ItemsFit F
+        → HaveLearnt known F.waiting left woken →
+        AreSettled C G.frames G.cells (F.rows ++ map new_row jobs) (length F.rows) n (waiters_view left) F.queue
+        (woken ++ numbers_behind (length F.rows) (length jobs)) G.rows G.waiting G.queue G.newly →
         QueueAfter C F G }
 {}

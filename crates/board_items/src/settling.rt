@@ -7,7 +7,6 @@ ghost use Rattle.std.specs.Prelude.{◌≡◌, ◌⊎◌, ◌<◌, ◌≤◌, �
 ghost use Rattle.smallvec.specs.SmallVec.{HasRoomFor};
 ghost use Rattle.board_history.specs.Ending.{job_kind, job_priority};
 ghost use Rattle.board_history.specs.Fields.{Job as AJob, Over as over_mark, Row, Waiter, Want, row_of};
-ghost use Rattle.board_program.specs.Tables.{queue_kind};
 ghost use Rattle.board_data.specs.View.{cells_view, want_view};
 ghost use Rattle.board_data.specs.Wanted.{FewSlots};
 ghost use Rattle.board_instances.specs.View.{frames_view, job_view, rows_view};
@@ -47,7 +46,8 @@ pub struct Outlook<'a> {
 #[tactic(auto, using(crate::proofs::Jobs::any_none, crate::proofs::Jobs::any_some))]
 #[inline(always)]
 fn has_all(view: View<'_>, needs: &[Wanted]) -> bool
-    ensures { result ≡ is_nil (flat_map (wanted_missed view.entry.program.now (cells_view view.entry.store.now.cells) (led_slot (frames_view view.entry.instances.now.slots) view.entry.at)) needs.now) }
+    ensures { result ≡ is_nil (flat_map (wanted_missed view.entry.program.now (cells_view view.entry.store.now.cells)
+        (led_slot (frames_view view.entry.instances.now.slots) view.entry.at)) needs.now) }
 {
     for wanted in needs {
         if view.misses(wanted) {
@@ -61,8 +61,10 @@ impl<'a> Outlook<'a> {
     /// Puts what the item of a job misses behind the inputs.
     #[inline(always)]
     fn list_missing(self, job: Job, inputs: &mut Inputs) -> Result<(), AllocError>
-        ensures listed { OnOk result (FewSlots (frames_view self.entry.instances.now.slots) → IsSeen self.entry.program.now (frames_view self.entry.instances.now.slots) (job_view job) →
-            map want_view inputs.new.items ≡ map want_view inputs.old.items ++ misses self.entry.program.now (frames_view self.entry.instances.now.slots) (cells_view self.entry.store.now.cells) (job_view job)) }
+        ensures listed { OnOk result (FewSlots (frames_view self.entry.instances.now.slots)
+            → IsSeen self.entry.program.now (frames_view self.entry.instances.now.slots) (job_view job) →
+            map want_view inputs.new.items ≡ map want_view inputs.old.items
+            ++ misses self.entry.program.now (frames_view self.entry.instances.now.slots) (cells_view self.entry.store.now.cells) (job_view job)) }
         ensures succeeds { HasRoomFor inputs.old (needs_of self.entry.program.now (job_view job)) → IsOk result }
     {
         let Job::Does {
@@ -88,10 +90,14 @@ impl<'a> Outlook<'a> {
     /// Whether the item of a job misses nothing.
     #[inline(always)]
     fn has_inputs(self, job: Job) -> bool
-        ensures none { FewSlots (frames_view self.entry.instances.now.slots) → IsSeen self.entry.program.now (frames_view self.entry.instances.now.slots) (job_view job) →
-            OnTrue result (misses self.entry.program.now (frames_view self.entry.instances.now.slots) (cells_view self.entry.store.now.cells) (job_view job) ≡ []) }
-        ensures some { FewSlots (frames_view self.entry.instances.now.slots) → IsSeen self.entry.program.now (frames_view self.entry.instances.now.slots) (job_view job) →
-            misses self.entry.program.now (frames_view self.entry.instances.now.slots) (cells_view self.entry.store.now.cells) (job_view job) ≡ [] → IsTrue result }
+        ensures none { FewSlots (frames_view self.entry.instances.now.slots)
+            → IsSeen self.entry.program.now (frames_view self.entry.instances.now.slots) (job_view job) →
+            OnTrue result (misses self.entry.program.now (frames_view self.entry.instances.now.slots)
+            (cells_view self.entry.store.now.cells) (job_view job) ≡ []) }
+        ensures some { FewSlots (frames_view self.entry.instances.now.slots)
+            → IsSeen self.entry.program.now (frames_view self.entry.instances.now.slots) (job_view job) →
+            misses self.entry.program.now (frames_view self.entry.instances.now.slots) (cells_view self.entry.store.now.cells)
+            (job_view job) ≡ [] → IsTrue result }
     {
         let Job::Does {
             instance,
@@ -134,10 +140,15 @@ impl<'a> Outlook<'a> {
     /// Whether an item that was woken misses nothing. One that waits for no element has just learnt of all that it waits for, so what it
     /// reads is not looked at.
     fn has_learnt(self, job: Job) -> bool
-        ensures none { IsShort self.entry.program.now (frames_view self.entry.instances.now.slots) (cells_view self.entry.store.now.cells) (job_view job) → FewSlots (frames_view self.entry.instances.now.slots) → IsSeen self.entry.program.now (frames_view self.entry.instances.now.slots) (job_view job) →
-            OnTrue result (misses self.entry.program.now (frames_view self.entry.instances.now.slots) (cells_view self.entry.store.now.cells) (job_view job) ≡ []) }
-        ensures some { FewSlots (frames_view self.entry.instances.now.slots) → IsSeen self.entry.program.now (frames_view self.entry.instances.now.slots) (job_view job) →
-            misses self.entry.program.now (frames_view self.entry.instances.now.slots) (cells_view self.entry.store.now.cells) (job_view job) ≡ [] → IsTrue result }
+        ensures none { IsShort self.entry.program.now (frames_view self.entry.instances.now.slots) (cells_view self.entry.store.now.cells) (job_view job)
+            → FewSlots (frames_view self.entry.instances.now.slots)
+            → IsSeen self.entry.program.now (frames_view self.entry.instances.now.slots) (job_view job) →
+            OnTrue result (misses self.entry.program.now (frames_view self.entry.instances.now.slots)
+            (cells_view self.entry.store.now.cells) (job_view job) ≡ []) }
+        ensures some { FewSlots (frames_view self.entry.instances.now.slots)
+            → IsSeen self.entry.program.now (frames_view self.entry.instances.now.slots) (job_view job) →
+            misses self.entry.program.now (frames_view self.entry.instances.now.slots) (cells_view self.entry.store.now.cells)
+            (job_view job) ≡ [] → IsTrue result }
     {
         self.is_plain(job) || self.has_inputs(job)
     }
@@ -148,8 +159,10 @@ impl<'a> Outlook<'a> {
     ///
     /// `AllocError` where it may wait for more than two inputs, and memory is refused.
     fn missed_next(self, job: Job) -> Result<Inputs, AllocError>
-        ensures listed { FewSlots (frames_view self.entry.instances.now.slots) → IsSeen self.entry.program.now (frames_view self.entry.instances.now.slots) (job_view job) →
-            IfOk result (λ inputs. map want_view inputs.items ≡ misses self.entry.program.now (frames_view self.entry.instances.now.slots) (cells_view self.entry.store.now.cells) (job_view job)) }
+        ensures listed { FewSlots (frames_view self.entry.instances.now.slots)
+            → IsSeen self.entry.program.now (frames_view self.entry.instances.now.slots) (job_view job) →
+            IfOk result (λ inputs. map want_view inputs.items
+            ≡ misses self.entry.program.now (frames_view self.entry.instances.now.slots) (cells_view self.entry.store.now.cells) (job_view job)) }
         ensures succeeds { needs_of self.entry.program.now (job_view job) ≤ 2 → IsOk result }
     {
         let mut inputs = SmallVec::new(self.alloc);
@@ -160,11 +173,14 @@ impl<'a> Outlook<'a> {
     /// Who runs a new item, with its priority, and what it waits for in which instance: one that goes on with a loop waits for nothing.
     #[inline(always)]
     fn look(self, job: Job) -> ((Kind, i32), usize, &'a [Wanted])
-        ensures kind { result.0.0 ≡ queue_kind (job_kind self.entry.program.now (job_view job)) }
+        ensures kind { result.0.0 ≡ job_kind self.entry.program.now (job_view job) }
         ensures priority { result.0.1 ≡ job_priority self.entry.program.now (job_view job) }
         ensures count { length result.2.now ≡ first_needs self.entry.program.now (job_view job) }
-        ensures listed { FewSlots (frames_view self.entry.instances.now.slots) → IsSeen self.entry.program.now (frames_view self.entry.instances.now.slots) (job_view job) →
-            flat_map (wanted_missed self.entry.program.now (cells_view self.entry.store.now.cells) (led_slot (frames_view self.entry.instances.now.slots) result.1)) result.2.now ≡ misses_first self.entry.program.now (frames_view self.entry.instances.now.slots) (cells_view self.entry.store.now.cells) (job_view job) }
+        ensures listed { FewSlots (frames_view self.entry.instances.now.slots)
+            → IsSeen self.entry.program.now (frames_view self.entry.instances.now.slots) (job_view job) →
+            flat_map (wanted_missed self.entry.program.now (cells_view self.entry.store.now.cells)
+            (led_slot (frames_view self.entry.instances.now.slots) result.1)) result.2.now
+            ≡ misses_first self.entry.program.now (frames_view self.entry.instances.now.slots) (cells_view self.entry.store.now.cells) (job_view job) }
     {
         let Job::Does {
             instance,
@@ -187,8 +203,12 @@ impl<'a> Outlook<'a> {
     /// The place of the first of these that the instance misses, and the input that it waits for there.
     #[inline(always)]
     fn first_missing(self, at: usize, needs: &[Wanted]) -> Option<(usize, Input)>
-        ensures { MatchOption result (flat_map (wanted_missed self.entry.program.now (cells_view self.entry.store.now.cells) (led_slot (frames_view self.entry.instances.now.slots) at)) needs.now ≡ [])
-            (λ first. (first.0 < length needs.now) × (flat_map (wanted_missed self.entry.program.now (cells_view self.entry.store.now.cells) (led_slot (frames_view self.entry.instances.now.slots) at)) needs.now ≡ want_view first.1 ∷ flat_map (wanted_missed self.entry.program.now (cells_view self.entry.store.now.cells) (led_slot (frames_view self.entry.instances.now.slots) at)) (drop (first.0 + 1) needs.now))) }
+        ensures { MatchOption result (flat_map (wanted_missed self.entry.program.now (cells_view self.entry.store.now.cells)
+            (led_slot (frames_view self.entry.instances.now.slots) at)) needs.now ≡ [])
+            (λ first. (first.0 < length needs.now) × (flat_map
+            (wanted_missed self.entry.program.now (cells_view self.entry.store.now.cells) (led_slot (frames_view self.entry.instances.now.slots) at)) needs.now
+            ≡ want_view first.1 ∷ flat_map (wanted_missed self.entry.program.now (cells_view self.entry.store.now.cells)
+            (led_slot (frames_view self.entry.instances.now.slots) at)) (drop (first.0 + 1) needs.now))) }
     {
         let view = View {
             program: self.program,
@@ -207,7 +227,10 @@ impl<'a> Outlook<'a> {
     /// Puts what the instance misses of these behind the inputs.
     #[inline(always)]
     fn list(self, at: usize, needs: &[Wanted], inputs: &mut Inputs) -> Result<(), AllocError>
-        ensures listed { OnOk result (map want_view inputs.new.items ≡ map want_view inputs.old.items ++ flat_map (wanted_missed self.entry.program.now (cells_view self.entry.store.now.cells) (led_slot (frames_view self.entry.instances.now.slots) at)) needs.now) }
+        ensures listed { OnOk result (map want_view inputs.new.items
+            ≡ map want_view inputs.old.items ++ flat_map
+            (wanted_missed self.entry.program.now (cells_view self.entry.store.now.cells)
+            (led_slot (frames_view self.entry.instances.now.slots) at)) needs.now) }
         ensures succeeds { HasRoomFor inputs.old (length needs.now) → IsOk result }
     {
         let view = View {
@@ -244,7 +267,8 @@ impl Items {
         order: (Kind, i32),
         inputs: Inputs,
     ) -> Result<(), AllocError>
-        ensures settles { (missing : List (Want ℕ)) → map want_view inputs.items ≡ missing → OnOk result (Settles number missing order.0 order.1 self.old self.new) }
+        ensures settles { (missing : List (Want ℕ)) → map want_view inputs.items ≡ missing
+            → OnOk result (Settles number missing order.0 order.1 self.old self.new) }
         ensures err { OnErr result (self.new ≡ self.old) }
         ensures woken { self.new.woken ≡ self.old.woken }
         ensures running { self.new.running ≡ self.old.running }
@@ -270,13 +294,18 @@ impl Items {
 
     /// An item that has learnt of its last input waits for what it misses next, or can begin.
     fn wake_one(&mut self, outlook: Outlook<'_>, number: u64) -> Result<(), AllocError>
-        ensures settles { OnOk result ((r : Row) → row_of (rows_view self.old.rows.items) number ≡ Some r → FewSlots (frames_view outlook.entry.instances.now.slots) → IsSeen outlook.entry.program.now (frames_view outlook.entry.instances.now.slots) r.job → IsShort outlook.entry.program.now (frames_view outlook.entry.instances.now.slots) (cells_view outlook.entry.store.now.cells) r.job →
-            Settles number (misses outlook.entry.program.now (frames_view outlook.entry.instances.now.slots) (cells_view outlook.entry.store.now.cells) r.job) (queue_kind (job_kind outlook.entry.program.now r.job)) (job_priority outlook.entry.program.now r.job) self.old self.new) }
+        ensures settles { OnOk result ((r : Row) → row_of (rows_view self.old.rows.items) number ≡ Some r
+            → FewSlots (frames_view outlook.entry.instances.now.slots) → IsSeen outlook.entry.program.now (frames_view outlook.entry.instances.now.slots) r.job
+            → IsShort outlook.entry.program.now (frames_view outlook.entry.instances.now.slots) (cells_view outlook.entry.store.now.cells) r.job →
+            Settles number (misses outlook.entry.program.now (frames_view outlook.entry.instances.now.slots) (cells_view outlook.entry.store.now.cells) r.job)
+            (job_kind outlook.entry.program.now r.job) (job_priority outlook.entry.program.now r.job) self.old self.new) }
         ensures woken { self.new.woken ≡ self.old.woken }
         ensures running { self.new.running ≡ self.old.running }
         ensures len { vec_len self.new.rows ≡ vec_len self.old.rows }
-        ensures succeeds { (r : Row) → row_of (rows_view self.old.rows.items) number ≡ Some r → FewSlots (frames_view outlook.entry.instances.now.slots) → IsSeen outlook.entry.program.now (frames_view outlook.entry.instances.now.slots) r.job →
-            IsShort outlook.entry.program.now (frames_view outlook.entry.instances.now.slots) (cells_view outlook.entry.store.now.cells) r.job → 0 < self.old.rules.room → IsOk result }
+        ensures succeeds { (r : Row) → row_of (rows_view self.old.rows.items) number ≡ Some r → FewSlots (frames_view outlook.entry.instances.now.slots)
+            → IsSeen outlook.entry.program.now (frames_view outlook.entry.instances.now.slots) r.job →
+            IsShort outlook.entry.program.now (frames_view outlook.entry.instances.now.slots) (cells_view outlook.entry.store.now.cells) r.job
+            → 0 < self.old.rules.room → IsOk result }
     {
         let Some(item) = item_of(self.rows.as_slice(), number) else {
             return Ok(());
@@ -306,7 +335,9 @@ impl Items {
         number: u64,
         order: (Kind, i32),
     ) -> Result<(), AllocError>
-        ensures settles { OnOk result (Settles number (want_view input ∷ flat_map (wanted_missed outlook.entry.program.now (cells_view outlook.entry.store.now.cells) (led_slot (frames_view outlook.entry.instances.now.slots) at)) rest.now) order.0 order.1 self.old self.new) }
+        ensures settles { OnOk result (Settles number
+            (want_view input ∷ flat_map (wanted_missed outlook.entry.program.now (cells_view outlook.entry.store.now.cells)
+            (led_slot (frames_view outlook.entry.instances.now.slots) at)) rest.now) order.0 order.1 self.old self.new) }
         ensures woken { self.new.woken ≡ self.old.woken }
         ensures running { self.new.running ≡ self.old.running }
         ensures len { vec_len self.new.rows ≡ vec_len self.old.rows }
@@ -332,7 +363,9 @@ impl Items {
         number: u64,
         order: (Kind, i32),
     ) -> Result<(), AllocError>
-        ensures settles { OnOk result (Settles number (flat_map (wanted_missed outlook.entry.program.now (cells_view outlook.entry.store.now.cells) (led_slot (frames_view outlook.entry.instances.now.slots) at)) needs.now) order.0 order.1 self.old self.new) }
+        ensures settles { OnOk result (Settles number
+            (flat_map (wanted_missed outlook.entry.program.now (cells_view outlook.entry.store.now.cells)
+            (led_slot (frames_view outlook.entry.instances.now.slots) at)) needs.now) order.0 order.1 self.old self.new) }
         ensures woken { self.new.woken ≡ self.old.woken }
         ensures running { self.new.running ≡ self.old.running }
         ensures len { vec_len self.new.rows ≡ vec_len self.old.rows }
@@ -356,7 +389,9 @@ impl Items {
         order: (Kind, i32),
         spare: &mut Vec<Inputs>,
     ) -> Result<(), AllocError>
-        ensures settles { OnOk result (Settles number (flat_map (wanted_missed outlook.entry.program.now (cells_view outlook.entry.store.now.cells) (led_slot (frames_view outlook.entry.instances.now.slots) at)) needs.now) order.0 order.1 self.old self.new) }
+        ensures settles { OnOk result (Settles number
+            (flat_map (wanted_missed outlook.entry.program.now (cells_view outlook.entry.store.now.cells)
+            (led_slot (frames_view outlook.entry.instances.now.slots) at)) needs.now) order.0 order.1 self.old self.new) }
         ensures woken { self.new.woken ≡ self.old.woken }
         ensures running { self.new.running ≡ self.old.running }
         ensures len { vec_len self.new.rows ≡ vec_len self.old.rows }
@@ -376,13 +411,19 @@ impl Items {
         spare: &mut Vec<Inputs>,
     ) -> Result<(), AllocError>
         requires { place < vec_len self.old.rows }
-        ensures settles { OnOk result ((r : Row) → row_of (rows_view self.old.rows.items) (place + 1) ≡ Some r → FewSlots (frames_view outlook.entry.instances.now.slots) → IsSeen outlook.entry.program.now (frames_view outlook.entry.instances.now.slots) r.job →
-            Settles (place + 1) (misses_first outlook.entry.program.now (frames_view outlook.entry.instances.now.slots) (cells_view outlook.entry.store.now.cells) r.job) (queue_kind (job_kind outlook.entry.program.now r.job)) (job_priority outlook.entry.program.now r.job) self.old self.new) }
+        ensures settles { OnOk result ((r : Row) → row_of (rows_view self.old.rows.items) (place + 1) ≡ Some r
+            → FewSlots (frames_view outlook.entry.instances.now.slots)
+            → IsSeen outlook.entry.program.now (frames_view outlook.entry.instances.now.slots) r.job →
+            Settles (place + 1) (misses_first outlook.entry.program.now (frames_view outlook.entry.instances.now.slots)
+            (cells_view outlook.entry.store.now.cells) r.job) (job_kind outlook.entry.program.now r.job)
+            (job_priority outlook.entry.program.now r.job) self.old self.new) }
         ensures woken { self.new.woken ≡ self.old.woken }
         ensures running { self.new.running ≡ self.old.running }
         ensures len { vec_len self.new.rows ≡ vec_len self.old.rows }
-        ensures rest { (r : Row) (jobs : List AJob) → row_of (rows_view self.old.rows.items) (place + 1) ≡ Some r → AreSpare outlook.entry.program.now (r.job ∷ jobs) (reverse spare.old.items) → AreSpare outlook.entry.program.now jobs (reverse spare.new.items) }
-        ensures succeeds { (r : Row) (jobs : List AJob) → row_of (rows_view self.old.rows.items) (place + 1) ≡ Some r → AreSpare outlook.entry.program.now (r.job ∷ jobs) (reverse spare.old.items) → 0 < self.old.rules.room → IsOk result }
+        ensures rest { (r : Row) (jobs : List AJob) → row_of (rows_view self.old.rows.items) (place + 1) ≡ Some r
+            → AreSpare outlook.entry.program.now (r.job ∷ jobs) (reverse spare.old.items) → AreSpare outlook.entry.program.now jobs (reverse spare.new.items) }
+        ensures succeeds { (r : Row) (jobs : List AJob) → row_of (rows_view self.old.rows.items) (place + 1) ≡ Some r
+            → AreSpare outlook.entry.program.now (r.job ∷ jobs) (reverse spare.old.items) → 0 < self.old.rules.room → IsOk result }
     {
         let job = self.rows[place].item().job();
         let number = place as u64 + 1;
@@ -396,17 +437,26 @@ impl Items {
     /// Those that have learnt of their last input wait for what they miss next, or can begin.
     fn wake(&mut self, outlook: Outlook<'_>) -> Result<(), AllocError>
         ensures progress { OnOk result ((rows : List Row) (first number : ℕ) (before : List Waiter) (queued : AKind → ℤ → List ℕ) (left : ℕ) →
-            FewSlots (frames_view outlook.entry.instances.now.slots) → AreToSettle outlook.entry.program.now (frames_view outlook.entry.instances.now.slots) (cells_view outlook.entry.store.now.cells) rows first number self.old.woken.items → AreOld first self.old.woken.items →
-            Progress outlook.entry.program.now (frames_view outlook.entry.instances.now.slots) (cells_view outlook.entry.store.now.cells) rows first number before queued [] (length self.old.woken.items + left) self.old →
-            AreShort outlook.entry.program.now (frames_view outlook.entry.instances.now.slots) (cells_view outlook.entry.store.now.cells) rows first self.old.woken.items →
-            Progress outlook.entry.program.now (frames_view outlook.entry.instances.now.slots) (cells_view outlook.entry.store.now.cells) rows first number before queued self.old.woken.items left self.new) }
+            FewSlots (frames_view outlook.entry.instances.now.slots)
+            → AreToSettle outlook.entry.program.now (frames_view outlook.entry.instances.now.slots) (cells_view outlook.entry.store.now.cells) rows first number
+            self.old.woken.items → AreOld first self.old.woken.items →
+            Progress outlook.entry.program.now (frames_view outlook.entry.instances.now.slots) (cells_view outlook.entry.store.now.cells) rows first number
+            before queued [] (length self.old.woken.items + left) self.old →
+            AreShort outlook.entry.program.now (frames_view outlook.entry.instances.now.slots) (cells_view outlook.entry.store.now.cells) rows
+            first self.old.woken.items →
+            Progress outlook.entry.program.now (frames_view outlook.entry.instances.now.slots) (cells_view outlook.entry.store.now.cells) rows first number
+            before queued self.old.woken.items left self.new) }
         ensures len { vec_len self.new.rows ≡ vec_len self.old.rows }
         ensures running { self.new.running ≡ self.old.running }
         ensures woken { OnOk result (self.new.woken.items ≡ []) }
         ensures succeeds { (rows : List Row) (first number : ℕ) (before : List Waiter) (queued : AKind → ℤ → List ℕ) (left : ℕ) →
-            FewSlots (frames_view outlook.entry.instances.now.slots) → AreToSettle outlook.entry.program.now (frames_view outlook.entry.instances.now.slots) (cells_view outlook.entry.store.now.cells) rows first number self.old.woken.items → AreOld first self.old.woken.items →
-            Progress outlook.entry.program.now (frames_view outlook.entry.instances.now.slots) (cells_view outlook.entry.store.now.cells) rows first number before queued [] (length self.old.woken.items + left) self.old →
-            AreShort outlook.entry.program.now (frames_view outlook.entry.instances.now.slots) (cells_view outlook.entry.store.now.cells) rows first self.old.woken.items → IsOk result }
+            FewSlots (frames_view outlook.entry.instances.now.slots)
+            → AreToSettle outlook.entry.program.now (frames_view outlook.entry.instances.now.slots) (cells_view outlook.entry.store.now.cells) rows first number
+            self.old.woken.items → AreOld first self.old.woken.items →
+            Progress outlook.entry.program.now (frames_view outlook.entry.instances.now.slots) (cells_view outlook.entry.store.now.cells) rows first number
+            before queued [] (length self.old.woken.items + left) self.old →
+            AreShort outlook.entry.program.now (frames_view outlook.entry.instances.now.slots) (cells_view outlook.entry.store.now.cells) rows first
+            self.old.woken.items → IsOk result }
     {
         for at in 0..self.woken.len() {
             let number = self.woken[at];
@@ -425,14 +475,21 @@ impl Items {
         spare: &mut Vec<Inputs>,
     ) -> Result<(), AllocError>
         ensures progress { OnOk result ((rows : List Row) (number : ℕ) (before : List Waiter) (queued : AKind → ℤ → List ℕ) (start : List ℕ) (left : ℕ) →
-            FewSlots (frames_view outlook.entry.instances.now.slots) → AreToSettle outlook.entry.program.now (frames_view outlook.entry.instances.now.slots) (cells_view outlook.entry.store.now.cells) rows first number (numbers_behind first (vec_len self.old.rows - first)) → AreOld first start →
-            Progress outlook.entry.program.now (frames_view outlook.entry.instances.now.slots) (cells_view outlook.entry.store.now.cells) rows first number before queued start ((vec_len self.old.rows - first) + left) self.old →
-            Progress outlook.entry.program.now (frames_view outlook.entry.instances.now.slots) (cells_view outlook.entry.store.now.cells) rows first number before queued (start ++ numbers_behind first (vec_len self.old.rows - first)) left self.new) }
+            FewSlots (frames_view outlook.entry.instances.now.slots)
+            → AreToSettle outlook.entry.program.now (frames_view outlook.entry.instances.now.slots) (cells_view outlook.entry.store.now.cells) rows first number
+            (numbers_behind first (vec_len self.old.rows - first)) → AreOld first start →
+            Progress outlook.entry.program.now (frames_view outlook.entry.instances.now.slots) (cells_view outlook.entry.store.now.cells) rows first number
+            before queued start ((vec_len self.old.rows - first) + left) self.old →
+            Progress outlook.entry.program.now (frames_view outlook.entry.instances.now.slots) (cells_view outlook.entry.store.now.cells) rows first number
+            before queued (start ++ numbers_behind first (vec_len self.old.rows - first)) left self.new) }
         ensures woken { self.new.woken ≡ self.old.woken }
         ensures running { self.new.running ≡ self.old.running }
         ensures succeeds { (rows : List Row) (number : ℕ) (before : List Waiter) (queued : AKind → ℤ → List ℕ) (start : List ℕ) (left : ℕ) →
-            FewSlots (frames_view outlook.entry.instances.now.slots) → AreToSettle outlook.entry.program.now (frames_view outlook.entry.instances.now.slots) (cells_view outlook.entry.store.now.cells) rows first number (numbers_behind first (vec_len self.old.rows - first)) → AreOld first start →
-            Progress outlook.entry.program.now (frames_view outlook.entry.instances.now.slots) (cells_view outlook.entry.store.now.cells) rows first number before queued start ((vec_len self.old.rows - first) + left) self.old →
+            FewSlots (frames_view outlook.entry.instances.now.slots)
+            → AreToSettle outlook.entry.program.now (frames_view outlook.entry.instances.now.slots) (cells_view outlook.entry.store.now.cells) rows first number
+            (numbers_behind first (vec_len self.old.rows - first)) → AreOld first start →
+            Progress outlook.entry.program.now (frames_view outlook.entry.instances.now.slots) (cells_view outlook.entry.store.now.cells) rows first number
+            before queued start ((vec_len self.old.rows - first) + left) self.old →
             AreSpare outlook.entry.program.now (jobs_behind first rows) (reverse spare.old.items) → IsOk result }
     {
         for at in first..self.rows.len() {
@@ -474,18 +531,25 @@ impl Items {
         first: usize,
         spare: Vec<Inputs>,
     ) -> Result<(), AllocError>
-        ensures settled { CanFinish outlook.entry.program.now (frames_view outlook.entry.instances.now.slots) (cells_view outlook.entry.store.now.cells) number (job_view job) first self.old →
-            AreShort outlook.entry.program.now (frames_view outlook.entry.instances.now.slots) (cells_view outlook.entry.store.now.cells) (rows_view self.old.rows.items) first self.old.woken.items →
-            OnOk result (AreSettled outlook.entry.program.now (frames_view outlook.entry.instances.now.slots) (cells_view outlook.entry.store.now.cells) (rows_view self.old.rows.items) first number (waiters_view self.old.rules.waiting) (queue_view self.old.queue) (all_to_settle first self.old)
+        ensures settled { CanFinish outlook.entry.program.now (frames_view outlook.entry.instances.now.slots) (cells_view outlook.entry.store.now.cells) number
+            (job_view job) first self.old →
+            AreShort outlook.entry.program.now (frames_view outlook.entry.instances.now.slots) (cells_view outlook.entry.store.now.cells)
+            (rows_view self.old.rows.items) first self.old.woken.items →
+            OnOk result (AreSettled outlook.entry.program.now (frames_view outlook.entry.instances.now.slots) (cells_view outlook.entry.store.now.cells)
+            (rows_view self.old.rows.items) first number (waiters_view self.old.rules.waiting) (queue_view self.old.queue) (all_to_settle first self.old)
             (rows_view self.new.rows.items) (waiters_view self.new.rules.waiting) (queue_view self.new.queue) self.new.newly.items) }
-        ensures roomy { CanFinish outlook.entry.program.now (frames_view outlook.entry.instances.now.slots) (cells_view outlook.entry.store.now.cells) number (job_view job) first self.old →
-            AreShort outlook.entry.program.now (frames_view outlook.entry.instances.now.slots) (cells_view outlook.entry.store.now.cells) (rows_view self.old.rows.items) first self.old.woken.items →
+        ensures roomy { CanFinish outlook.entry.program.now (frames_view outlook.entry.instances.now.slots) (cells_view outlook.entry.store.now.cells) number
+            (job_view job) first self.old →
+            AreShort outlook.entry.program.now (frames_view outlook.entry.instances.now.slots) (cells_view outlook.entry.store.now.cells)
+            (rows_view self.old.rows.items) first self.old.woken.items →
             OnOk result (IsRoomy outlook.entry.program.now self.new) }
         ensures running { OnOk result (self.new.running ≡ self.old.running - 1) }
         ensures woken { OnOk result (self.new.woken.items ≡ []) }
         ensures rising { OnOk result (IsSorted nat_cmp self.new.newly.items) }
-        ensures succeeds { CanFinish outlook.entry.program.now (frames_view outlook.entry.instances.now.slots) (cells_view outlook.entry.store.now.cells) number (job_view job) first self.old →
-            AreShort outlook.entry.program.now (frames_view outlook.entry.instances.now.slots) (cells_view outlook.entry.store.now.cells) (rows_view self.old.rows.items) first self.old.woken.items →
+        ensures succeeds { CanFinish outlook.entry.program.now (frames_view outlook.entry.instances.now.slots) (cells_view outlook.entry.store.now.cells) number
+            (job_view job) first self.old →
+            AreShort outlook.entry.program.now (frames_view outlook.entry.instances.now.slots) (cells_view outlook.entry.store.now.cells)
+            (rows_view self.old.rows.items) first self.old.woken.items →
             AreSpare outlook.entry.program.now (jobs_behind first (rows_view self.old.rows.items)) spare.items → IsOk result }
     {
         let mut spare = spare;

@@ -1,5 +1,5 @@
 -- What is worked out of code, as a program keeps it.
-use Rattle.std.specs.Prelude.{◌≡◌, ◌<◌, ◌≤◌, ◌^◌, ℕ, List, length}
+use Rattle.std.specs.Prelude.{◌≡◌, ◌<◌, ◌≤◌, ◌^◌, ℕ, length}
 use Rattle.task_code.specs.Code.{Code, body, entry}
 use Rattle.board_program.specs.Places.{FindsPlaces}
 use Rattle.board_program.specs.Spots.{homes_of}

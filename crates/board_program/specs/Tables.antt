@@ -10,8 +10,6 @@ use Rattle.task_code.specs.Check.{is_declared}
 use Rattle.task_code.specs.Code.{Argument, At, AtKey, Closed, Code, Control, Entry, Fixed, Kind, Leaf, Local, Loop, Name, Named, Need, Stored, Variable, arguments, body, entry, here, kind_of, loop_of, scalar, stored_of}
 use Rattle.task_code.specs.Code as Pure
 use Rattle.task_code.specs.Shape.{is_plain}
-use Rattle.work_queue.specs.declared.entry.Kind.{Kind as QueueKind}
-use Rattle.work_queue.specs.declared.entry.Kind.TheVariants as Runs
 use Rattle.board_program.specs.Spots.{home_of, homes_of, place_from, spot_in}
 use Rattle.board_program.specs.declared.program.BodyTable.{BodyTable}
 use Rattle.board_program.specs.declared.program.EntryTable.{EntryTable}
@@ -30,11 +28,6 @@ body_or_script (Some b) = b
 
 abbrev pub body_of : Code → ℕ → ℕ
 body_of C i = body_or_script (home_of (homes_of C) i)
-
--- who runs an entry
-abbrev pub queue_kind : Kind → QueueKind
-queue_kind Control = Runs.Control
-queue_kind Leaf = Runs.Leaf
 
 -- what a variable is
 abbrev pub shape_of : Bool → Shape
@@ -133,7 +126,7 @@ module _ (C : Code) where
 
   -- what is worked out of an entry that the body b has
   pub record IsEntryTable (b i : ℕ) (t : EntryTable) : Type 0 where
-    pub kind : t.kind ≡ queue_kind (kind_of (entry C i).act)
+    pub kind : t.kind ≡ kind_of (entry C i).act
     pub priority : t.priority ≡ (entry C i).priority
     pub needs : t.needs.items ≡ map (wanted_in b) (entry C i).needs
     pub mark : t.mark ≡ (entry C i).mark

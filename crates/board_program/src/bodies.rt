@@ -1,16 +1,16 @@
 //! What an instance of a body begins with: the counts of its own data, and what it adds to those outside.
 ghost use Rattle.std.specs.Prelude.{◌≡◌, ◌+◌, ◌<◌, ◌≤◌, ◌∷◌, [], map, replicate, slice_index_or, if◌then◌else◌, IfOk, OnOk};
-ghost use Rattle.std.specs.Bool.{OnTrue};
 ghost use Rattle.std.specs.List.{list_any};
 ghost use Rattle.task_code.specs.Code.{Control, body as body_at, kind_of};
 ghost use Rattle.task_code.specs.View.{body_view, entry_view, name_view, variable_view};
 ghost use Rattle.board_program.specs.Places.{CountsMore, CountsOf, FindsPlaces, with_counts};
 ghost use Rattle.board_program.specs.Program.{IsLeads};
-ghost use Rattle.board_program.specs.Tables.{GainsHold, GainsNames, GainsRights, HoldsOf, IsBodyTable, is_kind, names_of, run_as, shape_of, waits_long};
+ghost use Rattle.board_program.specs.Tables.{GainsNames, GainsRights, HoldsOf, IsBodyTable, is_kind, names_of, run_as, shape_of, waits_long};
 
+use crate::outer::Outer;
 use crate::places::Places;
 use crate::program::{BodyTable, Hold, Own};
-use crate::spot::{Leads, Spot};
+use crate::spot::Leads;
 use data_store::store::Shape;
 use std::alloc::{AllocError, Global};
 use task_code::code::{Body, Code};
@@ -102,45 +102,6 @@ fn with_counts(
     Ok(own)
 }
 
-/// Whether both lead to the same slot.
-fn is_same(one: Spot, other: Spot) -> bool
-    ensures { OnTrue result (one ≡ other) }
-{
-    one.levels == other.levels && one.slot == other.slot
-}
-
-/// Both holds, which are of one spot.
-fn joined(one: Hold, other: Hold) -> Result<Hold, AllocError>
-    ensures { IfOk result (λ both. both ≡ record { spot = one.spot; reads = one.reads + other.reads; writes = one.writes + other.writes }) }
-{
-    match (
-        one.reads.checked_add(other.reads),
-        one.writes.checked_add(other.writes),
-    ) {
-        (Some(reads), Some(writes)) => Ok(Hold {
-            spot: one.spot,
-            reads,
-            writes,
-        }),
-        _ => Err(AllocError),
-    }
-}
-
-/// Adds a hold to those of the same spot.
-#[tactic(auto, using(crate::proofs::Holds::set_gains, crate::proofs::Holds::push_gains))]
-fn add_hold(outer: &mut Vec<Hold>, added: Hold) -> Result<(), AllocError>
-    ensures { OnOk result (GainsHold outer.old.items outer.new.items added) }
-{
-    for at in 0..outer.len() {
-        if is_same(outer[at].spot, added.spot) {
-            outer[at] = joined(outer[at], added)?;
-            return Ok(());
-        }
-    }
-    outer.push(added)?;
-    Ok(())
-}
-
 /// Holds what a name stands for, so many times of each kind, unless the body declares it.
 #[tactic(auto, using(crate::proofs::Counted::declared_if, crate::proofs::Holds::gains_own, crate::proofs::Holds::gains_nowhere, crate::proofs::Holds::gains_one))]
 fn hold_name(
@@ -151,11 +112,11 @@ fn hold_name(
     name: Name,
     reads: u64,
     writes: u64,
-    outer: &mut Vec<Hold>,
+    outer: &mut Outer,
 ) -> Result<(), AllocError>
     requires leads { IsLeads code.now leads.now }
     requires places { FindsPlaces (body_at code.now body).makes places.now }
-    ensures { OnOk result (GainsNames code.now body reads writes (name_view name ∷ []) outer.old.items outer.new.items) }
+    ensures { OnOk result (GainsNames code.now body reads writes (name_view name ∷ []) outer.old.holds.items outer.new.holds.items) }
 {
     if places.of_name(name).is_some() {
         return Ok(());
@@ -166,7 +127,7 @@ fn hold_name(
             reads,
             writes,
         };
-        add_hold(outer, hold)?;
+        outer.add(hold)?;
     }
     Ok(())
 }
@@ -181,11 +142,11 @@ fn hold_names(
     names: &[Name],
     reads: u64,
     writes: u64,
-    outer: &mut Vec<Hold>,
+    outer: &mut Outer,
 ) -> Result<(), AllocError>
     requires leads { IsLeads code.now leads.now }
     requires places { FindsPlaces (body_at code.now body).makes places.now }
-    ensures { OnOk result (GainsNames code.now body reads writes (map name_view names.now) outer.old.items outer.new.items) }
+    ensures { OnOk result (GainsNames code.now body reads writes (map name_view names.now) outer.old.holds.items outer.new.holds.items) }
 {
     for at in 0..names.len() {
         hold_name(code, leads, places, body, names[at], reads, writes, outer)?;
@@ -201,11 +162,11 @@ fn hold_rights(
     places: &Places,
     body: u32,
     entry: &Entry,
-    outer: &mut Vec<Hold>,
+    outer: &mut Outer,
 ) -> Result<(), AllocError>
     requires leads { IsLeads code.now leads.now }
     requires places { FindsPlaces (body_at code.now body).makes places.now }
-    ensures { OnOk result (GainsRights code.now body (entry_view entry.now) outer.old.items outer.new.items) }
+    ensures { OnOk result (GainsRights code.now body (entry_view entry.now) outer.old.holds.items outer.new.holds.items) }
 {
     let reads = entry.reads.as_slice();
     hold_names(code, leads, places, body, reads, 1, 0, outer)?;
@@ -236,7 +197,7 @@ struct Rights {
 }
 
 /// What the rights of these entries come to, in one pass over them.
-#[tactic(auto, using(crate::proofs::Counted::all_none, crate::proofs::Holds::holds_none, crate::proofs::Counted::reads_next, crate::proofs::Counted::writes_next, crate::proofs::Holds::holds_next, crate::proofs::Counts::control_next, crate::proofs::Counted::reads_past, crate::proofs::Counted::writes_past, crate::proofs::Holds::holds_past, crate::proofs::Counts::control_past, crate::proofs::Counted::all_entries, crate::proofs::Holds::holds_all, crate::proofs::Counts::control_all))]
+#[tactic(auto, using(crate::proofs::Counted::all_none, crate::proofs::Holds::holds_none, crate::proofs::Counted::all_entries, crate::proofs::Holds::holds_all, crate::proofs::Counts::control_all))]
 fn rights_of(
     alloc: Global,
     code: &Code,
@@ -255,7 +216,7 @@ fn rights_of(
 {
     let mut reads = no_counts(alloc, many)?;
     let mut writes = no_counts(alloc, many)?;
-    let mut outer = Vec::new(alloc);
+    let mut outer = Outer::none(alloc);
     let mut controls = 0;
     for at in 0..entries.len() {
         if let Some(entry) = code.entry(entries[at]) {
@@ -268,7 +229,7 @@ fn rights_of(
     Ok(Rights {
         reads,
         writes,
-        outer,
+        outer: outer.holds,
         controls,
     })
 }

@@ -4,6 +4,7 @@
 mod bodies;
 pub mod laws;
 mod naming;
+mod outer;
 pub mod places;
 pub mod program;
 pub mod spot;

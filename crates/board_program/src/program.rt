@@ -9,7 +9,7 @@ ghost use Rattle.task_code.specs.View.{act_view, argument_view, entry_view, loop
 ghost use Rattle.task_code.specs.Whole.{IsCode};
 ghost use Rattle.board_program.specs.Program.{AreAtMost, IsLeads, IsProgram};
 ghost use Rattle.board_program.specs.Spots.{home_of, place_from};
-ghost use Rattle.board_program.specs.Tables.{AllFrom, IsBodyTable, IsEntryTable, body_of, body_or_script, first_spot, is_closed, passed_in, queue_kind, spots_in, turn_slot, value_slot, wanted_in};
+ghost use Rattle.board_program.specs.Tables.{AllFrom, IsBodyTable, IsEntryTable, body_of, body_or_script, first_spot, is_closed, passed_in, spots_in, turn_slot, value_slot, wanted_in};
 
 use crate::bodies::body_table;
 use crate::naming::most_names;
@@ -115,16 +115,6 @@ pub struct Laid {
 #[derive(Drop)]
 pub struct Program {
     laid: Arc<Laid>,
-}
-
-/// Who runs the entry of this number.
-fn kind_of(code: &Code, number: u32) -> Kind
-    ensures { result ≡ queue_kind (kind_of (entry_at code.now number).act) }
-{
-    match code.kind(number) {
-        task_code::entry::Kind::Control => Kind::Control,
-        task_code::entry::Kind::Leaf => Kind::Leaf,
-    }
 }
 
 /// What a need comes to, by where its names lead from the body.
@@ -390,7 +380,7 @@ fn entry_table(
     };
     Ok(EntryTable {
         mark,
-        kind: kind_of(code, number),
+        kind: code.kind(number),
         priority: entry.priority,
         needs: needs_of(alloc, code, leads, body, entry.needs.as_slice())?,
         plain: are_plain(entry.needs.as_slice()),
@@ -531,7 +521,8 @@ impl Program {
     /// What is worked out of the entry of this number, where there is one.
     #[tactic(auto, using(crate::proofs::Tables::all_at))]
     pub fn entry(&self, number: u32) -> Option<&EntryTable>
-        ensures { MatchOption result (length self.now.entries ≤ number) (λ table. (number < length self.now.entries) × IsEntryTable self.now (body_of self.now number) number table.now) }
+        ensures { MatchOption result (length self.now.entries ≤ number)
+            (λ table. (number < length self.now.entries) × IsEntryTable self.now (body_of self.now number) number table.now) }
     {
         if number as usize >= self.laid.entries.len() {
             return None;

@@ -165,7 +165,8 @@ impl Leads {
     /// The places of what a body declares.
     #[tactic(auto, using(crate::proofs::Tables::all_at))]
     pub fn places(&self, body: u32) -> Option<&Places>
-        ensures { (C : Code) → IsLeads C self.now → MatchOption result (length C.bodies ≤ body) (λ places. (body < length C.bodies) × FindsPlaces (body_at C body).makes places.now) }
+        ensures { (C : Code) → IsLeads C self.now → MatchOption result (length C.bodies ≤ body)
+            (λ places. (body < length C.bodies) × FindsPlaces (body_at C body).makes places.now) }
     {
         if body as usize >= self.places.len() {
             return None;

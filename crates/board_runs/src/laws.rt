@@ -9,5 +9,6 @@ ghost use Rattle.board_runs.specs.Same.{SameReport};
 /// A report is told by its code and its events: two of the same events tell the same, whoever ran them, and with whatever
 /// limits.
 pub fn reports_are_told()
-    ensures { (C : Code) → IsCode C → (limit other : ℕ) (r s : Report) → Reports C limit r → Reports C other s → r.history.items ≡ s.history.items → SameReport r s }
+    ensures { (C : Code) → IsCode C → (limit other : ℕ) (r s : Report) → Reports C limit r → Reports C other s
+        → r.history.items ≡ s.history.items → SameReport r s }
 {}

@@ -6,7 +6,7 @@ ghost use Rattle.board_runs.specs.Turns.{RanTo, starts};
 
 use crate::report::{Report, last_report};
 use crate::turn::{Turn, make_turn};
-use board::board::Board;
+use board::Board;
 use board_program::program::Program;
 use std::alloc::{AllocError, Global};
 

@@ -3,8 +3,7 @@ ghost use Rattle.std.specs.Prelude.{◌≡◌, IfOk, map};
 ghost use Rattle.board_runs.specs.Report.{AreBlockedAt, AreTallies, EndsAs, IsOver, Reports, Tells, line_bytes};
 
 use crate::tally::tallies;
-use board::board::{Board, Remains};
-use board::{Fault, Statement, Step};
+use board::{Board, Fault, Remains, Statement, Step};
 use board_program::program::Program;
 use std::alloc::{AllocError, Global};
 use task_code::event::Event;

@@ -1,12 +1,11 @@
 //! A turn: an item begins, is computed and ends.
 ghost use Rattle.std.specs.Prelude.{◌≡◌, ◌<◌, ◌%◌, length, slice_index, IfNone, IfOk, IfSome, OnErr, OnOk, MatchBool};
 ghost use Rattle.dataflow.specs.Machine.{Begin, End};
-ghost use Rattle.task_code.specs.View.{kind_view};
 ghost use Rattle.board.specs.Board.{Accepts, IsGoing, IsOwn, IsWorker, MayBegin, Seen};
 ghost use Rattle.board.specs.Ready.{HasKind};
 ghost use Rattle.board_runs.specs.Turns.{IsChosen, IsNamed, NoneReady, TurnsTo, worker_for};
 
-use board::board::Board;
+use board::Board;
 use board::refusal::Refusal;
 use board_work::work::{Done, Work};
 use std::alloc::AllocError;
@@ -45,7 +44,7 @@ pub(crate) fn make_turn(board: &mut Board, choice: Option<u32>) -> Result<Turn, 
 fn named(board: &Board, choice: Option<u32>) -> Result<Option<(Kind, u64)>, AllocError>
     requires going { IsGoing board.now }
     ensures some { IfOk result (λ found. IfSome found (λ item. IsNamed board.now choice item.1)) }
-    ensures kind { IfOk result (λ found. IfSome found (λ item. HasKind board.now item.1 (kind_view item.0))) }
+    ensures kind { IfOk result (λ found. IfSome found (λ item. HasKind board.now item.1 item.0)) }
     ensures none { IfOk result (λ found. IfNone found (NoneReady board.now)) }
 {
     match choice {
@@ -57,7 +56,7 @@ fn named(board: &Board, choice: Option<u32>) -> Result<Option<(Kind, u64)>, Allo
 /// The item at the place that the choice names, counted round those that can begin, with who runs it.
 fn chosen(board: &Board, choice: u32) -> Result<Option<(Kind, u64)>, AllocError>
     ensures some { IfOk result (λ found. IfSome found (λ item. IsChosen board.now choice item.1)) }
-    ensures kind { IfOk result (λ found. IfSome found (λ item. HasKind board.now item.1 (kind_view item.0))) }
+    ensures kind { IfOk result (λ found. IfSome found (λ item. HasKind board.now item.1 item.0)) }
     ensures none { IfOk result (λ found. IfNone found (NoneReady board.now)) }
 {
     let ready = board.ready_items()?;
@@ -81,7 +80,7 @@ fn pick(ready: &Vec<u64>, choice: u32) -> u64
 
 /// The worker that runs items of this kind.
 fn worker_of(kind: Kind) -> u8
-    ensures kind { result ≡ worker_for (kind_view kind) }
+    ensures kind { result ≡ worker_for kind }
     ensures known { IsWorker result }
 {
     match kind {
@@ -95,7 +94,8 @@ fn perform(board: &mut Board, worker: u8, item: u64) -> Result<bool, AllocError>
     requires worker { IsWorker worker }
     requires going { IsGoing board.old }
     requires can { MayBegin board.old item }
-    ensures { IfOk result (λ ended. MatchBool ended ((mid : Seen) × Accepts board.old (Begin worker item) mid × Accepts mid (End worker item) board.new) (Accepts board.old (Begin worker item) board.new × ¬ IsGoing board.new)) }
+    ensures { IfOk result (λ ended. MatchBool ended ((mid : Seen) × Accepts board.old (Begin worker item) mid × Accepts mid (End worker item) board.new)
+        (Accepts board.old (Begin worker item) board.new × ¬ IsGoing board.new)) }
 {
     match board.perform(worker, item) {
         Ok(ended) => Ok(ended),

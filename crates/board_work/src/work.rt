@@ -1,7 +1,7 @@
 //! Items that run, and what they come to.
 ghost use Rattle.std.specs.Prelude.{◌≡◌, ◌↔◌, [], IfOk, IfErr, IsTrue};
 ghost use Rattle.std.specs.Option.{option_copied};
-ghost use Rattle.task_code.specs.View.{entry_view, kind_view};
+ghost use Rattle.task_code.specs.View.{entry_view};
 ghost use Rattle.board_compute.specs.View.{answers_view};
 ghost use Rattle.board_compute.specs.Outcome.{result_in, control_in};
 ghost use Rattle.board_work.specs.Assigned.{opens_script, runs, job_view, job_kind, job_result, job_control, job_computed, meaning};
@@ -87,7 +87,7 @@ impl Work {
 
     /// Who runs the item.
     pub fn kind(&self) -> Kind
-        ensures { kind_view result ≡ job_kind self.now.job }
+        ensures { result ≡ job_kind self.now.job }
     {
         match &self.job {
             Job::Script => Kind::Control,

@@ -145,7 +145,7 @@ module _ (c : Core) (fs : List Kinds) (roots : ℕ) (l : Layout) (suits : (at n 
         let j = among_script c m i in
         let su = suits at n a j in
         let r = laid_parts lp lq h su.parts_plain su.bodies (stands at n a j) (pinned at n a j) in
-        let d = same_entry (ow l su) (ow' l su) (λ z. nd ∙ sym nd') (λ z. absurd (simple_mark l k (own_needs l k a) a sim z)) in
+        let d = same_entry (ow l su) (ow' l su) (λ z. nd.0 ∙ sym nd'.0) (λ z. absurd (simple_mark l k (own_needs l k a) a sim z)) in
         record { laid = moved u u' (with_entry t e) (with_entry t' f) ue ue' (entry_added t t' e f r.0 d); numbers = last_same t t' is is' es es' r.0 r.1 ee ee'; makes = refl }
     stmt_pinned (simple e sim lp ow nd ue ee) (branch f lq bl ow' mk we ff) h sh sh' B m i = absurd sim
     stmt_pinned (simple e sim lp ow nd ue ee) (branches f lq bl dl de ow' mk we ff) h sh sh' B m i = absurd sim
@@ -215,8 +215,8 @@ module _ (c : Core) (fs : List Kinds) (roots : ℕ) (l : Layout) (suits : (at n 
         let q = block_pinned bl bl'' h sh sh' b (header_block c hd B m i) (λ y z. z) in
         let en'' : IsEntry f at (pos 0) (each_once (flat_map (λ (z : Header). z.needs) hs)) (Wait hs (next_body roots u)) =
         subst (λ (z : ℕ). IsEntry f at (pos 0) (each_once (flat_map (λ (z : Header). z.needs) hs)) (Wait hs z)) (sym (next_same roots u u' q.laid))
-        (subst (λ (xs : List Header). IsEntry f at (pos 0) (each_once (flat_map (λ (z : Header). z.needs) xs)) (Wait xs (next_body roots u'))) (sym same.headers) en') in
-        let g = same_entry en en'' (λ z. absurd z) (λ z. absurd z) in
+        (subst (λ (xs : List Header). IsEntry f at (pos 0) (each_once (flat_map (λ (z : Header). z.needs) xs)) (Wait xs (next_body roots u'))) (sym same.headers) en'.0) in
+        let g = same_entry en.0 en'' (λ z. absurd z) (λ z. absurd z) in
         record {
           laid = opened u u' w w' e f _ _ we we' q.laid g (ap₂ (λ (n : ℕ) (z : List Variable × List ℕ). record { opener = ByWait n; makes = z.0; entries = z.1 } ∷ []) (many u u' q.laid) (λ z. (q.makes z, q.numbers z)));
           numbers = last_same u u' [] [] es es' q.laid refl ee ee';

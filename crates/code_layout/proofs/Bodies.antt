@@ -7,7 +7,8 @@ use Rattle.code_rules.specs.Emitted.{stmts_size, size_of}
 use Rattle.code_rules.specs.Laying.{Kinds, Laying, LaysStmt, declares, calls_alone, simple, branch, branches, range_loop, array_loop, waits, LaysBlock, no_statement, one_statement, LaysFunctions, no_function, one_function, LaysScript}
 use Rattle.code_layout.proofs.Counts.{total}
 use Rattle.code_layout.proofs.Adding.{within, inside, within-of, within-stmts, total-among, header_few}
-use Rattle.code_layout.proofs.Rows.{Row, row, length-append, length-map, stmt_rows, block_rows, inner_rows, first_rows, later_rows, all_rows, all_bodies, first_count}
+use Rattle.code_layout.proofs.Rows.{Row, row, length-map, stmt_rows, block_rows, inner_rows, first_rows, later_rows, all_rows, all_bodies, first_count}
+use Rattle.std.proofs.lemmas.List.{length-append}
 
 -- each statement may open two
 abbrev two : Stmt → ℕ

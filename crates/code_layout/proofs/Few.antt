@@ -80,7 +80,7 @@ module _ (W : Weights) where
             let su = suits at n a (among_script c m i) in
             let sx = stands at n a (among_script c m i) in
             adds_both W.of_entry _
-            (around at n a 0 e (lays_parts l su.bodies su.parts_plain sx lp) (adds_none W.of_entry t 0) (ap (λ (z : Laying). z.entries) ue) (it_works l k sim ((ow l su).act_is) nd))
+            (around at n a 0 e (lays_parts l su.bodies su.parts_plain sx lp) (adds_none W.of_entry t 0) (ap (λ (z : Laying). z.entries) ue) (it_works l k sim ((ow l su).act_is) nd.0))
             (adds_none W.of_entry u 0) (omega arith)
         stmt_few (branch {at = at} {n = n} {c = o} {b = b} e {u = u} lp bl ow mk we ee) B m i =
             let su = suits at n (when o b) (among_script c m i) in
@@ -116,7 +116,7 @@ module _ (W : Weights) where
         stmt_few (waits {at = at} {n = n} {ns = ns} {c = o} {b = b} e {s = s} hd bl en we ee) B m i =
             let q = header_few (stmt_weight W) hd in
             adds_both W.of_entry _
-            (around at n (wait ns o) (within (stmt_weight W) b) e (adds_none W.of_entry s 0) (block_few bl b (header_block c hd B m i) (λ x j. j)) (ap (λ (z : Laying). z.entries) we) (it_opens (subst OpensBlocks (sym en.act_is) tt)))
+            (around at n (wait ns o) (within (stmt_weight W) b) e (adds_none W.of_entry s 0) (block_few bl b (header_block c hd B m i) (λ x j. j)) (ap (λ (z : Laying). z.entries) we) (it_opens (subst OpensBlocks (sym en.0.act_is) tt)))
             (adds_none W.of_entry _ 0) (omega arith)
 
         pub block_few : {b : Block} {ds : List (ℕ × Bool)} {s t : Laying} {es : List ℕ} {vs : List _} → LaysBlock fs roots k b ds s t es vs → (B : Block) → B ∈ script_blocks c → ((x : Stmt) → x ∈ block_list b → x ∈ block_list B)

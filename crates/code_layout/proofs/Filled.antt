@@ -76,7 +76,7 @@ filled_script =
       fit = fit_more _ _ (laid 1) [] (read_fits _ _ (laid 1) refl) (fit_none _ _);
       parts_as = λ l pl b st. one_part (plain_literal pl.0) (one_part (a_read {n = 36} {i = 38} {j = 1} {a = here 22} {need = code.AtKey (code.here array) (number_key (pos 3))} pl.1.0 refl (at_literal {n = 38} {v = Number (pos 3)} first pl.0) (same refl refl refl refl)) no_part refl) refl;
     })
-    (λ l su. same refl refl refl refl) refl refl refl)
+    (λ l su. same refl refl refl refl) (refl, refl) refl refl)
     no_statement refl refl refl)
     refl refl refl)
     refl refl refl
@@ -122,7 +122,7 @@ filled_functions =
     let y = sym su.parts_plain.1.0 in
     same refl refl (λ i. each_once (flat_map (wanted 1) (seen_as (x i) 14 index ∷ seen_as (y i) 16 square ∷ [])))
     (λ i. code.Put (name_as 1 true (record { up = 1; what = Co.output 0 })) (over 1 (each_once (flat_map (wanted 1) (seen_as (x i) 14 index ∷ seen_as (y i) 16 square ∷ []))) (seen_as (x i) 14 index)) (over 1 (each_once (flat_map (wanted 1) (seen_as (x i) 14 index ∷ seen_as (y i) 16 square ∷ []))) (seen_as (y i) 16 square)))))
-    refl refl refl)
+    (refl, refl) refl refl)
     no_statement refl refl refl)
     (λ l su. (let x = sym su.parts_plain.0 in
     let y = sym su.parts_plain.1.0 in

@@ -69,7 +69,7 @@ module _ (c : Core) (l : Layout) (suits : (at n : ℕ) (a : Action) → stmt at 
       stmt_fit (array_loop {at = at} {n = n} {x = x} {a = a} {y = y} {b = b} e {u = u} {w = w} bl ow mk we ee) B m i h =
           own_fit u w e (ap (λ (z : Laying). z.entries) we) (opens_no_call e.act (subst OpensBlocks (sym (ow l (suits at n (each a x y b) (among_script c m i))).act_is) tt)) (block_fit bl b (inner_block c m i first) (λ y j. j) h)
       stmt_fit (waits {b = b} e {u = u} {w = w} hd bl en we ee) B m i h =
-          own_fit u w e (ap (λ (z : Laying). z.entries) we) (opens_no_call e.act (subst OpensBlocks (sym en.act_is) tt)) (block_fit bl b (header_block c hd B m i) (λ y j. j) h)
+          own_fit u w e (ap (λ (z : Laying). z.entries) we) (opens_no_call e.act (subst OpensBlocks (sym en.0.act_is) tt)) (block_fit bl b (header_block c hd B m i) (λ y j. j) h)
 
       block_fit : {b : Block} {ds : List (ℕ × Bool)} {s t : Laying} {es : List ℕ} {vs : List Variable} → LaysBlock fs roots k b ds s t es vs → (B : Block) → B ∈ script_blocks c → ((y : Stmt) → y ∈ block_list b → y ∈ block_list B) → AllFit s.entries → AllFit t.entries
       block_fit no_statement B m i h = h

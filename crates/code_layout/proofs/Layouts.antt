@@ -12,6 +12,7 @@ use Rattle.code_rules.specs.IsCodeOf.{Layout, own_is_plain, OwnPlain}
 use Rattle.code_rules.specs.Laying.{plain_after, PlainAs, Suits}
 use Rattle.code_rules.specs.Emitted.{CellsOnce}
 use Rattle.code_layout.proofs.Counts.{total-append, hit, hit_same, count, in_count, distinct_count}
+use Rattle.std.proofs.lemmas.List.{map-append}
 
 -- LOOKING UP
 
@@ -73,10 +74,6 @@ plains_count : (n : ℕ) (p : Option Part) (ps : List Part) → count n (numbers
 plains_count n p [] = refl
 plains_count n p (inner c ∷ ps) = ap (λ (z : ℕ). hit n c.node + z) (plains_count n (Some (inner c)) ps)
 plains_count n p (calls c ∷ ps) = plains_count n (Some (calls c)) ps
-
-map-append : {X Y : Type 0} (f : X → Y) (xs ys : List X) → map f (xs ++ ys) ≡ map f xs ++ map f ys
-map-append f [] ys = refl
-map-append f (x ∷ xs) ys = ap (λ zs. f x ∷ zs) (map-append f xs ys)
 
 pub numbers-append : (n : ℕ) (ps qs : List (ℕ × Bool)) → count n (numbers (ps ++ qs)) ≡ count n (numbers ps) + count n (numbers qs)
 numbers-append n ps qs = ap (count n) (map-append (λ (p : ℕ × Bool). p.0) ps qs) ∙ total-append (hit n) (numbers ps) (numbers qs)

@@ -1,7 +1,7 @@
 -- An entry of laid code that calls a function is found by its mark, where no call has the offset of another.
 use Rattle.std.proofs.Common.{◌≡◌, ◌⊎◌, inl, inr, ℕ, zero, suc, ◌+◌, ◌≤◌, ◌<◌, Bool, true, false, nat_eq, List, [], ◌∷◌, ◌++◌, map, length, refl, sym, ap, ◌∙◌, subst, arith, Some, None}
 use Rattle.std.specs.Prelude.{ℤ}
-use Rattle.std.proofs.lemmas.Bool.{eqb-true}
+use Rattle.std.proofs.lemmas.Bool.{eqb-true, cases_lt}
 use Rattle.dataflow.specs.System.{In}
 use Rattle.language.specs.Core as Co
 use Rattle.language.specs.Core.{Expr, Call, Part, inner, calls, Stmt, stmt, Action, declare, call_alone, assign, fill, insert, print, assert, when, choose, range, each, wait, Core}
@@ -16,6 +16,7 @@ use Rattle.code_layout.proofs.Counts.{total, total-append, hit, hit_same, count,
 use Rattle.code_layout.proofs.Adding.{nth_beyond}
 use Rattle.code_layout.proofs.Layouts.{layout_of, layout_suits}
 use Rattle.code_layout.proofs.Few.{IsOwn, it_works, it_opens, OpensBlocks, Weights, stmt_weight, script_few}
+use Rattle.std.proofs.lemmas.List.{map-append}
 
 -- the mark of a call
 abbrev pub call_mark : ℕ → Act → List ℕ
@@ -89,10 +90,6 @@ call_hits : (n : ℕ) (ps : List Part) → total (call_hit n) ps ≡ count n (ma
 call_hits n [] = refl
 call_hits n (inner c ∷ ps) = let a = call_hits n ps in omega arith
 call_hits n (calls c ∷ ps) = ap (λ (z : ℕ). hit n c.at + z) (call_hits n ps)
-
-map-append : {X Y : Type 0} (f : X → Y) (xs ys : List X) → map f (xs ++ ys) ≡ map f xs ++ map f ys
-map-append f [] ys = refl
-map-append f (x ∷ xs) ys = ap (λ zs. f x ∷ zs) (map-append f xs ys)
 
 call_weights : (n : ℕ) (sts : List Stmt) → total (stmt_weight (mark_weights n)) sts ≡ count n (map (λ (c : Call). c.at) (calls_among sts))
 unfolding mark_weights
@@ -180,13 +177,8 @@ found_from (e ∷ es) from (suc i) at b h c m t =
     let v = hit_same at at refl in
     found_later e.act e from at es refl (omega arith) ∙ (found_from es (suc from) i at b (omega arith) c m (omega arith) ∙ (let z : suc from + i ≡ from + suc i = omega arith in z))
 
-below_or : (i n : ℕ) → (i < n) ⊎ (n ≤ i)
-below_or i zero = inr (omega arith)
-below_or zero (suc n) = inl (omega arith)
-below_or (suc i) (suc n) = elim (below_or i n) [ inl h ↦ inl (omega arith) | inr h ↦ inr (omega arith) ]
-
 pub laid_marks : (c : Core) (fs : List Kinds) (ds : List (ℕ × Bool)) (C : Code) → LaysScript c fs ds C → CellsOnce c → ReadsStand c → CallsOnce c → (i b : ℕ) → In (Calling, b) (ways (entry C i).act) → call_at C (entry C i).mark ≡ i
-laid_marks c fs ds C L apart reads once i b h = by (below_or i (length C.entries))
+laid_marks c fs ds C L apart reads once i b h = by (cases_lt i (length C.entries))
   where
     by : (i < length C.entries) ⊎ (length C.entries ≤ i) → call_at C (entry C i).mark ≡ i
     by (inl l) = found_from C.entries 0 i (entry C i).mark b l h refl (marks_few c fs ds C L apart reads once (entry C i).mark) ∙ (let z : 0 + i ≡ i = omega arith in z)

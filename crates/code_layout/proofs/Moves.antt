@@ -9,8 +9,8 @@ use Rattle.task_code.specs.Code.{Need, Argument, Act, Entry, Code, entry, nth, b
 use Rattle.code_rules.specs.IsCodeOf.{Layout, IsEntry, InputAs, of_literal, of_name, of_datum, of_array, InputsAs, no_input, one_input, OutputsAs, no_output, one_output, IndexAs, at_literal, at_name, at_datum, PartAs, plain_literal, plain_name, a_cell, a_read, a_call, PartsAs, no_part, one_part}
 use Rattle.code_rules.specs.Laying.{Kinds, Laying, bare, PlainAs, IndexesStand, LaysParts}
 use Rattle.code_layout.proofs.Adding.{nth_left}
-use Rattle.code_layout.proofs.Rows.{length-append}
 use Rattle.code_layout.proofs.Numbering.{counted_below}
+use Rattle.std.proofs.lemmas.List.{length-append}
 
 pub entry_moves : {e d : Entry} {at : ℕ} {p : ℤ} {ns : List Need} {a : Act} → bare d ≡ e → IsEntry e at p ns a → IsEntry d at p ns a
 entry_moves q h = record {

@@ -5,7 +5,8 @@ use Rattle.language.specs.Members.{◌∈◌, first, later}
 use Rattle.task_code.specs.Code.{Variable, Entry, Opener, Body, Code, ByStep, ByWait, loop_variables}
 use Rattle.code_rules.specs.Laying.{Kinds, Laying, counted, bare, LaysParts, LaysStmt, declares, calls_alone, simple, branch, branches, range_loop, array_loop, waits, LaysBlock, no_statement, one_statement, LaysFunctions, no_function, one_function, LaysScript}
 use Rattle.code_layout.proofs.Counts.{total, total-append, hit, hit_same, hit_split, count, count_in}
-use Rattle.code_layout.proofs.Rows.{Row, row, length-append, length-map, stmt_rows, block_rows, inner_rows, function_rows, first_rows, later_rows, all_rows}
+use Rattle.code_layout.proofs.Rows.{Row, row, length-map, stmt_rows, block_rows, inner_rows, function_rows, first_rows, later_rows, all_rows}
+use Rattle.std.proofs.lemmas.List.{length-append}
 
 -- COUNTED NUMBERS
 

@@ -12,9 +12,10 @@ use Rattle.code_rules.specs.Emitted.{ReadsStand}
 use Rattle.code_rules.specs.Laid.{Table, Stands, StmtLaid, declares_laid, call_laid, simple_laid, branch_laid, branches_laid, range_laid, each_laid, wait_laid, StmtsLaid, none_laid, one_laid}
 use Rattle.code_rules.specs.Laying.{Kinds, Laying, bare, Suits, next_body, Headers, one_header, more_headers, LaysStmt, declares, calls_alone, simple, branch, branches, range_loop, array_loop, waits, LaysBlock, no_statement, one_statement}
 use Rattle.code_layout.proofs.Adding.{nth_right, header_block}
-use Rattle.code_layout.proofs.Rows.{Row, row, bodies_in, length-append, length-map, stmt_rows, block_rows, stmt_bodies, block_bodies}
+use Rattle.code_layout.proofs.Rows.{Row, row, bodies_in, length-map, stmt_rows, block_rows, stmt_bodies, block_bodies}
 use Rattle.code_layout.proofs.Moves.{entry_moves, Has, has_less, parts_at}
 use Rattle.code_layout.proofs.Tables.{block_grows, Sits, sits_left, sits_right, sits_first, table_of, row_stands}
+use Rattle.std.proofs.lemmas.List.{length-append}
 
 -- where merged waits stand, the content of the innermost one stands
 header_scope : (c : Core) {k q : ℕ} {st : Stmt} {hs : List Header} {b : Block} → Headers q st hs b → (B : Block) → InScope c k B → st ∈ block_list B → InScope c k b
@@ -93,7 +94,7 @@ module _ (c : Core) (C : Code) (l : Layout) (whole : List Row) (suits : (at n : 
         let q : u.entries ≡ t.entries ++ e ∷ [] = ap (λ (z : Laying). z.entries) ue in
         let le = last_entry t u e q h in
         simple_laid (length t.entries) sim (parts_at lp (has_less C t u (e ∷ []) q h) su.parts_plain su.bodies (stands o n a (among_script c m i)))
-        (entry_moves le (ow l su)) (ap (λ (z : Entry). z.node) le ∙ nd) ee
+        (entry_moves le (ow l su)) (ap (λ (z : Entry). z.node) le ∙ nd.0) ee
     stmt_laid (branch {at = o} {n = n} {c = co} {b = b} e {s = s} {t = t} {u = u} {w = w} {js = js} {vs = vs} lp bl ow mk we ee) h at B m i =
         let su = suits o n (when co b) (among_script c m i) in
         let q : w.entries ≡ u.entries ++ e ∷ [] = ap (λ (z : Laying). z.entries) we in
@@ -135,7 +136,7 @@ module _ (c : Core) (C : Code) (l : Layout) (whole : List Row) (suits : (at n : 
     stmt_laid (waits {b = b} e {s = s} {u = u} {w = w} {js = js} {vs = vs} hd bl en we ee) h at B m i =
         let q : w.entries ≡ u.entries ++ e ∷ [] = ap (λ (z : Laying). z.entries) we in
         let le = last_entry u w e q h in
-        wait_laid (length u.entries) hd (entry_moves le en) (opened s u (ByWait (length u.entries)) b [] vs js (block_rows fs roots k bl) [] (block_bodies fs roots k bl) at) ee
+        wait_laid (length u.entries) hd (entry_moves le en.0) (opened s u (ByWait (length u.entries)) b [] vs js (block_rows fs roots k bl) [] (block_bodies fs roots k bl) at) ee
 
     -- where rows behind those of a block sit
     pub sits_block : (t u : Laying) (rs qs : List Row) → u.bodies ≡ t.bodies ++ bodies_in rs → Sits whole (roots + length t.bodies) (rs ++ qs) → Sits whole (roots + length u.bodies) qs

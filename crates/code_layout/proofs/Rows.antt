@@ -3,6 +3,7 @@ use Rattle.std.proofs.Common.{◌≡◌, ℕ, suc, ◌+◌, Bool, List, [], ◌�
 use Rattle.language.specs.Core.{Stmt, Block, no_stmts, Function, Core}
 use Rattle.task_code.specs.Code.{Variable, Entry, Opener, Body, Code, ByMain, ByCalls, ByStep, ByWait, loop_variables}
 use Rattle.code_rules.specs.Laying.{Kinds, Laying, LaysStmt, declares, calls_alone, simple, branch, branches, range_loop, array_loop, waits, LaysBlock, no_statement, one_statement, LaysFunctions, no_function, one_function, LaysScript}
+use Rattle.std.proofs.lemmas.List.{map-append}
 
 -- a body with the block that it stands for, the number of inputs of that block's function, and the variables of the loop that opens it
 pub record Row : Type 0 where
@@ -20,17 +21,9 @@ row k b us o vs js = record { block = b; inputs = k; variables = us; body = reco
 abbrev pub bodies_in : List Row → List Body
 bodies_in rs = map (λ (r : Row). r.body) rs
 
-pub map-append : {X Y : Type 0} (f : X → Y) (xs ys : List X) → map f (xs ++ ys) ≡ map f xs ++ map f ys
-map-append f [] ys = refl
-map-append f (x ∷ xs) ys = ap (λ zs. f x ∷ zs) (map-append f xs ys)
-
 pub length-map : {X Y : Type 0} (f : X → Y) (xs : List X) → length (map f xs) ≡ length xs
 length-map f [] = refl
 length-map f (x ∷ xs) = let a = length-map f xs in omega arith
-
-pub length-append : {X : Type 0} (xs ys : List X) → length (xs ++ ys) ≡ length xs + length ys
-length-append [] ys = omega arith
-length-append (x ∷ xs) ys = let a = length-append xs ys in omega arith
 
 module _ (fs : List Kinds) (roots : ℕ) (k : ℕ) where
   abbrev mutual

@@ -6,7 +6,8 @@ use Rattle.code_rules.specs.IsCodeOf.{Layout}
 use Rattle.code_rules.specs.Laid.{Table, Stands}
 use Rattle.code_rules.specs.Laying.{Kinds, Laying, LaysStmt, declares, calls_alone, simple, branch, branches, range_loop, array_loop, waits, LaysBlock, no_statement, one_statement, LaysFunctions, no_function, one_function}
 use Rattle.code_layout.proofs.Adding.{nth_right}
-use Rattle.code_layout.proofs.Rows.{Row, row, blank_row, bodies_in, length-append, length-map}
+use Rattle.code_layout.proofs.Rows.{Row, row, blank_row, bodies_in, length-map}
+use Rattle.std.proofs.lemmas.List.{length-append}
 
 -- WHAT IS LAID GROWS
 

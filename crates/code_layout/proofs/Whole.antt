@@ -20,7 +20,7 @@ use Rattle.code_layout.proofs.Counts.{total, total-append, total_member, hit, co
 use Rattle.code_layout.proofs.Adding.{nth_left, nth_right, nth_beyond}
 use Rattle.code_layout.proofs.Layouts.{look, look_found, look_none, numbers, number_there, all_plains, all_count, cell_count, layout_of, layout_suits}
 use Rattle.code_layout.proofs.Nodes.{declared_count, cells_count, other_count, own_count, NodesApart, cells_once, nodes_of}
-use Rattle.code_layout.proofs.Rows.{Row, row, blank_row, length-append, length-map, block_rows, block_bodies, inner_rows, function_rows, function_count, first_rows, later_rows, all_rows, all_bodies, first_count}
+use Rattle.code_layout.proofs.Rows.{Row, row, blank_row, length-map, block_rows, block_bodies, inner_rows, function_rows, function_count, first_rows, later_rows, all_rows, all_bodies, first_count}
 use Rattle.code_layout.proofs.Numbering.{counted_below, counted_few, counted_has, row_count, all_numbered}
 use Rattle.code_layout.proofs.Made.{made_count, all_made, all_listed}
 use Rattle.code_layout.proofs.Moves.{Has, has_less}
@@ -28,6 +28,7 @@ use Rattle.code_layout.proofs.Tables.{nth-map, functions_grow, Sits, sits_left, 
 use Rattle.code_layout.proofs.Placed.{AllGood, all_both, all_one, sits_block, one_good, block_good}
 use Rattle.code_layout.proofs.Origins.{Origin, is_declared, is_cell, is_other, AllOrigin, IsInner, AllInner, inner_both, block_origin, functions_origin}
 use Rattle.code_layout.proofs.Fits.{all_fit}
+use Rattle.std.proofs.lemmas.List.{length-append}
 
 -- PLACES IN LISTS
 

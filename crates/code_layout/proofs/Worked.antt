@@ -19,8 +19,8 @@ use Rattle.code_layout.specs.Worked.{fibonacci, fibonacci_kinds, fibonacci_code,
 use Rattle.code_layout.proofs.IndexParts.{reads_stand}
 use Rattle.code_layout.proofs.Nodes.{NodesApart, nodes_apart}
 use Rattle.code_layout.proofs.Layouts.{layout_of}
-use Rattle.code_layout.proofs.Rows.{length-append}
 use Rattle.code_layout.proofs.Whole.{is_laid}
+use Rattle.std.proofs.lemmas.List.{length-append}
 
 pub same : {e : Entry} {at : ℕ} {p : ℤ} {ns : List Need} {a : Act} → e.at ≡ at → e.priority ≡ p → e.needs ≡ ns → e.act ≡ a → IsEntry e at p ns a
 same a b c d = record { at_is = a; priority_is = b; needs_is = c; act_is = d }
@@ -125,7 +125,7 @@ fibonacci_script =
           one_part (plain_literal pl.0)
           (one_part (a_call (record { ins = _; outs = _; is = calls_body (b 0) refl refl refl refl; mark_is = refl; inputs = one_input (of_literal first pl.0) no_input; outputs = one_output false no_output })) no_part refl) refl;
     })
-    (λ l su. same refl refl refl refl) refl refl refl)
+    (λ l su. same refl refl refl refl) (refl, refl) refl refl)
     no_statement refl refl refl
 
 -- no entry of a cell or of a simple statement calls
@@ -155,7 +155,7 @@ fibonacci_functions =
     (one_statement {t = s4} {is = 3 ∷ []} {js = []} {vs = []} {ws = []}
     (simple (laid 3) {s = s3} {t = s3} {u = s4} {es = 3 ∷ []} {is = []} tt
     (record { more = []; entries = refl; bodies = refl; numbers = refl; fit = fit_none _ _; parts_as = λ l pl b st. no_part })
-    (λ l su. same refl refl refl refl) refl refl refl)
+    (λ l su. same refl refl refl refl) (refl, refl) refl refl)
     no_statement refl refl refl)
     (one_statement {t = s6} {is = 4 ∷ 5 ∷ 6 ∷ 7 ∷ 8 ∷ []} {js = []} {vs = scalar 19 ∷ scalar 18 ∷ scalar 25 ∷ scalar 24 ∷ []} {ws = []}
     (simple (laid 8) {s = s4} {t = s5} {u = s6} {es = 4 ∷ 5 ∷ 6 ∷ 7 ∷ 8 ∷ []} {is = 4 ∷ 5 ∷ 6 ∷ 7 ∷ []} tt
@@ -174,7 +174,7 @@ fibonacci_functions =
           (one_part (the_cell pl.1.0 refl (same refl refl refl refl))
           (one_part (a_call (record { ins = _; outs = _; is = calls_body (b 0) refl refl refl refl; mark_is = refl; inputs = one_input (of_datum {c = record { node = 25; form = _ }} (later first) pl.1.0) no_input; outputs = one_output false no_output })) no_part refl) refl) refl) refl;
     })
-    (λ l su. same refl refl refl refl) refl refl refl)
+    (λ l su. same refl refl refl refl) (refl, refl) refl refl)
     no_statement refl refl refl)
     refl
     (λ l su. same refl refl (ap (λ (b : Bool). each_once (flat_map (wanted 1) (seen_as b 6 condition ∷ []))) (sym su.parts_plain.0))

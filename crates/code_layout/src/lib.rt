@@ -26,7 +26,8 @@ pub fn calls_are_found()
 /// Code that is laid for a core has no more entries than the core has functions, statements, cells and calls, and no more bodies than twice as many and one.
 pub fn laid_code_is_small()
     ensures bodies { (c : Core) (fs : List Kinds) (ds : List (ℕ × Bool)) (C : Code) → LaysScript c fs ds C → length C.bodies ≤ 2 * size_of c + 1 }
-    ensures entries { (c : Core) (fs : List Kinds) (ds : List (ℕ × Bool)) (C : Code) → LaysScript c fs ds C → CellsOnce c → ReadsStand c → length C.entries ≤ size_of c }
+    ensures entries { (c : Core) (fs : List Kinds) (ds : List (ℕ × Bool)) (C : Code) → LaysScript c fs ds C → CellsOnce c → ReadsStand c
+        → length C.entries ≤ size_of c }
 {}
 
 /// What the emission of code asks of a core the core of each placed tree has: each of its cells has a node of its own, and the index of each read stands before it.
@@ -38,7 +39,8 @@ pub fn accepted_cores_can_be_laid()
 /// Code that is laid for the core of a placed tree is a table of it, whatever its functions' kinds and however its variables are declared: each body stands for a block, with the
 /// entries of its statements and their variables, and each entry and each variable stands once.
 pub fn laid_code_is_a_table()
-    ensures { (t : Table) (tree : Tree) (fs : List Kinds) (ds : List (ℕ × Bool)) (C : Code) → IsPlaced tree → LaysScript (core t tree) fs ds C → (l : Layout) × IsLaid (core t tree) fs ds C l }
+    ensures { (t : Table) (tree : Tree) (fs : List Kinds) (ds : List (ℕ × Bool)) (C : Code) → IsPlaced tree → LaysScript (core t tree) fs ds C
+        → (l : Layout) × IsLaid (core t tree) fs ds C l }
 {}
 
 /// Code that is a table of a core, by any layout, is the core's code.
@@ -48,8 +50,10 @@ pub fn a_table_is_the_cores_code()
 
 /// So code that is laid for the core of a text that reads as a well typed tree is this core's code, and an entry of it that works out, writes or prints something has its node to itself.
 pub fn laid_code_is_the_cores_code()
-    ensures code { (t : Table) (tree : Tree) (fs : List Kinds) (ds : List (ℕ × Bool)) (C : Code) → IsPlaced tree → LaysScript (core t tree) fs ds C → IsCodeOf (core t tree) C }
-    ensures nodes { (t : Table) (tree : Tree) (fs : List Kinds) (ds : List (ℕ × Bool)) (C : Code) → IsPlaced tree → LaysScript (core t tree) fs ds C → NodesOnce C }
+    ensures code { (t : Table) (tree : Tree) (fs : List Kinds) (ds : List (ℕ × Bool)) (C : Code) → IsPlaced tree → LaysScript (core t tree) fs ds C
+        → IsCodeOf (core t tree) C }
+    ensures nodes { (t : Table) (tree : Tree) (fs : List Kinds) (ds : List (ℕ × Bool)) (C : Code) → IsPlaced tree
+        → LaysScript (core t tree) fs ds C → NodesOnce C }
 {}
 
 /// The code of `(int r) fib(int n) { if (n < 2) { r = n; } else { r = fib(n-1) + fib(n-2); } } printf("%i", fib(10));` is laid for its core, and so is that of

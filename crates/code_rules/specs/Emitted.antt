@@ -10,12 +10,14 @@ use Rattle.task_code.specs.Code.{Code, Name, entry, targets}
 use Rattle.task_code.specs.Exact.{Leads, needs_of}
 use Rattle.code_rules.specs.Laying.{IndexesStand, Kinds, LaysScript}
 
--- each entry has the rights that it leads to, and no others
+-- each entry has the rights that it leads to, each once, and no others
 pub record HasRights (C : Code) : Type 0 where
   pub reads : (i : ℕ) (r : Name) → In r (entry C i).reads → Leads C needs_of i r
   pub all_reads : (i : ℕ) (r : Name) → Leads C needs_of i r → In r (entry C i).reads
   pub writes : (i : ℕ) (r : Name) → In r (entry C i).writes → Leads C targets i r
   pub all_writes : (i : ℕ) (r : Name) → Leads C targets i r → In r (entry C i).writes
+  pub reads_once : (i : ℕ) → Distinct (entry C i).reads
+  pub writes_once : (i : ℕ) → Distinct (entry C i).writes
 
 pub record IsEmitted (c : Core) (fs : List Kinds) (ds : List (ℕ × Bool)) (C : Code) : Type 0 where
   pub laid : LaysScript c fs ds C

@@ -1,5 +1,5 @@
 -- How code is laid for a core, rule by rule: which entries and bodies a statement adds behind those that are there, which numbers its entries have, and which variables its block
--- declares for it. Rights, and the offsets that only a listing shows, are free.
+-- declares for it. Rights, and the offsets of cells, which only a listing shows, are free.
 use Rattle.std.specs.Prelude.{◌≡◌, ℕ, zero, suc, ◌+◌, Bool, true, false, not, List, [], ◌∷◌, ◌++◌, map, length, Option, Some, None, slice_get, nat_eq, ℤ, pos}
 use Rattle.std.specs.List.{list_any, flat_map}
 use Rattle.dataflow.specs.System.{In}
@@ -179,7 +179,7 @@ module _ (fs : List Kinds) (roots : ℕ) (k : ℕ) where
           → LaysStmt (stmt at n (call_alone p ps c)) [] s t es (data_in None ps)
       simple : {at n : ℕ} {a : Action} (e : Entry) {s t u : Laying} {es is : List ℕ} → IsSimple a
           → LaysParts fs k (own_parts a) at (own_priority a) s t is
-          → IsOwnEntry e at k a (λ l. simple_act l k (own_needs l k a) a) → e.node ≡ n
+          → IsOwnEntry e at k a (λ l. simple_act l k (own_needs l k a) a) → (e.node ≡ n) × (e.mark ≡ at)
           → u ≡ with_entry t e → es ≡ is ++ length t.entries ∷ []
           → LaysStmt (stmt at n a) [] s u es (data_of a)
       branch : {at n : ℕ} {c : Outer} {b : Block} {ds : List (ℕ × Bool)} (e : Entry) {s t u w : Laying} {es is js : List ℕ} {vs : List Variable}
@@ -210,7 +210,7 @@ module _ (fs : List Kinds) (roots : ℕ) (k : ℕ) where
           → LaysStmt (stmt at n (each a x y b)) ds s w es []
       waits : {at n : ℕ} {ns : List Awaited} {c b : Block} {hs : List Header} {ds : List (ℕ × Bool)} (e : Entry) {s u w : Laying} {es js : List ℕ} {vs : List Variable}
           → Headers k (stmt at n (wait ns c)) hs b → LaysBlock b ds s u js vs
-          → IsEntry e at (pos 0) (each_once (flat_map (λ h. h.needs) hs)) (Wait hs (next_body roots u))
+          → IsEntry e at (pos 0) (each_once (flat_map (λ h. h.needs) hs)) (Wait hs (next_body roots u)) × (e.mark ≡ at)
           → w ≡ with_bodies (with_entry u e) (record { opener = ByWait (length u.entries); makes = vs; entries = js } ∷ [])
           → es ≡ length u.entries ∷ []
           → LaysStmt (stmt at n (wait ns c)) ds s w es []

@@ -13,6 +13,8 @@ ghost use Rattle.values.specs.Operators.{assert};
 /// The value that a cell gives is the value of the expression that it computes, in every round; and an assertion has no
 /// value but `true`.
 pub fn what_cells_give()
-    ensures values { (s : Core) (n : ℕ) (path : Path) (e : Expr) (v : Value) → Gives s (Known s n) path (compute e) (Ok v) → ValueUnder s (Known s n) path e (Ok v) }
-    ensures assertions { (s : Core) (n : ℕ) (path : Path) (es : Exprs) (v : Value) → ValueUnder s (Known s n) path (operator assert es) (Ok v) → v ≡ One (Truth true) }
+    ensures values { (s : Core) (n : ℕ) (path : Path) (e : Expr) (v : Value) → Gives s (Known s n) path (compute e) (Ok v)
+        → ValueUnder s (Known s n) path e (Ok v) }
+    ensures assertions { (s : Core) (n : ℕ) (path : Path) (es : Exprs) (v : Value) → ValueUnder s (Known s n) path (operator assert es) (Ok v)
+        → v ≡ One (Truth true) }
 {}

@@ -1,5 +1,5 @@
 -- The names and expressions of a typed core have room: places of parameters fit 64 bits, and an expression has not too many names.
-use Rattle.std.specs.Prelude.{◌≡◌, ℕ, zero, suc, ◌+◌, ◌*◌, ◌<◌, ◌≤◌, ◌^◌, List, [], ◌∷◌, ◌++◌, length, Some, None, slice_get, refl, sum_by}
+use Rattle.std.specs.Prelude.{◌≡◌, ℕ, suc, ◌+◌, ◌*◌, ◌<◌, ◌≤◌, ◌^◌, List, [], ◌∷◌, ◌++◌, length, Some, None, slice_get, refl, sum_by}
 use Rattle.std.proofs.Common.{arith}
 use Rattle.std.proofs.lemmas.List.Sums.{sum_by-cons}
 use Rattle.values.specs.Operators as op
@@ -19,6 +19,7 @@ use Rattle.language_accepted.proofs.Accepted.{placed_types}
 use Rattle.code_rules.specs.CodeNames.{wanted, wanted_all}
 use Rattle.code_rules.specs.Room.{Each, OwnedRoom, NameRoom, ExprRoom, ExprsRoom, FormRoom, PartRoom, OuterRoom, AwaitedRoom, ActionRoom, BlockRoom, FunctionRoom, CoreRoom}
 use Rattle.code_sizes.proofs.Sizes.{names, all_names, form_names, part_weight, weight, append, stmts_weight, inside, within, front, among_append, weight_within}
+use Rattle.std.proofs.lemmas.Option.{slice_get_within}
 
 -- an expression waits for so many needs as it has names
 mutual
@@ -40,16 +41,11 @@ mutual
       longer [] ys = omega arith
       longer (x ∷ xs) ys = let q = longer xs ys in omega arith
 
-in_list : {X : Type 0} (xs : List X) (i : ℕ) (x : X) → slice_get xs i ≡ Some x → i < length xs
-in_list [] i x e = absurd (cc (e))
-in_list (y ∷ xs) zero x e = omega arith
-in_list (y ∷ xs) (suc i) x e = let q = in_list xs i x e in omega arith
-
 module _ (fs : List Signature) (type_of : ℕ → Typ) (f : Signature) (k W : ℕ) (room : k + length f.outputs < 2 ^ 64) (light : W < 2 ^ 30) (several : length fs ≤ W) where
   owned_room : (depth up : ℕ) (what : Owned) (τ : Typ) → OwnedHas fs type_of f depth up what τ → OwnedRoom k what
   owned_room depth up (local n) τ h = tt
   owned_room depth up (input i) τ h = tt
-  owned_room depth up (output j) τ h = let q = in_list f.outputs j τ h.1 in omega arith
+  owned_room depth up (output j) τ h = let q = slice_get_within f.outputs j τ h.1 in omega arith
 
   name_room : (depth : ℕ) (x : Name) (τ : Typ) → NameHas fs type_of f depth x τ → OwnedRoom k x.what
   name_room depth x τ h = owned_room depth x.up x.what τ h
@@ -101,7 +97,7 @@ module _ (fs : List Signature) (type_of : ℕ → Typ) (f : Signature) (k W : �
 
   -- a called function is one of the script's
   called_room : (depth : ℕ) (c : Call) → CallHas fs type_of f depth c → c.function + 1 < 2 ^ 32
-  called_room depth c h = let q = in_list fs c.function h.signature h.there in omega arith
+  called_room depth c h = let q = slice_get_within fs c.function h.signature h.there in omega arith
 
   part_room : (depth : ℕ) (p : Part) → PartHas fs type_of f depth p → part_weight p ≤ W → PartRoom k p
   part_room depth (inner c) h le = form_room h.2 (omega arith)

@@ -1,12 +1,12 @@
 -- The entries of each body of laid code are numbered upwards.
-use Rattle.std.proofs.Common.{◌≡◌, ◌⊎◌, inl, inr, ℕ, zero, suc, ◌+◌, ◌<◌, ◌≤◌, Bool, List, [], ◌∷◌, ◌++◌, length, refl, sym, ap, subst, arith}
+use Rattle.std.proofs.Common.{◌≡◌, inl, inr, ℕ, zero, suc, ◌+◌, ◌≤◌, Bool, List, [], ◌∷◌, ◌++◌, length, length-append, sym, ap, subst, arith}
 use Rattle.std.specs.Prelude.{ℤ}
 use Rattle.language.specs.Core.{Part, Stmt, Block, Function, Core}
 use Rattle.language.specs.Members.{◌∈◌, first, later}
 use Rattle.language.proofs.Members.{split_in, either}
 use Rattle.task_code.specs.Code.{Variable, Entry, Body, Code, ByStep, ByWait, blank_body, body, nth, loop_variables}
 use Rattle.code_rules.specs.Laying.{Kinds, Laying, counted, LaysParts, LaysStmt, declares, calls_alone, simple, branch, branches, range_loop, array_loop, waits, LaysBlock, no_statement, one_statement, LaysFunctions, no_function, one_function, LaysScript}
-use Rattle.code_layout.proofs.Rows.{Row, row, bodies_in, length-append, stmt_rows, block_rows, inner_rows, function_rows, first_rows, later_rows, all_rows, all_bodies, roots_of}
+use Rattle.code_layout.proofs.Rows.{Row, row, bodies_in, stmt_rows, block_rows, inner_rows, function_rows, first_rows, later_rows, all_rows, all_bodies, roots_of}
 
 -- each is above the one before it, the first not below the one number, the last below the other
 abbrev pub Range : List ℕ → ℕ → ℕ → Type 0

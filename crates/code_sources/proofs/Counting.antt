@@ -1,9 +1,9 @@
 -- What counts on some way through a block is a target in it, and so is what is assigned in it.
-use Rattle.std.proofs.Common.{◌≡◌, ◌⊎◌, inl, inr, ℕ, zero, suc, ◌+◌, ◌≤◌, List, [], ◌∷◌, ◌++◌, refl, sym, ap, ◌∙◌, subst, arith}
-use Rattle.language.specs.Core.{Owned, Name, Outer, Stmt, stmt, Action, declare, call_alone, assign, fill, insert, print, assert, when, choose, range, each, wait, Block, no_stmts, stmts}
+use Rattle.std.proofs.Common.{◌≡◌, ◌⊎◌, inl, inr, ℕ, zero, suc, ◌+◌, ◌≤◌, List, [], ◌∷◌, sym, ap, ◌∙◌, subst, arith}
+use Rattle.language.specs.Core.{Owned, Name, Stmt, stmt, Action, declare, call_alone, assign, fill, insert, print, assert, when, choose, range, each, wait, Block, no_stmts, stmts}
 use Rattle.language.specs.Members.{◌∈◌, first, later}
 use Rattle.language.specs.Parts.{block_list, blocks_below, blocks_in, blocks_inside, blocks_of, stmts_within, stmt_action, by_name, by_element, owners, targets, targets_of, targets_in}
-use Rattle.language.specs.Single.{Times, nowhere, here_too, not_here, IsSimple, Way, way_end, way_on, StmtWay, simple, taken, skipped, then_way, else_way, range_way, each_way, wait_way, IsNamed, IsWritten, IsRead, in_cell, in_wait}
+use Rattle.language.specs.Single.{Times, nowhere, here_too, not_here, Way, way_end, way_on, StmtWay, simple, taken, skipped, then_way, else_way, range_way, each_way, wait_way, IsNamed, IsWritten, IsRead, in_cell, in_wait}
 use Rattle.language.proofs.Members.{split_in, either, to_left, to_right}
 use Rattle.language.proofs.Blocks.{among, below_below}
 use Rattle.language.proofs.Tested.{among_split}

@@ -1,26 +1,26 @@
 -- Cells of laid code stand behind the cells whose values they need.
-use Rattle.std.proofs.Common.{◌≡◌, ◌⊎◌, inl, inr, ℕ, suc, ◌<◌, ◌≤◌, ℤ, Bool, true, false, List, [], ◌∷◌, ◌++◌, length, refl, sym, ap, ◌∙◌, subst, arith, append_assoc}
+use Rattle.std.proofs.Common.{◌≡◌, inl, inr, ℕ, suc, ◌<◌, ◌≤◌, ℤ, Bool, true, false, List, [], ◌∷◌, ◌++◌, length, refl, sym, ap, ◌∙◌, subst, arith, append_assoc}
 use Rattle.std.specs.List.{flat_map}
 use Rattle.dataflow.specs.System.{In}
 use Rattle.dataflow.proofs.Lists.{in_split}
 use Rattle.language.specs.Core as Co
-use Rattle.language.specs.Core.{Owned, local, Name, Expr, Exprs, literal, whole, operator, none, also, Form, compute, read, Cell, Call, Part, inner, calls, Outer, Stmt, stmt, Action, declare, call_alone, assign, fill, insert, print, assert, when, choose, range, each, wait, Block, Core}
+use Rattle.language.specs.Core.{local, Name, Expr, Exprs, literal, whole, operator, none, also, compute, read, Cell, Call, Part, inner, calls, Stmt, stmt, Action, declare, call_alone, assign, fill, insert, print, assert, when, choose, range, each, wait, Core}
 use Rattle.language.specs.Distinct.{distinct}
 use Rattle.language.specs.Members.{◌∈◌, first, later}
-use Rattle.language.specs.Parts.{block_list, parts, part_cells, script_blocks, script_stmts, stmt_action}
+use Rattle.language.specs.Parts.{block_list, parts, part_cells, script_blocks, script_stmts}
 use Rattle.language.specs.Scopes.{Visible, Scope}
 use Rattle.language.specs.WellFormed.{WellFormed}
-use Rattle.language.proofs.Members.{split_in, to_left}
+use Rattle.language.proofs.Members.{split_in}
 use Rattle.language.proofs.Tested.{flat, block_nodes, cell_nodes}
 use Rattle.language_laws.proofs.Declared.{local_same}
 use Rattle.language_laws.specs.TypedValues.{own_parts}
 use Rattle.task_code.specs.Code as code
-use Rattle.task_code.specs.Code.{Variable, Local, Need, Stored, Closed, Act, Code, Entry, blank_entry, entry, body, here, is_array_name, needed, scalar}
+use Rattle.task_code.specs.Code.{Variable, Need, Stored, Closed, Act, Code, Entry, blank_entry, entry, body, here, is_array_name, needed, scalar}
 use Rattle.task_code.specs.Exact.{needs_of}
-use Rattle.code_rules.specs.CodeNames.{owned_as, name_as, wanted, wanted_all, each_once}
+use Rattle.code_rules.specs.CodeNames.{name_as, wanted, wanted_all}
 use Rattle.code_rules.specs.IsCodeOf as of
 use Rattle.code_rules.specs.IsCodeOf.{Layout, own_expr, own_needs, fill_act, simple_act, IndexAs, at_literal, at_name, at_datum, PartAs, plain_literal, plain_name, a_cell, a_read, a_call, PartsAs, no_part, one_part}
-use Rattle.code_rules.specs.Laying.{Kinds, LaysScript}
+use Rattle.code_rules.specs.Laying.{Kinds}
 use Rattle.code_rules.specs.Laid.{Table, StmtLaid, declares_laid, call_laid, simple_laid, branch_laid, branches_laid, range_laid, each_laid, wait_laid, StmtsLaid, none_laid, one_laid, IsLaid}
 use Rattle.code_rules.specs.NodesOnce.{TellsNode, NodesOnce}
 use Rattle.code_whole.proofs.Bases.{only, of_needed}
@@ -31,7 +31,7 @@ use Rattle.code_whole.proofs.Made.{inner_same}
 use Rattle.code_whole.proofs.Needs.{flag_of, of_once}
 use Rattle.code_whole.proofs.Openings.{part_of_stmt, stmt_in}
 use Rattle.code_whole.proofs.Roles.{own_of}
-use Rattle.code_whole.proofs.Scoping.{SeesAs, Comes, of_scope, of_cell, of_call, ExprComes, AllCome, before}
+use Rattle.code_whole.proofs.Scoping.{Comes, of_scope, of_cell, of_call, ExprComes, AllCome, before}
 use Rattle.code_whole.proofs.Shapes.{body_within, within}
 use Rattle.code_left.specs.Sources.{is_cell}
 use Rattle.code_sources.proofs.Ascending.{Range, Ascending, left_range, right_range}

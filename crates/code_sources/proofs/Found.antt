@@ -1,38 +1,36 @@
 -- A scalar that an entry of its own block may read has a source there.
-use Rattle.std.proofs.Common.{◌≡◌, ◌⊎◌, inl, inr, ℕ, zero, suc, ◌<◌, Bool, true, false, List, [], ◌∷◌, ◌++◌, map, length, refl, sym, ap, ◌∙◌, subst, Option, Some, None, arith}
+use Rattle.std.proofs.Common.{◌≡◌, ◌⊎◌, inl, inr, ℕ, zero, suc, ◌<◌, Bool, true, false, List, [], ◌∷◌, length, refl, sym, ap, ◌∙◌, subst, Option, Some, None}
 use Rattle.dataflow.specs.System.{In}
-use Rattle.dataflow.proofs.Lists.{in_left, in_right, in_split}
-use Rattle.language.specs.Core as Co
-use Rattle.language.specs.Core.{Owned, local, input, output, Name, Form, Cell, Call, Part, inner, calls, Outer, Stmt, stmt, Action, declare, call_alone, assign, fill, insert, print, assert, when, choose, range, each, wait, Block, Core}
+use Rattle.dataflow.proofs.Lists.{in_split}
+use Rattle.language.specs.Core.{Owned, local, input, output, Name, Cell, Call, Part, inner, calls, Stmt, stmt, Action, declare, call_alone, when, choose, range, Block, Core}
 use Rattle.language.specs.Members.{◌∈◌, first, later}
 use Rattle.language.specs.Parts.{block_list, owners}
 use Rattle.language.specs.Single.{SinglyAssigned, declared_here, IsRead}
-use Rattle.language.proofs.Members.{split_in, to_left}
 use Rattle.language_laws.proofs.Declared.{local_same}
 use Rattle.language_laws.specs.Scoped.{Scoped}
 use Rattle.language_laws.specs.TypedValues.{own_parts}
 use Rattle.task_code.specs.Code as code
-use Rattle.task_code.specs.Code.{Variable, Local, Act, Code, Way, InPlace, Through, Calling, Opener, ByStep, entry, body, here, is_array_name, loop_of, loop_variables, scalar, targets, targets_of, ways}
+use Rattle.task_code.specs.Code.{Variable, Local, Act, Code, Way, Through, Calling, Opener, ByStep, entry, body, here, loop_of, loop_variables, scalar, targets, targets_of, ways}
 use Rattle.task_code.specs.Exact.{itself}
 use Rattle.task_code.specs.Whole.{IsCode}
-use Rattle.code_rules.specs.CodeNames.{owned_as, name_as}
+use Rattle.code_rules.specs.CodeNames.{owned_as}
 use Rattle.code_rules.specs.Emitted.{HasRights}
 use Rattle.code_rules.specs.IsCodeOf as of
-use Rattle.code_rules.specs.IsCodeOf.{Layout, own_expr, own_needs, fill_act, simple_act}
-use Rattle.code_rules.specs.Laying.{Kinds, PlainAs, plain_after, cell_data, data_in, data_of, node_here, local_node, one_output, output_scalars}
+use Rattle.code_rules.specs.IsCodeOf.{Layout}
+use Rattle.code_rules.specs.Laying.{Kinds, PlainAs, plain_after, cell_data, data_in, data_of, node_here, one_output, output_scalars}
 use Rattle.code_rules.specs.Laid.{Table, Stands, StmtLaid, declares_laid, call_laid, simple_laid, branch_laid, branches_laid, range_laid, each_laid, wait_laid, StmtsLaid, none_laid, one_laid, BodyLaid, IsLaid}
 use Rattle.code_whole.specs.Standing.{CallsAreFound}
 use Rattle.code_whole.proofs.Lookup.{before_own}
 use Rattle.code_whole.proofs.Made.{data_before, plain_before}
 use Rattle.code_whole.proofs.Openings.{no_simple_way, OpensAs, opens_header, opens_wait, opens_call, opens_as}
 use Rattle.code_whole.proofs.Scoping.{before}
-use Rattle.code_whole.proofs.Roles.{own_of, OwnOf, own_simple, own_branch, own_branches, own_range, own_each, own_wait, Role, PartOf}
+use Rattle.code_whole.proofs.Roles.{OwnOf, own_simple, own_branch, own_branches, own_range, own_each, own_wait, Role}
 use Rattle.code_whole.proofs.Shapes.{home_in, body_within}
 use Rattle.code_left.specs.Sources.{IsTurns, IsAssigned, Reached, at_start, by_entry}
 use Rattle.code_sources.proofs.Counting.{named_target}
 use Rattle.code_sources.proofs.Handed.{kinds_same}
 use Rattle.code_sources.proofs.Levels.{SameSlot, level, same_here, apart}
-use Rattle.code_sources.proofs.Named.{CallAt, call_among, output_named, Held, Writes, Inside, held}
+use Rattle.code_sources.proofs.Named.{call_among, output_named, Held, held}
 use Rattle.code_sources.proofs.Reading.{Parted, parted, Use, of_an_array, of_a_write, of_a_read, uses, cell_stored}
 
 -- DATA OF PARTS

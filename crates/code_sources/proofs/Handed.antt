@@ -1,15 +1,15 @@
 -- Who may write a scalar stores it, or always opens a block and hands the right on.
 use Rattle.std.proofs.Common.{◌≡◌, ◌⊎◌, inl, inr, ℕ, suc, ◌+◌, ◌<◌, ◌≤◌, Bool, true, false, List, [], ◌∷◌, ◌++◌, map, length, refl, sym, ap, ap₂, ◌∙◌, subst, Option, Some, None, arith}
+use Rattle.std.proofs.lemmas.Option.{slice_get_within}
 use Rattle.std.specs.Prelude.{slice_get}
 use Rattle.dataflow.specs.System.{In}
 use Rattle.language.specs.Core as Co
-use Rattle.language.specs.Core.{Owned, local, input, output, Name, Call, Part, calls, Outer, Stmt, stmt, Action, declare, call_alone, assign, fill, insert, print, assert, when, choose, range, each, wait, Block, no_stmts, stmts, Function, Core}
-use Rattle.language.specs.Members.{◌∈◌, first}
-use Rattle.language.specs.Parts.{block_list, script_blocks, stmts_within, targets_in}
+use Rattle.language.specs.Core.{Owned, local, input, output, Name, Call, Part, calls, Outer, Stmt, stmt, Action, declare, call_alone, assign, fill, insert, print, assert, when, choose, range, each, wait, Block, Function, Core}
+use Rattle.language.specs.Members.{◌∈◌}
+use Rattle.language.specs.Parts.{block_list, targets_in}
 use Rattle.language.specs.Scopes.{Typ, Signature}
-use Rattle.language.specs.Single.{SinglyAssigned, IsNamed, Way as Passage, StmtWay, simple, taken, skipped, then_way, else_way}
+use Rattle.language.specs.Single.{SinglyAssigned, StmtWay, simple, taken, skipped, then_way, else_way}
 use Rattle.language.specs.WellFormed.{WellFormed}
-use Rattle.language.proofs.Members.{split_in}
 use Rattle.language_laws.proofs.OneAssign.{function_in}
 use Rattle.language_laws.proofs.Ways.{some_way, reach_within}
 use Rattle.language_laws.specs.Scoped.{Scoped}
@@ -17,7 +17,7 @@ use Rattle.task_code.specs.Code as code
 use Rattle.task_code.specs.Code.{Variable, Local, Parameter, Argument, Named, Act, Code, Way, InPlace, Through, Calling, entry, body, argument, argument_in, arguments, is_array_name, loop_of, stored_of, targets, targets_of, ways}
 use Rattle.task_code.specs.Exact.{Leads, itself, through}
 use Rattle.task_code.specs.Whole.{IsCode, Declared, SeenFrom, Seen}
-use Rattle.code_rules.specs.CodeNames.{owned_as, name_as}
+use Rattle.code_rules.specs.CodeNames.{owned_as}
 use Rattle.code_rules.specs.Emitted.{HasRights}
 use Rattle.code_rules.specs.IsCodeOf as of
 use Rattle.code_rules.specs.IsCodeOf.{Layout, own_expr, own_needs, fill_act, simple_act, CallAs}
@@ -27,10 +27,10 @@ use Rattle.code_rules.specs.NodesOnce.{TellsNode}
 use Rattle.code_whole.specs.Described.{is_array_shape, kinds_of_signature}
 use Rattle.code_whole.specs.Standing.{CallsAreFound}
 use Rattle.code_whole.proofs.Aims.{alone, named_of, Calls, Assigned, Aims, at_cell, at_hidden, at_alone, at_own, aims}
-use Rattle.code_whole.proofs.Arguments.{arg_at, get_below, get_map, get_right, get_some, inputs_length, out_at, some_same}
+use Rattle.code_whole.proofs.Arguments.{arg_at, get_map, get_right, get_some, inputs_length, out_at, some_same}
 use Rattle.code_whole.proofs.Bases.{only, Assigns, names, further_in}
 use Rattle.code_whole.proofs.Openings.{OpensAs, opens_header, opens_wait, opens_call, opens_as, call_of_stmt}
-use Rattle.code_whole.proofs.Owners.{OwnerOf, OwnedScope, owned_scope, Round, round}
+use Rattle.code_whole.proofs.Owners.{owned_scope, Round, round}
 use Rattle.code_whole.proofs.Roles.{own_of, OwnOf, own_simple, own_branch, own_branches, own_range, own_each, own_wait, Role}
 use Rattle.code_whole.proofs.Settling.{ScriptScoped}
 use Rattle.code_whole.proofs.Shapes.{home_in, body_within}
@@ -38,7 +38,7 @@ use Rattle.code_whole.proofs.Singles.{only_in, stmt_way}
 use Rattle.code_left.specs.Sources.{HandsOn, Reached, by_entry, always_opens}
 use Rattle.code_sources.proofs.Counting.{counted_target, named_target, written_target}
 use Rattle.code_sources.proofs.Levels.{SameSlot, step_deeper, level, level_same, named_same, Declarer, declarer, apart, unique}
-use Rattle.code_sources.proofs.Named.{local_of, Held, Writes, Inside, held}
+use Rattle.code_sources.proofs.Named.{local_of, Held, Writes, held}
 
 -- a variable of code is the same one, wherever it is made
 pub kinds_same : {s : Core} {fs : List Kinds} {ds : List (ℕ × Bool)} {C : Code} {l : Layout} → IsLaid s fs ds C l → (t u : ℕ) (v w : Variable) → In v (body C t).makes → In w (body C u).makes → v.node ≡ w.node → v ≡ w
@@ -158,7 +158,7 @@ module _ {s : Core} {fs : List Kinds} {ds : List (ℕ × Bool)} (C : Code) (l : 
       let count = formed.names.call_count (L.table.block_of t) st c f (L.bodies t lt).there m among_calls fn in
       let o = get_some ca.outs r (subst (λ (z : Act). In r (targets_of (entry C i).node z)) (ca.is).act_is u) in
       let y = out_at C l o.0 r ca.outputs o.1 in
-      let below : o.0 < f.outputs = subst (λ (n : ℕ). o.0 < n) count (get_below c.outputs o.0 y.0 y.2) in
+      let below : o.0 < f.outputs = subst (λ (n : ℕ). o.0 < n) count (slice_get_within c.outputs o.0 y.0 y.2) in
       let called = scoped.calls st c (Rattle.code_whole.proofs.Openings.stmt_in C l L t lt m) among_calls in
       let counted : length ca.ins ≡ f.inputs = sym (inputs_length C l ca.inputs) ∙ (called.2 ∙ ap (λ (g : Function). g.inputs) (some_same (sym called.1 ∙ fn))) in
       let target : output o.0 ∈ targets_in f.body = elim (single.output_assigned f o.0 (function_in s.functions c.function f fn) below) [ inl z ↦ named_target z | inr z ↦ written_target z ] in

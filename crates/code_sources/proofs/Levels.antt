@@ -1,7 +1,7 @@
 -- How deep a body that is reached lies in that of its function, and which body declares what an entry may write.
-use Rattle.std.proofs.Common.{◌≡◌, ◌⊎◌, inl, inr, ℕ, suc, ◌<◌, Bool, refl, sym, ap, ap₂, ◌∙◌, subst, Some, arith}
+use Rattle.std.proofs.Common.{◌≡◌, ◌⊎◌, inl, inr, ℕ, suc, ◌<◌, Bool, refl, sym, ap, ap₂, ◌∙◌, subst, arith}
 use Rattle.dataflow.specs.System.{In}
-use Rattle.task_code.specs.Code.{Variable, Owned, Local, Parameter, Name, Named, Code, Way, InPlace, Through, Calling, Opener, ByMain, ByWait, ByStep, ByCalls, argument, arguments, call_at, entry, body, here, is_array_name, ways}
+use Rattle.task_code.specs.Code.{Variable, Owned, Local, Parameter, Name, Named, Code, Way, InPlace, Through, Calling, Opener, ByMain, ByWait, ByStep, ByCalls, arguments, call_at, entry, body, here, is_array_name}
 use Rattle.task_code.specs.Whole.{IsCode, OpenedBy, Declared, SeenFrom, Seen}
 use Rattle.code_left.specs.Sources.{Reached, at_start, by_entry}
 use Rattle.code_whole.proofs.Arguments.{arg_at, some_same}

@@ -1,15 +1,14 @@
 -- What a block has as a target, an entry of its body may write, or a body inside it makes.
-use Rattle.std.proofs.Common.{◌≡◌, ◌⊎◌, inl, inr, ℕ, zero, suc, ◌+◌, ◌<◌, ◌≤◌, Bool, true, false, List, [], ◌∷◌, ◌++◌, map, refl, sym, ap, ◌∙◌, subst, arith, Option, Some, None}
+use Rattle.std.proofs.Common.{◌≡◌, ◌⊎◌, inl, inr, ℕ, zero, suc, ◌<◌, ◌≤◌, Bool, true, false, List, [], ◌∷◌, ◌++◌, refl, sym, ap, ◌∙◌, subst, arith}
 use Rattle.dataflow.specs.System.{In}
 use Rattle.dataflow.proofs.Lists.{in_left, in_right}
 use Rattle.language.specs.Core as Co
-use Rattle.language.specs.Core.{Owned, local, input, output, Name, Call, Part, inner, calls, Outer, Stmt, stmt, Action, declare, call_alone, assign, fill, insert, print, assert, when, choose, range, each, wait, Block, no_stmts, stmts, Core}
-use Rattle.language.specs.Members.{◌∈◌, first, later}
-use Rattle.language.specs.Parts.{block_list, parts, owners, targets, targets_of, targets_in}
+use Rattle.language.specs.Core.{Owned, local, input, output, Name, Call, Part, calls, Stmt, Action, declare, call_alone, assign, fill, insert, print, assert, when, choose, range, each, wait, Block, no_stmts, stmts, Core}
+use Rattle.language.specs.Members.{◌∈◌, first}
+use Rattle.language.specs.Parts.{block_list, owners, targets, targets_of, targets_in}
 use Rattle.language.proofs.Members.{split_in, either, to_right}
-use Rattle.language_laws.specs.TypedValues.{own_parts}
 use Rattle.task_code.specs.Code as code
-use Rattle.task_code.specs.Code.{Variable, Local, Parameter, Argument, Header, Act, Need, Code, Entry, Way, InPlace, Through, Calling, Opener, entry, body, targets_of as targets_by, ways}
+use Rattle.task_code.specs.Code.{Variable, Local, Header, Act, Need, Code, Way, InPlace, Through, Calling, Opener, entry, body, targets_of as targets_by, ways}
 use Rattle.task_code.specs.Whole.{IsCode, Declared, SeenFrom, Seen}
 use Rattle.code_rules.specs.CodeNames.{owned_as, name_as}
 use Rattle.code_rules.specs.IsCodeOf.{Layout, own_expr, own_needs, fill_act, simple_act, CallAs, OutputsAs, no_output, one_output, PartAs, a_call, PartsAs, no_part, one_part}

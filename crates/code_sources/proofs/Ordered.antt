@@ -1,22 +1,22 @@
 -- In a typed script each cell of a statement stands behind those whose values it names.
-use Rattle.std.proofs.Common.{◌≡◌, ◌⊎◌, inl, inr, ℕ, List, [], ◌∷◌, ◌++◌, refl, sym, ap, subst, Option, Some, None, option_map, append_assoc}
+use Rattle.std.proofs.Common.{◌≡◌, inl, inr, ℕ, List, [], ◌∷◌, ◌++◌, refl, sym, subst, Option, Some, None, option_map, append_assoc}
 use Rattle.std.specs.Prelude.{ℤ}
 use Rattle.language.specs.declared.tree.Base.{Base}
 use Rattle.language.specs.declared.tree.Operator.{Operator}
 use Rattle.language.specs.declared.tree.Shape.{Shape}
 use Rattle.language.specs.Tree as T
-use Rattle.language.specs.Tree.{Word, Node, Expression, expression, number, text, truth, variable, element, call, prefixed, chain, Expressions, no_expressions, and_expression, expressions_of, RightSide, value, list, Calling, Over}
-use Rattle.language.specs.Core.{Name, here, Expr, Exprs, whole, operator, none, also, Form, compute, read, Cell, Call, Part, inner, calls, Outer, Action, declare, call_alone, assign, fill, insert, print, assert, when, choose, range, each, wait, Block}
+use Rattle.language.specs.Tree.{Word, Node, Expression, expression, number, text, truth, variable, element, call, prefixed, chain, Expressions, no_expressions, and_expression, expressions_of, RightSide, value, Calling, Over}
+use Rattle.language.specs.Core.{Name, here, Expr, Exprs, whole, operator, none, also, Form, compute, read, Cell, Call, Part, inner, calls, Action, assign, insert, when, choose, range, Block}
 use Rattle.language.specs.Members.{◌∈◌, first, later}
-use Rattle.language.specs.Parts.{outers, outer_parts}
-use Rattle.language.specs.Resolved.{refers, number_of, Formed, Operands, Arguments, as_cell, as_operand, as_argument, variable_or_cell, computes, call_to, call_form, form_of, operands_of, arguments_of, outer, outer_of, after_first, composite_call, call_right, right_of, call_action, several, loop_action, format_of}
+use Rattle.language.specs.Parts.{outer_parts}
+use Rattle.language.specs.Resolved.{refers, number_of, Formed, Operands, Arguments, as_cell, as_operand, as_argument, variable_or_cell, call_to, call_form, form_of, operands_of, arguments_of, outer, outer_of, call_right, right_of, call_action, several, loop_action}
 use Rattle.language.specs.Table as table
 use Rattle.language.specs.Table.{Table, Callee, composite, built_in}
-use Rattle.language.specs.Scopes.{Typ, one_of, many_of, Scope, Signature, Refers, Calls}
+use Rattle.language.specs.Scopes.{Typ, Scope, Signature}
 use Rattle.language.specs.Typing as rules
 use Rattle.language.specs.Typing.{HasType, RestType, ArgumentTypes, BuiltinType, AllHaveType, RightType, StepType, SourceType, CallTyped, StatementTyped}
 use Rattle.language.proofs.Members.{split_in, to_right}
-use Rattle.language_laws.specs.TypedValues.{own_cell, own_outer}
+use Rattle.language_laws.specs.TypedValues.{own_outer}
 use Rattle.code_whole.proofs.Scoping.{Comes, of_scope, of_cell, of_call, ExprComes, AllCome, FormComes, before}
 use Rattle.code_whole.proofs.Coming.{seen_as, expression_comes}
 

@@ -4,22 +4,22 @@ use Rattle.std.specs.List.{flat_map}
 use Rattle.dataflow.specs.System.{In}
 use Rattle.dataflow.proofs.Lists.{in_left, in_right, in_split}
 use Rattle.language.specs.Core as Co
-use Rattle.language.specs.Core.{Owned, Name, Expr, Exprs, literal, whole, operator, none, also, Form, compute, read, Cell, Call, Part, inner, calls, Outer, Awaited, Stmt, stmt, Action, declare, call_alone, assign, fill, insert, print, assert, when, choose, range, each, wait, Block, no_stmts, stmts, Core}
+use Rattle.language.specs.Core.{Owned, Name, Expr, Exprs, literal, whole, operator, none, also, Form, compute, read, Cell, Call, Part, inner, Outer, Awaited, Stmt, stmt, Action, declare, call_alone, assign, fill, insert, print, assert, when, choose, range, each, wait, Block, no_stmts, stmts, Core}
 use Rattle.language.specs.Members.{◌∈◌, first, later}
-use Rattle.language.specs.Parts.{block_list, blocks_below, blocks_in, blocks_of, stmts_within, parts, part_cells, cells, outers, outer_parts}
+use Rattle.language.specs.Parts.{block_list, blocks_below, blocks_in, blocks_of, stmts_within, parts, part_cells, outers, outer_parts}
 use Rattle.language.specs.Single.{Reads, the_name, an_operand, ReadsSome, the_first, a_later, IsRead, in_cell, in_wait}
 use Rattle.language.proofs.Blocks.{inner_below, header_inner, of_below, below_below, among}
-use Rattle.language.proofs.Members.{split_in, either, to_left, to_right}
+use Rattle.language.proofs.Members.{split_in, to_left, to_right}
 use Rattle.language.proofs.Tested.{among_split}
 use Rattle.language_laws.specs.Scoped.{Scoped}
 use Rattle.language_laws.specs.TypedValues.{own_outer, own_parts}
 use Rattle.task_code.specs.Code as code
-use Rattle.task_code.specs.Code.{Variable, Need, Stored, Closed, At, AtKey, Argument, Named, Header, Act, Code, Way, InPlace, Through, Calling, entry, body, arguments, call_at, here, is_array_name, needed, scalar, targets, targets_of, ways}
+use Rattle.task_code.specs.Code.{Variable, Need, Stored, Closed, Argument, Named, Header, Act, Code, Way, InPlace, Through, Calling, entry, body, arguments, call_at, here, is_array_name, needed, scalar, targets, targets_of, ways}
 use Rattle.task_code.specs.Exact.{Leads, itself, through, needs_of}
 use Rattle.task_code.specs.Whole.{Declared, Seen}
 use Rattle.code_rules.specs.CodeNames.{owned_as, name_as, wanted, wanted_all, each_once, awaited_need, header}
 use Rattle.code_rules.specs.Emitted.{HasRights}
-use Rattle.code_rules.specs.IsCodeOf.{Layout, seen_as, seen, own_form, own_expr, own_exprs, own_needs, step_expr, IsSimple, CallAs, InputAs, of_literal, of_name, of_datum, of_array, InputsAs, no_input, one_input, IndexAs, at_literal, at_name, at_datum, PartAs, plain_literal, plain_name, a_cell, a_read, a_call, PartsAs, no_part, one_part}
+use Rattle.code_rules.specs.IsCodeOf.{Layout, seen_as, seen, own_form, own_expr, own_exprs, own_needs, IsSimple, CallAs, InputAs, of_literal, of_name, of_datum, of_array, InputsAs, no_input, one_input, IndexAs, at_literal, at_name, at_datum, PartAs, plain_literal, plain_name, a_cell, a_read, a_call, PartsAs, no_part, one_part}
 use Rattle.code_rules.specs.Laying.{Kinds, Headers, one_header, more_headers}
 use Rattle.code_rules.specs.Laid.{Table, StmtLaid, declares_laid, call_laid, simple_laid, branch_laid, branches_laid, range_laid, each_laid, wait_laid, StmtsLaid, none_laid, one_laid, IsLaid}
 use Rattle.code_whole.proofs.Arguments.{arg_at, get_in}
@@ -29,7 +29,7 @@ use Rattle.code_whole.proofs.Led.{cell_part}
 use Rattle.code_whole.proofs.Made.{inner_same}
 use Rattle.code_whole.proofs.Needs.{flag_of, of_once, of_flat}
 use Rattle.code_whole.proofs.Openings.{OpensAs, opens_header, opens_wait, opens_call, opens_as, part_of_stmt}
-use Rattle.code_whole.proofs.Roles.{own_of, PartOf, OwnOf, own_simple, own_branch, own_branches, own_range, own_each, own_wait, Role}
+use Rattle.code_whole.proofs.Roles.{own_of, OwnOf, own_simple, own_branch, own_branches, own_range, own_each, own_wait, Role}
 use Rattle.code_whole.proofs.Shapes.{home_in, body_within}
 use Rattle.code_rules.proofs.Members.{to_in}
 use Rattle.code_sources.proofs.Counting.{read_outwards}

@@ -8,7 +8,7 @@ use Rattle.language.specs.Core.{Owned, local, input, output, Name, Stmt, stmt, A
 use Rattle.language.specs.Members.{◌∈◌, first, later}
 use Rattle.language.specs.Parts.{block_list, blocks_below, blocks_in, blocks_inside, blocks_of, function_blocks, script_blocks, script_stmts, stmt_action}
 use Rattle.language.specs.Resolved.{refers, outer, awaited, right_of, call_action, several, loop_action, stmt_of, block_of, block_in, with_statement, script_block, functions_of, core}
-use Rattle.language.specs.Scopes.{Visible, Scope, deeper, further, own, one_of, Signature, declared_type, signatures}
+use Rattle.language.specs.Scopes.{Visible, Scope, deeper, own, one_of, Signature, declared_type, signatures}
 use Rattle.language.specs.Table.{Table}
 use Rattle.language.specs.Typing as rules
 use Rattle.language.specs.Typing.{LoopScope, StatementTyped, StatementsTyped, BodyTyped, Parameters, FunctionTyped, PartsTyped, WellTyped}

@@ -33,10 +33,11 @@ use Rattle.code_whole.proofs.Openings.{OpensAs, opens_header, opens_wait, opens_
 use Rattle.code_whole.proofs.Scoping.{SeesAs, before, InScopes, Hidden, OutputsCome}
 use Rattle.code_whole.proofs.Settling.{IsParameter, is_output, is_input, FunctionScoped, ScriptScoped}
 use Rattle.code_whole.proofs.Lookup.{deeper_of, HeaderScope, StmtAt, lookup}
-use Rattle.code_whole.proofs.Arguments.{some_same, arg_at, get_right, get_unmap, get_in, get_one, get_some, get_below, out_at, inputs_length, comes_length, out_type}
+use Rattle.code_whole.proofs.Arguments.{some_same, arg_at, get_right, get_unmap, get_in, get_one, get_some, out_at, inputs_length, comes_length, out_type}
 use Rattle.code_whole.proofs.Led.{SeenAs, flag_is, step_out, parameter_is, Within, Settled, CallKnown, call_known_of, handed, Content, content, led}
 use Rattle.code_whole.proofs.Bases.{Assigns, names, further_in, has_target, keeps_targets, base_written}
 use Rattle.code_whole.proofs.Owners.{OwnerOf, OwnedScope, owner_at}
+use Rattle.std.proofs.lemmas.Option.{slice_get_within}
 
 -- the block of one statement
 abbrev pub alone : Stmt → Block
@@ -243,7 +244,7 @@ module _ {s : Core} {fs : List Kinds} {ds : List (ℕ × Bool)} (C : Code) (l : 
 
         parameter : (z : SeenAs (L.table.inputs_of b) F.scope (λ d w. Assigns d (L.table.block_of b) w) q) → IsParameter F.signature z.sees.variable → Aims t (stmt at n a) i r
         parameter z (is_input w e ty) =
-            absurd (no_target s single (an_input (function_in s.functions c.function f fn) (subst (λ (x : ℕ). w < x) F.inputs (get_below F.signature.inputs w z.sees.variable.type ty)))
+            absurd (no_target s single (an_input (function_in s.functions c.function f fn) (subst (λ (x : ℕ). w < x) F.inputs (slice_get_within F.signature.inputs w z.sees.variable.type ty)))
             (has_target (subst (λ (y : Name). Assigns z.flag f.body y.what) (z.sees.is ∙ e) (subst (λ (y : Block). Assigns z.flag y z.name.what) st.block z.kept))))
         parameter z (is_output w e ty) =
             let u = parameter_is (sym seen ∙ (z.is ∙ ap₂ (λ (x : ℕ) (y : Name). name_as x z.flag y) st.inputs (z.sees.is ∙ e))) in

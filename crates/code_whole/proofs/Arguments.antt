@@ -1,5 +1,5 @@
 -- What a call hands over, place by place.
-use Rattle.std.proofs.Common.{◌≡◌, ◌⊎◌, inl, inr, ℕ, zero, suc, ◌+◌, ◌<◌, Bool, true, false, List, [], ◌∷◌, ◌++◌, map, length, refl, sym, ap, subst, Option, Some, None, arith}
+use Rattle.std.proofs.Common.{◌≡◌, ◌⊎◌, inl, inr, ℕ, zero, suc, ◌+◌, Bool, true, false, List, [], ◌∷◌, ◌++◌, map, length, refl, sym, ap, subst, Option, Some, None, arith}
 use Rattle.std.specs.Prelude.{slice_get}
 use Rattle.dataflow.specs.System.{In}
 use Rattle.language.specs.Core.{Name, here, Cell, Part, inner}
@@ -77,12 +77,6 @@ get_in [] zero x e = absurd (cc (e))
 get_in [] (suc k) x e = absurd (cc (e))
 get_in {X} (y ∷ xs) zero x e = subst (λ (z : X). z ∈ (y ∷ xs)) (some_same e) first
 get_in (y ∷ xs) (suc k) x e = later (get_in xs k x e)
-
-pub get_below : {X : Type 0} (xs : List X) (k : ℕ) (x : X) → slice_get xs k ≡ Some x → k < length xs
-get_below [] zero x e = absurd (cc (e))
-get_below [] (suc k) x e = absurd (cc (e))
-get_below (y ∷ xs) zero x e = omega arith
-get_below (y ∷ xs) (suc k) x e = let r = get_below xs k x e in omega arith
 
 pub get_some : {X : Type 0} (xs : List X) (x : X) → In x xs → (k : ℕ) × (slice_get xs k ≡ Some x)
 get_some [] x h = absurd h

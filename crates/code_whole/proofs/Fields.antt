@@ -30,9 +30,10 @@ use Rattle.code_whole.proofs.Openings.{OpensAs, opens_header, opens_wait, opens_
 use Rattle.code_whole.proofs.Scoping.{before, InScopes}
 use Rattle.code_whole.proofs.Settling.{IsParameter, is_output, is_input, FunctionScoped, ScriptScoped}
 use Rattle.code_whole.proofs.Lookup.{deeper_of, HeaderScope, lookup, before_own}
-use Rattle.code_whole.proofs.Arguments.{some_same, Kind, arg_of, get_left, get_right, get_map, get_one, get_below, out_of, input_of, inputs_length, InputComes, come_at, comes_length, outs_at}
+use Rattle.code_whole.proofs.Arguments.{some_same, Kind, arg_of, get_left, get_right, get_map, get_one, out_of, input_of, inputs_length, InputComes, come_at, comes_length, outs_at}
 use Rattle.code_whole.proofs.Led.{SeenAs, Keeping, Within, Settled, CallKnown, call_known_of, handed, led}
 use Rattle.code_whole.proofs.Bases.{call_kind}
+use Rattle.std.proofs.lemmas.Option.{slice_get_within}
 
 -- whether a name is declared in a body is told by its variables
 find_variable : (r : code.Name) (vs : List Variable) → ((v : Variable) × In v vs × (r ≡ code.here v)) ⊎ ((v : Variable) → In v vs → r ≡ code.here v → ⊥)
@@ -234,7 +235,7 @@ module _ {s : Core} {fs : List Kinds} {ds : List (ℕ × Bool)} (C : Code) (l : 
             let kind : is_array_argument y.0 ≡ z.flag = in_kind known.there bf ca k y.0 τ y.1 ty' ∙ z.sees.shape in
             let kept : Q z.flag f.body (input k) = subst (λ (v : Name). Q z.flag f.body v.what) (z.sees.is ∙ e) (subst (λ (v : Block). Q z.flag v z.name.what) st.block z.kept) in
             given k z.flag y.0 (named z ∙ ap (λ (u : Name). name_as f.inputs z.flag u) e) (get_left ca.ins (map Named ca.outs) k y.0 y.1) (kind_by y.0 z.flag kind)
-            (λ v q fixes. inr (refl, record { fixes = fixes; function = f; place = c.function; there = fn; index = k; below = subst (λ (n : ℕ). k < n) F.inputs (get_below F.signature.inputs k τ ty); flag = z.flag; kept = kept }))
+            (λ v q fixes. inr (refl, record { fixes = fixes; function = f; place = c.function; there = fn; index = k; below = subst (λ (n : ℕ). k < n) F.inputs (slice_get_within F.signature.inputs k τ ty); flag = z.flag; kept = kept }))
 
         by : At b F.scope r → Outcome i b Calling r
         by (inl d) = inl (inl d)

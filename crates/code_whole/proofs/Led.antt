@@ -30,7 +30,8 @@ use Rattle.code_whole.proofs.Scoping.{SeesAs, Comes, of_scope, of_cell, of_call,
 use Rattle.code_whole.proofs.Settling.{IsParameter, is_output, is_input, FunctionScoped, ScriptScoped}
 use Rattle.code_whole.proofs.Lookup.{deeper_of, HeaderScope, StmtAt, lookup, one_wait, inner_before, call_comes}
 use Rattle.code_whole.proofs.Made.{declares, PartsMade, parts_made, cell_declared, read_declared, call_declared}
-use Rattle.code_whole.proofs.Arguments.{some_same, arg_at, get_left, get_right, get_unmap, get_in, get_one, get_below, out_at, input_at, input_of, inputs_length, InputComes, come_at, comes_length, outs_at}
+use Rattle.code_whole.proofs.Arguments.{some_same, arg_at, get_left, get_right, get_unmap, get_in, get_one, out_at, input_at, input_of, inputs_length, InputComes, come_at, comes_length, outs_at}
+use Rattle.std.proofs.lemmas.Option.{slice_get_within}
 
 -- a name of code that is this one, of a variable that is seen
 pub record SeenAs (k : ℕ) (g : Scope) (Q : Bool → Owned → Type 0) (r : code.Name) : Type 0 where
@@ -237,7 +238,7 @@ module _ {s : Core} {fs : List Kinds} {ds : List (ℕ × Bool)} (C : Code) (l : 
               let inn = input_at C l j arg.0 ca.inputs arg.1 in
               let here_is : come.0 ≡ inn.0 = some_same (sym come.1 ∙ inn.1) in
               in_settled w p inn.2 x.type (subst (λ (v : Name). InputComes w.known.scope (before a) v x.type) here_is come.2) d r is sh (got.1 ∙ u.1)
-              (λ q o. K.from_input f c.function j d fn (subst (λ (n : ℕ). j < n) F.inputs (get_below F.signature.inputs j x.type ty)) (subst (λ (v : Name). Q d f.body v.what) e kept) q (T.block_of t) o)
+              (λ q o. K.from_input f c.function j d fn (subst (λ (n : ℕ). j < n) F.inputs (slice_get_within F.signature.inputs j x.type ty)) (subst (λ (v : Name). Q d f.body v.what) e kept) q (T.block_of t) o)
 
       -- WHAT IS LED TO
       module _ (own : Entry → List code.Name) (base : (t j : ℕ) (g : Scope) (r : code.Name) → In j (body C t).entries → InScopes sigs type_of g (T.block_of t) → In r (own (entry C j)) → Settled t g r) where

@@ -17,7 +17,7 @@ use Rattle.language_accepted.proofs.Given.{HasTarget, no_target}
 use Rattle.code_whole.proofs.Scoping.{InScopes}
 use Rattle.code_whole.proofs.Settling.{IsParameter, is_output, is_input, FunctionScoped, ScriptScoped}
 use Rattle.code_whole.proofs.Lookup.{deeper_of, StmtAt, lookup}
-use Rattle.code_whole.proofs.Arguments.{get_below}
+use Rattle.std.proofs.lemmas.Option.{slice_get_within}
 
 -- what is assigned by name is a target
 pub named_target : {w : Owned} {b : Block} → IsNamed w b → HasTarget w b
@@ -110,9 +110,9 @@ module _ (s : Core) (single : SinglyAssigned s) where
 
     parameter_owner : (i : ℕ) (f : Function) (F : FunctionScoped sigs type_of sigs i f) → slice_get s.functions i ≡ Some f → (v : Visible) → IsParameter F.signature v → OwnerOf f.body v.refers_to.what
     parameter_owner i f F e v (is_output j q ty) =
-        subst (λ (x : Name). OwnerOf f.body x.what) (sym q) (owned f.body (an_output (function_in s.functions i f e) (subst (λ (n : ℕ). j < n) F.outputs (get_below F.signature.outputs j v.type ty))) at_once)
+        subst (λ (x : Name). OwnerOf f.body x.what) (sym q) (owned f.body (an_output (function_in s.functions i f e) (subst (λ (n : ℕ). j < n) F.outputs (slice_get_within F.signature.outputs j v.type ty))) at_once)
     parameter_owner i f F e v (is_input j q ty) =
-        subst (λ (x : Name). OwnerOf f.body x.what) (sym q) (given_owner (an_input (function_in s.functions i f e) (subst (λ (n : ℕ). j < n) F.inputs (get_below F.signature.inputs j v.type ty))))
+        subst (λ (x : Name). OwnerOf f.body x.what) (sym q) (given_owner (an_input (function_in s.functions i f e) (subst (λ (n : ℕ). j < n) F.inputs (slice_get_within F.signature.inputs j v.type ty))))
 
     pub owned_scope : {k : ℕ} {b : Block} → InScope s k b → OwnedScope b
     owned_scope of_script = record { scope = []; scoped_in = S.script; owner = λ v m. elim m [ ]; there = main_block s }

@@ -36,13 +36,14 @@ use Rattle.code_whole.proofs.Openings.{LoopsOver, over_range, over_each, LoopIn,
 use Rattle.code_whole.proofs.Scoping.{SeesAs, before, InScopes, Hidden, OutputsCome}
 use Rattle.code_whole.proofs.Settling.{IsParameter, is_output, is_input, FunctionScoped, ScriptScoped}
 use Rattle.code_whole.proofs.Lookup.{StmtAt, lookup}
-use Rattle.code_whole.proofs.Arguments.{some_same, arg_at, get_right, get_unmap, get_in, get_one, get_below, out_at, inputs_length, comes_length, out_type}
+use Rattle.code_whole.proofs.Arguments.{some_same, arg_at, get_right, get_unmap, get_in, get_one, out_at, inputs_length, comes_length, out_type}
 use Rattle.code_whole.proofs.Led.{SeenAs, flag_is, parameter_is, CallKnown, call_known_of, handed, led, Settled}
 use Rattle.code_whole.proofs.Bases.{Assigns, names, further_in, has_target, keeps_targets, base_written}
 use Rattle.code_whole.proofs.Owners.{OwnerOf, Round, round, Assignable, of_local, of_output, assignable, OwnedScope, owned_scope, owner_at, role_given, named_target}
 use Rattle.code_whole.proofs.Kept.{cell_node, hidden_node, declared_cell, declared_hidden, cell_hidden, role_cell, role_hidden, hidden_once}
 use Rattle.code_whole.proofs.Aims.{alone, named_of, Calls, Assigned, Aims, at_cell, at_hidden, at_alone, at_own, aims}
 use Rattle.code_whole.proofs.Singles.{stmt_way, no_two, positions, own_once, loop_tells, loop_calls}
+use Rattle.std.proofs.lemmas.Option.{slice_get_within}
 
 only_in : {X : Type 0} {x y : X} → x ∈ (y ∷ []) → x ≡ y
 only_in m = elim (Rattle.language.proofs.Members.split_in m) [ inl e ↦ e | inr i ↦ elim i [ ] ]
@@ -344,7 +345,7 @@ module _ {s : Core} {fs : List Kinds} {ds : List (ℕ × Bool)} (C : Code) (l : 
 
       parameter : (z : SeenAs (L.table.inputs_of b) F.scope (λ d w. Assigns d (Block_of b) w) q) → IsParameter F.signature z.sees.variable → OutputOf f F.signature k
       parameter z (is_input x e ty) =
-          absurd (no_target s single (an_input (function_in s.functions i f fn) (subst (λ (n : ℕ). x < n) F.inputs (get_below F.signature.inputs x z.sees.variable.type ty)))
+          absurd (no_target s single (an_input (function_in s.functions i f fn) (subst (λ (n : ℕ). x < n) F.inputs (slice_get_within F.signature.inputs x z.sees.variable.type ty)))
           (has_target (subst (λ (y : Name). Assigns z.flag f.body y.what) (z.sees.is ∙ e) (subst (λ (y : Block). Assigns z.flag y z.name.what) st.block z.kept))))
       parameter z (is_output x e ty) =
           let u = parameter_is (z.is ∙ ap₂ (λ (n : ℕ) (y : Name). name_as n z.flag y) st.inputs (z.sees.is ∙ e)) in

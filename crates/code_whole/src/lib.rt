@@ -30,19 +30,22 @@ pub fn laid_entries_have_their_shape()
 /// Laid code with exact rights, of a scoped core, keeps what whole code keeps but for the scopes of names: each body has the opener that opens it, each entry has its shape and
 /// may read and write what it needs and stores itself, the content of a wait hides what it declares, a loop's variables are its body's, and nothing stands or is declared twice.
 pub fn laid_code_stands()
-    ensures { (s : Core) (fs : List Kinds) (ds : List (ℕ × Bool)) (C : Code) (l : Layout) → IsLaid s fs ds C l → HasRights C → CallsAreFound C → Scoped s → IsStanding C }
+    ensures { (s : Core) (fs : List Kinds) (ds : List (ℕ × Bool)) (C : Code) (l : Layout) → IsLaid s fs ds C l → HasRights C → CallsAreFound C
+        → Scoped s → IsStanding C }
 {}
 
 /// In laid code of a tree that is placed, well typed and singly assigned, with exact rights, what the entries of a body may read and write is declared in the body, or belongs to the entry that opens it: the
 /// script's entries name the script's own variables, an inner block's what is seen from it, and a called function's what the call hands over. A name is an array's where it is declared as one.
 pub fn accepted_code_is_within()
-    ensures { (t : Table) (tree : Tree) (fs : List Kinds) (ds : List (ℕ × Bool)) (C : Code) (l : Layout) → IsPlaced tree → WellTyped tree t → SinglyAssigned (core t tree)
+    ensures { (t : Table) (tree : Tree) (fs : List Kinds) (ds : List (ℕ × Bool)) (C : Code) (l : Layout) → IsPlaced tree → WellTyped tree t
+        → SinglyAssigned (core t tree)
         → KindsOf fs tree → DeclaredIn ds tree → IsLaid (core t tree) fs ds C l → HasRights C → CallsAreFound C → IsWithin C }
 {}
 
 /// Laid code of such a tree, with exact rights, is whole. The emission is told which inputs, outputs and variables are arrays, as the tree declares them: where its code is laid, each call has its own mark, each node is one entry's, and each entry has the rights that it leads to and no others, all bodies fit together.
 pub fn accepted_code_is_whole()
-    ensures { (t : Table) (tree : Tree) (fs : List Kinds) (ds : List (ℕ × Bool)) (C : Code) (l : Layout) → IsPlaced tree → WellTyped tree t → SinglyAssigned (core t tree)
+    ensures { (t : Table) (tree : Tree) (fs : List Kinds) (ds : List (ℕ × Bool)) (C : Code) (l : Layout) → IsPlaced tree → WellTyped tree t
+        → SinglyAssigned (core t tree)
         → KindsOf fs tree → DeclaredIn ds tree → IsLaid (core t tree) fs ds C l → HasRights C → CallsAreFound C → NodesOnce C → IsCode C }
 {}
 

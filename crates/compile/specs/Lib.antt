@@ -1,3 +1,4 @@
 pub mod Accepted
 pub mod Compiled
+pub mod FaultNames
 pub mod Places

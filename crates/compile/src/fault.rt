@@ -1,6 +1,7 @@
 //! Why a script has no code.
-ghost use Rattle.std.specs.Prelude.{◌≡◌};
+ghost use Rattle.std.specs.Prelude.{◌≡◌, ◌≤◌, length};
 ghost use Rattle.compile.specs.Accepted.{fault_of_assignments, fault_of_text, fault_of_types};
+ghost use Rattle.compile.specs.FaultNames.{fault_name};
 ghost use Rattle.compile.specs.Places.{span_of};
 
 use assign_check::fault::AssignFault;
@@ -66,16 +67,24 @@ impl CompileFault {
             CompileFault::Memory => None,
         }
     }
+
+    /// Its number and its name.
+    pub fn name(self) -> &'static str
+        ensures text { result.now ≡ fault_name self }
+        ensures short { length result.now ≤ 20 }
+    {
+        match self {
+            CompileFault::Parse(fault) => fault.name(),
+            CompileFault::Types(fault) => fault.name(),
+            CompileFault::Assignments(fault) => fault.name(),
+            CompileFault::Memory => "no memory",
+        }
+    }
 }
 
 impl fmt::Display for CompileFault {
     fn fmt<W: fmt::Write>(&self, f: &mut fmt::Formatter<W>) -> fmt::Result {
-        match self {
-            CompileFault::Parse(fault) => write!(f, "{fault}"),
-            CompileFault::Types(fault) => write!(f, "{fault}"),
-            CompileFault::Assignments(fault) => write!(f, "{fault}"),
-            CompileFault::Memory => write!(f, "no memory"),
-        }
+        write!(f, "{}", self.name())
     }
 }
 

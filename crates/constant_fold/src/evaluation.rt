@@ -41,7 +41,8 @@ fn worked_out<A: Allocator + Clone>(
     op: Op<'_>,
     exprs: &[Expr<A>],
 ) -> Result<Option<ExprKind<A>>, AllocError>
-    ensures { IfOk result (λ found. (f : Form) → in_place f found ≡ collapsed (operation_of op.entry) (scalars_of (expressions_of (map expression_view exprs.now))) f) }
+    ensures { IfOk result (λ found. (f : Form) → in_place f found
+        ≡ collapsed (operation_of op.entry) (scalars_of (expressions_of (map expression_view exprs.now))) f) }
 {
     match scalars(machine, exprs)? {
         None => Ok(None),
@@ -99,7 +100,8 @@ fn sum<A: Allocator + Clone>(
     operators: &[Operator],
     exprs: &[Expr<A>],
 ) -> Result<Option<ExprKind<A>>, AllocError>
-    ensures { IfOk result (λ found. (f : Form) → in_place f found ≡ collapsed (sum_of (rules.signs operators.now)) (scalars_of (expressions_of (map expression_view exprs.now))) f) }
+    ensures { IfOk result (λ found. (f : Form) → in_place f found
+        ≡ collapsed (sum_of (rules.signs operators.now)) (scalars_of (expressions_of (map expression_view exprs.now))) f) }
 {
     let found = signs(machine, operators)?;
     worked_out(machine, alloc, Op::Sum(found.as_slice()), exprs)
@@ -112,7 +114,8 @@ fn product<A: Allocator + Clone>(
     operators: &[Operator],
     exprs: &[Expr<A>],
 ) -> Result<Option<ExprKind<A>>, AllocError>
-    ensures { IfOk result (λ found. (f : Form) → in_place f found ≡ collapsed (product_of (rules.factors operators.now)) (scalars_of (expressions_of (map expression_view exprs.now))) f) }
+    ensures { IfOk result (λ found. (f : Form) → in_place f found
+        ≡ collapsed (product_of (rules.factors operators.now)) (scalars_of (expressions_of (map expression_view exprs.now))) f) }
 {
     let found = factors(machine, operators)?;
     worked_out(machine, alloc, Op::Product(found.as_slice()), exprs)
@@ -125,7 +128,8 @@ pub fn chain<A: Allocator + Clone>(
     operators: &[Operator],
     exprs: &[Expr<A>],
 ) -> Result<Option<ExprKind<A>>, AllocError>
-    ensures { IfOk result (λ found. (f : Form) → in_place f found ≡ collapsed (rules.chain_operation operators.now) (scalars_of (expressions_of (map expression_view exprs.now))) f) }
+    ensures { IfOk result (λ found. (f : Form) → in_place f found
+        ≡ collapsed (rules.chain_operation operators.now) (scalars_of (expressions_of (map expression_view exprs.now))) f) }
 {
     if operators.is_empty() {
         return sum(machine, alloc, operators, exprs);
@@ -153,7 +157,8 @@ pub fn prefixed<A: Allocator + Clone>(
     prefix: Prefix,
     expr: &Expr<A>,
 ) -> Result<Option<ExprKind<A>>, AllocError>
-    ensures { IfOk result (λ found. (f : Form) → in_place f found ≡ collapsed (rules.prefix_operation prefix) (scalars_of (expressions_of (expression_view expr.now ∷ []))) f) }
+    ensures { IfOk result (λ found. (f : Form) → in_place f found
+        ≡ collapsed (rules.prefix_operation prefix) (scalars_of (expressions_of (expression_view expr.now ∷ []))) f) }
 {
     let op = match prefix {
         Prefix::Not => Op::Not,
@@ -176,7 +181,8 @@ pub fn call<A: Allocator + Clone>(
     name: &[u8],
     exprs: &[Expr<A>],
 ) -> Result<Option<ExprKind<A>>, AllocError>
-    ensures { IfOk result (λ found. (f : Form) → in_place f found ≡ called (called_operation name.now) (scalars_of (expressions_of (map expression_view exprs.now))) f) }
+    ensures { IfOk result (λ found. (f : Form) → in_place f found
+        ≡ called (called_operation name.now) (scalars_of (expressions_of (map expression_view exprs.now))) f) }
 {
     if name == b"strcat".as_slice() {
         worked_out(machine, alloc, Op::Join, exprs)

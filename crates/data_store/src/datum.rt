@@ -115,7 +115,8 @@ impl Datum {
     #[inline(always)]
     pub fn insert(&mut self, alloc: Global, key: Key, value: Scalar) -> Result<(), Refusal>
         requires { IsArray self.old.content }
-        ensures ok { OnOk result ((0 < self.old.writes) × (found key (array_in self.old.content).elements ≡ None) × (self.new ≡ with_array (with_element key value) self.old)) }
+        ensures ok { OnOk result ((0 < self.old.writes) × (found key (array_in self.old.content).elements ≡ None)
+            × (self.new ≡ with_array (with_element key value) self.old)) }
         ensures refused { IfErr result (λ e. RefusesInsert key self.old e) }
         ensures err { OnErr result (self.new ≡ self.old) }
     {

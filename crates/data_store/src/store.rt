@@ -104,7 +104,8 @@ impl Store {
     #[inline(always)]
     pub fn insert(&mut self, d: DatumNo, key: Key, value: Scalar) -> Result<(), Refusal>
         requires { IsArrayAt self.old d }
-        ensures ok { OnOk result ((0 < (datum self.old d).writes) × (found key (array_at self.old d).elements ≡ None) × (self.new ≡ changed d (with_array (with_element key value)) self.old)) }
+        ensures ok { OnOk result ((0 < (datum self.old d).writes) × (found key (array_at self.old d).elements ≡ None)
+            × (self.new ≡ changed d (with_array (with_element key value)) self.old)) }
         ensures refused { IfErr result (λ e. RefusesInsert key (datum self.old d) e) }
         ensures err { OnErr result (self.new ≡ self.old) }
     {

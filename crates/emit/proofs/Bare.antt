@@ -108,7 +108,7 @@ module _ (fs : List Kinds) (roots k : ℕ) where
     stmt-bare (array_loop e {u = u} {w = w} {es = es} {js = js} {vs = vs} bl ow mk we ee) =
         array_loop (bare e) (block-bare bl) (λ l suits. entry-bare (ow l suits)) mk (opened-bare u w e _ _ we (step-bare u _ js)) (last-bare u [] es ee)
     stmt-bare (waits e {u = u} {w = w} {es = es} {js = js} {vs = vs} hd bl en we ee) =
-        waits (bare e) hd (block-bare bl) (entry-bare en)
+        waits (bare e) hd (block-bare bl) (entry-bare en.0, en.1)
         (opened-bare u w e _ _ we (ap (λ (n : ℕ). record { opener = ByWait n; makes = vs; entries = js } ∷ []) (sym (length-map u.entries bare)))) (last-bare u [] es ee)
 
     pub block-bare : {b : Block} {ds : List (ℕ × Bool)} {s t : Laying} {es : List ℕ} {vs : List Variable} → LaysBlock fs roots k b ds s t es vs → LaysBlock fs roots k b ds (bared s) (bared t) es vs

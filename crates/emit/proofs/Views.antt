@@ -13,6 +13,7 @@ use Rattle.code_rules.specs.Laying.{is_one_wait, is_wait, is_wait_alone}
 use Rattle.wait_merge.specs.Merged.{Seen, action_seen, alone, block_seen, statement_seen}
 use Rattle.wait_merge.proofs.Actions.{seen_statement, view_statement}
 use Rattle.wait_merge.proofs.Blocks.{seen_alone}
+use Rattle.std.proofs.lemmas.Bool.{not-true}
 
 -- what a statement does, as it is seen, and what it declares
 module _ {A : Type 0} where
@@ -60,12 +61,8 @@ view_block A b = search (rules, the_lemmas)
 one_wait_seen : (A : Type 0) (b : Block A) → is_one_wait (block_view b) ≡ (block_seen b).wait
 one_wait_seen A b = ap is_one_wait (view_block A b) ∙ alone_seen A (out-Block A b).statements.items ∙ sym (seen_alone A b)
 
-is_not : (b : Bool) → not b ≡ true → b ≡ false
-is_not true h = absurd (cc)
-is_not false h = refl
-
 -- the content of a `wait` that is merged is not one `wait` more
 pub lone_and : {A : Type 0} → (b : Block A) → (not (block_seen b).wait && (block_seen b).merged) ≡ true → (is_one_wait (block_view b) ≡ false) × ((block_seen b).merged ≡ true)
 lone_and {A} b h =
     let both = true_and (not (block_seen b).wait) (block_seen b).merged h in
-    (one_wait_seen A b ∙ is_not (block_seen b).wait both.0, both.1)
+    (one_wait_seen A b ∙ not-true (block_seen b).wait both.0, both.1)

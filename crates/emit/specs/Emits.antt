@@ -20,7 +20,7 @@ use Rattle.code_rules.specs.Emitted.{CallsOnce, CellsOnce, ReadsStand, size_of, 
 use Rattle.code_rules.specs.Room.{BlockRoom, CoreRoom, StmtRoom, Each, FunctionRoom}
 use Rattle.emit_statements.specs.Into.{laying}
 use Rattle.emit_statements.specs.declared.filling.Filling.{Filling}
-use Rattle.emit_statements.specs.declared.own.Statement.{Statement as Own}
+use Rattle.emit_statements.specs.declared.own.StatementAt.{StatementAt}
 use Rattle.wait_merge.specs.Merged.{all_merged, block_seen, functions_merged, statement_seen}
 use Rattle.emit.specs.declared.emitter.Emitter.{Emitter}
 
@@ -135,20 +135,20 @@ module _ {A : Type 0} (functions : List (Found A)) where
   EmitsOne k one s t = IsTrue (statement_seen one).merged → EmitsStmt (map kinds_of_function functions) (roots_of functions) k (statement_view one) (statement_declared one) s t
 
   -- a statement that does this and declares these
-  abbrev pub EmitsAs : Own → Action → List (ℕ × Bool) → Emitter → Emitter → Type 0
+  abbrev pub EmitsAs : StatementAt → Action → List (ℕ × Bool) → Emitter → Emitter → Type 0
   EmitsAs one a ds s t =
       EmitsStmt (map kinds_of_function functions) (roots_of functions) one.standing.inputs (stmt one.standing.at one.node a) ds (state_of s) (state_of t)
 
   -- one that has no block and declares nothing
-  abbrev pub EmitsOwn : Own → Action → Emitter → Emitter → Type 0
+  abbrev pub EmitsOwn : StatementAt → Action → Emitter → Emitter → Type 0
   EmitsOwn one a s t = EmitsAs one a [] s t
 
   -- one without a priority of its own
-  abbrev pub EmitsAction : Own → Action → List (ℕ × Bool) → Emitter → Emitter → Type 0
+  abbrev pub EmitsAction : StatementAt → Action → List (ℕ × Bool) → Emitter → Emitter → Type 0
   EmitsAction one a ds s t = one.standing.priority ≡ pos 0 → EmitsAs one a ds s t
 
   -- one with blocks, of which it is told whether their waits are merged
-  abbrev pub EmitsMerged : Own → Action → Bool → List (ℕ × Bool) → Emitter → Emitter → Type 0
+  abbrev pub EmitsMerged : StatementAt → Action → Bool → List (ℕ × Bool) → Emitter → Emitter → Type 0
   EmitsMerged one a merged ds s t = IsTrue merged → EmitsAction one a ds s t
 
   -- a block of a function's own, or the script's

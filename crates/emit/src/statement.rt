@@ -16,7 +16,7 @@ use emit_cells::entries::Standing;
 use emit_numbers::next;
 use emit_statements::filling::Filling;
 use emit_statements::loops::{loop_filling, loop_of};
-use emit_statements::own::{Statement as Own, Use};
+use emit_statements::own::{StatementAt, Use};
 use flow::cell::{Call, Outer, Part};
 use flow::name::Name;
 use flow::script::Function;
@@ -27,7 +27,7 @@ use task_code::code::Opener;
 use task_code::entry::Variable as Made;
 
 /// A statement with its priority.
-fn with_priority(statement: Own, priority: i32) -> Own
+fn with_priority(statement: StatementAt, priority: i32) -> StatementAt
     ensures { result ≡ record statement { standing = record statement.standing { priority = priority } } }
 {
     let standing = Standing {
@@ -35,7 +35,7 @@ fn with_priority(statement: Own, priority: i32) -> Own
         priority,
         inputs: statement.standing.inputs,
     };
-    Own {
+    StatementAt {
         standing,
         node: statement.node,
     }
@@ -104,7 +104,7 @@ impl Emitter {
             priority: 0,
             inputs,
         };
-        let statement = Own {
+        let statement = StatementAt {
             standing,
             node: one.node,
         };
@@ -116,7 +116,7 @@ impl Emitter {
     fn action<A: Allocator>(
         &mut self,
         functions: &Vec<Function<A>, A>,
-        statement: Own,
+        statement: StatementAt,
         action: &Action<A>,
     ) -> Result<(), AllocError>
         ensures { OnOk result (EmitsMerged functions.now.items statement (action_view action.now)
@@ -188,7 +188,7 @@ impl Emitter {
     fn call<A: Allocator>(
         &mut self,
         functions: &Vec<Function<A>, A>,
-        statement: Own,
+        statement: StatementAt,
         parts: &Vec<Part<A>, A>,
         call: &Call<A>,
     ) -> Result<(), AllocError>
@@ -203,7 +203,7 @@ impl Emitter {
     fn own<A: Allocator>(
         &mut self,
         functions: &Vec<Function<A>, A>,
-        statement: Own,
+        statement: StatementAt,
         done: Use,
         outer: &Outer<A>,
     ) -> Result<(), AllocError>
@@ -217,7 +217,7 @@ impl Emitter {
     fn insert<A: Allocator>(
         &mut self,
         functions: &Vec<Function<A>, A>,
-        statement: Own,
+        statement: StatementAt,
         array: Name,
         index: &Outer<A>,
         right: &Outer<A>,
@@ -236,7 +236,7 @@ impl Emitter {
     fn when<A: Allocator>(
         &mut self,
         functions: &Vec<Function<A>, A>,
-        statement: Own,
+        statement: StatementAt,
         condition: &Outer<A>,
         then: &Block<A>,
     ) -> Result<(), AllocError>
@@ -257,7 +257,7 @@ impl Emitter {
     fn choose<A: Allocator>(
         &mut self,
         functions: &Vec<Function<A>, A>,
-        statement: Own,
+        statement: StatementAt,
         condition: &Outer<A>,
         then: &Block<A>,
         other: &Block<A>,
@@ -285,7 +285,7 @@ impl Emitter {
     fn range<A: Allocator>(
         &mut self,
         functions: &Vec<Function<A>, A>,
-        statement: Own,
+        statement: StatementAt,
         range: &Range<A>,
         value: &Variable<A>,
         turn: &Option<Variable<A>>,
@@ -310,7 +310,7 @@ impl Emitter {
     fn each<A: Allocator>(
         &mut self,
         functions: &Vec<Function<A>, A>,
-        statement: Own,
+        statement: StatementAt,
         array: Name,
         value: &Variable<A>,
         key: &Option<Variable<A>>,
@@ -335,7 +335,7 @@ impl Emitter {
     fn wait<A: Allocator>(
         &mut self,
         functions: &Vec<Function<A>, A>,
-        statement: Own,
+        statement: StatementAt,
         names: &Vec<Name, A>,
         inner: &Vec<Header<A>, A>,
         content: &Block<A>,

@@ -4,7 +4,7 @@ use Rattle.std.specs.Prelude.{if◌then◌else◌, Option, Some, None, position,
 use Rattle.std.specs.List.{list_any, position_or_len}
 use Rattle.std.proofs.Math.Bool.{beq}
 use Rattle.std.proofs.Math.Dec.{eqb}
-use Rattle.std.proofs.lemmas.Bool.{eqb-true, eq-eqb, cases_Bool}
+use Rattle.std.proofs.lemmas.Bool.{eqb-true, eq-eqb, cases_Bool, and_from}
 use Rattle.std.proofs.lemmas.List.{map-append, append-nil, take_more}
 use Rattle.std.proofs.lemmas.Option.{get_or_from_slice_get, slice_get_within}
 use Rattle.std.proofs.lemmas.List.Recursion.{is_position_or_len}
@@ -15,8 +15,8 @@ use Rattle.task_code.specs.Shape.{is_same_plain}
 use Rattle.task_code.proofs.Equal.{name_same, true_and}
 use Rattle.code_rules.specs.CodeNames.{each_once, name_as, place_in}
 use Rattle.code_rules.specs.Room.{Each}
-use Rattle.emit_cells.specs.declared.needs.Wanted.{Wanted}
-use Rattle.emit_cells.specs.Wanted.{name_of, need_of, need_named, IsPlainAs, IsPlain, Noted, Notes}
+use Rattle.emit_cells.specs.declared.needs.PlainNeed.{PlainNeed}
+use Rattle.emit_cells.specs.PlainNeeds.{name_of, need_of, need_named, IsPlainAs, IsPlain, Noted, Notes}
 use Rattle.emit_cells.proofs.Once.{same_sound, once_again, once_twice, once_there, once_new}
 
 same_flag : (a b : Bool) → beq a b ≡ true → a ≡ b
@@ -26,10 +26,10 @@ same_flag true false h = sym h
 same_flag false true h = h
 
 -- two keys are the same where all their fields are
-abbrev pub same_fields : Wanted → Wanted → Bool
+abbrev pub same_fields : PlainNeed → PlainNeed → Bool
 same_fields a b = eqb a.up b.up && (beq a.local b.local && (eqb a.node b.node && (eqb a.place b.place && beq a.array b.array)))
 
-pub same_wanted : (a b : Wanted) → same_fields a b ≡ true → a ≡ b
+pub same_wanted : (a b : PlainNeed) → same_fields a b ≡ true → a ≡ b
 same_wanted a b h =
     let x = true_and (eqb a.up b.up) _ h in
     let y = true_and (beq a.local b.local) _ x.1 in
@@ -46,16 +46,12 @@ flag_self : (b : Bool) → beq b b ≡ true
 flag_self true = refl
 flag_self false = refl
 
-both : (a b : Bool) → a ≡ true → b ≡ true → (a && b) ≡ true
-both true b h k = k
-both false b h k = absurd (true≢false (sym h))
-
-pub fields_self : (a : Wanted) → same_fields a a ≡ true
+pub fields_self : (a : PlainNeed) → same_fields a a ≡ true
 fields_self a =
-    both (eqb a.up a.up) _ (eq-eqb a.up a.up refl)
-    (both (beq a.local a.local) _ (flag_self a.local)
-    (both (eqb a.node a.node) _ (eq-eqb a.node a.node refl)
-    (both (eqb a.place a.place) _ (eq-eqb a.place a.place refl) (flag_self a.array))))
+    and_from (eqb a.up a.up) _ (eq-eqb a.up a.up refl)
+    (and_from (beq a.local a.local) _ (flag_self a.local)
+    (and_from (eqb a.node a.node) _ (eq-eqb a.node a.node refl)
+    (and_from (eqb a.place a.place) _ (eq-eqb a.place a.place refl) (flag_self a.array))))
 
 -- WHAT A NEED TELLS
 
@@ -104,7 +100,7 @@ parameter_told : (l : Bool) (n p : ℕ) (b : Bool) → IsPlainAs l n p → param
 parameter_told true n p b h = sym h
 parameter_told false n p b h = refl
 
-need_tells : (a b : Wanted) → IsPlain a → IsPlain b → need_of a ≡ need_of b → a ≡ b
+need_tells : (a b : PlainNeed) → IsPlain a → IsPlain b → need_of a ≡ need_of b → a ≡ b
 need_tells a b pa pb e =
     let name : name_of a ≡ name_of b = sym (name_told a.array (name_of a)) ∙ ap name_in e ∙ name_told b.array (name_of b) in
     let r : a.array ≡ b.array = sym (closed_told a.array (name_of a)) ∙ ap closed_in e ∙ closed_told b.array (name_of b) in
@@ -118,14 +114,14 @@ self_as : (b : Bool) (r : Name) → is_same_plain (if b then Closed r else Store
 self_as true r = name_same r
 self_as false r = name_same r
 
-pub need_self : (w : Wanted) → is_same_plain (need_of w) (need_of w) ≡ true
+pub need_self : (w : PlainNeed) → is_same_plain (need_of w) (need_of w) ≡ true
 need_self w = self_as w.array (name_of w)
 
-need_fields : (a b : Wanted) → IsPlain a → IsPlain b → need_of a ≡ need_of b → same_fields a b ≡ true
+need_fields : (a b : PlainNeed) → IsPlain a → IsPlain b → need_of a ≡ need_of b → same_fields a b ≡ true
 need_fields a b pa pb e = subst (λ c. same_fields a c ≡ true) (need_tells a b pa pb e) (fields_self a)
 
 -- keys are told apart as needs are
-pub same_test : (a b : Wanted) → IsPlain a → IsPlain b → same_fields a b ≡ is_same_plain (need_of a) (need_of b)
+pub same_test : (a b : PlainNeed) → IsPlain a → IsPlain b → same_fields a b ≡ is_same_plain (need_of a) (need_of b)
 same_test a b pa pb =
     elim (cases_Bool (same_fields a b)) [
       | inl p ↦ p ∙ sym (subst (λ c. is_same_plain (need_of a) (need_of c) ≡ true) (same_wanted a b p) (need_self a))
@@ -135,7 +131,7 @@ same_test a b pa pb =
       ]
     ]
 
-pub same_test_back : (a b : Wanted) → IsPlain a → IsPlain b → same_fields a b ≡ is_same_plain (need_of b) (need_of a)
+pub same_test_back : (a b : PlainNeed) → IsPlain a → IsPlain b → same_fields a b ≡ is_same_plain (need_of b) (need_of a)
 same_test_back a b pa pb =
     elim (cases_Bool (same_fields a b)) [
       | inl p ↦ p ∙ sym (subst (λ c. is_same_plain (need_of c) (need_of a) ≡ true) (same_wanted a b p) (need_self a))
@@ -145,16 +141,16 @@ same_test_back a b pa pb =
       ]
     ]
 
-any_test : (w : Wanted) (ks : List Wanted) → IsPlain w → Each IsPlain ks → list_any (same_fields w) ks ≡ list_any (λ m. is_same_plain m (need_of w)) (map need_of ks)
+any_test : (w : PlainNeed) (ks : List PlainNeed) → IsPlain w → Each IsPlain ks → list_any (same_fields w) ks ≡ list_any (λ m. is_same_plain m (need_of w)) (map need_of ks)
 any_test w [] pw h = refl
 any_test w (k ∷ ks) pw (pk, h) = ap (λ t. t || list_any (same_fields w) ks) (same_test_back w k pw pk) ∙ ap (λ t. is_same_plain (need_of k) (need_of w) || t) (any_test w ks pw h)
 
-each_behind : (ks : List Wanted) (w : Wanted) → Each IsPlain ks → IsPlain w → Each IsPlain (ks ++ w ∷ [])
+each_behind : (ks : List PlainNeed) (w : PlainNeed) → Each IsPlain ks → IsPlain w → Each IsPlain (ks ++ w ∷ [])
 each_behind [] w h pw = (pw, tt)
 each_behind (k ∷ ks) w (pk, h) pw = (pk, each_behind ks w h pw)
 
 -- one more need is noted
-pub noted_one : (ks : List Wanted) (w : Wanted) → IsPlain w → Notes ks (insert_key same_fields ks w) (need_of w ∷ [])
+pub noted_one : (ks : List PlainNeed) (w : PlainNeed) → IsPlain w → Notes ks (insert_key same_fields ks w) (need_of w ∷ [])
 noted_one ks w pw ns h =
     let ms = map need_of ks in
     let n = need_of w in
@@ -176,7 +172,7 @@ pub noted_none : Noted [] []
 noted_none = record { are = refl; plain = tt }
 
 -- the place of a need is that of its key
-abbrev first_at : (Wanted → Bool) → List Wanted → ℕ
+abbrev first_at : (PlainNeed → Bool) → List PlainNeed → ℕ
 first_at p [] = 0
 first_at p (x ∷ xs) = cond (p x) 0 (1 + first_at p xs)
 
@@ -184,14 +180,14 @@ one_more : (b : Bool) (n : ℕ) → cond b 0 (1 + n) ≡ (if b then 0 else suc n
 one_more true n = refl
 one_more false n = omega arith
 
-first_is : (w : Wanted) (ks : List Wanted) → IsPlain w → Each IsPlain ks → first_at (same_fields w) ks ≡ place_in (need_of w) (map need_of ks)
+first_is : (w : PlainNeed) (ks : List PlainNeed) → IsPlain w → Each IsPlain ks → first_at (same_fields w) ks ≡ place_in (need_of w) (map need_of ks)
 first_is w [] pw h = refl
 first_is w (k ∷ ks) pw (pk, h) =
     ap (λ t. cond t 0 (1 + first_at (same_fields w) ks)) (same_test w k pw pk)
     ∙ ap (λ n. cond (is_same_plain (need_of w) (need_of k)) 0 (1 + n)) (first_is w ks pw h)
     ∙ one_more (is_same_plain (need_of w) (need_of k)) (place_in (need_of w) (map need_of ks))
 
-pub place_is : (w : Wanted) (ks : List Wanted) → IsPlain w → Each IsPlain ks → position_or_len (same_fields w) ks ≡ place_in (need_of w) (map need_of ks)
+pub place_is : (w : PlainNeed) (ks : List PlainNeed) → IsPlain w → Each IsPlain ks → position_or_len (same_fields w) ks ≡ place_in (need_of w) (map need_of ks)
 place_is w ks pw h = sym (is_position_or_len (first_at (same_fields w)) (same_fields w) refl (λ x xs. refl) ks) ∙ first_is w ks pw h
 
 -- what a name's need is
@@ -199,10 +195,10 @@ array_told : (l : Bool) (n p : ℕ) (b : Bool) → is_array_owned (owned_for l n
 array_told true n p b = refl
 array_told false n p b = refl
 
-pub need_is_named : (w : Wanted) → need_of w ≡ need_named (name_of w)
+pub need_is_named : (w : PlainNeed) → need_of w ≡ need_named (name_of w)
 need_is_named w = ap (λ b. if b then Closed (name_of w) else Stored (name_of w)) (sym (array_told w.local w.node w.place w.array))
 
-first_within : (p : Wanted → Bool) (ks : List Wanted) → first_at p ks ≤ length ks
+first_within : (p : PlainNeed → Bool) (ks : List PlainNeed) → first_at p ks ≤ length ks
 first_within p [] = omega arith
 first_within p (k ∷ ks) = by (p k) (first_within p ks)
   where
@@ -210,7 +206,7 @@ first_within p (k ∷ ks) = by (p k) (first_within p ks)
     by true h = omega arith
     by false h = omega arith
 
-within : (p : Wanted → Bool) (ks : List Wanted) → position_or_len p ks ≤ length ks
+within : (p : PlainNeed → Bool) (ks : List PlainNeed) → position_or_len p ks ≤ length ks
 within p ks = subst (λ n. n ≤ length ks) (is_position_or_len (first_at p) p refl (λ x xs. refl) ks) (first_within p ks)
 
 some_is : (n m i : ℕ) → ◌≡◌ {A = Option ℕ} (Some i) (cond (nat_lt n m) (Some n) None) → i ≡ n
@@ -219,10 +215,10 @@ some_is n m i e = grind (arith, e)
 none_is : (n m : ℕ) → ◌≡◌ {A = Option ℕ} None (cond (nat_lt n m) (Some n) None) → m ≤ n
 none_is n m e = grind (arith, e)
 
-pub some_place : (w : Wanted) (ks : List Wanted) (i : ℕ) → IsPlain w → Each IsPlain ks → ◌≡◌ {A = Option ℕ} (Some i) (position (same_fields w) ks) → i ≡ place_in (need_of w) (map need_of ks)
+pub some_place : (w : PlainNeed) (ks : List PlainNeed) (i : ℕ) → IsPlain w → Each IsPlain ks → ◌≡◌ {A = Option ℕ} (Some i) (position (same_fields w) ks) → i ≡ place_in (need_of w) (map need_of ks)
 some_place w ks i pw h e = some_is (position_or_len (same_fields w) ks) (length ks) i e ∙ place_is w ks pw h
 
-pub none_place : (w : Wanted) (ks : List Wanted) → IsPlain w → Each IsPlain ks → ◌≡◌ {A = Option ℕ} None (position (same_fields w) ks) → length ks ≡ place_in (need_of w) (map need_of ks)
+pub none_place : (w : PlainNeed) (ks : List PlainNeed) → IsPlain w → Each IsPlain ks → ◌≡◌ {A = Option ℕ} None (position (same_fields w) ks) → length ks ≡ place_in (need_of w) (map need_of ks)
 none_place w ks pw h e =
     let le : length ks ≤ position_or_len (same_fields w) ks = none_is (position_or_len (same_fields w) ks) (length ks) e in
     let is : length ks ≡ position_or_len (same_fields w) ks = omega (arith, within (same_fields w) ks) in
@@ -244,14 +240,14 @@ closed_named k x = by x.up x.what
     by u (Core.input i) = refl
     by u (Core.output j) = refl
 
-pub notes_none : (ks : List Wanted) → Notes ks ks []
+pub notes_none : (ks : List PlainNeed) → Notes ks ks []
 notes_none ks ns h = subst (λ l. Noted l ks) (sym (append-nil ns)) h
 
-pub notes_both : (a b d : List Wanted) (xs ys : List Need) → Notes a b xs → Notes b d ys → Notes a d (xs ++ ys)
+pub notes_both : (a b d : List PlainNeed) (xs ys : List Need) → Notes a b xs → Notes b d ys → Notes a d (xs ++ ys)
 notes_both a b d xs ys f g ns h = subst (λ l. Noted l d) (append_assoc ns xs ys) (g (ns ++ xs) (f ns h))
 
 -- one more need is listed
-pub listed_more : (ks : List Wanted) (i : ℕ) (w : Wanted) (before after : List Need) (n : Need) → slice_get ks i ≡ Some w → before ≡ map need_of (take i ks) → n ≡ need_of w → after ≡ before ++ n ∷ []
+pub listed_more : (ks : List PlainNeed) (i : ℕ) (w : PlainNeed) (before after : List Need) (n : Need) → slice_get ks i ≡ Some w → before ≡ map need_of (take i ks) → n ≡ need_of w → after ≡ before ++ n ∷ []
     → after ≡ map need_of (take (i + 1) ks)
 listed_more ks i w before after n at b o a =
     a ∙ ap (λ l. l ++ n ∷ []) b ∙ ap (λ m. map need_of (take i ks) ++ m ∷ []) o

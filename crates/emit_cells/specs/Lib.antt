@@ -1,4 +1,4 @@
 pub mod Before
-pub mod Wanted
+pub mod PlainNeeds
 pub mod Chunk
 pub mod Made

@@ -139,7 +139,8 @@ pub fn element(
     array: Name,
     index: u32,
 ) -> Result<Need, AllocError>
-    ensures { IfOk result (λ need. (a : PureArgument) → handed_in passed.now index ≡ Some a → code_view.need_view need ≡ element_at (code_view.name_view array) a) }
+    ensures { IfOk result (λ need. (a : PureArgument) → handed_in passed.now index ≡ Some a
+        → code_view.need_view need ≡ element_at (code_view.name_view array) a) }
 {
     match passed.get(&index) {
         None => Ok(Need::At(array, own(index))),

@@ -3,10 +3,10 @@ ghost use Rattle.std.specs.Prelude.{◌≡◌, ◌++◌, ◌∷◌, [], List, ma
 ghost use Rattle.task_code.specs.Code.{Need as PureNeed};
 ghost use Rattle.task_code.specs.View as code_view;
 ghost use Rattle.code_rules.specs.CodeNames.{each_once};
-ghost use Rattle.emit_cells.specs.Wanted.{Noted};
+ghost use Rattle.emit_cells.specs.PlainNeeds.{Noted};
 ghost use Rattle.emit_cells.specs.Made.{made};
 
-use crate::needs::{Wanted, listed};
+use crate::needs::{PlainNeed, listed};
 use indexmap::IndexSet;
 use std::alloc::{AllocError, Global};
 use task_code::entry::{Act, Entry, Need};
@@ -49,7 +49,7 @@ pub fn put(
     entries: &mut Vec<Entry>,
     standing: Standing,
     shown: Shown,
-    needs: &IndexSet<Wanted>,
+    needs: &IndexSet<PlainNeed>,
     act: Act,
 ) -> Result<(), AllocError>
     ensures { OnOk result ((ns : List PureNeed) → Noted ns needs.now.keys

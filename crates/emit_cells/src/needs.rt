@@ -4,7 +4,7 @@ ghost use Rattle.flow.specs.View.{expr_view, exprs_view, name_view};
 ghost use Rattle.task_code.specs.View as code_view;
 ghost use Rattle.code_rules.specs.CodeNames.{each_once, name_as, wanted, wanted_all, place_in};
 ghost use Rattle.code_rules.specs.Room.{Each, ExprRoom, ExprsRoom};
-ghost use Rattle.emit_cells.specs.Wanted.{name_of, need_of, need_named, IsPlain, IsReady, Notes};
+ghost use Rattle.emit_cells.specs.PlainNeeds.{name_of, need_of, need_named, IsPlain, IsReady, Notes};
 
 use crate::names::{named, small};
 use flow::expression::Expr;
@@ -14,7 +14,7 @@ use task_code::entry::{Name, Need, Owned, Variable};
 
 /// A scalar that is to be stored, or an array that is to be closed.
 #[derive(Clone, Copy, PartialEq, Eq, Hash, Debug)]
-pub struct Wanted {
+pub struct PlainNeed {
     pub up: usize,
     /// Whether it is a variable of a block, and not a parameter.
     pub local: bool,
@@ -25,21 +25,21 @@ pub struct Wanted {
     pub array: bool,
 }
 
-impl Wanted {
+impl PlainNeed {
     /// What is named so.
-    pub fn new(name: Name) -> Wanted
+    pub fn new(name: Name) -> PlainNeed
         ensures plain { IsPlain result }
         ensures name { name_of result ≡ code_view.name_view name }
     {
         match name.owned {
-            Owned::Local(variable) => Wanted {
+            Owned::Local(variable) => PlainNeed {
                 up: name.up,
                 local: true,
                 node: variable.node,
                 place: 0,
                 array: variable.array,
             },
-            Owned::Parameter(place, array) => Wanted {
+            Owned::Parameter(place, array) => PlainNeed {
                 up: name.up,
                 local: false,
                 node: 0,
@@ -77,17 +77,17 @@ impl Wanted {
 }
 
 /// Notes a need, if it is not there yet.
-pub fn note_name(needs: &mut IndexSet<Wanted>, name: Name) -> Result<(), AllocError>
+pub fn note_name(needs: &mut IndexSet<PlainNeed>, name: Name) -> Result<(), AllocError>
     ensures { OnOk result (Notes needs.old.keys needs.new.keys (need_named (code_view.name_view name) ∷ [])) }
 {
-    needs.insert(Wanted::new(name))?;
+    needs.insert(PlainNeed::new(name))?;
     Ok(())
 }
 
 /// Notes what an expression waits for.
 #[cycle(note)]
 pub fn note<A: Allocator>(
-    needs: &mut IndexSet<Wanted>,
+    needs: &mut IndexSet<PlainNeed>,
     inputs: usize,
     expr: &Expr<A>,
 ) -> Result<(), AllocError>
@@ -104,7 +104,7 @@ pub fn note<A: Allocator>(
 /// Notes what several expressions wait for.
 #[cycle(note)]
 fn note_all<A: Allocator>(
-    needs: &mut IndexSet<Wanted>,
+    needs: &mut IndexSet<PlainNeed>,
     inputs: usize,
     exprs: &Vec<Expr<A>, A>,
 ) -> Result<(), AllocError>
@@ -118,17 +118,17 @@ fn note_all<A: Allocator>(
 }
 
 /// The place of a need, or how many there are where it is none of them.
-pub fn place_of(needs: &IndexSet<Wanted>, name: Name) -> u32
+pub fn place_of(needs: &IndexSet<PlainNeed>, name: Name) -> u32
     ensures { IsReady needs.now.keys → result ≡ place_in (need_named (code_view.name_view name)) (map need_of needs.now.keys) }
 {
     small(index_of(needs, name))
 }
 
-fn index_of(needs: &IndexSet<Wanted>, name: Name) -> usize
+fn index_of(needs: &IndexSet<PlainNeed>, name: Name) -> usize
     ensures place { Each IsPlain needs.now.keys → result ≡ place_in (need_named (code_view.name_view name)) (map need_of needs.now.keys) }
     ensures most { result ≤ length needs.now.keys }
 {
-    let wanted = Wanted::new(name);
+    let wanted = PlainNeed::new(name);
     match needs.get_index_of(&wanted) {
         Some(place) => place,
         None => needs.len(),
@@ -136,7 +136,7 @@ fn index_of(needs: &IndexSet<Wanted>, name: Name) -> usize
 }
 
 /// The needs, as an entry has them.
-pub fn listed(alloc: Global, needs: &IndexSet<Wanted>) -> Result<Vec<Need>, AllocError>
+pub fn listed(alloc: Global, needs: &IndexSet<PlainNeed>) -> Result<Vec<Need>, AllocError>
     ensures { IfOk result (λ found. map code_view.need_view found.items ≡ map need_of needs.now.keys) }
 {
     let mut found = Vec::with_capacity(alloc, needs.len())?;

@@ -4,10 +4,10 @@ ghost use Rattle.flow.specs.View.{expr_view, exprs_view};
 ghost use Rattle.task_code.specs.View as code_view;
 ghost use Rattle.code_rules.specs.CodeNames.{over, all_over};
 ghost use Rattle.code_rules.specs.Room.{ExprRoom, ExprsRoom};
-ghost use Rattle.emit_cells.specs.Wanted.{need_of, IsReady};
+ghost use Rattle.emit_cells.specs.PlainNeeds.{need_of, IsReady};
 
 use crate::names::named;
-use crate::needs::{Wanted, place_of};
+use crate::needs::{PlainNeed, place_of};
 use crate::operators::{operator, text};
 use flow::expression::Expr;
 use indexmap::IndexSet;
@@ -19,7 +19,7 @@ use values::value::Scalar;
 #[cycle(placed)]
 pub fn placed<A: Allocator>(
     alloc: Global,
-    needs: &IndexSet<Wanted>,
+    needs: &IndexSet<PlainNeed>,
     inputs: usize,
     expr: &Expr<A>,
 ) -> Result<Placed, AllocError>
@@ -43,7 +43,7 @@ pub fn placed<A: Allocator>(
 #[cycle(placed)]
 pub fn all_placed<A: Allocator>(
     alloc: Global,
-    needs: &IndexSet<Wanted>,
+    needs: &IndexSet<PlainNeed>,
     inputs: usize,
     exprs: &Vec<Expr<A>, A>,
 ) -> Result<Vec<Placed>, AllocError>

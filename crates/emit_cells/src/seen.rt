@@ -5,10 +5,10 @@ ghost use Rattle.task_code.specs.View as code_view;
 ghost use Rattle.code_rules.specs.CodeNames.{over, wanted};
 ghost use Rattle.code_rules.specs.IsCodeOf.{seen_as};
 ghost use Rattle.code_rules.specs.Room.{FormRoom};
-ghost use Rattle.emit_cells.specs.Wanted.{need_of, IsReady, Notes};
+ghost use Rattle.emit_cells.specs.PlainNeeds.{need_of, IsReady, Notes};
 
 use crate::names::own;
-use crate::needs::{Wanted, note, note_name, place_of};
+use crate::needs::{PlainNeed, note, note_name, place_of};
 use crate::over::placed;
 use flow::cell::{Cell, Form};
 use indexmap::IndexSet;
@@ -17,7 +17,7 @@ use task_code::expr::Expr as Placed;
 
 /// Notes what the value of a cell waits for: what it works out where it is plain, else its datum.
 pub fn note_seen<A: Allocator>(
-    needs: &mut IndexSet<Wanted>,
+    needs: &mut IndexSet<PlainNeed>,
     inputs: usize,
     cell: &Cell<A>,
     plain: bool,
@@ -40,7 +40,7 @@ pub fn note_seen<A: Allocator>(
 /// The value of a cell over these needs.
 pub fn placed_seen<A: Allocator>(
     alloc: Global,
-    needs: &IndexSet<Wanted>,
+    needs: &IndexSet<PlainNeed>,
     inputs: usize,
     cell: &Cell<A>,
     plain: bool,

@@ -1,7 +1,7 @@
 -- Entries with the rights of their numbers have the rights that they lead to.
 use Rattle.std.proofs.Common.{◌≡◌, refl, sym, ap, ◌∙◌, subst, ℕ, zero, suc, List, [], ◌∷◌, ◌++◌, map, length}
 use Rattle.std.proofs.lemmas.List.{append_assoc, append-nil, map-append, length-map}
-use Rattle.dataflow.specs.System.{In}
+use Rattle.dataflow.specs.System.{Distinct, In}
 use Rattle.task_code.specs.Code.{Entry, Body, Code, Name, blank_entry, nth, entry, targets}
 use Rattle.task_code.specs.Exact.{needs_of}
 use Rattle.task_code.specs.declared.entry.Name.{Name as Used}
@@ -77,6 +77,8 @@ has_rights C D reads writes p q hr hw each =
       all_reads = λ i r h. subst (λ (ns : List Name). In r ns) (sym (rs i)) (kr.complete i r (leads_out D needs_of needs_same i r h));
       writes = λ i r h. leads_in D targets targets_same i r (kw.sound i r (subst (λ (ns : List Name). In r ns) (ws i) h));
       all_writes = λ i r h. subst (λ (ns : List Name). In r ns) (sym (ws i)) (kw.complete i r (leads_out D targets targets_same i r h));
+      reads_once = λ i. subst Distinct (sym (rs i)) (kr.once i);
+      writes_once = λ i. subst Distinct (sym (ws i)) (kw.once i);
     }
 
 -- laying leaves rights free

@@ -6,13 +6,13 @@ use Rattle.language.specs.Core.{Expr}
 use Rattle.task_code.specs.Code as code
 use Rattle.task_code.specs.Code.{Loop, Need, Range}
 use Rattle.code_rules.specs.CodeNames.{over, wanted}
-use Rattle.emit_cells.specs.Wanted.{Notes}
-use Rattle.emit_cells.specs.declared.needs.Wanted.{Wanted}
+use Rattle.emit_cells.specs.PlainNeeds.{Notes}
+use Rattle.emit_cells.specs.declared.needs.PlainNeed.{PlainNeed}
 use Rattle.emit_cells.proofs.Keys.{notes_both}
 use Rattle.emit_statements.specs.Blocks.{ranged}
 
 -- what three expressions wait for is noted
-pub notes_three : (k : ℕ) (d e f : Expr) (x y z w : List Wanted) → Notes x y (wanted k d) → Notes y z (wanted k e) → Notes z w (wanted k f) → Notes x w (flat_map (wanted k) (d ∷ e ∷ f ∷ []))
+pub notes_three : (k : ℕ) (d e f : Expr) (x y z w : List PlainNeed) → Notes x y (wanted k d) → Notes y z (wanted k e) → Notes z w (wanted k f) → Notes x w (flat_map (wanted k) (d ∷ e ∷ f ∷ []))
 notes_three k d e f x y z w a b c =
     notes_both x y w (wanted k d) (wanted k e ++ (wanted k f ++ [])) a
     (notes_both y z w (wanted k e) (wanted k f ++ []) b (subst (λ ns. Notes z w ns) (sym (append-nil (wanted k f))) c))

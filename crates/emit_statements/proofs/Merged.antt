@@ -2,7 +2,7 @@
 use Rattle.std.proofs.Common.{◌≡◌, ◌<◌, ◌+◌, ℕ, zero, suc, List, [], ◌∷◌, ◌++◌, map, length, refl, sym, ap, subst, ◌∙◌, get_or, take, append_assoc, arith}
 use Rattle.std.specs.Prelude.{pos, false, true}
 use Rattle.std.specs.List.{flat_map}
-use Rattle.std.proofs.lemmas.List.{append-nil, map-append, take_more}
+use Rattle.std.proofs.lemmas.List.{append-nil, map-append, take_more, get_or_default}
 use Rattle.std.proofs.lemmas.Grind.{flat_map-append}
 use Rattle.language.specs.Core.{Block, wait, stmt}
 use Rattle.language.specs.Core as core
@@ -20,8 +20,8 @@ use Rattle.task_code.specs.declared.entry.Entry.{Entry as Made}
 use Rattle.code_rules.specs.CodeNames.{awaited_need, each_once, name_as}
 use Rattle.code_rules.specs.Laying.{Headers, is_one_wait, one_header, more_headers}
 use Rattle.code_rules.specs.Room.{AwaitedRoom, BlockRoom, Each, NameRoom}
-use Rattle.emit_cells.specs.Wanted.{Noted, Notes, need_named}
-use Rattle.emit_cells.specs.declared.needs.Wanted.{Wanted}
+use Rattle.emit_cells.specs.PlainNeeds.{Noted, Notes, need_named}
+use Rattle.emit_cells.specs.declared.needs.PlainNeed.{PlainNeed}
 use Rattle.emit_cells.proofs.Keys.{closed_named, notes_both, stored_named}
 use Rattle.emit_cells.specs.Made.{made}
 use Rattle.emit_cells.specs.declared.entries.Standing.{Standing}
@@ -33,14 +33,8 @@ use Rattle.emit_statements.proofs.Entries.{AddsEntry}
 pub mapped_more : {X Y : Type 0} (f : X → Y) (xs : List X) (i : ℕ) (x : X) → i < length xs → x ≡ get_or xs i x → map f (take (i + 1) xs) ≡ map f (take i xs) ++ f x ∷ []
 mapped_more f xs i x below is = ap (map f) (take_more xs i x below ∙ ap (λ y. take i xs ++ y ∷ []) (sym is)) ∙ map-append f (take i xs) (x ∷ [])
 
--- the member at a place, whatever stands for one beyond the end
-same_at : {X : Type 0} (xs : List X) (i : ℕ) (a b : X) → i < length xs → get_or xs i a ≡ get_or xs i b
-same_at [] i a b below = absurd (omega arith)
-same_at (x ∷ xs) zero a b below = refl
-same_at (x ∷ xs) (suc i) a b below = same_at xs i a b (omega arith)
-
 pub there_at : {X : Type 0} (xs ys : List X) (i : ℕ) (d : X) → ys ≡ xs → i < length xs → get_or ys i d ≡ get_or xs i (get_or ys i d)
-there_at xs ys i d e below = subst (λ zs. get_or zs i d ≡ get_or xs i (get_or zs i d)) (sym e) (same_at xs i d (get_or xs i d) below)
+there_at xs ys i d e below = subst (λ zs. get_or zs i d ≡ get_or xs i (get_or zs i d)) (sym e) (get_or_default xs i d (get_or xs i d) below)
 
 pub each_at : {X : Type 0} (P : X → Type 0) (xs : List X) (i : ℕ) (x : X) → i < length xs → x ≡ get_or xs i x → Each P xs → P x
 each_at P [] i x below is h = absurd (omega arith)
@@ -79,7 +73,7 @@ waited k ns = map (awaited_need k) (map awaited_view ns)
 pub waited_more : (k : ℕ) (ns : List Named) (i : ℕ) (x : Named) → i < length ns → x ≡ get_or ns i x → waited k (take (i + 1) ns) ≡ waited k (take i ns) ++ awaited_need k (awaited_view x) ∷ []
 waited_more k ns i x below is = ap (map (awaited_need k)) (mapped_more awaited_view ns i x below is) ∙ map-append (awaited_need k) (map awaited_view (take i ns)) (awaited_view x ∷ [])
 
-pub noted_more : (k : ℕ) (ns : List Named) (i : ℕ) (x : Named) (old mid new : List Wanted) (n : Need) → i < length ns → x ≡ get_or ns i x → Notes old mid (waited k (take i ns)) → Notes mid new (n ∷ []) → n ≡ awaited_need k (awaited_view x)
+pub noted_more : (k : ℕ) (ns : List Named) (i : ℕ) (x : Named) (old mid new : List PlainNeed) (n : Need) → i < length ns → x ≡ get_or ns i x → Notes old mid (waited k (take i ns)) → Notes mid new (n ∷ []) → n ≡ awaited_need k (awaited_view x)
     → Notes old new (waited k (take (i + 1) ns))
 noted_more k ns i x old mid new n below is before one e =
     subst (λ l. Notes old new l) (sym (waited_more k ns i x below is))
@@ -94,7 +88,7 @@ listed_waits k ns i x before after n below is b e a = a ∙ ap (λ l. l ++ n ∷
 abbrev pub needs_in : List code.Header → List Need
 needs_in hs = flat_map (λ h. h.needs) hs
 
-pub inner_noted : {A : Type 0} (k : ℕ) (hs : List (Header A)) (i : ℕ) (h : Header A) (old mid new : List Wanted) → i < length hs → h ≡ get_or hs i h → Notes old mid (needs_in (inner_headers k (take i hs))) → Notes mid new (waited k h.names.items)
+pub inner_noted : {A : Type 0} (k : ℕ) (hs : List (Header A)) (i : ℕ) (h : Header A) (old mid new : List PlainNeed) → i < length hs → h ≡ get_or hs i h → Notes old mid (needs_in (inner_headers k (take i hs))) → Notes mid new (waited k h.names.items)
     → Notes old new (needs_in (inner_headers k (take (i + 1) hs)))
 inner_noted {A} k hs i h old mid new below is before one =
     let one_more = mapped_more (λ (g : Header A). header_of k g.at g.names.items) hs i h below is in
@@ -119,7 +113,7 @@ merged_headers k at n ns [] b lone = one_header lone refl
 merged_headers k at n ns (h ∷ hs) b lone = more_headers (merged_headers k h.at h.node h.names.items hs b lone) refl
 
 -- the own entry
-pub wait_added : {A : Type 0} (s : Standing) (n : ℕ) (names : List Named) (inner : List (Header A)) (b : Block) (body : ℕ) (hs : List code.Header) (ks : List Wanted) (old new : List Made) → s.priority ≡ pos 0
+pub wait_added : {A : Type 0} (s : Standing) (n : ℕ) (names : List Named) (inner : List (Header A)) (b : Block) (body : ℕ) (hs : List code.Header) (ks : List PlainNeed) (old new : List Made) → s.priority ≡ pos 0
     → Noted (waited s.inputs names ++ needs_in (inner_headers s.inputs inner)) ks → hs ≡ header_of s.inputs s.at names ∷ inner_headers s.inputs inner → AddsEntry s n ks (Wait hs body) old new
     → WaitAddedAs s.inputs s.at n (wait (map awaited_view names) (waits_around inner b)) b body old new
 wait_added s n names inner b body hs ks old new priority noted are adds = record {
@@ -128,4 +122,5 @@ wait_added s n names inner b body hs ks old new priority noted are adds = record
   entry = made s (record { node = n; mark = s.at }) (each_once (waited s.inputs names ++ needs_in (inner_headers s.inputs inner))) (Wait hs body);
   is = adds (waited s.inputs names ++ needs_in (inner_headers s.inputs inner)) noted;
   own = record { at_is = refl; priority_is = priority; needs_is = refl; act_is = ap (λ l. Wait l body) are };
+  mark_is = refl;
 }

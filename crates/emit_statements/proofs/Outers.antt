@@ -13,8 +13,8 @@ use Rattle.code_rules.specs.IsCodeOf.{Layout, own_exprs, own_needs, own_priority
 use Rattle.code_rules.specs.Laying.{IsOwnEntry, Kinds, PlainAs, Suits, data_in, cell_data, plain_after}
 use Rattle.code_rules.specs.Room.{FormRoom}
 use Rattle.emit_cells.specs.Before.{last_of}
-use Rattle.emit_cells.specs.Wanted.{Noted, need_of}
-use Rattle.emit_cells.specs.declared.needs.Wanted.{Wanted}
+use Rattle.emit_cells.specs.PlainNeeds.{Noted, need_of}
+use Rattle.emit_cells.specs.declared.needs.PlainNeed.{PlainNeed}
 use Rattle.emit_cells.specs.Chunk.{Added, Inside, Passes}
 use Rattle.emit_cells.specs.Made.{made}
 use Rattle.emit_cells.specs.declared.entries.Standing.{Standing}
@@ -101,7 +101,7 @@ few_as k n true (read a i) room = omega arith
 few_as k n false f room = omega arith
 
 -- the own entry of a statement, which works these expressions out
-pub own_entry : (s : Standing) (n : ℕ) (a : Action) (es : List Expr) (F : List Need → List Expr → Act) (ks : List Wanted) (act : Act) → s.priority ≡ own_priority a
+pub own_entry : (s : Standing) (n : ℕ) (a : Action) (es : List Expr) (F : List Need → List Expr → Act) (ks : List PlainNeed) (act : Act) → s.priority ≡ own_priority a
     → ((l : Layout) → Suits l a → es ≡ own_exprs l s.inputs a) → Noted (flat_map (wanted s.inputs) es) ks → act ≡ F (map need_of ks) es
     → IsOwnEntry (made s (record { node = n; mark = s.at }) (each_once (flat_map (wanted s.inputs) es)) act) s.at s.inputs a (λ l. F (own_needs l s.inputs a) (own_exprs l s.inputs a))
 own_entry s n a es F ks act priority seen_is noted does =

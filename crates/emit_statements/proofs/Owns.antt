@@ -15,8 +15,8 @@ use Rattle.code_rules.specs.IsCodeOf.{Layout, IsSimple, fill_act, own_form, own_
 use Rattle.code_rules.specs.Laying.{data_in, data_of, plain_after}
 use Rattle.code_rules.specs.Room.{ActionRoom, FormRoom, NameRoom, OuterRoom}
 use Rattle.emit_cells.specs.Before.{last_of}
-use Rattle.emit_cells.specs.Wanted.{Noted, need_of}
-use Rattle.emit_cells.specs.declared.needs.Wanted.{Wanted}
+use Rattle.emit_cells.specs.PlainNeeds.{Noted, need_of}
+use Rattle.emit_cells.specs.declared.needs.PlainNeed.{PlainNeed}
 use Rattle.emit_cells.specs.Chunk.{Inside, Passes, Puts, passed_as}
 use Rattle.emit_cells.specs.Made.{made}
 use Rattle.emit_cells.specs.declared.entries.Standing.{Standing}
@@ -85,7 +85,7 @@ needs_done Uses.Print l k p o = once_own k o
 needs_done Uses.Assert l k p o = once_own k o
 
 -- the own entry
-pub own_added : (s : Standing) (n : ℕ) (d : Use) (o : Outer) (ks : List Wanted) (act : Act) (old new : List Made) → s.priority ≡ own_priority (action_of d s.priority o)
+pub own_added : (s : Standing) (n : ℕ) (d : Use) (o : Outer) (ks : List PlainNeed) (act : Act) (old new : List Made) → s.priority ≡ own_priority (action_of d s.priority o)
     → Noted (wanted s.inputs (seen_as true o.cell.node o.cell.form)) ks → ((l : Layout) → act ≡ simple_act l s.inputs (map need_of ks) (action_of d s.priority o))
     → map entry_view new ≡ map entry_view old ++ made s (record { node = n; mark = s.at }) (each_once (wanted s.inputs (seen_as true o.cell.node o.cell.form))) act ∷ []
     → OwnAdded s.inputs s.at n (action_of d s.priority o) old new
@@ -99,4 +99,5 @@ own_added s n d o ks act old new priority noted does is = record {
     act_is = does l ∙ ap (λ ns. simple_act l s.inputs ns (action_of d s.priority o)) (noted.are ∙ needs_done d l s.inputs s.priority o);
   };
   node_is = refl;
+  mark_is = refl;
 }

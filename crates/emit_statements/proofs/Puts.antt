@@ -8,8 +8,8 @@ use Rattle.task_code.specs.Code.{Act, Need, Put, Read}
 use Rattle.task_code.specs.View.{entry_view}
 use Rattle.task_code.specs.declared.entry.Entry.{Entry as Made}
 use Rattle.code_rules.specs.CodeNames.{name_as, wanted, each_once, over}
-use Rattle.emit_cells.specs.Wanted.{Noted, need_of}
-use Rattle.emit_cells.specs.declared.needs.Wanted.{Wanted}
+use Rattle.emit_cells.specs.PlainNeeds.{Noted, need_of}
+use Rattle.emit_cells.specs.declared.needs.PlainNeed.{PlainNeed}
 use Rattle.emit_cells.specs.Made.{made}
 use Rattle.emit_cells.specs.declared.entries.Standing.{Standing}
 use Rattle.emit_statements.specs.Into.{OwnAdded}
@@ -26,7 +26,7 @@ abbrev put_over : ℕ → Name → List Need → List Expr → Act
 put_over k x ns (e ∷ d ∷ []) = Put (name_as k true x) (over k ns e) (over k ns d)
 put_over k x ns _ = Read
 
-pub put_added : (s : Standing) (n : ℕ) (x : Name) (i o : Outer) (e d : Expr) (ks : List Wanted) (act : Act) (old new : List Made) → s.priority ≡ pos 0 → e ≡ seen_last i → d ≡ seen_last o
+pub put_added : (s : Standing) (n : ℕ) (x : Name) (i o : Outer) (e d : Expr) (ks : List PlainNeed) (act : Act) (old new : List Made) → s.priority ≡ pos 0 → e ≡ seen_last i → d ≡ seen_last o
     → Noted (flat_map (wanted s.inputs) (e ∷ d ∷ [])) ks → act ≡ Put (name_as s.inputs true x) (over s.inputs (map need_of ks) e) (over s.inputs (map need_of ks) d)
     → map entry_view new ≡ map entry_view old ++ made s (record { node = n; mark = s.at }) (each_once (flat_map (wanted s.inputs) (e ∷ d ∷ []))) act ∷ []
     → OwnAdded s.inputs s.at n (insert x i o) old new
@@ -36,4 +36,5 @@ put_added s n x i o e d ks act old new priority e_is d_is noted does is = record
   own = own_entry s n (insert x i o) (e ∷ d ∷ []) (put_over s.inputs x) ks act priority
       (λ l suits. ap (λ y. y ∷ d ∷ []) e_is ∙ ap (λ y. seen_last i ∷ y ∷ []) d_is ∙ all_seen l (i ∷ o ∷ []) suits.parts_plain) noted does;
   node_is = refl;
+  mark_is = refl;
 }

@@ -86,6 +86,7 @@ pub record WaitAddedAs (k at node : ℕ) (a : Action) (b : Block) (body : ℕ) (
   pub entry : Entry
   pub is : map entry_view new ≡ map entry_view old ++ entry ∷ []
   pub own : IsEntry entry at (pos 0) (each_once (flat_map (λ h. h.needs) headers)) (Wait headers body)
+  pub mark_is : entry.mark ≡ at
 
 -- the header of a wait, from its offset and its names
 abbrev pub header_of : ℕ → ℕ → List Named → code.Header

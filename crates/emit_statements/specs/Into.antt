@@ -16,7 +16,7 @@ use Rattle.code_rules.specs.Laying.{IndexesStand, IsOwnEntry, Kinds, Laying, Lay
 use Rattle.code_rules.specs.Room.{ActionRoom}
 use Rattle.emit_cells.specs.declared.entries.Standing.{Standing}
 use Rattle.emit_statements.specs.declared.filling.Filling.{Filling}
-use Rattle.emit_statements.specs.declared.own.Statement.{Statement}
+use Rattle.emit_statements.specs.declared.own.StatementAt.{StatementAt}
 
 -- these entries, and bodies of inner blocks
 abbrev pub laying : List Made → List Body → Laying
@@ -36,22 +36,23 @@ pub record OwnAdded (k at node : ℕ) (a : Action) (old new : List Made) : Type 
   pub is : map entry_view new ≡ map entry_view old ++ entry ∷ []
   pub own : IsOwnEntry entry at k a (λ l. simple_act l k (own_needs l k a) a)
   pub node_is : entry.node ≡ node
+  pub mark_is : entry.mark ≡ at
 
 -- A STATEMENT THAT DOES THIS, OF THE PRIORITY THAT IT THEN HAS
 
 -- its own entry stands behind those of its parts
-abbrev pub AddsOwn : Statement → Action → List Made → List Made → Type 0
+abbrev pub AddsOwn : StatementAt → Action → List Made → List Made → Type 0
 AddsOwn one a old new = ActionRoom one.standing.inputs a → one.standing.priority ≡ own_priority a
     → OwnAdded one.standing.inputs one.standing.at one.node a old new
 
 -- it is laid, in a script with these functions
-abbrev pub LaysOwn : {A : Type 0} → List (Function A) → Statement → Action → List Made → List Made → Filling → Filling → Type 0
+abbrev pub LaysOwn : {A : Type 0} → List (Function A) → StatementAt → Action → List Made → List Made → Filling → Filling → Type 0
 LaysOwn functions one a es more old new = (roots : ℕ) (bodies : List Body) → ActionRoom one.standing.inputs a → length more ≤ 2 ^ 32
     → one.standing.priority ≡ own_priority a
     → LaysInto (map kinds_of_function functions) roots one.standing.inputs (stmt one.standing.at one.node a) [] (laying es bodies) (laying more bodies) old new
 
 -- it has at most an entry for each of its parts, and its own
-abbrev pub AddsFew : Statement → Action → List Made → List Made → Type 0
+abbrev pub AddsFew : StatementAt → Action → List Made → List Made → Type 0
 AddsFew one a es more = (l : Layout) → ActionRoom one.standing.inputs a → Suits l a → IndexesStand (own_parts a) → one.standing.priority ≡ own_priority a
     → length more ≤ length es + suc (length (parts a))
 

@@ -5,7 +5,7 @@ ghost use Rattle.flow.specs.View.{outer_view};
 ghost use Rattle.code_rules.specs.Room.{OuterRoom};
 ghost use Rattle.emit_statements.specs.Blocks.{Numbered, OwnAddedAs, branch_act};
 
-use crate::own::Statement;
+use crate::own::StatementAt;
 use crate::writer::Writer;
 use emit_cells::plain::is_outer_plain;
 use emit_cells::seen::{note_seen, placed_seen};
@@ -19,7 +19,7 @@ impl Writer {
     /// there is one, where it does not. The result is the entry's number.
     pub fn add_branch<A: Allocator>(
         &mut self,
-        statement: Statement,
+        statement: StatementAt,
         condition: &Outer<A>,
         then: u32,
         other: Option<u32>,

@@ -3,15 +3,15 @@ ghost use Rattle.std.specs.Prelude.{◌≡◌, ◌++◌, ◌∷◌, [], List, le
 ghost use Rattle.task_code.specs.Code.{Need};
 ghost use Rattle.task_code.specs.View as code_view;
 ghost use Rattle.code_rules.specs.CodeNames.{each_once};
-ghost use Rattle.emit_cells.specs.Wanted.{Noted};
+ghost use Rattle.emit_cells.specs.PlainNeeds.{Noted};
 ghost use Rattle.emit_cells.specs.Made.{made};
 ghost use Rattle.emit_statements.specs.Blocks.{Numbered};
 
-use crate::own::Statement;
+use crate::own::StatementAt;
 use crate::writer::Writer;
 use emit_cells::entries::{Shown, put};
 use emit_cells::names::small;
-use emit_cells::needs::Wanted;
+use emit_cells::needs::PlainNeed;
 use indexmap::IndexSet;
 use std::alloc::AllocError;
 use task_code::entry::Act;
@@ -21,8 +21,8 @@ impl Writer {
     /// block. The result is that number.
     pub(crate) fn add_entry(
         &mut self,
-        statement: Statement,
-        needs: &IndexSet<Wanted>,
+        statement: StatementAt,
+        needs: &IndexSet<PlainNeed>,
         act: Act,
     ) -> Result<u32, AllocError>
         ensures number { IfOk result (λ n. Numbered n (length self.old.entries.items) self.old.filling self.new.filling) }

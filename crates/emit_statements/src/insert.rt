@@ -10,7 +10,7 @@ ghost use Rattle.emit_cells.specs.Chunk.{AllAdded};
 ghost use Rattle.emit_statements.specs.Into.{AddsFew, AddsOwn, LaysOwn};
 
 use crate::filling::add_numbers;
-use crate::own::Statement;
+use crate::own::StatementAt;
 use crate::writer::Writer;
 use emit_cells::entries::{Shown, Standing, put};
 use emit_cells::names::named;
@@ -63,7 +63,7 @@ fn add_two_data<A: Allocator>(
 fn add_put<A: Allocator>(
     alloc: Global,
     entries: &mut Vec<Entry>,
-    statement: Statement,
+    statement: StatementAt,
     array: Name,
     index: &Outer<A>,
     right: &Outer<A>,
@@ -94,7 +94,7 @@ impl Writer {
     pub fn insert<A: Allocator>(
         &mut self,
         functions: &Vec<Function<A>, A>,
-        statement: Statement,
+        statement: StatementAt,
         array: Name,
         index: &Outer<A>,
         right: &Outer<A>,

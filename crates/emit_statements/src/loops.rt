@@ -7,16 +7,16 @@ ghost use Rattle.task_code.specs.Code as pure;
 ghost use Rattle.task_code.specs.View as code_view;
 ghost use Rattle.code_rules.specs.CodeNames.{wanted};
 ghost use Rattle.code_rules.specs.Room.{NameRoom, OuterRoom, StepRoom};
-ghost use Rattle.emit_cells.specs.Wanted.{need_of, IsReady, Notes};
+ghost use Rattle.emit_cells.specs.PlainNeeds.{need_of, IsReady, Notes};
 ghost use Rattle.emit_statements.specs.Blocks.{Numbered, OwnAddedAs, loop_with, range_action, range_loop_act, ranged, seen_range};
 
 use crate::filling::Filling;
-use crate::own::Statement;
+use crate::own::StatementAt;
 use crate::steps::{note_step, placed_step};
 use crate::writer::Writer;
 use emit_cells::data::add_scalar;
 use emit_cells::names::named;
-use emit_cells::needs::{Wanted, note_name};
+use emit_cells::needs::{PlainNeed, note_name};
 use emit_cells::plain::is_outer_plain;
 use emit_cells::seen::{note_seen, placed_seen};
 use flow::name::Name;
@@ -85,7 +85,7 @@ pub fn loop_filling<A: Allocator>(
 
 /// Notes what a range waits for.
 fn note_range<A: Allocator>(
-    needs: &mut IndexSet<Wanted>,
+    needs: &mut IndexSet<PlainNeed>,
     inputs: usize,
     range: &Range<A>,
 ) -> Result<(), AllocError>
@@ -102,7 +102,7 @@ fn note_range<A: Allocator>(
 /// The act of a loop over a range, over these needs.
 fn range_act<A: Allocator>(
     alloc: Global,
-    needs: &IndexSet<Wanted>,
+    needs: &IndexSet<PlainNeed>,
     inputs: usize,
     range: &Range<A>,
     turns: Loop,
@@ -133,7 +133,7 @@ impl Writer {
     /// Adds the own entry of a loop over a range. The result is the entry's number.
     pub fn add_range<A: Allocator>(
         &mut self,
-        statement: Statement,
+        statement: StatementAt,
         range: &Range<A>,
         turns: Loop,
     ) -> Result<u32, AllocError>
@@ -159,7 +159,7 @@ impl Writer {
     /// Adds the own entry of a loop over an array. The result is the entry's number.
     pub fn add_each(
         &mut self,
-        statement: Statement,
+        statement: StatementAt,
         array: Name,
         turns: Loop,
     ) -> Result<u32, AllocError>

@@ -6,7 +6,7 @@ ghost use Rattle.language_laws.specs.TypedValues.{own_cell, own_outer};
 ghost use Rattle.task_code.specs.View as code_view;
 ghost use Rattle.code_rules.specs.IsCodeOf.{Layout, fill_act, own_form, simple_act};
 ghost use Rattle.code_rules.specs.Room.{ActionRoom, FormRoom, NameRoom, OuterRoom};
-ghost use Rattle.emit_cells.specs.Wanted.{need_of, IsReady};
+ghost use Rattle.emit_cells.specs.PlainNeeds.{need_of, IsReady};
 ghost use Rattle.emit_cells.specs.Chunk.{AllAdded, Inside, Passes};
 ghost use Rattle.emit_statements.specs.Doing.{action_of};
 ghost use Rattle.emit_statements.specs.Into.{AddsFew, AddsOwn, LaysOwn};
@@ -16,7 +16,7 @@ use crate::writer::Writer;
 use emit_cells::cells::{pass_cell, pass_parts};
 use emit_cells::entries::{Shown, Standing, put};
 use emit_cells::names::named;
-use emit_cells::needs::Wanted;
+use emit_cells::needs::PlainNeed;
 use emit_cells::over::all_placed;
 use emit_cells::owns::{add_own_data, add_own_outer};
 use emit_cells::seen::{note_seen, placed_seen};
@@ -30,7 +30,7 @@ use task_code::entry::{Act, Argument, Entry};
 
 /// Where a statement stands, and its node.
 #[derive(Clone, Copy)]
-pub struct Statement {
+pub struct StatementAt {
     pub standing: Standing,
     pub node: u32,
 }
@@ -96,7 +96,7 @@ fn add_own_entries<A: Allocator>(
 /// The act that fills an array with what an expression is.
 fn filled<A: Allocator>(
     alloc: Global,
-    needs: &IndexSet<Wanted>,
+    needs: &IndexSet<PlainNeed>,
     inputs: usize,
     array: Name,
     expr: &Expr<A>,
@@ -120,7 +120,7 @@ fn filled<A: Allocator>(
 /// The act of a statement that fills an array.
 fn fill<A: Allocator>(
     alloc: Global,
-    needs: &IndexSet<Wanted>,
+    needs: &IndexSet<PlainNeed>,
     inputs: usize,
     array: Name,
     outer: &Outer<A>,
@@ -138,7 +138,7 @@ fn fill<A: Allocator>(
 /// The act of a statement that works an outermost cell out itself.
 fn act_of<A: Allocator>(
     alloc: Global,
-    needs: &IndexSet<Wanted>,
+    needs: &IndexSet<PlainNeed>,
     inputs: usize,
     done: Use,
     outer: &Outer<A>,
@@ -161,7 +161,7 @@ fn act_of<A: Allocator>(
 fn add_own<A: Allocator>(
     alloc: Global,
     entries: &mut Vec<Entry>,
-    statement: Statement,
+    statement: StatementAt,
     done: Use,
     outer: &Outer<A>,
 ) -> Result<(), AllocError>
@@ -184,7 +184,7 @@ impl Writer {
     pub fn own<A: Allocator>(
         &mut self,
         functions: &Vec<Function<A>, A>,
-        statement: Statement,
+        statement: StatementAt,
         done: Use,
         outer: &Outer<A>,
     ) -> Result<(), AllocError>

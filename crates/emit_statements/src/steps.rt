@@ -6,12 +6,12 @@ ghost use Rattle.task_code.specs.View as code_view;
 ghost use Rattle.code_rules.specs.CodeNames.{over, wanted};
 ghost use Rattle.code_rules.specs.Laying.{data_in};
 ghost use Rattle.code_rules.specs.Room.{StepRoom};
-ghost use Rattle.emit_cells.specs.Wanted.{need_of, IsReady, Notes};
+ghost use Rattle.emit_cells.specs.PlainNeeds.{need_of, IsReady, Notes};
 ghost use Rattle.emit_cells.specs.Chunk.{AddedFor, Inside, IsPassed, Passes};
 ghost use Rattle.emit_statements.specs.Blocks.{seen_step, step_parts};
 
 use emit_cells::entries::Standing;
-use emit_cells::needs::Wanted;
+use emit_cells::needs::PlainNeed;
 use emit_cells::outers::{add_outer, pass_outer};
 use emit_cells::owns::add_outer_data;
 use emit_cells::plain::is_outer_plain;
@@ -74,7 +74,7 @@ pub fn add_step_data<A: Allocator>(
 
 /// Notes what a step waits for.
 pub fn note_step<A: Allocator>(
-    needs: &mut IndexSet<Wanted>,
+    needs: &mut IndexSet<PlainNeed>,
     inputs: usize,
     step: &Option<Outer<A>>,
 ) -> Result<(), AllocError>
@@ -90,7 +90,7 @@ pub fn note_step<A: Allocator>(
 /// A step over these needs.
 pub fn placed_step<A: Allocator>(
     alloc: Global,
-    needs: &IndexSet<Wanted>,
+    needs: &IndexSet<PlainNeed>,
     inputs: usize,
     step: &Option<Outer<A>>,
 ) -> Result<Placed, AllocError>

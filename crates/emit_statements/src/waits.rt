@@ -6,13 +6,13 @@ ghost use Rattle.flow.specs.View.{awaited_view, waits_around};
 ghost use Rattle.task_code.specs.View as code_view;
 ghost use Rattle.code_rules.specs.CodeNames.{awaited_need};
 ghost use Rattle.code_rules.specs.Room.{ActionRoom, AwaitedRoom, Each};
-ghost use Rattle.emit_cells.specs.Wanted.{need_named, Notes};
+ghost use Rattle.emit_cells.specs.PlainNeeds.{need_named, Notes};
 ghost use Rattle.emit_statements.specs.Blocks.{InnerRoom, Numbered, WaitAddedAs, header_of, inner_headers};
 
-use crate::own::Statement;
+use crate::own::StatementAt;
 use crate::writer::Writer;
 use emit_cells::names::named;
-use emit_cells::needs::{Wanted, note_name};
+use emit_cells::needs::{PlainNeed, note_name};
 use flow::name::Name;
 use flow::statement::Header;
 use indexmap::IndexSet;
@@ -34,7 +34,7 @@ fn awaited(inputs: usize, name: Name) -> Used
 
 /// Notes the names that are waited for.
 fn note_names<A: Allocator>(
-    needs: &mut IndexSet<Wanted>,
+    needs: &mut IndexSet<PlainNeed>,
     inputs: usize,
     names: &Vec<Name, A>,
 ) -> Result<(), AllocError>
@@ -49,7 +49,7 @@ fn note_names<A: Allocator>(
 
 /// Notes what the waits inside a wait wait for.
 fn note_inner<A: Allocator>(
-    needs: &mut IndexSet<Wanted>,
+    needs: &mut IndexSet<PlainNeed>,
     inputs: usize,
     inner: &Vec<Header<A>, A>,
 ) -> Result<(), AllocError>
@@ -76,7 +76,7 @@ fn header<A: Allocator>(
 {
     let mut needs = Vec::with_capacity(alloc, names.len())?;
     for name in names {
-        needs.push(Wanted::new(awaited(inputs, *name)).need())?;
+        needs.push(PlainNeed::new(awaited(inputs, *name)).need())?;
     }
     Ok(Waits { at, needs })
 }
@@ -119,7 +119,7 @@ impl Writer {
     /// the entry's number.
     pub fn add_wait<A: Allocator>(
         &mut self,
-        statement: Statement,
+        statement: StatementAt,
         names: &Vec<Name, A>,
         inner: &Vec<Header<A>, A>,
         body: u32,

@@ -16,14 +16,14 @@ use std::collections::HashMap;
 
 /// A cell, with the function that its statement stands in if any.
 #[derive(Drop)]
-pub struct Spot<'a, A: Allocator> {
+pub struct CellSite<'a, A: Allocator> {
     pub function: Option<usize>,
     pub cell: &'a Cell<A>,
 }
 
 /// The statements of a script, with tables of where things stand.
 #[derive(Drop)]
-pub struct Index<'a, A: Allocator> {
+pub struct ScriptIndex<'a, A: Allocator> {
     pub flow: &'a Flow<A>,
     pub sites: Sites<'a, A>,
     tables: Tables<'a, A>,
@@ -34,7 +34,7 @@ pub struct Index<'a, A: Allocator> {
 struct Tables<'a, A: Allocator> {
     /// The statements that declare variables, by the nodes of these.
     declaring: HashMap<u32, usize>,
-    spots: Vec<Spot<'a, A>>,
+    spots: Vec<CellSite<'a, A>>,
     /// The cells by their nodes.
     cells: HashMap<u32, usize>,
     /// The offsets of the calls in expressions, by the nodes of what they give.
@@ -143,7 +143,7 @@ impl<'a, A: Allocator> Tables<'a, A> {
 
     fn note_cell(&mut self, function: Option<usize>, cell: &'a Cell<A>) -> Result<(), AllocError> {
         self.cells.insert(cell.node, self.spots.len())?;
-        self.spots.push(Spot { function, cell })?;
+        self.spots.push(CellSite { function, cell })?;
         Ok(())
     }
 
@@ -163,13 +163,13 @@ impl<'a, A: Allocator> Tables<'a, A> {
     }
 }
 
-impl<'a, A: Allocator> Index<'a, A> {
-    pub fn new(alloc: Global, flow: &'a Flow<A>) -> Result<Index<'a, A>, AllocError>
+impl<'a, A: Allocator> ScriptIndex<'a, A> {
+    pub fn new(alloc: Global, flow: &'a Flow<A>) -> Result<ScriptIndex<'a, A>, AllocError>
         ensures { IfOk result (λ index. AreSites (core_of flow.entry.now) index.sites) }
     {
         let sites = Sites::of(alloc, flow)?;
         let tables = Tables::of(alloc, sites.all.as_slice())?;
-        Ok(Index {
+        Ok(ScriptIndex {
             flow,
             sites,
             tables,
@@ -199,7 +199,7 @@ impl<'a, A: Allocator> Index<'a, A> {
     }
 
     /// The cell of a node.
-    pub fn spot(&self, node: u32) -> Option<&Spot<'a, A>> {
+    pub fn spot(&self, node: u32) -> Option<&CellSite<'a, A>> {
         let i = *self.tables.cells.get(&node)?;
         self.tables.spots.get(i)
     }

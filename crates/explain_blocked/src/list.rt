@@ -1,6 +1,6 @@
 //! The blocked statements that are listed.
 
-use crate::index::Spot;
+use crate::index::CellSite;
 use crate::scene::{Scene, Stand};
 use crate::waits::Waits;
 use explain_inputs::blocking::Waiting;
@@ -38,7 +38,7 @@ impl<'l, 't, 'a, A: Allocator> List<'l, 't, 'a, A> {
     }
 
     /// The argument that a node is.
-    pub fn argument(&self, node: usize) -> Option<&Spot<'a, A>> {
+    pub fn argument(&self, node: usize) -> Option<&CellSite<'a, A>> {
         let target = self.waits.target(node)?;
         self.scene.index.spot(target.place.node)
     }

@@ -1,6 +1,6 @@
 //! What names are called.
 
-use crate::index::Index;
+use crate::index::ScriptIndex;
 use explain_text::lines::Lines;
 use explain_text::words::say;
 use flow::name::{Name, Owned};
@@ -8,7 +8,7 @@ use std::alloc::{AllocError, Allocator};
 
 /// Adds what a name in a function, or in the script's own blocks, is called; of what a call in an expression gives, where that call stands.
 pub fn say_name<'a, A: Allocator>(
-    index: &Index<'a, A>,
+    index: &ScriptIndex<'a, A>,
     lines: &Lines<'_>,
     out: &mut Vec<u8>,
     function: Option<usize>,
@@ -19,7 +19,7 @@ pub fn say_name<'a, A: Allocator>(
 
 /// The same of what a name is in the block that owns it.
 pub fn say_owned<'a, A: Allocator>(
-    index: &Index<'a, A>,
+    index: &ScriptIndex<'a, A>,
     lines: &Lines<'_>,
     out: &mut Vec<u8>,
     function: Option<usize>,
@@ -40,7 +40,7 @@ pub fn say_owned<'a, A: Allocator>(
 
 /// Adds what a call gives.
 fn say_call<'a, A: Allocator>(
-    index: &Index<'a, A>,
+    index: &ScriptIndex<'a, A>,
     lines: &Lines<'_>,
     out: &mut Vec<u8>,
     at: usize,

@@ -1,6 +1,6 @@
 //! What is looked at when something is said of a statement.
 
-use crate::index::Index;
+use crate::index::ScriptIndex;
 use crate::writers::Writers;
 use explain_text::lines::Lines;
 use meaning_outcomes::knowledge::Knowledge;
@@ -11,7 +11,7 @@ use std::alloc::{Allocator, Global};
 pub struct Scene<'t, 'a, A: Allocator> {
     pub alloc: Global,
     pub lines: &'t Lines<'t>,
-    pub index: &'t Index<'a, A>,
+    pub index: &'t ScriptIndex<'a, A>,
     pub known: &'t Knowledge,
     pub writers: &'t Writers,
 }

@@ -1,6 +1,6 @@
 //! Which statements that can not go on would write a variable.
 
-use crate::index::Index;
+use crate::index::ScriptIndex;
 use flow::name::Name;
 use flow::statement::{Action, Block, Statement};
 use flow_index::site::Form;
@@ -70,7 +70,7 @@ impl Writers {
     pub fn new<'a, A: Allocator>(
         alloc: Global,
         known: &Knowledge,
-        index: &Index<'a, A>,
+        index: &ScriptIndex<'a, A>,
     ) -> Result<Writers, AllocError> {
         let mut writers = Writers {
             found: HashMap::new(alloc),
@@ -149,7 +149,7 @@ impl Writers {
         &mut self,
         alloc: Global,
         known: &Knowledge,
-        index: &Index<'a, A>,
+        index: &ScriptIndex<'a, A>,
         stand: Stand,
     ) -> Result<(), AllocError> {
         let Some(site) = index.site(stand.writer.at) else {

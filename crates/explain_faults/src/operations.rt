@@ -1,7 +1,7 @@
 //! The operation that has a fault, with the values of its operands.
 
 use crate::parts::{faulty, value_of};
-use explain_blocked::index::Spot;
+use explain_blocked::index::CellSite;
 use explain_blocked::scene::Scene;
 use explain_blocked::words::say_scalar;
 use explain_text::words::{say, say_bytes};
@@ -20,7 +20,7 @@ pub fn say_operation<'t, 'a, A: Allocator>(
     scene: &Scene<'t, 'a, A>,
     out: &mut Vec<u8>,
     instance: usize,
-    spot: &Spot<'a, A>,
+    spot: &CellSite<'a, A>,
     kind: FaultKind,
 ) -> Result<bool, AllocError> {
     let Form::Compute(expr) = &spot.cell.form else {
@@ -113,7 +113,7 @@ pub fn say_message<'t, 'a, A: Allocator>(
     scene: &Scene<'t, 'a, A>,
     out: &mut Vec<u8>,
     instance: usize,
-    spot: &Spot<'a, A>,
+    spot: &CellSite<'a, A>,
 ) -> Result<bool, AllocError> {
     let Form::Compute(Expr::Operation(Operation::Assert, operands)) = &spot.cell.form else {
         return Ok(false);

@@ -2,7 +2,7 @@
 
 use crate::keys::{say_element, say_keys};
 use crate::operations::{say_message, say_operation};
-use explain_blocked::index::Spot;
+use explain_blocked::index::CellSite;
 use explain_blocked::path::say_steps;
 use explain_blocked::scene::Scene;
 use explain_blocked::sites::action_of;
@@ -79,7 +79,7 @@ fn say_missing<'t, 'a, A: Allocator>(
     scene: &Scene<'t, 'a, A>,
     out: &mut Vec<u8>,
     instance: usize,
-    spot: &Spot<'a, A>,
+    spot: &CellSite<'a, A>,
 ) -> Result<bool, AllocError> {
     let Form::Read { array, index } = &spot.cell.form else {
         return Ok(false);

@@ -32,7 +32,7 @@ pub enum WhyNot {
 /// What is told of an event that is no step: the item with the reason, and in words, where they are known, of which statement the item is
 /// and what it waits for.
 #[derive(Clone, Copy, Drop)]
-pub struct Told<'w> {
+pub struct BadEvent<'w> {
     pub step: NoStep,
     pub statement: &'w [u8],
     pub waits: &'w [u8],
@@ -133,7 +133,7 @@ pub fn add_no_step(
     file: &str,
     trace: &[u8],
     line: usize,
-    told: &Told<'_>,
+    told: &BadEvent<'_>,
 ) -> Result<(), AllocError> {
     let at = line_at(trace, line);
     say_start(out, file, trace, at.from)?;
@@ -147,7 +147,7 @@ pub fn add_no_step(
     )
 }
 
-fn say_no_step(out: &mut Vec<u8>, told: &Told<'_>) -> Result<(), AllocError> {
+fn say_no_step(out: &mut Vec<u8>, told: &BadEvent<'_>) -> Result<(), AllocError> {
     if told.step.why == WhyNot::Faulty {
         return say(
             out,

@@ -47,7 +47,8 @@ pub fn inputs_blocking<'s, 'a, A: Allocator>(
     known: &Knowledge,
     statement: &Statement,
 ) -> Result<Option<Waiting<'s, 'a, A>>, AllocError>
-    ensures waits { IfOk result (λ found. IfSome found (λ w. (bytes : List ℕ) (t : Table) (tree : Tree) → Reads bytes tree → WellTyped tree t → SinglyAssigned (core t tree)
+    ensures waits { IfOk result (λ found. IfSome found
+        (λ w. (bytes : List ℕ) (t : Table) (tree : Tree) → Reads bytes tree → WellTyped tree t → SinglyAssigned (core t tree)
         → AreSites (core t tree) sites.entry.now → IsKnowledgeOf (core t tree) known.now
         → (n : ℕ) (a : Action) → Stuck (core t tree) (Known (core t tree) known.now.rounds) (path_of statement.now) statement.now.at n a
         → IsWaiting (core t tree) known.now statement.now n a w)) }

@@ -36,7 +36,8 @@ pub fn missing_of(
 ) -> Result<Vec<Input>, AllocError>
     ensures { IfOk result (λ found. (bytes : List ℕ) (t : Table) (tree : Tree) → Reads bytes tree → WellTyped tree t → SinglyAssigned (core t tree)
         → IsKnowledgeOf (core t tree) known.now → instance < length known.now.learned.instances.all.items
-        → AreMissing (core t tree) (Known (core t tree) known.now.rounds) (path_of known.now.learned.instances.all.items instance) (inputs_view inputs.now) (inputs_view found.items)) }
+        → AreMissing (core t tree) (Known (core t tree) known.now.rounds) (path_of known.now.learned.instances.all.items instance) (inputs_view inputs.now)
+        (inputs_view found.items)) }
 {
     let mut found = Vec::new(alloc);
     add_missing(&known.learned, instance, inputs, &mut found)?;
@@ -63,7 +64,8 @@ fn add_unless_there(
     input: &Input,
     found: &mut Vec<Input>,
 ) -> Result<(), AllocError>
-    ensures { OnOk result (inputs_view found.new.items ≡ inputs_view found.old.items ++ unless (is_seen (sight_of learned.now instance) (input_view input.now)) (input_view input.now)) }
+    ensures { OnOk result (inputs_view found.new.items
+        ≡ inputs_view found.old.items ++ unless (is_seen (sight_of learned.now instance) (input_view input.now)) (input_view input.now)) }
 {
     if !is_there(learned, instance, *input) {
         found.push(*input)?;

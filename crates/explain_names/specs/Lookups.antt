@@ -6,15 +6,15 @@ use Rattle.language.specs.Tree.{Composite, Tree, import, function, single}
 use Rattle.explain_names.specs.declared.mention.Kind.{Kind}
 use Rattle.explain_names.specs.declared.mention.Kind.TheVariants as Is
 use Rattle.explain_names.specs.declared.mention.Mention.{Mention}
-use Rattle.explain_names.specs.declared.lookup.Wanted.{Wanted}
-use Rattle.explain_names.specs.declared.lookup.Wanted.TheVariants as Want
+use Rattle.explain_names.specs.declared.lookup.Lookup.{Lookup}
+use Rattle.explain_names.specs.declared.lookup.Lookup.TheVariants as Want
 
 -- the bytes of a place; none where the text has no such place
 abbrev pub bytes_at : List ℕ → Span → List ℕ
 bytes_at text at = if nat_le at.from at.to && nat_le at.to (length text) then take (at.to - at.from) (drop at.from text) else []
 
 -- a variable is declared by a statement, as an output, an input or a loop's; the last two are assigned by that
-abbrev pub wants : Wanted → Kind → Bool
+abbrev pub wants : Lookup → Kind → Bool
 wants Want.Declaration Is.Declared = true
 wants Want.Declaration Is.Output = true
 wants Want.Declaration Is.Given = true
@@ -26,7 +26,7 @@ wants Want.Element Is.Written = true
 wants Want.Element _ = false
 
 -- it is of the kind that is wanted, of this name, and ends at the offset or before
-abbrev pub fits : List ℕ → Wanted → List ℕ → ℕ → Mention → Bool
+abbrev pub fits : List ℕ → Lookup → List ℕ → ℕ → Mention → Bool
 fits text wanted name before m = wants wanted m.kind && nat_le m.at.to before && bytes_eq (bytes_at text m.at) name
 
 -- the last that fits, of some and those behind them

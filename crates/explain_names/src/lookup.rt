@@ -13,7 +13,7 @@ use syntax_trees::tree::{Function, Item, Script};
 
 /// What is looked for.
 #[derive(Clone, Copy, Debug, PartialEq, Eq)]
-pub enum Wanted {
+pub enum Lookup {
     /// A declaration of a variable.
     Declaration,
     /// An assignment by name; inputs and variables of loops are assigned where they are declared.
@@ -22,15 +22,15 @@ pub enum Wanted {
     Element,
 }
 
-impl Wanted {
+impl Lookup {
     /// Whether a place of this kind is wanted.
     pub fn takes(self, kind: Kind) -> bool
         ensures { result ≡ wants self kind }
     {
         match self {
-            Wanted::Declaration => { matches!(kind, Kind::Declared | Kind::Output | Kind::Given) }
-            Wanted::Assignment => matches!(kind, Kind::Assigned | Kind::Given),
-            Wanted::Element => matches!(kind, Kind::Written),
+            Lookup::Declaration => { matches!(kind, Kind::Declared | Kind::Output | Kind::Given) }
+            Lookup::Assignment => matches!(kind, Kind::Assigned | Kind::Given),
+            Lookup::Element => matches!(kind, Kind::Written),
         }
     }
 }
@@ -50,7 +50,7 @@ pub fn bytes_at(text: &[u8], at: Span) -> &[u8]
 pub fn last_before(
     text: &[u8],
     mentions: &[Mention],
-    wanted: Wanted,
+    wanted: Lookup,
     name: &[u8],
     before: usize,
 ) -> Option<Mention>
@@ -65,7 +65,7 @@ pub fn last_before(
     found
 }
 
-fn fits(text: &[u8], wanted: Wanted, name: &[u8], before: usize, mention: Mention) -> bool
+fn fits(text: &[u8], wanted: Lookup, name: &[u8], before: usize, mention: Mention) -> bool
     ensures { result ≡ fits text.now wanted name.now before mention }
 {
     wanted.takes(mention.kind) && mention.at.to <= before && bytes_at(text, mention.at) == name
@@ -93,11 +93,12 @@ pub fn function_named<'a, A: Allocator>(
 pub fn place_before<A: Allocator>(
     refused: &Refused<'_, A>,
     name: Span,
-    wanted: Wanted,
+    wanted: Lookup,
     before: usize,
 ) -> Result<Option<Span>, AllocError>
     ensures { IfOk result (λ place. place ≡ option_map (λ m. m.at)
-        (last_fitting (fits refused.now.text.now wanted (bytes_at refused.now.text.now name) before) (mentions_around name.from (tree_of refused.now.script.now)))) }
+        (last_fitting (fits refused.now.text.now wanted (bytes_at refused.now.text.now name) before)
+        (mentions_around name.from (tree_of refused.now.script.now)))) }
 {
     let text = refused.text;
     let mentions = mentions_around(refused.alloc, name.from, refused.script)?;

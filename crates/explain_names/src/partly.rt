@@ -1,7 +1,7 @@
 //! Which variable the branches of an `if` assign differently often.
 
 use crate::inner::{Branches, innermost_partial};
-use crate::lookup::{Wanted, bytes_at, last_before};
+use crate::lookup::{Lookup, bytes_at, last_before};
 use crate::mention::{Kind, Mention};
 use crate::mentions::block_mentions;
 use crate::ways;
@@ -153,7 +153,7 @@ fn first_differing<A: Allocator>(
 
 /// Whether a name is not declared at these places.
 fn is_from_outside(text: &[u8], mentions: &[Mention], name: &[u8]) -> bool {
-    last_before(text, mentions, Wanted::Declaration, name, text.len()).is_none()
+    last_before(text, mentions, Lookup::Declaration, name, text.len()).is_none()
 }
 
 /// Whether one branch assigns a name on each way, or on some way, and the other does not.

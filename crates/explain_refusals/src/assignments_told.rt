@@ -1,9 +1,9 @@
 //! Scripts that are not singly assigned, explained.
 
 use crate::calls::is_read_behind;
-use crate::told::{Hint, Note, Told, note_of};
+use crate::told::{Explanation, Hint, Note, note_of};
 use assign_check::fault::AssignFault;
-use explain_names::lookup::{Wanted, bytes_at, kind_at, last_before, place_before};
+use explain_names::lookup::{Lookup, bytes_at, kind_at, last_before, place_before};
 use explain_names::mention::{Kind, Mention};
 use explain_names::mentions::{function_around, mentions_around};
 use explain_names::partly::{Partly, partly_assigned};
@@ -15,7 +15,7 @@ use std::alloc::{AllocError, Allocator};
 pub fn told_of_assignments<A: Allocator>(
     refused: &Refused<'_, A>,
     fault: AssignFault,
-) -> Result<Told, AllocError> {
+) -> Result<Explanation, AllocError> {
     match fault {
         AssignFault::AssignedTwice(at) => told_of_twice(refused, at),
         AssignFault::PartlyAssigned(at) => told_of_partly(refused, at),
@@ -23,31 +23,40 @@ pub fn told_of_assignments<A: Allocator>(
         AssignFault::OuterInLoop(at) => told_of_outer(refused, at),
         AssignFault::WholeAndElements(at) => told_of_both(refused, at),
         AssignFault::OutputUnassigned(at) => told_of_output(refused, at),
-        AssignFault::Memory => Told::plain(refused.alloc, "no memory"),
+        AssignFault::Memory => Explanation::plain(refused.alloc, "no memory"),
     }
 }
 
-fn told_of_never<A: Allocator>(refused: &Refused<'_, A>, at: Span) -> Result<Told, AllocError> {
+fn told_of_never<A: Allocator>(
+    refused: &Refused<'_, A>,
+    at: Span,
+) -> Result<Explanation, AllocError> {
     let name = bytes_at(refused.text, at);
-    let told = Told::of(refused.alloc, name, "is read and never assigned", None)?;
+    let told = Explanation::of(refused.alloc, name, "is read and never assigned", None)?;
     Ok(told.with(Hint::named(refused.alloc, "assign it once: ", name, " = ..;")?))
 }
 
-fn told_of_outer<A: Allocator>(refused: &Refused<'_, A>, at: Span) -> Result<Told, AllocError> {
-    let declared = place_before(refused, at, Wanted::Declaration, at.from)?;
+fn told_of_outer<A: Allocator>(
+    refused: &Refused<'_, A>,
+    at: Span,
+) -> Result<Explanation, AllocError> {
+    let declared = place_before(refused, at, Lookup::Declaration, at.from)?;
     let name = bytes_at(refused.text, at);
     let words = "is assigned in each turn of a loop, and declared outside of it";
-    let told = Told::of(refused.alloc, name, words, note_of("declared at", declared))?;
+    let told = Explanation::of(refused.alloc, name, words, note_of("declared at", declared))?;
     Ok(told.with(hint_of_loop(refused, name, at)?))
 }
 
-fn told_of_twice<A: Allocator>(refused: &Refused<'_, A>, at: Span) -> Result<Told, AllocError> {
+fn told_of_twice<A: Allocator>(
+    refused: &Refused<'_, A>,
+    at: Span,
+) -> Result<Explanation, AllocError> {
     let name = bytes_at(refused.text, at);
     let mentions = mentions_around(refused.alloc, at.from, refused.script)?;
     let first = last_before(
         refused.text,
         mentions.as_slice(),
-        Wanted::Assignment,
+        Lookup::Assignment,
         name,
         at.from,
     );
@@ -57,7 +66,7 @@ fn told_of_twice<A: Allocator>(refused: &Refused<'_, A>, at: Span) -> Result<Tol
         Some(first) => hint_of_twice(refused, mentions.as_slice(), name, first)?,
     };
     let words = "is assigned a second time";
-    Ok(Told::of(refused.alloc, name, words, first_assigned(first))?.with(hint))
+    Ok(Explanation::of(refused.alloc, name, words, first_assigned(first))?.with(hint))
 }
 
 /// What to write instead of a second assignment.
@@ -149,7 +158,10 @@ fn first_assigned(first: Option<Mention>) -> Option<Note> {
 }
 
 /// What is said of an `if` whose branches assign a variable differently often.
-fn told_of_partly<A: Allocator>(refused: &Refused<'_, A>, at: Span) -> Result<Told, AllocError> {
+fn told_of_partly<A: Allocator>(
+    refused: &Refused<'_, A>,
+    at: Span,
+) -> Result<Explanation, AllocError> {
     match partly_assigned(refused.alloc, refused.text, refused.script, at)? {
         None => told_of_branches(refused),
         Some(partly) => told_of_branch(refused, partly, at),
@@ -157,10 +169,10 @@ fn told_of_partly<A: Allocator>(refused: &Refused<'_, A>, at: Span) -> Result<To
 }
 
 /// What is said where it is not known of which variable.
-fn told_of_branches<A: Allocator>(refused: &Refused<'_, A>) -> Result<Told, AllocError> {
+fn told_of_branches<A: Allocator>(refused: &Refused<'_, A>) -> Result<Explanation, AllocError> {
     let words =
         "one branch of this if assigns a variable that the other branch does not assign as often";
-    let told = Told::plain(refused.alloc, words)?;
+    let told = Explanation::plain(refused.alloc, words)?;
     Ok(told.with(Hint::plain(
         refused.alloc,
         "a branch assigns a variable once: give each further value another name",
@@ -172,14 +184,14 @@ fn told_of_branch<A: Allocator>(
     refused: &Refused<'_, A>,
     partly: Partly,
     at: Span,
-) -> Result<Told, AllocError> {
+) -> Result<Explanation, AllocError> {
     let name = bytes_at(refused.text, partly.mention.at);
     let note = Some(Note {
         words: "assigned at",
         at: partly.mention.at,
     });
     let words = "is assigned by one branch of this if, and not as often by the other";
-    let told = Told::of(refused.alloc, name, words, note)?;
+    let told = Explanation::of(refused.alloc, name, words, note)?;
     Ok(told.with(hint_of_partly(refused, partly, name, at)?))
 }
 
@@ -194,7 +206,7 @@ fn hint_of_partly<A: Allocator>(
     let before = last_before(
         refused.text,
         mentions.as_slice(),
-        Wanted::Assignment,
+        Lookup::Assignment,
         name,
         at.from,
     );
@@ -220,17 +232,20 @@ fn hint_of_partly<A: Allocator>(
 }
 
 /// What is said of an array that is assigned whole and by elements.
-fn told_of_both<A: Allocator>(refused: &Refused<'_, A>, at: Span) -> Result<Told, AllocError> {
+fn told_of_both<A: Allocator>(
+    refused: &Refused<'_, A>,
+    at: Span,
+) -> Result<Explanation, AllocError> {
     let name = bytes_at(refused.text, at);
     let mentions = mentions_around(refused.alloc, at.from, refused.script)?;
     let (wanted, words, note) = match kind_at(mentions.as_slice(), at) {
         Some(Kind::Written) => (
-            Wanted::Assignment,
+            Lookup::Assignment,
             "is assigned whole already, and has no further elements",
             "assigned whole at",
         ),
         _ => (
-            Wanted::Element,
+            Lookup::Element,
             "is assigned whole here, and elsewhere by elements",
             "an element is written at",
         ),
@@ -242,10 +257,13 @@ fn told_of_both<A: Allocator>(refused: &Refused<'_, A>, at: Span) -> Result<Told
         name,
         "[0] = ..;",
     )?;
-    Ok(Told::of(refused.alloc, name, words, note_of(note, first))?.with(hint))
+    Ok(Explanation::of(refused.alloc, name, words, note_of(note, first))?.with(hint))
 }
 
-fn told_of_output<A: Allocator>(refused: &Refused<'_, A>, at: Span) -> Result<Told, AllocError> {
+fn told_of_output<A: Allocator>(
+    refused: &Refused<'_, A>,
+    at: Span,
+) -> Result<Explanation, AllocError> {
     let note = match function_around(at.from, refused.script) {
         None => None,
         Some(function) => Some(Note {
@@ -256,5 +274,5 @@ fn told_of_output<A: Allocator>(refused: &Refused<'_, A>, at: Span) -> Result<To
     let name = bytes_at(refused.text, at);
     let words = "is an output, and is never assigned";
     let hint = Hint::named(refused.alloc, "assign it in its function: ", name, " = ..;")?;
-    Ok(Told::of(refused.alloc, name, words, note)?.with(hint))
+    Ok(Explanation::of(refused.alloc, name, words, note)?.with(hint))
 }

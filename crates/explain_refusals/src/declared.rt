@@ -1,7 +1,7 @@
 //! Declarations that a script lacks, as they are written.
 
 use crate::calls::next_token;
-use explain_names::lookup::{Wanted, function_named, last_before};
+use explain_names::lookup::{Lookup, function_named, last_before};
 use explain_names::mention::{Mention, Sort};
 use explain_names::refused::Refused;
 use explain_text::words::say;
@@ -130,7 +130,7 @@ fn base_of_name<A: Allocator>(
     let declared = last_before(
         refused.text,
         mentions,
-        Wanted::Declaration,
+        Lookup::Declaration,
         name.text,
         name.span.from,
     );

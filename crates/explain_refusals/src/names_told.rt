@@ -2,10 +2,10 @@
 
 use crate::calls::is_read_behind;
 use crate::declared::{rest_of_statement, say_declaration, sort_behind};
-use crate::told::{Hint, Note, Told, note_of};
+use crate::told::{Explanation, Hint, Note, note_of};
 use explain_hints::functions::{on_function, on_variable};
 use explain_hints::nearest::{Near, nearer};
-use explain_names::lookup::{Wanted, bytes_at, kind_at, last_before, place_before};
+use explain_names::lookup::{Lookup, bytes_at, kind_at, last_before, place_before};
 use explain_names::mention::{Kind, Mention, Sort};
 use explain_names::mentions::{function_around, mentions_around};
 use explain_names::refused::Refused;
@@ -23,14 +23,14 @@ const UNKNOWN: &str = "is no variable that is visible here";
 pub fn told_of_unknown<A: Allocator>(
     refused: &Refused<'_, A>,
     at: Span,
-) -> Result<Told, AllocError> {
+) -> Result<Explanation, AllocError> {
     let name = bytes_at(refused.text, at);
     if let Some(outside) = outside_of_function(refused, at)? {
         return told_of_outside(refused, name, outside);
     }
-    let other = place_before(refused, at, Wanted::Declaration, refused.text.len())?;
+    let other = place_before(refused, at, Lookup::Declaration, refused.text.len())?;
     let note = note_of("another block or a later line declares it at", other);
-    let told = Told::of(refused.alloc, name, UNKNOWN, note)?;
+    let told = Explanation::of(refused.alloc, name, UNKNOWN, note)?;
     Ok(told.with(hint_of_place(refused, at, other)?))
 }
 
@@ -39,12 +39,12 @@ fn told_of_outside<A: Allocator>(
     refused: &Refused<'_, A>,
     name: &[u8],
     outside: Span,
-) -> Result<Told, AllocError> {
+) -> Result<Explanation, AllocError> {
     let note = Note {
         words: "the script declares it at",
         at: outside,
     };
-    let told = Told::of(refused.alloc, name, UNKNOWN, Some(note))?;
+    let told = Explanation::of(refused.alloc, name, UNKNOWN, Some(note))?;
     Ok(told.with(Hint::named(
         refused.alloc,
         "a function sees no variable of the script: ",
@@ -80,7 +80,7 @@ fn outside_of_function<A: Allocator>(
     if function_around(at.from, refused.script).is_none() {
         return Ok(None);
     }
-    let here = place_before(refused, at, Wanted::Declaration, refused.text.len())?;
+    let here = place_before(refused, at, Lookup::Declaration, refused.text.len())?;
     if here.is_some() {
         return Ok(None);
     }
@@ -89,7 +89,7 @@ fn outside_of_function<A: Allocator>(
     let declared = last_before(
         refused.text,
         mentions.as_slice(),
-        Wanted::Declaration,
+        Lookup::Declaration,
         name,
         refused.text.len(),
     );
@@ -175,7 +175,7 @@ fn nearest_variable<'t>(
 ) -> Result<Option<Near<'t>>, AllocError> {
     let mut near = None;
     for mention in mentions {
-        if Wanted::Declaration.takes(mention.kind) && mention.at.to <= at.from {
+        if Lookup::Declaration.takes(mention.kind) && mention.at.to <= at.from {
             near = nearer(alloc, bytes_at(text, at), near, bytes_at(text, mention.at))?;
         }
     }
@@ -186,13 +186,13 @@ fn nearest_variable<'t>(
 pub fn told_of_no_function<A: Allocator>(
     refused: &Refused<'_, A>,
     at: Span,
-) -> Result<Told, AllocError> {
+) -> Result<Explanation, AllocError> {
     let name = bytes_at(refused.text, at);
     let hint = match on_function(name) {
         Some(words) => Hint::plain(refused.alloc, words)?,
         None => hint_of_function(refused, at, name)?,
     };
-    Ok(Told::of(refused.alloc, name, "is no function", None)?.with(hint))
+    Ok(Explanation::of(refused.alloc, name, "is no function", None)?.with(hint))
 }
 
 /// What to write instead of a function that is not there: the nearest one, or the list of those that are always there.
@@ -201,7 +201,7 @@ fn hint_of_function<A: Allocator>(
     at: Span,
     name: &[u8],
 ) -> Result<Option<Hint>, AllocError> {
-    if place_before(refused, at, Wanted::Declaration, at.from)?.is_some() {
+    if place_before(refused, at, Lookup::Declaration, at.from)?.is_some() {
         return Hint::named(
             refused.alloc,
             "it is a variable, and has no arguments: ",

@@ -7,7 +7,7 @@ ghost use Rattle.explain_refusals.specs.Verdicts.{BeginsAt, Explains, IsRefusedA
 
 use crate::assignments_told::told_of_assignments;
 use crate::texts::told_of_text;
-use crate::told::{Hint, Note, Told};
+use crate::told::{Explanation, Hint, Note};
 use crate::types_told::told_of_types;
 use assign_check::fault::AssignFault;
 use explain_names::refused::Refused;
@@ -26,7 +26,7 @@ use types::fault::TypeFault;
 pub struct Refusal {
     pub at: Span,
     pub rule: String,
-    pub told: Told,
+    pub told: Explanation,
 }
 
 /// The refusal of a text. None where the text is accepted.

@@ -1,7 +1,7 @@
 //! What type an expression has, and what is wanted of it where it stands.
 
 use crate::calls::{is_behind_comma, looped_array};
-use explain_names::lookup::{Wanted, bytes_at, function_named, last_before};
+use explain_names::lookup::{Lookup, bytes_at, function_named, last_before};
 use explain_names::mention::{Mention, Sort};
 use lexer::token::Span;
 use std::alloc::Allocator;
@@ -523,7 +523,7 @@ fn declaration_of<A: Allocator>(search: &Search<A>, name: &[u8], before: usize) 
     last_before(
         search.text,
         search.mentions,
-        Wanted::Declaration,
+        Lookup::Declaration,
         name,
         before,
     )

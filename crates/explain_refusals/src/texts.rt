@@ -1,6 +1,6 @@
 //! Texts that are no scripts, explained.
 
-use crate::told::{Hint, Told};
+use crate::told::{Explanation, Hint};
 use explain_hints::characters::on_byte;
 use explain_hints::literals::{on_escape, on_number, on_string};
 use explain_hints::unexpected::on_unexpected;
@@ -12,7 +12,11 @@ use std::alloc::{AllocError, Global};
 use syntax::error::ParseFault;
 
 /// What is said of a text that is no script.
-pub fn told_of_text(alloc: Global, text: &[u8], fault: ParseFault) -> Result<Told, AllocError> {
+pub fn told_of_text(
+    alloc: Global,
+    text: &[u8],
+    fault: ParseFault,
+) -> Result<Explanation, AllocError> {
     let hint = hint_of_text(alloc, text, fault)?;
     Ok(sentence_of_text(alloc, text, fault)?.with(hint))
 }
@@ -48,41 +52,51 @@ fn hint_of_token(alloc: Global, text: &[u8], fault: LexFault) -> Result<Option<H
 }
 
 /// What is wrong with a text that is no script.
-fn sentence_of_text(alloc: Global, text: &[u8], fault: ParseFault) -> Result<Told, AllocError> {
+fn sentence_of_text(
+    alloc: Global,
+    text: &[u8],
+    fault: ParseFault,
+) -> Result<Explanation, AllocError> {
     match fault {
         ParseFault::Lex(fault) => told_of_token(alloc, text, fault),
         ParseFault::Unexpected(at) => told_of_unexpected(alloc, text, at),
-        ParseFault::TooNested(_) => Told::plain(alloc, "this nests deeper than 64 levels"),
-        ParseFault::TooLong(_) => Told::plain(alloc, "the script has more than 1048576 bytes"),
-        ParseFault::Memory => Told::plain(alloc, "no memory"),
+        ParseFault::TooNested(_) => Explanation::plain(alloc, "this nests deeper than 64 levels"),
+        ParseFault::TooLong(_) => Explanation::plain(
+            alloc,
+            "the script has more than 1048576 bytes",
+        ),
+        ParseFault::Memory => Explanation::plain(alloc, "no memory"),
     }
 }
 
-fn told_of_unexpected(alloc: Global, text: &[u8], at: Span) -> Result<Told, AllocError> {
+fn told_of_unexpected(alloc: Global, text: &[u8], at: Span) -> Result<Explanation, AllocError> {
     let token = bytes_at(text, at);
     if token.is_empty() {
-        Told::plain(
+        Explanation::plain(
             alloc,
             "the script ends here, before its last statement does",
         )
     } else {
-        Told::of(alloc, token, "can not stand here", None)
+        Explanation::of(alloc, token, "can not stand here", None)
     }
 }
 
-fn told_of_token(alloc: Global, text: &[u8], fault: LexFault) -> Result<Told, AllocError> {
+fn told_of_token(alloc: Global, text: &[u8], fault: LexFault) -> Result<Explanation, AllocError> {
     match fault {
         LexFault::BadByte(at) => told_of_byte(alloc, text, at),
         LexFault::BadNumber(_) => {
-            Told::plain(
+            Explanation::plain(
                 alloc,
                 "a number has digits alone, no 0 before others, and is at most 9223372036854775807",
             )
         }
-        LexFault::OpenString(_) => Told::plain(alloc, "this string is not closed on its line"),
-        LexFault::OpenComment(_) => Told::plain(alloc, "this comment is not closed by */"),
+        LexFault::OpenString(_) => Explanation::plain(
+            alloc,
+            "this string is not closed on its line",
+        ),
+        LexFault::OpenComment(_) => Explanation::plain(alloc, "this comment is not closed by */"),
         LexFault::BadEscape(_) => {
-            Told::plain(
+            Explanation::plain(
                 alloc,
                 "this is no escape: a string has \\n, \\t, \\\\ and \\\"",
             )
@@ -91,12 +105,12 @@ fn told_of_token(alloc: Global, text: &[u8], fault: LexFault) -> Result<Told, Al
 }
 
 /// What is said of a byte that no script has there.
-fn told_of_byte(alloc: Global, text: &[u8], at: Span) -> Result<Told, AllocError> {
+fn told_of_byte(alloc: Global, text: &[u8], at: Span) -> Result<Explanation, AllocError> {
     match bytes_at(text, at) {
         [byte, ..] if *byte == b'"' || *byte < b' ' || *byte > b'~' => {
             let mut buffer = Buffer::new();
-            Told::of(alloc, b"byte", buffer.format(*byte), None)
+            Explanation::of(alloc, b"byte", buffer.format(*byte), None)
         }
-        _ => Told::plain(alloc, "no token begins with this byte"),
+        _ => Explanation::plain(alloc, "no token begins with this byte"),
     }
 }

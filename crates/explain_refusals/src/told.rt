@@ -68,16 +68,16 @@ impl Hint {
 
 /// What is said of a refusal: what is wrong, another place where there is one, and what to write instead where that is known.
 #[derive(Debug)]
-pub struct Told {
+pub struct Explanation {
     pub sentence: Vec<u8>,
     pub note: Option<Note>,
     pub hint: Option<Hint>,
 }
 
 // Written out, so that who owns one lets it go by one call.
-impl Drop for Told {
+impl Drop for Explanation {
     fn drop(self) {
-        let Told {
+        let Explanation {
             sentence: _,
             note: _,
             hint: _,
@@ -85,10 +85,10 @@ impl Drop for Told {
     }
 }
 
-impl Told {
+impl Explanation {
     /// A sentence of these words, without another place.
-    pub fn plain(alloc: Global, words: &str) -> Result<Told, AllocError> {
-        Ok(Told {
+    pub fn plain(alloc: Global, words: &str) -> Result<Explanation, AllocError> {
+        Ok(Explanation {
             sentence: Vec::from_slice(alloc, words.as_bytes())?,
             note: None,
             hint: None,
@@ -96,13 +96,13 @@ impl Told {
     }
 
     /// The same with a hint.
-    pub fn with(self, hint: Option<Hint>) -> Told {
-        let Told {
+    pub fn with(self, hint: Option<Hint>) -> Explanation {
+        let Explanation {
             sentence,
             note,
             hint: _,
         } = self;
-        Told {
+        Explanation {
             sentence,
             note,
             hint,
@@ -115,11 +115,11 @@ impl Told {
         name: &[u8],
         words: &str,
         note: Option<Note>,
-    ) -> Result<Told, AllocError> {
+    ) -> Result<Explanation, AllocError> {
         let mut sentence = Vec::from_slice(alloc, name)?;
         sentence.push(b' ')?;
         sentence.extend_from_slice(words.as_bytes())?;
-        Ok(Told {
+        Ok(Explanation {
             sentence,
             note,
             hint: None,

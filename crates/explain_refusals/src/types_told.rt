@@ -5,8 +5,8 @@ use crate::counts_told::{add_count, hint_of_built_in, hint_of_count};
 use crate::declared::type_of;
 use crate::names_told::{told_of_no_function, told_of_unknown};
 use crate::sorts::{Mismatch, Search, Wish, first_mismatch, keys_of, one};
-use crate::told::{Hint, Note, Told, note_of};
-use explain_names::lookup::{Wanted, bytes_at, function_named, kind_at, place_before};
+use crate::told::{Explanation, Hint, Note, note_of};
+use explain_names::lookup::{Lookup, bytes_at, function_named, kind_at, place_before};
 use explain_names::mention::{Kind, Sort};
 use explain_names::mentions::{function_around, mentions_around};
 use explain_names::refused::Refused;
@@ -19,7 +19,7 @@ use types::fault::TypeFault;
 pub fn told_of_types<A: Allocator>(
     refused: &Refused<'_, A>,
     fault: TypeFault,
-) -> Result<Told, AllocError> {
+) -> Result<Explanation, AllocError> {
     match fault {
         TypeFault::Unknown(at) => told_of_unknown(refused, at),
         TypeFault::Declared(at) => told_of_declared(refused, at),
@@ -28,19 +28,22 @@ pub fn told_of_types<A: Allocator>(
         TypeFault::BadFormat(at) => {
             let words = "printf wants a string first in which each % begins %i, %d, %s or %%";
             let hint = Hint::plain(refused.alloc, hint_of_format(bytes_at(refused.text, at)))?;
-            Ok(Told::plain(refused.alloc, words)?.with(hint))
+            Ok(Explanation::plain(refused.alloc, words)?.with(hint))
         }
         TypeFault::NotAFunction(at) => told_of_no_function(refused, at),
-        TypeFault::Memory => Told::plain(refused.alloc, "no memory"),
+        TypeFault::Memory => Explanation::plain(refused.alloc, "no memory"),
     }
 }
 
-fn told_of_declared<A: Allocator>(refused: &Refused<'_, A>, at: Span) -> Result<Told, AllocError> {
+fn told_of_declared<A: Allocator>(
+    refused: &Refused<'_, A>,
+    at: Span,
+) -> Result<Explanation, AllocError> {
     let name = bytes_at(refused.text, at);
     match function_around(at.from, refused.script) {
         Some(one) if one.name.span == at => told_of_function(refused, name, at),
         _ => {
-            let first = place_before(refused, at, Wanted::Declaration, at.from)?;
+            let first = place_before(refused, at, Lookup::Declaration, at.from)?;
             let note = note_of("declared at", first);
             let mentions = mentions_around(refused.alloc, at.from, refused.script)?;
             let words = match kind_at(mentions.as_slice(), at) {
@@ -50,13 +53,16 @@ fn told_of_declared<A: Allocator>(refused: &Refused<'_, A>, at: Span) -> Result<
                 _ => "a name that is visible is taken, in inner blocks too: take another one",
             };
             let hint = Hint::plain(refused.alloc, words)?;
-            Ok(Told::of(refused.alloc, name, "is declared a second time", note)?.with(hint))
+            Ok(Explanation::of(refused.alloc, name, "is declared a second time", note)?.with(hint))
         }
     }
 }
 
 /// What is said of an expression or a name of a wrong type.
-fn told_of_mismatch<A: Allocator>(refused: &Refused<'_, A>, at: Span) -> Result<Told, AllocError> {
+fn told_of_mismatch<A: Allocator>(
+    refused: &Refused<'_, A>,
+    at: Span,
+) -> Result<Explanation, AllocError> {
     let mentions = mentions_around(refused.alloc, at.from, refused.script)?;
     let search = Search {
         text: refused.text,
@@ -65,9 +71,9 @@ fn told_of_mismatch<A: Allocator>(refused: &Refused<'_, A>, at: Span) -> Result<
         at,
     };
     match first_mismatch(&search) {
-        None => Told::plain(refused.alloc, "this is of a wrong type"),
+        None => Explanation::plain(refused.alloc, "this is of a wrong type"),
         Some(mismatch) => {
-            let mut told = Told::plain(refused.alloc, "this is ")?;
+            let mut told = Explanation::plain(refused.alloc, "this is ")?;
             add_sort(&mut told.sentence, mismatch.found)?;
             add_wish(&mut told.sentence, refused.text, mismatch.wanted)?;
             let hint = hint_of_mismatch(refused, mismatch, at)?;
@@ -215,7 +221,7 @@ fn told_of_function<A: Allocator>(
     refused: &Refused<'_, A>,
     name: &[u8],
     at: Span,
-) -> Result<Told, AllocError> {
+) -> Result<Explanation, AllocError> {
     let hint = Hint::plain(
         refused.alloc,
         "a function has a name of its own: take another one",
@@ -223,11 +229,11 @@ fn told_of_function<A: Allocator>(
     let told = match function_named(name, refused.script) {
         Some(first) if first.name.span != at => {
             let note = Some(defined_at(first));
-            Told::of(refused.alloc, name, "is defined a second time", note)?
+            Explanation::of(refused.alloc, name, "is defined a second time", note)?
         }
         _ => {
             let words = "is a function that is there without a definition";
-            Told::of(refused.alloc, name, words, None)?
+            Explanation::of(refused.alloc, name, words, None)?
         }
     };
     Ok(told.with(hint))
@@ -241,13 +247,16 @@ fn defined_at<A: Allocator>(function: &Function<A>) -> Note {
 }
 
 /// What is said of a call with a wrong number of arguments or outputs.
-fn told_of_count<A: Allocator>(refused: &Refused<'_, A>, at: Span) -> Result<Told, AllocError> {
+fn told_of_count<A: Allocator>(
+    refused: &Refused<'_, A>,
+    at: Span,
+) -> Result<Explanation, AllocError> {
     let name = bytes_at(refused.text, at);
     match function_named(name, refused.script) {
         Some(function) => {
             let hint = hint_of_count(refused, function, at)?;
             let note = Some(defined_at(function));
-            let mut told = Told::of(refused.alloc, name, "takes ", note)?;
+            let mut told = Explanation::of(refused.alloc, name, "takes ", note)?;
             add_count(&mut told.sentence, function.inputs.len(), " argument")?;
             told.sentence.extend_from_slice(b" and gives ")?;
             add_count(&mut told.sentence, function.outputs.len(), " value")?;
@@ -255,7 +264,7 @@ fn told_of_count<A: Allocator>(refused: &Refused<'_, A>, at: Span) -> Result<Tol
         }
         None => {
             let hint = hint_of_built_in(refused, name, at)?;
-            Ok(Told::of(refused.alloc, name, built_in_counts(name), None)?.with(hint))
+            Ok(Explanation::of(refused.alloc, name, built_in_counts(name), None)?.with(hint))
         }
     }
 }

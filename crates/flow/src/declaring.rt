@@ -84,7 +84,8 @@ fn times_in_two<A: Allocator>(node: u32, one: &Outer<A>, other: &Outer<A>) -> Ti
 
 /// How often the bounds and the step of a range declare a node.
 fn times_in_range<A: Allocator>(node: u32, range: &Range<A>) -> Times
-    ensures { result ≡ times_as node (flat_map part_nodes (outer_parts (outer_view range.now.low ∷ outer_view range.now.high ∷ option_to_list (option_map outer_view range.now.step)))) }
+    ensures { result ≡ times_as node (flat_map part_nodes
+        (outer_parts (outer_view range.now.low ∷ outer_view range.now.high ∷ option_to_list (option_map outer_view range.now.step)))) }
 {
     let upper = times_in_outer(node, &range.high).and(times_in_step(node, &range.step));
     times_in_outer(node, &range.low).and(upper)

@@ -75,7 +75,8 @@ fn is_range_fit<'a, A: Allocator>(
     functions: usize,
     range: &Range<A>,
 ) -> bool
-    ensures { result ≡ parts_fit (owners_of scopes.now) functions (outer_parts (outer_view range.now.low ∷ outer_view range.now.high ∷ option_to_list (option_map outer_view range.now.step))) }
+    ensures { result ≡ parts_fit (owners_of scopes.now) functions
+        (outer_parts (outer_view range.now.low ∷ outer_view range.now.high ∷ option_to_list (option_map outer_view range.now.step))) }
 {
     is_outer_fit(scopes, functions, &range.low)
         && is_outer_fit(scopes, functions, &range.high)

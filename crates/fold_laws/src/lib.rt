@@ -26,7 +26,9 @@ pub fn same_meaning()
     ensures ever_blocked { (c d : Core) → SameCore c d → (at : ℕ) (path : Path) → Blocked c (Meaning c) at path → Blocked d (Meaning d) at path }
     ensures closed { (c d : Core) → SameCore c d → (a : Place) → Closed c (Meaning c) a → Closed d (Meaning d) a }
     ensures values { (c d : Core) → SameCore c d → (a : Place) (v : Scalar) → HasValue c (Meaning c) a v → HasValue d (Meaning d) a v }
-    ensures live { (c d : Core) → SameCore c d → (path : Path) (b : Block) → Live c (Meaning c) path b → (e : Block) × Live d (Meaning d) path e × SameBlock b e }
-    ensures ready { (c d : Core) → SameCore c d → (path : Path) (a h : Action) (vs : List Value) → SameAction a h → Ready c (Meaning c) path a vs → Ready d (Meaning d) path h vs }
+    ensures live { (c d : Core) → SameCore c d → (path : Path) (b : Block) → Live c (Meaning c) path b
+        → (e : Block) × Live d (Meaning d) path e × SameBlock b e }
+    ensures ready { (c d : Core) → SameCore c d → (path : Path) (a h : Action) (vs : List Value) → SameAction a h → Ready c (Meaning c) path a vs
+        → Ready d (Meaning d) path h vs }
     ensures clean { (c d : Core) → SameCore c d → Clean c → Clean d }
 {}

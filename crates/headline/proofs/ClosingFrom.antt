@@ -69,6 +69,7 @@ use Rattle.headline.proofs.Rights.{only_one, fill_stored}
 use Rattle.headline.proofs.Roles.{PartOf, OwnAs, own_simple, own_branch, own_branches, own_range, own_each, own_wait, find_role, parts_of}
 use Rattle.headline.proofs.Targets.{uses_block, uses_is_target, NoneInside, none_inner, none_output, OnlyAt, only_declared, none_declared, only_output, only_header, only_wait}
 use Rattle.headline.proofs.KeysOf.{key_as}
+use Rattle.values.specs.Limits.{chunk_size}
 
 -- NAMES BACK
 
@@ -146,7 +147,7 @@ drop_shorter (suc n) (x ∷ xs) = let h = drop_shorter n xs in omega arith
 fewer_left : {X : Type 0} (c : ℕ) (xs : List X) → is_some_list (left_at (suc c) xs) ≡ true → length (left_at (suc c) xs) < length (left_at c xs)
 fewer_left zero [] h = absurd (cc (h))
 fewer_left zero (x ∷ xs) h = (let z = drop_shorter 63 xs in omega arith)
-fewer_left (suc c) xs h = fewer_left c (drop 64 xs) h
+fewer_left (suc c) xs h = fewer_left c (drop chunk_size xs) h
 
 -- an entry that opens bodies has a way to them
 pub instance_way : (a : Act) (mark : ℕ) (p : List Step) (c : ℕ) (x : Computed) (q : ℕ × List Step) → In q (instances a mark p c x) → (y : Way × ℕ) × In y (ways a)

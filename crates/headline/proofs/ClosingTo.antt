@@ -59,9 +59,10 @@ use Rattle.headline.proofs.Rights.{alone_call, IsArray, stmt_of_body, target_rig
 use Rattle.headline.proofs.Roles.{own_simple, own_branch, own_branches, own_range, own_each, own_wait}
 use Rattle.headline.proofs.Steps.{InAll, now_opened, turn_in_all, computes_by, DoneBy, Step_, item_closes}
 use Rattle.headline.proofs.Targets.{UsesIn, uses_block, uses_stmt, NoneInside, none_inner, none_declared, none_output, OnlyAt, only_declared, only_output, only_header, only_wait}
+use Rattle.values.specs.Limits.{chunk_size}
 
 -- some turn stands in the first chunk
-first_turn : {X : Type 0} (xs : List X) (x : X) → In x xs → (y : X) × In y (take 64 xs)
+first_turn : {X : Type 0} (xs : List X) (x : X) → In x xs → (y : X) × In y (take chunk_size xs)
 first_turn [] x h = absurd h
 first_turn (y ∷ xs) x h = (y, inl refl)
 

@@ -49,13 +49,13 @@ use Rattle.headline.proofs.Evaluate.{Got, AsValue}
 use Rattle.headline.proofs.Exact.{kind_of}
 use Rattle.headline.proofs.Fed.{WritesKnown, settled, come, given, array_fed, missing_fed}
 use Rattle.headline.proofs.Hits.{Kind, right_kind}
-use Rattle.headline.proofs.Inputs.{not_true}
 use Rattle.headline.proofs.LiveBy.{TaskEffect, Feed}
 use Rattle.headline.proofs.LiveKinds.{StandingItem, live_item}
 use Rattle.headline.proofs.Means.{chain_live, covering_reads}
 use Rattle.headline.proofs.Readings.{cell_has, to_code, name_stands, same_array}
 use Rattle.headline.proofs.Transfer.{reading_valid}
 use Rattle.headline.proofs.WrittenFrom.{path_same}
+use Rattle.std.proofs.lemmas.Bool.{not-true}
 
 module _ (s : Core) (C : Code) (w : IsCodeOf s C) (wf : WellFormed s) (I : IsCode C) (sc : Scoped s) (clean : CleanCode C) (K : Knowledge) where
   abbrev E : Task → TaskEffect → Type 0
@@ -297,11 +297,11 @@ module _ (s : Core) (C : Code) (w : IsCodeOf s C) (wf : WellFormed s) (I : IsCod
           array_name n r m h e q v pe = (let k = kinds r (I.needs j n r m h) q v pe in (sym k.of_name ∙ e, sym k.of_layout ∙ sym k.of_name ∙ e))
 
           need_in : (n : Need) → In n (entry C j).needs → fits_kinds n ≡ true → NeedFed p n
-          need_in (code.Stored r) m f i h x = scalar_in (place_at C p r) (scalar_name (code.Stored r) r m (inl refl) (not_true (is_array_name r) f)) i h x
+          need_in (code.Stored r) m f i h x = scalar_in (place_at C p r) (scalar_name (code.Stored r) r m (inl refl) (not-true (is_array_name r) f)) i h x
           need_in (code.Closed r) m f i h x = whole_in (place_at C p r) (array_name (code.Closed r) r m (inl refl) f) i h x
           need_in (code.At a r) m f i h x =
               let q = true_and (is_array_name a) (not (is_array_name r)) f in
-              element_in (place_at C p a) (place_at C p r) (array_name (code.At a r) a m (inl refl) q.0) (scalar_name (code.At a r) r m (inr (inl refl)) (not_true (is_array_name r) q.1)) i h x
+              element_in (place_at C p a) (place_at C p r) (array_name (code.At a r) a m (inl refl) q.0) (scalar_name (code.At a r) r m (inr (inl refl)) (not-true (is_array_name r) q.1)) i h x
           need_in (code.AtKey a key) m f i h x = key_in (place_at C p a) key (array_name (code.AtKey a key) a m (inl refl) f) i h x
 
           needs_in : (n : Need) → In n (entry C j).needs → NeedFed p n

@@ -1,6 +1,6 @@
 -- A fault of the code is one of the script's: of the cell that an entry works out, of a range, of an element that is not there, or of a path that would be too long.
 use Rattle.std.proofs.Common.{◌≡◌, ◌⊎◌, inl, inr, ℕ, suc, ◌≤◌, arith, Bool, true, false, List, [], ◌∷◌, length, refl, sym, ap, ◌∙◌, subst, Option, Some, None, Result, Ok, Err}
-use Rattle.std.specs.Prelude.{pos, ℤ, ◌&&◌, nat_le}
+use Rattle.std.specs.Prelude.{pos, ℤ, nat_le}
 use Rattle.std.specs.List.{flat_map}
 use Rattle.dataflow.specs.System.{In, Found, Missing, Content, Outcome, Bad, Effect}
 use Rattle.dataflow.specs.Facts.{Live}
@@ -59,6 +59,7 @@ use Rattle.headline.proofs.Roles.{parts_of, PartOf, OwnAs, own_simple, own_branc
 use Rattle.headline.proofs.Transfer.{fault_read}
 use Rattle.headline.proofs.Readings.{cell_has}
 use Rattle.headline.proofs.KeysOf.{key_of_is}
+use Rattle.std.proofs.lemmas.Bool.{and_parts}
 
 -- a fault of a computation is an operation's
 abbrev OpOnly : Computed → Type 0
@@ -170,11 +171,6 @@ path_length (t ∷ p) = ap suc (path_length p)
 
 at_least : (n : ℕ) → nat_le most_steps n ≡ true → most_steps ≤ n
 at_least n h = grind arith
-
-two_true : (a b : Bool) → (a && b) ≡ true → (a ≡ true) × (b ≡ true)
-two_true true true h = (refl, refl)
-two_true true false h = absurd (cc (h))
-two_true false b h = absurd (cc (h))
 
 member : {X : Type 0} (xs : List X) → is_some_list xs ≡ true → (x : X) × In x xs
 member [] h = absurd (cc (h))
@@ -369,8 +365,8 @@ module _ (s : Core) (C : Code) (w : IsCodeOf s C) (K : Knowledge) (wf : WellForm
 
     deep_here : is_too_deep (entry C i).act p (instances (entry C i).act (entry C i).mark p c X) ≡ true → Deep
     deep_here h =
-        let a = two_true (nat_le most_steps (length p)) _ h in
-        let d = two_true (steps_on (entry C i).act) _ a.1 in
+        let a = and_parts (nat_le most_steps (length p)) _ h in
+        let d = and_parts (steps_on (entry C i).act) _ a.1 in
         let q = member (instances (entry C i).act (entry C i).mark p c X) d.1 in
         let le = at_least (length p) a.0 in
         let b' = chain_bound ch in

@@ -44,6 +44,7 @@ use Rattle.headline.proofs.Means.{chain_live, chain_scope}
 use Rattle.headline.proofs.Opening.{seen_scoped}
 use Rattle.headline.proofs.Readings.{name_stands, to_code, IsSame, same_array, gives_all, all_in_order}
 use Rattle.headline.proofs.Roles.{cell_among, among_cells, among_calls, part_of_stmt}
+use Rattle.values.specs.Limits.{chunk_size}
 
 -- LOOKING UP A STATEMENT'S ENTRIES
 
@@ -139,9 +140,9 @@ pub in_some_chunk : {X : Type 0} (fuel : ℕ) (xs : List X) (x : X) → length x
 in_some_chunk fuel [] x h i = absurd i
 in_some_chunk zero (y ∷ xs) x h i = absurd (omega arith)
 in_some_chunk (suc fuel) (y ∷ xs) x h i =
-    elim (split_taken 64 (y ∷ xs) x i) [
+    elim (split_taken chunk_size (y ∷ xs) x i) [
       | inl m ↦ (0, m)
-      | inr m ↦ (let r = in_some_chunk fuel (drop 64 (y ∷ xs)) x (let z = drop_some 63 y xs in omega arith) m in (suc r.0, r.1))
+      | inr m ↦ (let r = in_some_chunk fuel (drop chunk_size (y ∷ xs)) x (let z = drop_some 63 y xs in omega arith) m in (suc r.0, r.1))
     ]
 
 pub some_of : {X : Type 0} (xs : List X) (x : X) → In x xs → is_some_list xs ≡ true
@@ -153,10 +154,10 @@ none_taken zero xs x h = absurd h
 none_taken (suc n) [] x h = absurd h
 none_taken (suc n) (y ∷ xs) x h = elim h [ inl e ↦ inl e | inr m ↦ inr (none_taken n xs x m) ]
 
-pub left_before : {X : Type 0} (c : ℕ) (xs : List X) → is_some_list (left_at c (drop 64 xs)) ≡ true → is_some_list (left_at c xs) ≡ true
+pub left_before : {X : Type 0} (c : ℕ) (xs : List X) → is_some_list (left_at c (drop chunk_size xs)) ≡ true → is_some_list (left_at c xs) ≡ true
 left_before zero [] h = h
 left_before zero (x ∷ xs) h = refl
-left_before (suc c) xs h = left_before c (drop 64 xs) h
+left_before (suc c) xs h = left_before c (drop chunk_size xs) h
 
 list_head : {X : Type 0} {x y : X} {xs ys : List X} → ◌≡◌ {A = List X} (x ∷ xs) (y ∷ ys) → x ≡ y
 list_head h = cc

@@ -29,14 +29,7 @@ use Rattle.code_rules.specs.IsCodeOf.{Layout, BodyAs, body_as, IsCodeOf}
 use Rattle.language_laws.specs.TypedValues.{TypedValues}
 use Rattle.headline.proofs.LiveTo.{live_to}
 use Rattle.headline.proofs.Opening.{kind_fixed}
-
-pub not_true : (a : Bool) → not a ≡ true → a ≡ false
-not_true true h = absurd (cc)
-not_true false h = refl
-
-is_false : (b : Bool) → (b ≡ true → ⊥) → b ≡ false
-is_false true h = absurd (h refl)
-is_false false h = refl
+use Rattle.std.proofs.lemmas.Bool.{false_from_ne_true, not-true}
 
 in_data : (d : CodePlaces.Place) (ds : List CodePlaces.Place) → In d (data_among ds) → In d ds
 in_data d [] h = absurd h
@@ -95,7 +88,7 @@ module _ (s : Core) (C : Code) (w : IsCodeOf s C) (K : Knowledge) (wf : WellForm
       by (inl (inr sf)) rec = moved (seen_kind j' Calling r sf) (sym (seen_place C Calling (entry C j').mark p' (Key.Number (pos 0)) p r sf.outside (λ i. record { offset = sym ca.mark_is i; key = Key.Number (pos 0) } ∷ p') sf.seen)) (rec sf.outside sf.right)
       by (inr fx) rec =
           let place_is : place_at C p r ≡ Constant fx.2 = (λ i. place_at C (record { offset = sym ca.mark_is i; key = Key.Number (pos 0) } ∷ p') (fx.3 i)) ∙ ap (argued C p') fx.4 in
-          moved refl (sym place_is) (a_literal (is_false (is_array_name r) (λ e. kind_fixed (arguments (entry C _).act) fx.0 fx.1 fx.2 fx.4 (sym (ap is_array_name fx.3) ∙ e))))
+          moved refl (sym place_is) (a_literal (false_from_ne_true (is_array_name r) (λ e. kind_fixed (arguments (entry C _).act) fx.0 fx.1 fx.2 fx.4 (sym (ap is_array_name fx.3) ∙ e))))
 
   -- INPUTS
   in_one : {X : Type 0} {x y : X} → In x (y ∷ []) → x ≡ y
@@ -131,11 +124,11 @@ module _ (s : Core) (C : Code) (w : IsCodeOf s C) (K : Knowledge) (wf : WellForm
     read_fits d n r i h e = moved e refl (reads_fit ch j there r (I.needs j n r i h))
 
     need_fits : (n : Need) → In n (entry C j).needs → fits_kinds n ≡ true → (i : Input CodePlaces.Place Key) → In i (inputs_at C p n) → FitsKind s C K i
-    need_fits (Stored r) m f i h = scalar_fits (place_at C p r) (read_fits false (Stored r) r m (inl refl) (not_true (is_array_name r) f)) i h
+    need_fits (Stored r) m f i h = scalar_fits (place_at C p r) (read_fits false (Stored r) r m (inl refl) (not-true (is_array_name r) f)) i h
     need_fits (code.Closed r) m f i h = whole_fits (place_at C p r) (read_fits true (code.Closed r) r m (inl refl) f) i h
     need_fits (At a r) m f i h =
         let q = true_and (is_array_name a) (not (is_array_name r)) f in
-        element_fits (place_at C p a) (place_at C p r) (read_fits true (At a r) a m (inl refl) q.0) (read_fits false (At a r) r m (inr (inl refl)) (not_true (is_array_name r) q.1)) i h
+        element_fits (place_at C p a) (place_at C p r) (read_fits true (At a r) a m (inl refl) q.0) (read_fits false (At a r) r m (inr (inl refl)) (not-true (is_array_name r) q.1)) i h
     need_fits (AtKey a key) m f i h = key_fits (place_at C p a) key (read_fits true (AtKey a key) a m (inl refl) f) i h
 
     item_fits : (c : ℕ) (i : Input CodePlaces.Place Key) → In i ((code_system C).inputs (Item j p c)) → FitsKind s C K i

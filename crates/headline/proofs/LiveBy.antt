@@ -49,6 +49,7 @@ use Rattle.headline.proofs.Means.{chain_live, chain_body, chain_scope}
 use Rattle.headline.proofs.Readings.{in_element}
 use Rattle.headline.proofs.HeaderWorks.{find_call, CallFound, in_some_chunk, some_of, none_taken, left_before, branch_key, taken, two_numbers, three_numbers, outer_among, turn_there, branch_takes, condition_value, ready_names, come_answer, awaited_of, each_turns, ready_cells, known_two, known_three, range_seen, range_works, IsLoop, only_stmt, opens_no_wait, calls_no_wait, found_body, no_simple}
 use Rattle.headline.proofs.Roles.{cell_among, OwnAs, own_simple, own_branch, own_branches, own_range, own_each, own_wait}
+use Rattle.values.specs.Limits.{chunk_size}
 
 abbrev pub TaskEffect : Type 0
 TaskEffect = Effect Task CodePlaces.Place Key Scalar
@@ -371,7 +372,7 @@ module _ (s : Core) (C : Code) (w : IsCodeOf s C) (K : Knowledge) (wf : WellForm
           → loop_of (entry C j).act ≡ Some (record { body = t'; value = x; turn = y }) → (entry C j).mark ≡ at → In (Through, t') (ways (entry C j).act) → BodyAs C w.layout k d t' → (u : Key × Scalar) → In u ts → LoopRun p t k at x y d u
       turns_run {t' = t'} z ts e q mk wy ba u i =
           let f = in_some_chunk (length ts) ts u (omega arith) i in
-          let lv = chunk_alive z ts _ e q f.0 (some_of (left_at f.0 ts) u (none_taken 64 (left_at f.0 ts) u f.1)) in
+          let lv = chunk_alive z ts _ e q f.0 (some_of (left_at f.0 ts) u (none_taken chunk_size (left_at f.0 ts) u f.1)) in
           record {
             number = j;
             there = there;

@@ -1,5 +1,5 @@
 -- What a body declares, told by a test.
-use Rattle.std.proofs.Common.{◌≡◌, inl, inr, ℕ, Bool, true, false, List, [], ◌∷◌, refl, sym, ap, subst, ◌∙◌}
+use Rattle.std.proofs.Common.{◌≡◌, inl, inr, ℕ, Bool, true, false, List, [], ◌∷◌, sym, ap, subst, ◌∙◌}
 use Rattle.std.specs.Prelude.{not, ◌&&◌, ◌||◌, nat_eq}
 use Rattle.std.specs.List.{list_all}
 use Rattle.values.specs.Values.{same_truth}
@@ -11,6 +11,7 @@ use Rattle.task_code.specs.Check.{variable_in}
 use Rattle.task_code.proofs.Equal.{true_and, nat_sound, bool_sound, every_in}
 use Rattle.task_code.proofs.Checked.{variable_in_sound, or_true}
 use Rattle.code_rules.specs.IsCodeOf.{Layout, MakesAs}
+use Rattle.std.proofs.lemmas.Bool.{not-true}
 
 -- some statement declares this node
 abbrev pub declares_node : ℕ → Action → Bool
@@ -49,10 +50,6 @@ every_member f [] h i = elim i [ ]
 every_member f (x ∷ xs) h first = (true_and (f x) (list_all f xs) h).0
 every_member f (x ∷ xs) h (later i) = every_member f xs (true_and (f x) (list_all f xs) h).1 i
 
-not_false : (b : Bool) → not b ≡ true → b ≡ false
-not_false true h = absurd (cc)
-not_false false h = refl
-
 true_false : {A : Type 0} {b : Bool} → b ≡ true → b ≡ false → A
 true_false h k = absurd (let n : true ≡ false = sym h ∙ k in cc)
 
@@ -61,5 +58,5 @@ makes_checked C l b vs h r = record {
   declared = λ at m n i. variable_in_sound _ vs (every_member (λ st. is_made l vs (stmt_action st)) (block_list b) h i);
   arrays = λ n i. (let x = true_and _ _ (every_in (is_real l (block_list b)) vs r _ i) in declared_there n (block_list b) x.0);
   kinds = λ v i. (let x = true_and _ _ (every_in (is_real l (block_list b)) vs r v i) in bool_sound v.array (l.array v.node) (true_and _ _ x.1).0);
-  real = λ v i. (let x = true_and _ _ (every_in (is_real l (block_list b)) vs r v i) in not_false (l.plain v.node) (true_and _ _ x.1).1);
+  real = λ v i. (let x = true_and _ _ (every_in (is_real l (block_list b)) vs r v i) in not-true (l.plain v.node) (true_and _ _ x.1).1);
 }

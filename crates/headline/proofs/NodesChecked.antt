@@ -7,6 +7,7 @@ use Rattle.task_code.specs.Code.{Act, Entry, Code, entry, nth, blank_entry}
 use Rattle.task_code.specs.Whole.{IsCode}
 use Rattle.task_code.proofs.Equal.{true_and, nat_same}
 use Rattle.code_rules.specs.NodesOnce.{TellsNode, NodesOnce}
+use Rattle.std.proofs.lemmas.Bool.{and_from}
 
 abbrev tells : Act → Bool
 tells (code.Cell e) = true
@@ -46,16 +47,12 @@ tells_so (code.Range l h' s w) h = absurd h
 tells_so (code.Each w) h = absurd h
 tells_so (code.Wait hs b) h = absurd h
 
-both : (a b : Bool) → a ≡ true → b ≡ true → (a && b) ≡ true
-both true b h g = g
-both false b h g = absurd (cc (h))
-
 not_so : {A : Type 0} (b : Bool) → not b ≡ true → b ≡ true → A
 not_so true h g = absurd (cc (h))
 not_so false h g = absurd (cc (g))
 
 clashes : (e f : Entry) → TellsNode e.act → TellsNode f.act → e.node ≡ f.node → clash e f ≡ true
-clashes e f h g q = both (tells e.act) _ (tells_so e.act h) (both (tells f.act) _ (tells_so f.act g) (subst (λ (n : ℕ). nat_eq e.node n ≡ true) q (nat_same e.node)))
+clashes e f h g q = and_from (tells e.act) _ (tells_so e.act h) (and_from (tells f.act) _ (tells_so f.act g) (subst (λ (n : ℕ). nat_eq e.node n ≡ true) q (nat_same e.node)))
 
 free_at : (e : Entry) (es : List Entry) (j : ℕ) → list_all (λ f. not (clash e f)) es ≡ true → j < length es → clash e (nth blank_entry es j) ≡ true → ⊥
 free_at e [] j h l c = absurd (omega arith)

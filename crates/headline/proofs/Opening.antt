@@ -36,6 +36,7 @@ use Rattle.language_laws.specs.Scoped.{IsIn, AreIn, FormIn}
 use Rattle.code_rules.specs.IsCodeOf.{Layout, seen, seen_as}
 use Rattle.headline.proofs.Evaluate.{IsDatum, ArrayIsDatum, ArraysAreData}
 use Rattle.headline.proofs.Readings.{cell_has}
+use Rattle.std.proofs.lemmas.Bool.{and_from}
 
 -- HOW DEEP
 
@@ -60,10 +61,6 @@ not_both : (a b : Bool) → (a && b) ≡ false → b ≡ true → a ≡ false
 not_both true b h q = sym q ∙ h
 not_both false b h q = refl
 
-both_so : (a b : Bool) → a ≡ true → b ≡ true → (a && b) ≡ true
-both_so true b h q = q
-both_so false b h q = absurd (cc (h))
-
 below : (n : ℕ) → nat_le most_steps n ≡ false → n < most_steps
 below n h = grind arith
 
@@ -73,7 +70,7 @@ path_length (t ∷ p) = ap suc (path_length p)
 
 pub depth_below : (a : code.Act) (p : List Step) (s : ℕ × List Step) (ss : List (ℕ × List Step)) → steps_on a ≡ true → In s ss → is_too_deep a p ss ≡ false → length (script_path p) < most_steps
 depth_below a p s ss st i h =
-    let q = below (length p) (not_both (nat_le most_steps (length p)) (steps_on a && is_some_list ss) h (both_so (steps_on a) (is_some_list ss) st (some_list s ss i))) in
+    let q = below (length p) (not_both (nat_le most_steps (length p)) (steps_on a && is_some_list ss) h (and_from (steps_on a) (is_some_list ss) st (some_list s ss i))) in
     subst (λ (n : ℕ). n < most_steps) (sym (path_length p)) q
 
 -- ARRAYS ARE DATA

@@ -27,6 +27,7 @@ use Rattle.headline.specs.Knows.{Knows}
 use Rattle.headline.specs.Inclusions.{Facts}
 use Rattle.headline.specs.Chains.{AllElements, Has, HasElement, HasAll, Answers}
 use Rattle.headline.proofs.Transfer.{same_answers}
+use Rattle.values.specs.Limits.{chunk_size}
 
 -- LISTS IN CHUNKS
 
@@ -36,9 +37,9 @@ split_taken zero (y ∷ xs) x h = inr h
 split_taken (suc n) (y ∷ xs) x (inl e) = inl (inl e)
 split_taken (suc n) (y ∷ xs) x (inr h) = elim (split_taken n xs x h) [ inl m ↦ inl (inr m) | inr m ↦ inr m ]
 
-pub next_left : {X : Type 0} (c : ℕ) (xs : List X) → drop 64 (left_at c xs) ≡ left_at (suc c) xs
+pub next_left : {X : Type 0} (c : ℕ) (xs : List X) → drop chunk_size (left_at c xs) ≡ left_at (suc c) xs
 next_left zero xs = refl
-next_left (suc c) xs = next_left c (drop 64 xs)
+next_left (suc c) xs = next_left c (drop chunk_size xs)
 
 none_left : {X : Type 0} (xs : List X) (x : X) → is_some_list xs ≡ false → In x xs → ⊥
 none_left [] x q h = h
@@ -67,7 +68,7 @@ pub data InAll (act : Act) (mark : ℕ) (p : List Step) (c : ℕ) (x : Computed)
 -- every turn of a loop is in its first chunk or in the rest
 pub turn_in_all : (C : Code) (act : Act) (mark : ℕ) (p : List Step) (x : Computed) (lp : Loop) → loop_of act ≡ Some lp → (y : Key × Scalar) → In y (turns_of x) → InAll act mark p 0 x (lp.body, step_at mark y.0 p)
 turn_in_all C act mark p x lp q y h =
-    elim (split_taken 64 (turns_of x) y h) [
+    elim (split_taken chunk_size (turns_of x) y h) [
       | inl m ↦ now_opened (subst (λ (l : List (ℕ × List Step)). In (lp.body, step_at mark y.0 p) l) (sym (loop_instances C act lp mark p 0 x q)) (in_map (λ (u : Key × Scalar). (lp.body, step_at mark u.0 p)) y (chunk 0 (turns_of x)) m))
       | inr m ↦ rest_opened lp y q m refl
     ]
@@ -156,7 +157,7 @@ module _ (s : Core) (C : Code) (K : Knowledge) (kn : Knows s K) (I : IsCode C) w
           with_rest lp q d y h j m =
               let same : computes_by f.reading ≡ computes_by (d.fact).reading = one_computed f.reading (d.fact).reading in
               let h' : In y (left_at (suc c) (turns_of (computes_by (d.fact).reading))) = subst (λ (z : Computed). In y (left_at (suc c) (turns_of z))) same h in
-              d.below (lp.body, step_at (entry C i).mark y.0 p) (elim (split_taken 64 (left_at (suc c) (turns_of (computes_by (d.fact).reading))) y h') [
+              d.below (lp.body, step_at (entry C i).mark y.0 p) (elim (split_taken chunk_size (left_at (suc c) (turns_of (computes_by (d.fact).reading))) y h') [
                 | inl n ↦ now_opened (subst (λ (l : List (ℕ × List Step)). In (lp.body, step_at (entry C i).mark y.0 p) l) (sym (loop_instances C (entry C i).act lp (entry C i).mark p (suc c) (computes_by (d.fact).reading) q))
                     (in_map (λ (u : Key × Scalar). (lp.body, step_at (entry C i).mark u.0 p)) y (chunk (suc c) (turns_of (computes_by (d.fact).reading))) n))
                 | inr n ↦ rest_opened lp y q (subst (λ (l : List (Key × Scalar)). In y l) (next_left (suc c) (turns_of (computes_by (d.fact).reading))) n) refl

@@ -47,25 +47,33 @@ pub fn worked_codes()
 /// For the whole language: what the code writes by the script's answers the script knows, what the script knows the code writes where a
 /// live task may read it, one task writes an array's key, and lines agree, writer for writer.
 pub fn writes_agree()
-    ensures to { (s : Core) (C : Code) → IsCodeOf s C → IsCode C → WellFormed s → Knows s (Meaning s) → Scoped s → TypedValues s (Meaning s) → WrittenTo s C (Meaning s) }
-    ensures from { (s : Core) (C : Code) → IsCodeOf s C → IsCode C → WellFormed s → Knows s (Meaning s) → Scoped s → TypedValues s (Meaning s) → WrittenFrom s C (Meaning s) }
-    ensures once { (s : Core) (C : Code) → IsCodeOf s C → IsCode C → WellFormed s → Knows s (Meaning s) → Scoped s → TypedValues s (Meaning s) → NodesOnce C → ArraysOnce s C (Meaning s) }
-    ensures prints_to { (s : Core) (C : Code) → IsCodeOf s C → IsCode C → WellFormed s → Knows s (Meaning s) → Scoped s → TypedValues s (Meaning s) → LinesTo s C (Meaning s) }
+    ensures to { (s : Core) (C : Code) → IsCodeOf s C → IsCode C → WellFormed s → Knows s (Meaning s) → Scoped s → TypedValues s (Meaning s)
+        → WrittenTo s C (Meaning s) }
+    ensures from { (s : Core) (C : Code) → IsCodeOf s C → IsCode C → WellFormed s → Knows s (Meaning s) → Scoped s → TypedValues s (Meaning s)
+        → WrittenFrom s C (Meaning s) }
+    ensures once { (s : Core) (C : Code) → IsCodeOf s C → IsCode C → WellFormed s → Knows s (Meaning s) → Scoped s → TypedValues s (Meaning s) → NodesOnce C
+        → ArraysOnce s C (Meaning s) }
+    ensures prints_to { (s : Core) (C : Code) → IsCodeOf s C → IsCode C → WellFormed s → Knows s (Meaning s) → Scoped s → TypedValues s (Meaning s)
+        → LinesTo s C (Meaning s) }
     ensures prints_from { (s : Core) (C : Code) → IsCodeOf s C → IsCode C → WellFormed s → Knows s (Meaning s) → Scoped s → LinesFrom s C (Meaning s) }
 {}
 
 /// For the whole language: what is closed in the code, by the script's answers, is closed in the script; and where no right is idle, what is
 /// closed in the script is closed in the code, if a live task may read it.
 pub fn closed_agrees()
-    ensures to { (s : Core) (C : Code) → IsCodeOf s C → IsCode C → WellFormed s → Knows s (Meaning s) → Scoped s → TypedValues s (Meaning s) → ClosedTo s C (Meaning s) }
-    ensures from { (s : Core) (C : Code) → IsCodeOf s C → IsCode C → WellFormed s → Knows s (Meaning s) → Scoped s → TypedValues s (Meaning s) → NodesOnce C → IsExact C → SinglyAssigned s → ClosedFrom s C (Meaning s) }
+    ensures to { (s : Core) (C : Code) → IsCodeOf s C → IsCode C → WellFormed s → Knows s (Meaning s) → Scoped s → TypedValues s (Meaning s)
+        → ClosedTo s C (Meaning s) }
+    ensures from { (s : Core) (C : Code) → IsCodeOf s C → IsCode C → WellFormed s → Knows s (Meaning s) → Scoped s → TypedValues s (Meaning s) → NodesOnce C
+        → IsExact C → SinglyAssigned s → ClosedFrom s C (Meaning s) }
 {}
 
 /// For the whole language: all that the code ever knows is what the script's answers yield, and no key has two writers.
 pub fn code_within_script()
-    ensures facts { (s : Core) (C : Code) → IsCodeOf s C → IsCode C → WellFormed s → Knows s (Meaning s) → Scoped s → TypedValues s (Meaning s) → NodesOnce C → IsExact C → SinglyAssigned s
+    ensures facts { (s : Core) (C : Code) → IsCodeOf s C → IsCode C → WellFormed s → Knows s (Meaning s) → Scoped s → TypedValues s (Meaning s) → NodesOnce C
+        → IsExact C → SinglyAssigned s
         → (t : Task) (e : Effect Task Place Key Scalar) → Ever (code_system C) t e → Facts s C (Meaning s) t e }
-    ensures clean { (s : Core) (C : Code) → IsCodeOf s C → IsCode C → WellFormed s → Knows s (Meaning s) → Scoped s → TypedValues s (Meaning s) → NodesOnce C → IsExact C → SinglyAssigned s → CleanCode C }
+    ensures clean { (s : Core) (C : Code) → IsCodeOf s C → IsCode C → WellFormed s → Knows s (Meaning s) → Scoped s → TypedValues s (Meaning s) → NodesOnce C
+        → IsExact C → SinglyAssigned s → CleanCode C }
 {}
 
 /// For the whole language: of a script that writes no key twice, every state that a run of its code reaches agrees with the script. What is
@@ -78,7 +86,8 @@ pub fn runs_agree()
 
 /// For the whole language: a fault that comes of what the code knows, by the script's answers, is one of the script's.
 pub fn faults_agree()
-    ensures { (s : Core) (C : Code) → IsCodeOf s C → IsCode C → IsExact C → NodesOnce C → WellFormed s → Knows s (Meaning s) → Scoped s → TypedValues s (Meaning s) → SinglyAssigned s → FaultsTo s C (Meaning s) }
+    ensures { (s : Core) (C : Code) → IsCodeOf s C → IsCode C → IsExact C → NodesOnce C → WellFormed s → Knows s (Meaning s) → Scoped s
+        → TypedValues s (Meaning s) → SinglyAssigned s → FaultsTo s C (Meaning s) }
 {}
 
 /// Rounds, without the premise that the script writes no key twice: half a round (what is known after n rounds, and the scalars that follow)
@@ -98,8 +107,10 @@ pub fn rounds_agree()
 /// key twice; every state that is quiet without fault has all that the script means, whatever the script writes: the script has no fault, the lines are
 /// the script's, and the blocked statements are the script's. A script whose code comes to such a state writes no key twice (`clean`).
 pub fn headline()
-    ensures every_run { (s : Core) (C : Code) → IsCodeOf s C → IsCode C → IsExact C → NodesOnce C → WellFormed s → SinglyAssigned s → Scoped s → TypedValues s (Meaning s) → Asserted s → Headline s C }
-    ensures clean { (s : Core) (C : Code) → IsCodeOf s C → IsCode C → IsExact C → NodesOnce C → WellFormed s → SinglyAssigned s → Scoped s → TypedValues s (Meaning s)
+    ensures every_run { (s : Core) (C : Code) → IsCodeOf s C → IsCode C → IsExact C → NodesOnce C → WellFormed s → SinglyAssigned s → Scoped s
+        → TypedValues s (Meaning s) → Asserted s → Headline s C }
+    ensures clean { (s : Core) (C : Code) → IsCodeOf s C → IsCode C → IsExact C → NodesOnce C → WellFormed s → SinglyAssigned s → Scoped s
+        → TypedValues s (Meaning s)
         → (events : List Event) (st : CodeState) → Run C events st → Quiet C st → Clean s }
 {}
 

@@ -1,5 +1,5 @@
 -- Of a script that writes no key twice, each item of a run is live in the script, and a run has at most two events for each item of live bodies and loops, none of them twice, and for each that is given back.
-use Rattle.std.proofs.lemmas.List.{length-map}
+use Rattle.std.proofs.lemmas.List.{length-map, length-drop}
 use Rattle.std.proofs.lemmas.List.Concat.{length-flat_map}
 use Rattle.std.proofs.lemmas.List.Sums.{sum_by-cons}
 use Rattle.std.proofs.Common.{◌≡◌, ◌⊎◌, inl, inr, ℕ, zero, suc, ◌+◌, ◌-◌, ◌*◌, ◌<◌, ◌≤◌, arith, Bool, true, false, List, [], ◌∷◌, ◌++◌, length, map, refl, sym, ap, ◌∙◌, subst, Option, Some, None, length-append}
@@ -53,6 +53,7 @@ use Rattle.headline.proofs.Within.{clean_code}
 use Rattle.headline_bound.specs.Live.{AreLiveBodies, AreLiveLoops, IsBounded, IsLiveBody, IsLiveItem, IsLiveLoop}
 use Rattle.headline_bound.proofs.Loops.{live_body, live_loop}
 use Rattle.headline_bound.proofs.Once.{Instance, Looped, Put, IsRest, among, in_rests, item_parts, put, rest_items}
+use Rattle.values.specs.Limits.{chunk_size}
 
 -- LISTS
 
@@ -63,22 +64,17 @@ sum_same f g h (x ∷ xs) = sum_by-cons f x xs ∙ (λ i. h x i + sum_same f g h
 one_more : (n m : ℕ) → n ≡ m → suc n ≡ 1 + m
 one_more n m h = omega arith
 
-length_dropped : {X : Type 0} (n : ℕ) (xs : List X) → length (drop n xs) ≡ length xs - n
-length_dropped zero xs = omega arith
-length_dropped (suc n) [] = omega arith
-length_dropped (suc n) (x ∷ xs) = let h = length_dropped n xs in omega arith
-
 -- what is left before a chunk is behind the chunks before it
-left_long : {X : Type 0} (c : ℕ) (xs : List X) → is_some_list (left_at c xs) ≡ true → 64 * c < length xs
+left_long : {X : Type 0} (c : ℕ) (xs : List X) → is_some_list (left_at c xs) ≡ true → chunk_size * c < length xs
 left_long zero [] h = absurd (cc)
 left_long zero (x ∷ xs) h = omega arith
-left_long (suc c) xs h = let l = left_long c (drop 64 xs) h in let d = length_dropped 64 xs in omega arith
+left_long (suc c) xs h = let l = left_long c (drop chunk_size xs) h in let d = length-drop chunk_size xs in omega arith
 
 left_some : {X : Type 0} (c : ℕ) (xs : List X) → is_some_list (left_at c xs) ≡ true → (x : X) × In x xs
 left_some c [] h = let l = left_long c [] h in absurd (omega arith)
 left_some c (x ∷ xs) h = (x, inl refl)
 
-few_rests : (c m : ℕ) → 64 * suc c < m → suc c ≤ rests_of m
+few_rests : (c m : ℕ) → chunk_size * suc c < m → suc c ≤ rests_of m
 few_rests c m h = grind arith
 
 length_rests : (i : ℕ) (p : List Step) (k : ℕ) → length (rest_from i p k) ≡ k

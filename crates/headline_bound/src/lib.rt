@@ -28,9 +28,11 @@ ghost use Rattle.task_code.specs.Whole.{IsCode};
 /// So for every run, in which b items were given back, there are bodies of live blocks and loops that run, none of them twice, with at most 2(I + b) events of the run, where I counts 1, each entry of each of these bodies, and for each
 /// of the loops the whole part of (m - 1)/64, of its m turns.
 pub fn bounded_runs()
-    ensures live { (s : Core) (t : Table) (tree : Tree) (C : Code) → SameCore s (core t tree) → IsPlaced tree → WellTyped tree t → SinglyAssigned (core t tree) → (w : IsCodeOf (core t tree) C) → IsCode C → IsExact C → NodesOnce C → Clean s
+    ensures live { (s : Core) (t : Table) (tree : Tree) (C : Code) → SameCore s (core t tree) → IsPlaced tree → WellTyped tree t → SinglyAssigned (core t tree)
+        → (w : IsCodeOf (core t tree) C) → IsCode C → IsExact C → NodesOnce C → Clean s
         → (events : List Event) (st : CodeState) → Run C events st → (i : CodeItem) → In i st.items → (i.task ≡ Main) ⊎ IsLiveItem s C w.layout i.task }
-    ensures bound { (s : Core) (t : Table) (tree : Tree) (C : Code) → SameCore s (core t tree) → IsPlaced tree → WellTyped tree t → SinglyAssigned (core t tree) → (w : IsCodeOf (core t tree) C) → IsCode C → IsExact C → NodesOnce C → Clean s
+    ensures bound { (s : Core) (t : Table) (tree : Tree) (C : Code) → SameCore s (core t tree) → IsPlaced tree → WellTyped tree t → SinglyAssigned (core t tree)
+        → (w : IsCodeOf (core t tree) C) → IsCode C → IsExact C → NodesOnce C → Clean s
         → (events : List Event) (st : CodeState) → Run C events st → IsBounded s C w.layout events }
 {}
 

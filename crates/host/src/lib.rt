@@ -7,3 +7,5 @@ pub mod opening;
 pub mod reading;
 pub mod record;
 pub mod trace;
+
+pub use host::{ArgumentFault, Host, HostFault, Stream};

@@ -1,8 +1,8 @@
 //! Single calls on files.
 ghost use Rattle.std.specs.Prelude.{◌≤◌, length, IfOk};
 
-use host::host::{ArgumentFault, HostFault};
 use host::identity::Identity;
+use host::{ArgumentFault, HostFault};
 use std::alloc::{AllocError, Global};
 use std::env::{self, Args};
 use std::fs::{self, File, Metadata, OpenOptions};

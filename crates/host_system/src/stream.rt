@@ -2,7 +2,7 @@
 ghost use Rattle.std.specs.Prelude.{◌≡◌, ◌≤◌, [], length, IfOk};
 
 use crate::files::TRIES;
-use host::host::Stream;
+use host::Stream;
 use host::record::{PUT, Record};
 use std::io::{self, Error, ErrorKind, Print};
 use values::sink::{Sink, SinkFault};

@@ -5,12 +5,12 @@ use crate::files::{
     Input, begin_file, empty_file, find, input_file, led_to, next_word, open_input, read_some,
     write_some,
 };
-use host::host::{ArgumentFault, Host, HostFault, Stream};
 use host::identity::Identity;
 use host::record::{
     ARGUMENT, BEGAN, BROKEN, EMPTIED, ERROR, FAILED, FOLLOWED, GOT, KNOWN, LAST_ARGUMENT,
     LED_NOWHERE, LED_TO, NAMED, OPENED, OUT, PUT, REMOVED, Record, UNOPENED, note_found,
 };
+use host::{ArgumentFault, Host, HostFault, Stream};
 use std::alloc::{AllocError, Global};
 use std::env::Args;
 use std::fs::{self, File};

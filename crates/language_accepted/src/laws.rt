@@ -57,10 +57,12 @@ pub fn a_cell_has_one_value_or_fault()
 pub fn a_cell_has_no_two_facts()
     ensures not_both { (bytes : List ℕ) (t : Table) (tree : Tree) → Reads bytes tree → WellTyped tree t → SinglyAssigned (core t tree)
         → (st : Stmt) (c : Cell) → st ∈ script_stmts (core t tree) → c ∈ cells st
-        → (path : Path) (v : Value) (f : Fault) (at : ℕ) → Meaning (core t tree) (value (path, c.node) v) → Meaning (core t tree) (fault f at (path, c.node)) → ⊥ }
+        → (path : Path) (v : Value) (f : Fault) (at : ℕ) → Meaning (core t tree) (value (path, c.node) v)
+        → Meaning (core t tree) (fault f at (path, c.node)) → ⊥ }
     ensures one_fault { (bytes : List ℕ) (t : Table) (tree : Tree) → Reads bytes tree → WellTyped tree t → SinglyAssigned (core t tree)
         → (st : Stmt) (c : Cell) → st ∈ script_stmts (core t tree) → c ∈ cells st
-        → (path : Path) (f g : Fault) (at to : ℕ) → Meaning (core t tree) (fault f at (path, c.node)) → Meaning (core t tree) (fault g to (path, c.node)) → (f ≡ g) × (at ≡ to) }
+        → (path : Path) (f g : Fault) (at to : ℕ) → Meaning (core t tree) (fault f at (path, c.node))
+        → Meaning (core t tree) (fault g to (path, c.node)) → (f ≡ g) × (at ≡ to) }
 {}
 
 /// One statement writes one value under a key.

@@ -31,19 +31,28 @@ pub fn the_cores_are_those_of_the_trees()
 
 /// These scripts keep the premises of the laws, one that fills an array in a called function and one that calls itself among them.
 pub fn the_examples_keep_the_premises()
-    ensures read_before_assignment { WellFormed (core table_of_read_before_assignment tree_of_read_before_assignment) × SinglyAssigned (core table_of_read_before_assignment tree_of_read_before_assignment) }
-    ensures loop_reads_what_it_writes { WellFormed (core table_of_loop_reads_what_it_writes tree_of_loop_reads_what_it_writes) × SinglyAssigned (core table_of_loop_reads_what_it_writes tree_of_loop_reads_what_it_writes) }
-    ensures key_written_twice { WellFormed (core table_of_key_written_twice tree_of_key_written_twice) × SinglyAssigned (core table_of_key_written_twice tree_of_key_written_twice) }
-    ensures missing_element { WellFormed (core table_of_missing_element tree_of_missing_element) × SinglyAssigned (core table_of_missing_element tree_of_missing_element) }
+    ensures read_before_assignment { WellFormed (core table_of_read_before_assignment tree_of_read_before_assignment)
+        × SinglyAssigned (core table_of_read_before_assignment tree_of_read_before_assignment) }
+    ensures loop_reads_what_it_writes { WellFormed (core table_of_loop_reads_what_it_writes tree_of_loop_reads_what_it_writes)
+        × SinglyAssigned (core table_of_loop_reads_what_it_writes tree_of_loop_reads_what_it_writes) }
+    ensures key_written_twice { WellFormed (core table_of_key_written_twice tree_of_key_written_twice)
+        × SinglyAssigned (core table_of_key_written_twice tree_of_key_written_twice) }
+    ensures missing_element { WellFormed (core table_of_missing_element tree_of_missing_element)
+        × SinglyAssigned (core table_of_missing_element tree_of_missing_element) }
     ensures circle { WellFormed (core table_of_circle tree_of_circle) × SinglyAssigned (core table_of_circle tree_of_circle) }
-    ensures fault_beside_unknown { WellFormed (core table_of_fault_beside_unknown tree_of_fault_beside_unknown) × SinglyAssigned (core table_of_fault_beside_unknown tree_of_fault_beside_unknown) }
-    ensures fault_in_index { WellFormed (core table_of_fault_in_index tree_of_fault_in_index) × SinglyAssigned (core table_of_fault_in_index tree_of_fault_in_index) }
+    ensures fault_beside_unknown { WellFormed (core table_of_fault_beside_unknown tree_of_fault_beside_unknown)
+        × SinglyAssigned (core table_of_fault_beside_unknown tree_of_fault_beside_unknown) }
+    ensures fault_in_index { WellFormed (core table_of_fault_in_index tree_of_fault_in_index)
+        × SinglyAssigned (core table_of_fault_in_index tree_of_fault_in_index) }
     ensures strict_and { WellFormed (core table_of_strict_and tree_of_strict_and) × SinglyAssigned (core table_of_strict_and tree_of_strict_and) }
     ensures too_large { WellFormed (core table_of_too_large tree_of_too_large) × SinglyAssigned (core table_of_too_large tree_of_too_large) }
-    ensures outputs_are_the_callers { WellFormed (core table_of_outputs_are_the_callers tree_of_outputs_are_the_callers) × SinglyAssigned (core table_of_outputs_are_the_callers tree_of_outputs_are_the_callers) }
-    ensures calls_without_end { WellFormed (core table_of_calls_without_end tree_of_calls_without_end) × SinglyAssigned (core table_of_calls_without_end tree_of_calls_without_end) }
+    ensures outputs_are_the_callers { WellFormed (core table_of_outputs_are_the_callers tree_of_outputs_are_the_callers)
+        × SinglyAssigned (core table_of_outputs_are_the_callers tree_of_outputs_are_the_callers) }
+    ensures calls_without_end { WellFormed (core table_of_calls_without_end tree_of_calls_without_end)
+        × SinglyAssigned (core table_of_calls_without_end tree_of_calls_without_end) }
     ensures nested_waits { WellFormed (core table_of_nested_waits tree_of_nested_waits) × SinglyAssigned (core table_of_nested_waits tree_of_nested_waits) }
-    ensures filled_in_a_call { WellFormed (core table_of_filled_in_a_call tree_of_filled_in_a_call) × SinglyAssigned (core table_of_filled_in_a_call tree_of_filled_in_a_call) }
+    ensures filled_in_a_call { WellFormed (core table_of_filled_in_a_call tree_of_filled_in_a_call)
+        × SinglyAssigned (core table_of_filled_in_a_call tree_of_filled_in_a_call) }
     ensures fibonacci { WellFormed (core table_of_fibonacci tree_of_fibonacci) × SinglyAssigned (core table_of_fibonacci tree_of_fibonacci) }
 {}
 

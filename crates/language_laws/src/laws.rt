@@ -26,7 +26,8 @@ pub fn one_value()
 
 /// A name has one scalar wherever it is read, the loop variables among them, by all that is ever known and after each round.
 pub fn one_scalar()
-    ensures meaning { (s : Core) → WellFormed s → SinglyAssigned s → (p : Place) (v u : Scalar) → HasValue s (Meaning s) p v → HasValue s (Meaning s) p u → v ≡ u }
+    ensures meaning { (s : Core) → WellFormed s → SinglyAssigned s → (p : Place) (v u : Scalar) → HasValue s (Meaning s) p v
+        → HasValue s (Meaning s) p u → v ≡ u }
     ensures round { (s : Core) → WellFormed s → SinglyAssigned s → (n : ℕ) (p : Place) (v u : Scalar)
         → HasValue s (Known s n) p v → HasValue s (Known s n) p u → v ≡ u }
 {}
@@ -77,7 +78,8 @@ pub fn closed_array_is_full()
 /// A closed array has finitely many elements, by all that is ever known and after each round.
 pub fn a_closed_array_is_a_list()
     ensures meaning { (s : Core) → WellFormed s → SinglyAssigned s → (a : Place) → Closed s (Meaning s) a → (es : List Element) × Elements (Meaning s) a es }
-    ensures round { (s : Core) → WellFormed s → SinglyAssigned s → (n : ℕ) (a : Place) → Closed s (Known s n) a → (es : List Element) × Elements (Known s n) a es }
+    ensures round { (s : Core) → WellFormed s → SinglyAssigned s → (n : ℕ) (a : Place) → Closed s (Known s n) a
+        → (es : List Element) × Elements (Known s n) a es }
 {}
 
 /// Where in no round a key has two writers, it has one by all that is ever known.

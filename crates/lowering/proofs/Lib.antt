@@ -8,3 +8,4 @@ pub mod Views
 pub mod Walks
 pub mod Wholes
 pub mod Declaring
+pub mod Showing

@@ -16,7 +16,7 @@ use Rattle.language.specs.Tree.{Word, Node, Declaration, Form, variable, Command
 use Rattle.language.specs.Table.{Table}
 use Rattle.language.specs.Resolved.{Arguments, call_to, pieces_or_none, refers, with_command, with_statement, block_of, block_in, script_block}
 use Rattle.flow.specs.declared.cell.Part.{Part}
-use Rattle.flow.specs.declared.statement.Variable.{Variable}
+pub use Rattle.flow_listed.specs.Listed.{Declared, declared}
 use Rattle.flow.specs.View.{parts_view}
 
 -- what is found is what is wanted, and the parts that stand before it stand behind those that were there
@@ -54,15 +54,7 @@ factor_of _ = Factors.Times
 abbrev pub format_read : List ℕ → List Piece
 format_read bytes = pieces_or_none (pieces false bytes)
 
--- a variable that is declared: its node, its shape and its name
-pub record Declared : Type 0 where
-  pub node : ℕ
-  pub shape : Shape
-  pub name : List ℕ
-
-abbrev pub declared : {A : Type 0} → Variable A → Declared
-declared v = record { node = v.node; shape = v.shape; name = v.name.items }
-
+-- a variable that is declared
 abbrev pub as_declared : Shape → Word → Declared
 as_declared s w = record { node = w.number; shape = s; name = w.text }
 

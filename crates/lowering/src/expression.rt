@@ -78,7 +78,8 @@ fn inner_cell<A: Allocator + Clone>(
     parts: &mut Vec<Part<A>, A>,
     expr: &tree::Expr<A>,
 ) -> Result<(), AllocError>
-    ensures { OnOk result (let e = expression_view expr.now in parts_view parts.new.items ≡ parts_view parts.old.items ++ rules.as_cell (rules.number_of e) (rules.form_of (table_of typed.now) e)) }
+    ensures { OnOk result (let e = expression_view expr.now in parts_view parts.new.items
+        ≡ parts_view parts.old.items ++ rules.as_cell (rules.number_of e) (rules.form_of (table_of typed.now) e)) }
 {
     let found = form(alloc, typed, parts, expr)?;
     add_cell(parts, expr.number, expr.first.from, found)
@@ -105,7 +106,8 @@ fn operand<A: Allocator + Clone>(
     parts: &mut Vec<Part<A>, A>,
     expr: &tree::Expr<A>,
 ) -> Result<Expr<A>, AllocError>
-    ensures { IfOk result (λ one. let e = expression_view expr.now in Leaves parts.old.items parts.new.items (seen.expr_view one) (rules.as_operand (rules.number_of e) (rules.form_of (table_of typed.now) e))) }
+    ensures { IfOk result (λ one. let e = expression_view expr.now in Leaves parts.old.items parts.new.items (seen.expr_view one)
+        (rules.as_operand (rules.number_of e) (rules.form_of (table_of typed.now) e))) }
 {
     let found = form(alloc, typed, parts, expr)?;
     match found {
@@ -128,7 +130,9 @@ pub fn operation_on<A: Allocator + Clone>(
     exprs: &Vec<tree::Expr<A>, A>,
     from: usize,
 ) -> Result<Form<A>, AllocError>
-    ensures { IfOk result (λ f. Leaves parts.old.items parts.new.items (seen.form_view f) (rules.computes (seen.operation_view operation) (rules.operands_of (table_of typed.now) (expressions_of (map expression_view (drop from exprs.now.items)))))) }
+    ensures { IfOk result (λ f. Leaves parts.old.items parts.new.items (seen.form_view f)
+        (rules.computes (seen.operation_view operation)
+        (rules.operands_of (table_of typed.now) (expressions_of (map expression_view (drop from exprs.now.items)))))) }
 {
     let found = operands(alloc, typed, parts, exprs, from)?;
     Ok(Form::Compute(Expr::Operation(operation, found)))
@@ -143,7 +147,8 @@ fn operands<A: Allocator + Clone>(
     exprs: &Vec<tree::Expr<A>, A>,
     from: usize,
 ) -> Result<Vec<Expr<A>, A>, AllocError>
-    ensures { IfOk result (λ v. Leaves parts.old.items parts.new.items (seen.exprs_view v.items) (rules.operands_of (table_of typed.now) (expressions_of (map expression_view (drop from exprs.now.items))))) }
+    ensures { IfOk result (λ v. Leaves parts.old.items parts.new.items (seen.exprs_view v.items)
+        (rules.operands_of (table_of typed.now) (expressions_of (map expression_view (drop from exprs.now.items))))) }
 {
     let mut found = Vec::new(alloc.clone()?);
     for i in from..exprs.len() {
@@ -164,7 +169,8 @@ fn called<A: Allocator + Clone>(
     arguments: &Vec<tree::Expr<A>, A>,
 ) -> Result<Form<A>, AllocError>
     ensures { IfOk result (λ f. let t = table_of typed.now in let es = expressions_of (map expression_view arguments.now.items) in
-        Leaves parts.old.items parts.new.items (seen.form_view f) (rules.call_form t (word_of name.now) (t.callee_of name.now.number) es (rules.arguments_of t es) (rules.operands_of t es))) }
+        Leaves parts.old.items parts.new.items (seen.form_view f)
+        (rules.call_form t (word_of name.now) (t.callee_of name.now.number) es (rules.arguments_of t es) (rules.operands_of t es))) }
 {
     match typed.callee(name.number) {
         Callee::Function(function) => {
@@ -186,7 +192,8 @@ pub fn built_in<A: Allocator + Clone>(
     builtin: Builtin,
     arguments: &Vec<tree::Expr<A>, A>,
 ) -> Result<Form<A>, AllocError>
-    ensures { IfOk result (λ f. (w : pure.Word) (passed : rules.Arguments) → let t = table_of typed.now in let es = expressions_of (map expression_view arguments.now.items) in
+    ensures { IfOk result (λ f. (w : pure.Word) (passed : rules.Arguments)
+        → let t = table_of typed.now in let es = expressions_of (map expression_view arguments.now.items) in
         Leaves parts.old.items parts.new.items (seen.form_view f) (rules.call_form t w (built_in (builtin_name builtin)) es passed (rules.operands_of t es))) }
 {
     match builtin {
@@ -249,7 +256,8 @@ fn inputs<A: Allocator + Clone>(
     parts: &mut Vec<Part<A>, A>,
     exprs: &Vec<tree::Expr<A>, A>,
 ) -> Result<Vec<Name, A>, AllocError>
-    ensures { IfOk result (λ v. Leaves parts.old.items parts.new.items (names_view v.items) (rules.arguments_of (table_of typed.now) (expressions_of (map expression_view exprs.now.items)))) }
+    ensures { IfOk result (λ v. Leaves parts.old.items parts.new.items (names_view v.items)
+        (rules.arguments_of (table_of typed.now) (expressions_of (map expression_view exprs.now.items)))) }
 {
     let mut found = Vec::new(alloc.clone()?);
     for expr in exprs {
@@ -266,7 +274,8 @@ fn argument<A: Allocator + Clone>(
     parts: &mut Vec<Part<A>, A>,
     expr: &tree::Expr<A>,
 ) -> Result<Name, AllocError>
-    ensures { IfOk result (λ x. let t = table_of typed.now in let e = expression_view expr.now in Leaves parts.old.items parts.new.items (seen.name_view x) (rules.as_argument t e (rules.form_of t e))) }
+    ensures { IfOk result (λ x. let t = table_of typed.now
+        in let e = expression_view expr.now in Leaves parts.old.items parts.new.items (seen.name_view x) (rules.as_argument t e (rules.form_of t e))) }
 {
     match array_named(typed, &expr.kind) {
         Some(array) => Ok(array),

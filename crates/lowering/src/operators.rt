@@ -105,7 +105,8 @@ pub fn of_builtin<A: Allocator + Clone>(
     builtin: Builtin,
     arguments: &Vec<Expr<A>, A>,
 ) -> Result<Operation<A>, AllocError>
-    ensures { IfOk result (λ operation. operation_view operation ≡ rules.builtin_operation (builtin_name builtin) (expressions_of (map expression_view arguments.now.items))) }
+    ensures { IfOk result (λ operation. operation_view operation
+        ≡ rules.builtin_operation (builtin_name builtin) (expressions_of (map expression_view arguments.now.items))) }
 {
     match builtin {
         Builtin::Strcat => Ok(Operation::Join),

@@ -6,6 +6,7 @@ ghost use Rattle.language.specs.Tree.{expressions_of, value};
 ghost use Rattle.language.specs.Resolved as rules;
 ghost use Rattle.syntax_trees.specs.View.{word_of, words_view, expression_view, right_of, calling_of};
 ghost use Rattle.types.specs.Typed.{table_of, builtin_name};
+ghost use Rattle.flow_listed.specs.Listed.{action_listed, other};
 ghost use Rattle.flow.specs.Shapes.{action_declared};
 ghost use Rattle.flow.specs.View as seen;
 ghost use Rattle.flow.specs.View.{action_view, outer_view, name_view, names_view, operation_view};
@@ -52,7 +53,7 @@ pub fn boxed_outer<A: Allocator + Clone>(
 
 /// The node and the offset of a cell.
 #[derive(Clone, Copy, Drop)]
-pub struct Place {
+pub struct Anchor {
     pub node: u32,
     pub at: usize,
 }
@@ -61,12 +62,14 @@ pub struct Place {
 fn outer_operation<A: Allocator + Clone>(
     alloc: &A,
     typed: &Typed,
-    place: Place,
+    place: Anchor,
     operation: Operation<A>,
     exprs: &Vec<tree::Expr<A>, A>,
     from: usize,
 ) -> Result<Box<Outer<A>, A>, AllocError>
-    ensures { IfOk result (λ o. outer_view o.value ≡ rules.outer_of place.node (rules.computes (operation_view operation) (rules.operands_of (table_of typed.now) (expressions_of (map expression_view (drop from exprs.now.items)))))) }
+    ensures { IfOk result (λ o. outer_view o.value ≡ rules.outer_of place.node
+        (rules.computes (operation_view operation) (rules.operands_of (table_of typed.now)
+        (expressions_of (map expression_view (drop from exprs.now.items)))))) }
 {
     let mut parts = Vec::new(alloc.clone()?);
     let form = operation_on(alloc, typed, &mut parts, operation, exprs, from)?;
@@ -89,11 +92,12 @@ pub fn assignment<A: Allocator + Clone>(
 ) -> Result<Action<A>, AllocError>
     ensures core { IfOk result (λ a. action_view a ≡ rules.right_of (table_of typed.now) (name_view target) target.shape (right_of right.now)) }
     ensures declared { IfOk result (λ a. action_declared a ≡ []) }
+    ensures listed { IfOk result (λ a. action_listed a ≡ other []) }
 {
     match right {
         Right::Value(expr) => of_value(alloc, typed, target, expr),
         Right::List(list) => {
-            let place = Place {
+            let place = Anchor {
                 node: list.number,
                 at: list.first.from,
             };
@@ -114,6 +118,7 @@ fn of_value<A: Allocator + Clone>(
 ) -> Result<Action<A>, AllocError>
     ensures core { IfOk result (λ a. action_view a ≡ rules.right_of (table_of typed.now) (name_view target) target.shape (value (expression_view expr.now))) }
     ensures declared { IfOk result (λ a. action_declared a ≡ []) }
+    ensures listed { IfOk result (λ a. action_listed a ≡ other []) }
 {
     match &expr.kind {
         ExprKind::Call(name, arguments) => match typed.callee(name.number) {
@@ -146,6 +151,7 @@ fn assign<A: Allocator + Clone>(
 ) -> Result<Action<A>, AllocError>
     ensures core { IfOk result (λ a. action_view a ≡ core.assign (name_view target) (rules.outer (table_of typed.now) (expression_view expr.now))) }
     ensures declared { IfOk result (λ a. action_declared a ≡ []) }
+    ensures listed { IfOk result (λ a. action_listed a ≡ other []) }
 {
     Ok(Action::Assign {
         target,
@@ -163,6 +169,7 @@ fn filled<A: Allocator + Clone>(
 ) -> Result<Action<A>, AllocError>
     ensures core { IfOk result (λ a. action_view a ≡ core.fill (name_view array) (rules.outer_of node ([], core.compute (core.whole (name_view elements))))) }
     ensures declared { IfOk result (λ a. action_declared a ≡ []) }
+    ensures listed { IfOk result (λ a. action_listed a ≡ other []) }
 {
     let right = boxed_whole(alloc, node, at, elements)?;
     Ok(Action::Fill { array, right })
@@ -198,8 +205,10 @@ fn call_alone<A: Allocator + Clone>(
     arguments: &Vec<tree::Expr<A>, A>,
     outputs: Vec<Name, A>,
 ) -> Result<Action<A>, AllocError>
-    ensures core { IfOk result (λ a. action_view a ≡ rules.composite_call priority (word_of name.now) function (rules.arguments_of (table_of typed.now) (expressions_of (map expression_view arguments.now.items))) (names_view outputs.items)) }
+    ensures core { IfOk result (λ a. action_view a ≡ rules.composite_call priority (word_of name.now) function
+        (rules.arguments_of (table_of typed.now) (expressions_of (map expression_view arguments.now.items))) (names_view outputs.items)) }
     ensures declared { IfOk result (λ a. action_declared a ≡ []) }
+    ensures listed { IfOk result (λ a. action_listed a ≡ other []) }
 {
     let mut parts = Vec::new(alloc.clone()?);
     let call = call_of(alloc, typed, &mut parts, name, function, arguments, outputs)?;
@@ -220,8 +229,9 @@ pub fn statement_call<A: Allocator + Clone>(
     ensures core { IfOk result (λ a. let t = table_of typed.now in let c = calling_of call.now in
         action_view a ≡ rules.call_action t priority c.node.number c.name (expressions_of c.arguments) (t.callee_of c.name.number)) }
     ensures declared { IfOk result (λ a. action_declared a ≡ []) }
+    ensures listed { IfOk result (λ a. action_listed a ≡ other []) }
 {
-    let place = Place {
+    let place = Anchor {
         node: call.number,
         at: call.first.from,
     };
@@ -259,8 +269,10 @@ pub fn several<A: Allocator + Clone>(
     call: &Call<A>,
 ) -> Result<Action<A>, AllocError>
     ensures core { IfOk result (λ a. let t = table_of typed.now in let c = calling_of call.now in
-        action_view a ≡ rules.several t c.node.number c.name (expressions_of c.arguments) (map (rules.refers t) (words_view names.now)) (t.callee_of c.name.number)) }
+        action_view a ≡ rules.several t c.node.number c.name (expressions_of c.arguments) (map (rules.refers t) (words_view names.now))
+        (t.callee_of c.name.number)) }
     ensures declared { IfOk result (λ a. action_declared a ≡ []) }
+    ensures listed { IfOk result (λ a. action_listed a ≡ other []) }
 {
     match typed.callee(call.name.number) {
         Callee::Function(function) => {
@@ -301,8 +313,10 @@ fn built_in_assigned<A: Allocator + Clone>(
     call: &Call<A>,
 ) -> Result<Action<A>, AllocError>
     ensures core { IfOk result (λ a. let t = table_of typed.now in let c = calling_of call.now in let es = expressions_of c.arguments in
-        action_view a ≡ core.assign (name_view target) (rules.outer_of c.node.number (rules.call_form t c.name (table.built_in (builtin_name builtin)) es ([], []) (rules.operands_of t es)))) }
+        action_view a ≡ core.assign (name_view target)
+        (rules.outer_of c.node.number (rules.call_form t c.name (table.built_in (builtin_name builtin)) es ([], []) (rules.operands_of t es)))) }
     ensures declared { IfOk result (λ a. action_declared a ≡ []) }
+    ensures listed { IfOk result (λ a. action_listed a ≡ other []) }
 {
     let right = boxed_built_in(alloc, typed, builtin, call)?;
     Ok(Action::Assign { target, right })
@@ -316,7 +330,8 @@ fn boxed_built_in<A: Allocator + Clone>(
     call: &Call<A>,
 ) -> Result<Box<Outer<A>, A>, AllocError>
     ensures { IfOk result (λ o. let t = table_of typed.now in let c = calling_of call.now in let es = expressions_of c.arguments in
-        outer_view o.value ≡ rules.outer_of c.node.number (rules.call_form t c.name (table.built_in (builtin_name builtin)) es ([], []) (rules.operands_of t es))) }
+        outer_view o.value ≡ rules.outer_of c.node.number
+        (rules.call_form t c.name (table.built_in (builtin_name builtin)) es ([], []) (rules.operands_of t es))) }
 {
     let mut parts = Vec::new(alloc.clone()?);
     let form = built_in(alloc, typed, &mut parts, builtin, &call.arguments)?;

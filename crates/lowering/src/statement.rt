@@ -11,6 +11,10 @@ ghost use Rattle.lowering.specs.View.{statement_alone, command_alone, statements
 ghost use Rattle.flow.specs.Shapes.{action_declared, block_declared, is_array};
 ghost use Rattle.language_accepted.specs.Types.{statement_declarations, command_declarations, body_declarations};
 ghost use Rattle.lowering.specs.Shapes.{among, declared_by, flagged};
+ghost use Rattle.flow_listed.specs.Listed as shows;
+ghost use Rattle.flow_listed.specs.Listed.{action_listed, block_listed, declares, other, whole};
+ghost use Rattle.lowering.specs.View.{as_declared, variable_of};
+ghost use Rattle.lowering.specs.Listed.{all_listed, body_listed, command_listed, listed, listed_by};
 
 use crate::names::{all, optional, refer, variable};
 use crate::right::{assignment, boxed_outer, outer, several, statement_call};
@@ -31,6 +35,7 @@ fn add<A: Allocator>(
 ) -> Result<(), AllocError>
     ensures core { OnOk result (statements_view found.new.items ≡ statements_view found.old.items ++ core.stmt at node (action_view action) ∷ []) }
     ensures declared { OnOk result (declared_by found.new.items ≡ declared_by found.old.items ++ action_declared action) }
+    ensures listed { OnOk result (listed_by found.new.items ≡ listed_by found.old.items ++ action_listed action ∷ []) }
 {
     found.push(Statement { at, node, action })?;
     Ok(())
@@ -43,8 +48,10 @@ fn add_made<A: Allocator>(
     at: usize,
     action: Result<Action<A>, AllocError>,
 ) -> Result<(), AllocError>
-    ensures core { OnOk result (IsOkAnd action (λ a. statements_view found.new.items ≡ statements_view found.old.items ++ core.stmt at node (action_view a) ∷ [])) }
+    ensures core { OnOk result (IsOkAnd action (λ a. statements_view found.new.items
+        ≡ statements_view found.old.items ++ core.stmt at node (action_view a) ∷ [])) }
     ensures declared { OnOk result (IsOkAnd action (λ a. declared_by found.new.items ≡ declared_by found.old.items ++ action_declared a)) }
+    ensures listed { OnOk result (IsOkAnd action (λ a. listed_by found.new.items ≡ listed_by found.old.items ++ action_listed a ∷ [])) }
 {
     match action {
         Ok(action) => add(found, node, at, action),
@@ -76,8 +83,12 @@ fn declaration<A: Allocator + Clone>(
     right: &Option<Right<A>>,
     found: &mut Vec<Statement<A>, A>,
 ) -> Result<(), AllocError>
-    ensures core { OnOk result ((to : ℕ) → statements_view found.new.items ≡ statements_view found.old.items ++ command_alone (table_of typed.now) (record { number = number; first = first; to = to }) (trees.declare (declaration_of decl.now) (option_map right_of right.now))) }
+    ensures core { OnOk result ((to : ℕ) → statements_view found.new.items
+        ≡ statements_view found.old.items ++ command_alone (table_of typed.now) (record { number = number; first = first; to = to })
+        (trees.declare (declaration_of decl.now) (option_map right_of right.now))) }
     ensures declared { OnOk result (declared_by found.new.items ≡ declared_by found.old.items ++ (decl.now.name.number, is_array decl.now.shape) ∷ []) }
+    ensures listed { OnOk result (listed_by found.new.items
+        ≡ listed_by found.old.items ++ command_listed (trees.declare (declaration_of decl.now) (option_map right_of right.now))) }
 {
     let variable = variable(alloc, &decl.name, decl.shape)?;
     add(found, number, first.from, Action::Declare(variable))?;
@@ -100,8 +111,10 @@ fn insert<A: Allocator + Clone>(
     index: &Expr<A>,
     value: &Expr<A>,
 ) -> Result<Action<A>, AllocError>
-    ensures core { IfOk result (λ a. let t = table_of typed.now in action_view a ≡ core.insert (rules.refers t (word_of name.now)) (rules.outer t (expression_view index.now)) (rules.outer t (expression_view value.now))) }
+    ensures core { IfOk result (λ a. let t = table_of typed.now in action_view a
+        ≡ core.insert (rules.refers t (word_of name.now)) (rules.outer t (expression_view index.now)) (rules.outer t (expression_view value.now))) }
     ensures declared { IfOk result (λ a. action_declared a ≡ []) }
+    ensures listed { IfOk result (λ a. action_listed a ≡ other []) }
 {
     let index = boxed_outer(alloc, typed, index)?;
     let right = boxed_outer(alloc, typed, value)?;
@@ -150,7 +163,8 @@ fn boxed_range<A: Allocator + Clone>(
 ) -> Result<Box<Range<A>, A>, AllocError>
     ensures low { IfOk result (λ r. outer_view r.value.low ≡ rules.outer (table_of typed.now) (expression_view over.now.low)) }
     ensures high { IfOk result (λ r. outer_view r.value.high ≡ rules.outer (table_of typed.now) (expression_view over.now.high)) }
-    ensures step { IfOk result (λ r. option_map outer_view r.value.step ≡ option_map (rules.outer (table_of typed.now)) (option_map expression_view over.now.step)) }
+    ensures step { IfOk result (λ r. option_map outer_view r.value.step
+        ≡ option_map (rules.outer (table_of typed.now)) (option_map expression_view over.now.step)) }
 {
     Ok(Box::new(alloc.clone()?, range(alloc, typed, over)?)?)
 }
@@ -166,6 +180,7 @@ fn choice<A: Allocator + Clone>(
 ) -> Result<Action<A>, AllocError>
     ensures core { IfOk result (λ a. action_view a ≡ core.when (rules.outer (table_of typed.now) (expression_view test.now)) (block_view then.value)) }
     ensures declared { IfOk result (λ a. action_declared a ≡ block_declared then.value) }
+    ensures listed { IfOk result (λ a. action_listed a ≡ other (whole (block_listed then.value))) }
 {
     let condition = boxed_outer(alloc, typed, test)?;
     Ok(Action::When { condition, then })
@@ -179,8 +194,10 @@ fn choice_else<A: Allocator + Clone>(
     then: Box<Block<A>, A>,
     other: Box<Block<A>, A>,
 ) -> Result<Action<A>, AllocError>
-    ensures core { IfOk result (λ a. action_view a ≡ core.choose (rules.outer (table_of typed.now) (expression_view test.now)) (block_view then.value) (block_view other.value)) }
+    ensures core { IfOk result (λ a. action_view a ≡ core.choose (rules.outer (table_of typed.now) (expression_view test.now)) (block_view then.value)
+        (block_view other.value)) }
     ensures declared { IfOk result (λ a. action_declared a ≡ block_declared then.value ++ block_declared other.value) }
+    ensures listed { IfOk result (λ a. action_listed a ≡ shows.other (whole (block_listed then.value) ++ whole (block_listed other.value))) }
 {
     let condition = boxed_outer(alloc, typed, test)?;
     Ok(Action::Choose {
@@ -197,8 +214,12 @@ fn repeated<A: Allocator + Clone>(
     header: &Header<A>,
     body: Box<Block<A>, A>,
 ) -> Result<Action<A>, AllocError>
-    ensures core { IfOk result (λ a. action_view a ≡ rules.loop_action (table_of typed.now) (word_of header.now.value) (option_map word_of header.now.key) (over_of header.now.source) (block_view body.value)) }
+    ensures core { IfOk result (λ a. action_view a ≡ rules.loop_action (table_of typed.now) (word_of header.now.value) (option_map word_of header.now.key)
+        (over_of header.now.source) (block_view body.value)) }
     ensures declared { IfOk result (λ a. action_declared a ≡ block_declared body.value) }
+    ensures listed { IfOk result (λ a. action_listed a
+        ≡ shows.looping (as_declared Shape.Scalar (word_of header.now.value)) (option_map (as_declared Shape.Scalar) (option_map word_of header.now.key))
+        (block_listed body.value)) }
 {
     let value = variable(alloc, &header.value, Shape::Scalar)?;
     let key = optional(alloc, &header.key)?;
@@ -230,6 +251,7 @@ fn waiting<A: Allocator + Clone>(
 ) -> Result<Action<A>, AllocError>
     ensures core { IfOk result (λ a. action_view a ≡ core.wait (map (rules.awaited (table_of typed.now)) (words_view names.now)) (block_view content.value)) }
     ensures declared { IfOk result (λ a. action_declared a ≡ block_declared content.value) }
+    ensures listed { IfOk result (λ a. action_listed a ≡ shows.waiting (block_listed content.value)) }
 {
     let names = all(alloc, typed, names)?;
     Ok(Action::Wait {
@@ -249,8 +271,10 @@ pub fn statement<A: Allocator + Clone>(
     stmt: &Stmt<A>,
     found: &mut Vec<Statement<A>, A>,
 ) -> Result<(), AllocError>
-    ensures core { OnOk result (statements_view found.new.items ≡ statements_view found.old.items ++ statement_alone (table_of typed.now) (statement_view stmt.now)) }
+    ensures core { OnOk result (statements_view found.new.items
+        ≡ statements_view found.old.items ++ statement_alone (table_of typed.now) (statement_view stmt.now)) }
     ensures declared { OnOk result (declared_by found.new.items ≡ declared_by found.old.items ++ flagged (statement_declarations (statement_view stmt.now))) }
+    ensures listed { OnOk result (listed_by found.new.items ≡ listed_by found.old.items ++ listed (statement_view stmt.now)) }
 {
     command(alloc, typed, stmt.number, stmt.first, &stmt.kind, found)
 }
@@ -265,8 +289,10 @@ fn command<A: Allocator + Clone>(
     kind: &StmtKind<A>,
     found: &mut Vec<Statement<A>, A>,
 ) -> Result<(), AllocError>
-    ensures core { OnOk result ((to : ℕ) → statements_view found.new.items ≡ statements_view found.old.items ++ command_alone (table_of typed.now) (record { number = number; first = first; to = to }) (command_view kind.now)) }
+    ensures core { OnOk result ((to : ℕ) → statements_view found.new.items
+        ≡ statements_view found.old.items ++ command_alone (table_of typed.now) (record { number = number; first = first; to = to }) (command_view kind.now)) }
     ensures declared { OnOk result (declared_by found.new.items ≡ declared_by found.old.items ++ flagged (command_declarations (command_view kind.now))) }
+    ensures listed { OnOk result (listed_by found.new.items ≡ listed_by found.old.items ++ command_listed (command_view kind.now)) }
 {
     let at = first.from;
     match kind {
@@ -318,6 +344,7 @@ fn boxed_block<A: Allocator + Clone>(
 ) -> Result<Box<Block<A>, A>, AllocError>
     ensures core { IfOk result (λ b. block_view b.value ≡ rules.block_of (table_of typed.now) (body_view body.now)) }
     ensures declared { IfOk result (λ b. block_declared b.value ≡ flagged (body_declarations (body_view body.now))) }
+    ensures listed { IfOk result (λ b. block_listed b.value ≡ body_listed (body_view body.now)) }
 {
     let mut statements = Vec::new(alloc.clone()?);
     each(alloc, typed, &body.statements, &mut statements)?;
@@ -332,8 +359,10 @@ fn each<A: Allocator + Clone>(
     statements: &Vec<Stmt<A>, A>,
     found: &mut Vec<Statement<A>, A>,
 ) -> Result<(), AllocError>
-    ensures core { OnOk result (statements_view found.new.items ≡ statements_view found.old.items ++ statements_among (table_of typed.now) (map statement_view statements.now.items)) }
+    ensures core { OnOk result (statements_view found.new.items
+        ≡ statements_view found.old.items ++ statements_among (table_of typed.now) (map statement_view statements.now.items)) }
     ensures declared { OnOk result (declared_by found.new.items ≡ declared_by found.old.items ++ flagged (among (map statement_view statements.now.items))) }
+    ensures listed { OnOk result (listed_by found.new.items ≡ listed_by found.old.items ++ all_listed (map statement_view statements.now.items)) }
 {
     for stmt in statements {
         statement(alloc, typed, stmt, found)?;
@@ -349,6 +378,7 @@ pub fn block<A: Allocator + Clone>(
 ) -> Result<Block<A>, AllocError>
     ensures core { IfOk result (λ b. block_view b ≡ rules.block_of (table_of typed.now) (body_view body.now)) }
     ensures declared { IfOk result (λ b. block_declared b ≡ flagged (body_declarations (body_view body.now))) }
+    ensures listed { IfOk result (λ b. block_listed b ≡ body_listed (body_view body.now)) }
 {
     let mut statements = Vec::new(alloc.clone()?);
     each(alloc, typed, &body.statements, &mut statements)?;
@@ -363,6 +393,7 @@ fn boxed_at<A: Allocator + Clone>(
 ) -> Result<Box<Block<A>, A>, AllocError>
     ensures core { IfOk result (λ b. block_view b.value ≡ seen.block_of (statements_view statements.items)) }
     ensures declared { IfOk result (λ b. block_declared b.value ≡ declared_by statements.items) }
+    ensures listed { IfOk result (λ b. block_listed b.value ≡ shows.block_of from (listed_by statements.items)) }
 {
     Ok(Box::new(alloc.clone()?, block_at(from, statements))?)
 }
@@ -371,6 +402,7 @@ fn boxed_at<A: Allocator + Clone>(
 pub fn block_at<A: Allocator>(from: usize, statements: Vec<Statement<A>, A>) -> Block<A>
     ensures core { block_view result ≡ seen.block_of (statements_view statements.items) }
     ensures declared { block_declared result ≡ declared_by statements.items }
+    ensures listed { block_listed result ≡ shows.block_of from (listed_by statements.items) }
 {
     Block { from, statements }
 }

@@ -217,7 +217,8 @@ fn items_of(
     instance: usize,
     array: Name,
 ) -> Result<Option<Choice>, AllocError>
-    ensures { IfOk result (λ choice. choice_seen choice ≡ items_seen ((sight_of learned.now instance).closed (name_view array)) ((sight_of learned.now instance).elements (name_view array))) }
+    ensures { IfOk result (λ choice. choice_seen choice
+        ≡ items_seen ((sight_of learned.now instance).closed (name_view array)) ((sight_of learned.now instance).elements (name_view array))) }
 {
     let place = learned.instances.place(instance, array);
     if !learned.is_closed(place) {
@@ -234,7 +235,8 @@ fn known_choice<A: Allocator>(
     instance: usize,
     action: &Action<A>,
 ) -> Result<Option<Choice>, AllocError>
-    ensures { IfOk result (λ choice. choice_seen choice ≡ chosen_from (action_view action.now) (all_seen (sight_of learned.now instance) (outer_cells (action_view action.now)))) }
+    ensures { IfOk result (λ choice. choice_seen choice
+        ≡ chosen_from (action_view action.now) (all_seen (sight_of learned.now instance) (outer_cells (action_view action.now)))) }
 {
     let outers = outers_of(alloc, action)?;
     match known_values(learned, alloc, instance, outers.as_slice())? {
@@ -250,7 +252,8 @@ fn known_values<A: Allocator>(
     instance: usize,
     outers: &[&Outer<A>],
 ) -> Result<Option<Vec<Value>>, AllocError>
-    ensures { IfOk result (λ values. option_map (λ v. v.items) values ≡ all_seen (sight_of learned.now instance) (map (λ o. o.cell) (outers_listed outers.now))) }
+    ensures { IfOk result (λ values. option_map (λ v. v.items) values
+        ≡ all_seen (sight_of learned.now instance) (map (λ o. o.cell) (outers_listed outers.now))) }
 {
     let mut values = Vec::new(alloc);
     for outer in outers {

@@ -43,7 +43,8 @@ pub fn is_finished<'b, A: Allocator>(
     flow: &'b Flow<A>,
     body: Body<'b, A>,
 ) -> Result<bool, AllocError>
-    ensures { IfOk result (λ yes. IsTrue yes ↔ IsDone (core_of flow.now) learned.now (record { instance = body.entry.instance; what = owned_view body.entry.what; block = block_view body.entry.block.now })) }
+    ensures { IfOk result (λ yes. IsTrue yes ↔ IsDone (core_of flow.now) learned.now
+        (record { instance = body.entry.instance; what = owned_view body.entry.what; block = block_view body.entry.block.now })) }
 {
     let mut tasks = Vec::new(alloc);
     tasks.push(Task {
@@ -71,7 +72,9 @@ fn add_task<'b, A: Allocator>(
     task: Task<'b, A>,
     tasks: &mut Vec<Task<'b, A>>,
 ) -> Result<bool, AllocError>
-    ensures { IfOk result (λ yes. where_so yes (goals_of tasks.new.items) ≡ behind (goals_of tasks.old.items) (goals_in (core_of flow.now) learned.now (task_goal task.entry).instance (task_goal task.entry).what (task_goal task.entry).block)) }
+    ensures { IfOk result (λ yes. where_so yes (goals_of tasks.new.items)
+        ≡ behind (goals_of tasks.old.items) (goals_in (core_of flow.now) learned.now (task_goal task.entry).instance (task_goal task.entry).what
+        (task_goal task.entry).block)) }
 {
     match task.inner.split_first() {
         Some((header, inner)) => add_waiting(
@@ -105,7 +108,8 @@ fn add_unfinished<'b, A: Allocator>(
     block: &'b Block<A>,
     tasks: &mut Vec<Task<'b, A>>,
 ) -> Result<bool, AllocError>
-    ensures { IfOk result (λ yes. where_so yes (goals_of tasks.new.items) ≡ behind (goals_of tasks.old.items) (goals_in (core_of flow.now) learned.now instance (owned_view what) (block_view block.now))) }
+    ensures { IfOk result (λ yes. where_so yes (goals_of tasks.new.items)
+        ≡ behind (goals_of tasks.old.items) (goals_in (core_of flow.now) learned.now instance (owned_view what) (block_view block.now))) }
 {
     for statement in &block.statements {
         if !add_statement(learned, alloc, flow, instance, what, statement, tasks)? {
@@ -126,7 +130,8 @@ fn add_statement<'b, A: Allocator>(
     statement: &'b Statement<A>,
     tasks: &mut Vec<Task<'b, A>>,
 ) -> Result<bool, AllocError>
-    ensures { IfOk result (λ yes. where_so yes (goals_of tasks.new.items) ≡ behind (goals_of tasks.old.items) (statement_goals (core_of flow.now) learned.now instance (owned_view what) (statement_view statement.now))) }
+    ensures { IfOk result (λ yes. where_so yes (goals_of tasks.new.items)
+        ≡ behind (goals_of tasks.old.items) (statement_goals (core_of flow.now) learned.now instance (owned_view what) (statement_view statement.now))) }
 {
     if !is_target(what, &statement.action) {
         return Ok(true);
@@ -158,7 +163,9 @@ fn add_target<'b, A: Allocator>(
     action: &'b Action<A>,
     tasks: &mut Vec<Task<'b, A>>,
 ) -> Result<bool, AllocError>
-    ensures { IfOk result (λ yes. where_so yes (goals_of tasks.new.items) ≡ behind (goals_of tasks.old.items) (action_goals (core_of flow.now) learned.now writer.instance (owned_view what) at writer.node (action_view action.now))) }
+    ensures { IfOk result (λ yes. where_so yes (goals_of tasks.new.items)
+        ≡ behind (goals_of tasks.old.items) (action_goals (core_of flow.now) learned.now writer.instance (owned_view what) at writer.node
+        (action_view action.now))) }
 {
     let instance = writer.instance;
     match action {
@@ -204,7 +211,9 @@ fn add_waiting<'b, A: Allocator>(
     block: &'b Block<A>,
     tasks: &mut Vec<Task<'b, A>>,
 ) -> Result<bool, AllocError>
-    ensures { IfOk result (λ yes. where_so yes (goals_of tasks.new.items) ≡ behind (goals_of tasks.old.items) (where_aimed (aims_in (owned_view what) (block_view block.now)) (where_so (have_come_in (sight_of learned.now instance) (map awaited_view header.now.names.items))
+    ensures { IfOk result (λ yes. where_so yes (goals_of tasks.new.items)
+        ≡ behind (goals_of tasks.old.items) (where_aimed (aims_in (owned_view what) (block_view block.now))
+        (where_so (have_come_in (sight_of learned.now instance) (map awaited_view header.now.names.items))
         (record { instance = instance; what = owned_view what; block = waits_around inner.now (block_view block.now) } ∷ [])))) }
 {
     if !is_target_in(what, block) {
@@ -224,7 +233,8 @@ fn add_content<'b, A: Allocator>(
     block: &'b Block<A>,
     tasks: &mut Vec<Task<'b, A>>,
 ) -> Result<bool, AllocError>
-    ensures { IfOk result (λ yes. where_so yes (goals_of tasks.new.items) ≡ behind (goals_of tasks.old.items) (where_so (have_come_in (sight_of learned.now instance) (map awaited_view names.now))
+    ensures { IfOk result (λ yes. where_so yes (goals_of tasks.new.items)
+        ≡ behind (goals_of tasks.old.items) (where_so (have_come_in (sight_of learned.now instance) (map awaited_view names.now))
         (record { instance = instance; what = owned_view what; block = waits_around inner.now (block_view block.now) } ∷ []))) }
 {
     if !have_come(learned, instance, names) {
@@ -249,7 +259,8 @@ fn add_chosen<'b, A: Allocator>(
     action: &'b Action<A>,
     tasks: &mut Vec<Task<'b, A>>,
 ) -> Result<bool, AllocError>
-    ensures { IfOk result (λ yes. where_so yes (goals_of tasks.new.items) ≡ behind (goals_of tasks.old.items) (header_goals learned.now instance (owned_view what) at (action_view action.now))) }
+    ensures { IfOk result (λ yes. where_so yes (goals_of tasks.new.items)
+        ≡ behind (goals_of tasks.old.items) (header_goals learned.now instance (owned_view what) at (action_view action.now))) }
 {
     let Some(choice) = choice_of(learned, alloc, instance, action)? else {
         return Ok(false);
@@ -302,7 +313,8 @@ fn add_child<'b, A: Allocator>(
     block: &'b Block<A>,
     tasks: &mut Vec<Task<'b, A>>,
 ) -> Result<bool, AllocError>
-    ensures { IfOk result (λ yes. where_so yes (goals_of tasks.new.items) ≡ behind (goals_of tasks.old.items) (child_goals (child_at learned.now.instances instance at key.now) (owned_view what) (block_view block.now))) }
+    ensures { IfOk result (λ yes. where_so yes (goals_of tasks.new.items)
+        ≡ behind (goals_of tasks.old.items) (child_goals (child_at learned.now.instances instance at key.now) (owned_view what) (block_view block.now))) }
 {
     let Some(child) = learned.instances.child(instance, at, key) else {
         return Ok(false);
@@ -345,7 +357,8 @@ fn add_body<'b, A: Allocator>(
     block: &'b Block<A>,
     tasks: &mut Vec<Task<'b, A>>,
 ) -> Result<(), AllocError>
-    ensures { OnOk result (goals_of tasks.new.items ≡ goals_of tasks.old.items ++ output_goals child (owned_view what) (block_view block.now) 0 (names_view outputs.now)) }
+    ensures { OnOk result (goals_of tasks.new.items ≡ goals_of tasks.old.items
+        ++ output_goals child (owned_view what) (block_view block.now) 0 (names_view outputs.now)) }
 {
     for i in 0..outputs.len() {
         let output = &outputs[i];
@@ -363,7 +376,8 @@ fn add_output<'b, A: Allocator>(
     block: &'b Block<A>,
     tasks: &mut Vec<Task<'b, A>>,
 ) -> Result<(), AllocError>
-    ensures { OnOk result (goals_of tasks.new.items ≡ goals_of tasks.old.items ++ output_goals child (owned_view what) (block_view block.now) i (name_view output ∷ [])) }
+    ensures { OnOk result (goals_of tasks.new.items ≡ goals_of tasks.old.items
+        ++ output_goals child (owned_view what) (block_view block.now) i (name_view output ∷ [])) }
 {
     if is_same(output.what, what) {
         tasks.push(Task {

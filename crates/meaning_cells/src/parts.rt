@@ -61,7 +61,8 @@ fn bounds_of<'a, A: Allocator>(
     alloc: Global,
     range: &'a Range<A>,
 ) -> Result<Vec<&'a Outer<A>>, AllocError>
-    ensures { IfOk result (λ os. outers_listed os.items ≡ outer_view range.now.low ∷ outer_view range.now.high ∷ option_to_list (option_map outer_view range.now.step)) }
+    ensures { IfOk result (λ os. outers_listed os.items
+        ≡ outer_view range.now.low ∷ outer_view range.now.high ∷ option_to_list (option_map outer_view range.now.step)) }
 {
     let mut outers = two(alloc, &range.low, &range.high)?;
     match &range.step {

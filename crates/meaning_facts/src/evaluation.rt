@@ -66,7 +66,8 @@ impl Learned {
         array: Name,
         key: KeyRef<'_>,
     ) -> Result<Option<Outcome>, AllocError>
-        ensures { IfOk result (λ r. outcome_view r ≡ element_come ((sight_of self.now instance).writes (name_view array) (key_seen key.entry)) ((sight_of self.now instance).closed (name_view array))) }
+        ensures { IfOk result (λ r. outcome_view r ≡ element_come ((sight_of self.now instance).writes (name_view array) (key_seen key.entry))
+            ((sight_of self.now instance).closed (name_view array))) }
     {
         let place = self.instances.place(instance, array);
         match self.facts.written(place, key) {
@@ -114,7 +115,8 @@ impl Learned {
         instance: usize,
         array: Name,
     ) -> Result<Option<Result<Value, OpFault>>, AllocError>
-        ensures { IfOk result (λ r. r ≡ many_come ((sight_of self.now instance).closed (name_view array)) ((sight_of self.now instance).elements (name_view array))) }
+        ensures { IfOk result (λ r. r ≡ many_come ((sight_of self.now instance).closed (name_view array))
+            ((sight_of self.now instance).elements (name_view array))) }
     {
         let place = self.instances.place(instance, array);
         if !self.is_closed(place) {

@@ -183,7 +183,8 @@ impl Instances {
     /// output of a function, the place of what the calling block gave for it.
     pub fn place(&self, instance: usize, name: Name) -> Place
         ensures spot { result ≡ spot self.now.all.items instance (name_view name) }
-        ensures lies { (s : Core) (path : Path) → Stands s self.now.all.items instance path → IsPlace s self.now.all.items result (place s path (name_view name)) }
+        ensures lies { (s : Core) (path : Path) → Stands s self.now.all.items instance path
+            → IsPlace s self.now.all.items result (place s path (name_view name)) }
     {
         self.owner_place(self.outward(instance, name.up), name.what)
     }

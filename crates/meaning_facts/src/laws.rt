@@ -23,14 +23,17 @@ use paths::Step;
 pub fn instances_by_paths()
     ensures found { (t : Instances) → IsTree t → (i : ℕ) → i < length t.all.items → at_path t (path_of t.all.items i) ≡ Some i }
     ensures there { (t : Instances) → IsTree t → (p : Path) (i : ℕ) → at_path t p ≡ Some i → (i < length t.all.items) × (path_of t.all.items i ≡ p) }
-    ensures one { (t : Instances) → IsTree t → (i j : ℕ) → i < length t.all.items → j < length t.all.items → path_of t.all.items i ≡ path_of t.all.items j → i ≡ j }
+    ensures one { (t : Instances) → IsTree t → (i j : ℕ) → i < length t.all.items → j < length t.all.items
+        → path_of t.all.items i ≡ path_of t.all.items j → i ≡ j }
 {}
 
 /// Where the instances are a tree and each stands at its path, what an instance sees, and what was told before of it, is what is
 /// kept at its path; and a name lies in an instance where it denotes at the path.
 pub fn what_is_kept()
-    ensures sees { (s : Core) (l : Learned) → IsPlaced s l.instances → (i : ℕ) → i < length l.instances.all.items → sight_of l i ≡ sight_by s (kept_of l) (path_of l.instances.all.items i) }
-    ensures recalls { (s : Core) (l : Learned) → IsPlaced s l.instances → (i : ℕ) → i < length l.instances.all.items → past_of l i ≡ past_by s (kept_of l) (path_of l.instances.all.items i) }
+    ensures sees { (s : Core) (l : Learned) → IsPlaced s l.instances → (i : ℕ) → i < length l.instances.all.items
+        → sight_of l i ≡ sight_by s (kept_of l) (path_of l.instances.all.items i) }
+    ensures recalls { (s : Core) (l : Learned) → IsPlaced s l.instances → (i : ℕ) → i < length l.instances.all.items
+        → past_of l i ≡ past_by s (kept_of l) (path_of l.instances.all.items i) }
     ensures lies { (s : Core) (l : Learned) → IsPlaced s l.instances → (i : ℕ) → i < length l.instances.all.items → (x : Name)
         → IsLocated l.instances.all.items (spot l.instances.all.items i x) (place s (path_of l.instances.all.items i) x) }
 {}
@@ -38,7 +41,8 @@ pub fn what_is_kept()
 /// Where the facts that were learned are those that are known, they are so with one fact more, of which the places are those of
 /// instances, and with which a place has one value and a writer writes one scalar under a key.
 pub fn one_fact_more()
-    ensures { (fs : List script.Fact) (l : Learned) (k : Facts) (f : Fact) → IsTree l.instances → KeepsFacts (Knows fs) l → IsAdded l.facts f k → IsWithin l.instances.all.items f
+    ensures { (fs : List script.Fact) (l : Learned) (k : Facts) (f : Fact) → IsTree l.instances → KeepsFacts (Knows fs) l → IsAdded l.facts f k
+        → IsWithin l.instances.all.items f
         → IsAgreed (With (Knows fs) (fact_view l.instances.all.items f)) → KeepsFacts (With (Knows fs) (fact_view l.instances.all.items f)) (with_facts l k) }
 {}
 

@@ -9,26 +9,26 @@ use Rattle.meaning_facts.specs.declared.learned.Learned.{Learned}
 use Rattle.meaning_facts.specs.Keeping.{past_of}
 use Rattle.meaning_facts.specs.Paths.{path_of}
 use Rattle.meaning_facts.specs.Sighted.{sight_of}
-use Rattle.meaning_faults.specs.declared.site.Site.{Site}
+use Rattle.meaning_faults.specs.declared.site.LiveStatement.{LiveStatement}
 
-abbrev pub sight_at : Learned → Site → Sight
+abbrev pub sight_at : Learned → LiveStatement → Sight
 sight_at l t = sight_of l t.instance
 
-abbrev pub past_at : Learned → Site → Past
+abbrev pub past_at : Learned → LiveStatement → Past
 past_at l t = past_of l t.instance
 
-abbrev pub path_at : Learned → Site → Path
+abbrev pub path_at : Learned → LiveStatement → Path
 path_at l t = path_of l.instances.all.items t.instance
 
 -- a fault at a node, unless it is known
-abbrev pub fault_news : Learned → Site → Fault → ℕ → List Fact
+abbrev pub fault_news : Learned → LiveStatement → Fault → ℕ → List Fact
 fault_news l t f n = unless ((past_at l t).faulted f t.at n) (fault f t.at (path_at l t, n))
 
 -- that the path would be too long where something is opened
-abbrev pub deep_news : Learned → Site → Bool → List Fact
+abbrev pub deep_news : Learned → LiveStatement → Bool → List Fact
 deep_news l t opens = deep_by (past_at l t) (path_at l t) t.at t.node ((past_at l t).deep && opens)
 
 -- that the path would be too long where an array is closed and has an element
-abbrev pub each_news : Learned → Site → (closed : Bool) → List Element → List Fact
+abbrev pub each_news : Learned → LiveStatement → (closed : Bool) → List Element → List Fact
 each_news l t true es = deep_news l t (some_item es)
 each_news l t false es = []

@@ -6,7 +6,7 @@ ghost use Rattle.meaning_invariants.specs.Held.{StayInside};
 ghost use Rattle.meaning_faults.specs.Viewed.{facts_view};
 ghost use Rattle.meaning_faults.specs.Faults.{sight_at, fault_news, deep_news, each_news};
 
-use crate::site::Site;
+use crate::site::LiveStatement;
 use flow::name::Name;
 use meaning_facts::facts::{Fact, FaultFact};
 use meaning_facts::learned::Learned;
@@ -16,7 +16,7 @@ use std::alloc::{AllocError, Global};
 /// Adds a fault at a node of a statement, unless it is known. It can fail for want of memory alone.
 pub fn add_fault(
     learned: &Learned,
-    site: Site,
+    site: LiveStatement,
     kind: FaultKind,
     node: u32,
     news: &mut Vec<Fact>,
@@ -37,7 +37,11 @@ pub fn add_fault(
 }
 
 /// Adds that the path would be too long where it is as long as can be. It can fail for want of memory alone.
-pub fn add_deep(learned: &Learned, site: Site, news: &mut Vec<Fact>) -> Result<(), AllocError>
+pub fn add_deep(
+    learned: &Learned,
+    site: LiveStatement,
+    news: &mut Vec<Fact>,
+) -> Result<(), AllocError>
     ensures told { OnOk result (facts_view learned.now.instances.all.items news.new.items
         ≡ facts_view learned.now.instances.all.items news.old.items ++ deep_news learned.now site true) }
     ensures inside { OnOk result (StayInside learned.now.instances.all.items site.instance news.old.items news.new.items) }
@@ -52,7 +56,7 @@ pub fn add_deep(learned: &Learned, site: Site, news: &mut Vec<Fact>) -> Result<(
 pub fn add_deep_items(
     learned: &Learned,
     alloc: Global,
-    site: Site,
+    site: LiveStatement,
     array: Name,
     news: &mut Vec<Fact>,
 ) -> Result<(), AllocError>

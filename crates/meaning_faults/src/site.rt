@@ -6,13 +6,13 @@ use meaning_facts::facts::Place;
 
 /// A live statement, by its block instance, its offset and its node.
 #[derive(Clone, Copy)]
-pub struct Site {
+pub struct LiveStatement {
     pub instance: usize,
     pub at: usize,
     pub node: u32,
 }
 
-impl Site {
+impl LiveStatement {
     /// The place of a node in the statement's instance.
     pub fn place(self, node: u32) -> Place
         ensures { result ≡ record { instance = self.instance; node = node } }

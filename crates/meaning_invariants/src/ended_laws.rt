@@ -39,23 +39,28 @@ pub fn what_is_aimed_at()
 /// Where the facts that were learned are those that are known, an instance sees what is known and taken at its path, and all that
 /// a `wait` waits for is there just where it is taken to be.
 pub fn what_is_taken()
-    ensures sees { (s : Core) (n : ℕ) (l : Learned) (ls : List Active) → IsPlaced s l.instances → KeepsFacts (Known s n) l → ((a : Place) → (kept_of l).closed a ≡ true → OneWriter (Known s n) a)
+    ensures sees { (s : Core) (n : ℕ) (l : Learned) (ls : List Active) → IsPlaced s l.instances → KeepsFacts (Known s n) l
+        → ((a : Place) → (kept_of l).closed a ≡ true → OneWriter (Known s n) a)
         → (i : ℕ) → i < length l.instances.all.items → SeesBy s (Known s n) (taken_by l ls) (path_of l.instances.all.items i) (sight_of l i) }
     ensures come_so { (s : Core) (l : Learned) (ls : List Active) → IsPlaced s l.instances → (i : ℕ) → i < length l.instances.all.items
         → (ns : List Awaited) → have_come_in (sight_of l i) ns ≡ true → (x : Awaited) → x ∈ ns → ComeBy s (taken_by l ls) (path_of l.instances.all.items i) x }
     ensures come_all { (s : Core) (l : Learned) (ls : List Active) → IsPlaced s l.instances → (i : ℕ) → i < length l.instances.all.items
-        → (ns : List Awaited) → ((x : Awaited) → x ∈ ns → ComeBy s (taken_by l ls) (path_of l.instances.all.items i) x) → have_come_in (sight_of l i) ns ≡ true }
+        → (ns : List Awaited) → ((x : Awaited) → x ∈ ns → ComeBy s (taken_by l ls) (path_of l.instances.all.items i) x)
+        → have_come_in (sight_of l i) ns ≡ true }
 {}
 
 /// Each statement of a block that is done is finished by what is taken; and where all that is ready is open, a block of which the
 /// statements are listed and each is finished is done.
 pub fn what_is_done()
-    ensures finished { (s : Core) (n : ℕ) (l : Learned) (ls : List Active) → IsPlaced s l.instances → KeepsFacts (Known s n) l → ((a : Place) → (kept_of l).closed a ≡ true → OneWriter (Known s n) a)
+    ensures finished { (s : Core) (n : ℕ) (l : Learned) (ls : List Active) → IsPlaced s l.instances → KeepsFacts (Known s n) l
+        → ((a : Place) → (kept_of l).closed a ≡ true → OneWriter (Known s n) a)
         → (g : Goal) → IsDone s l g → g.instance < length l.instances.all.items
         → (st : Stmt) → st ∈ block_list g.block → FinishedBy s (Known s n) (taken_by l ls) g.what (path_of l.instances.all.items g.instance) st }
-    ensures ended { (s : Core) (n : ℕ) (l : Learned) (ls : List Active) → IsPlaced s l.instances → KeepsFacts (Known s n) l → IsRight s (Known s n) l ls → IsAllOpen s (Known s n) l ls → HasIndexes s (Known s n)
+    ensures ended { (s : Core) (n : ℕ) (l : Learned) (ls : List Active) → IsPlaced s l.instances → KeepsFacts (Known s n) l → IsRight s (Known s n) l ls
+        → IsAllOpen s (Known s n) l ls → HasIndexes s (Known s n)
         → (g : Goal) → g.instance < length l.instances.all.items → ((st : Stmt) → st ∈ block_list g.block → active g.instance st ∈ ls)
-        → ((st : Stmt) → st ∈ block_list g.block → FinishedBy s (Known s n) (taken_by l ls) g.what (path_of l.instances.all.items g.instance) st) → IsDone s l g }
+        → ((st : Stmt) → st ∈ block_list g.block → FinishedBy s (Known s n) (taken_by l ls) g.what
+        (path_of l.instances.all.items g.instance) st) → IsDone s l g }
 {}
 
 /// Of an accepted script the index of each element that is known is known.
@@ -82,7 +87,8 @@ pub fn one_writer_a_key()
 /// they are given.
 pub fn what_a_variable_is()
     ensures given { (s : Core) (n : ℕ) (l : Learned) (ls : List Active) (path : Path) (g : Sight) → LoopsApart s → SeesBy s (Known s n) (taken_by l ls) path g
-        → (at node : ℕ) (header : Action) (vs : List Value) → stmt at node header ∈ script_stmts s → (c : Chosen) → chosen_in g header ≡ Some c → ReadyBy s (Known s n) (taken_by l ls) path header vs
+        → (at node : ℕ) (header : Action) (vs : List Value) → stmt at node header ∈ script_stmts s → (c : Chosen) → chosen_in g header ≡ Some c
+        → ReadyBy s (Known s n) (taken_by l ls) path header vs
         → (i : ℕ) → i < count_in c → (x : ℕ) (v : Scalar) → InTurn header vs (key_in c i) x v → variable_in (turn_variables header c i) x ≡ Some v }
     ensures so { (s : Core) (n : ℕ) (l : Learned) (ls : List Active) (path : Path) (g : Sight) → SeesBy s (Known s n) (taken_by l ls) path g
         → (header : Action) (vs : List Value) (c : Chosen) → chosen_in g header ≡ Some c → ReadyBy s (Known s n) (taken_by l ls) path header vs
@@ -93,8 +99,11 @@ pub fn what_a_variable_is()
 /// is right, all that is ready is open and all that is finished is closed, what is kept is what is known, and what is live is
 /// listed.
 pub fn what_is_settled()
-    ensures keeps { (s : Core) → WellFormed s → SinglyAssigned s → (n levels : ℕ) (l : Learned) (ls : List Active) (arrays : List Candidate) → IsPlaced s l.instances → KeepsFacts (Known s n) l
+    ensures keeps { (s : Core) → WellFormed s → SinglyAssigned s → (n levels : ℕ) (l : Learned) (ls : List Active) (arrays : List Candidate)
+        → IsPlaced s l.instances → KeepsFacts (Known s n) l
         → IsRight s (Known s n) l ls → IsAllOpen s (Known s n) l ls → IsAllClosed s levels l ls arrays → Keeps s (Known s n) (kept_of l) }
-    ensures live { (s : Core) → WellFormed s → SinglyAssigned s → (n levels : ℕ) (l : Learned) (ls : List Active) (arrays : List Candidate) → IsPlaced s l.instances → KeepsFacts (Known s n) l
-        → IsRight s (Known s n) l ls → IsAllOpen s (Known s n) l ls → IsAllClosed s levels l ls arrays → (path : Path) (st : Stmt) → LiveStmt s (Known s n) path st → IsListed l ls path st }
+    ensures live { (s : Core) → WellFormed s → SinglyAssigned s → (n levels : ℕ) (l : Learned) (ls : List Active) (arrays : List Candidate)
+        → IsPlaced s l.instances → KeepsFacts (Known s n) l
+        → IsRight s (Known s n) l ls → IsAllOpen s (Known s n) l ls → IsAllClosed s levels l ls arrays → (path : Path) (st : Stmt)
+        → LiveStmt s (Known s n) path st → IsListed l ls path st }
 {}

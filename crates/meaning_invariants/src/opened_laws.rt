@@ -45,7 +45,8 @@ pub fn going_on()
 /// gives; and all that was there stays and sees what it saw.
 pub fn one_more_is_so()
     ensures so { (s : Core) (n : ℕ) (levels : ℕ) (l : Learned) (ls : List Active) (arrays : List Candidate) → IsSoFar s (Known s n) levels l ls arrays
-        → (i : ℕ) → i < length l.instances.all.items → (x : Step) (g : Given) (u : Instances) → IsOpen l.instances i x g u → child_at l.instances i x.offset x.key ≡ None
+        → (i : ℕ) → i < length l.instances.all.items → (x : Step) (g : Given) (u : Instances) → IsOpen l.instances i x g u
+        → child_at l.instances i x.offset x.key ≡ None
         → length (path_of l.instances.all.items i) < most_steps
         → ((j : ℕ) → given_at g.inputs.items j i ≡ spot l.instances.all.items i (input_name (call_at s x.offset) j))
         → ((j : ℕ) → given_at g.outputs.items j i ≡ spot l.instances.all.items i (output_name (call_at s x.offset) j))
@@ -63,29 +64,37 @@ pub fn one_block_more_is_so()
 /// Where all statements were passed, and the choices of the headers that wait are not known, all that is ready is open; and what
 /// was opened is right.
 pub fn all_is_open()
-    ensures opened { (s : Core) → WellFormed s → SinglyAssigned s → OffsetsApart s → (n levels : ℕ) (l : Learned) (ls : List Active) (arrays : List Candidate) → IsSoFar s (Known s n) levels l ls arrays
+    ensures opened { (s : Core) → WellFormed s → SinglyAssigned s → OffsetsApart s → (n levels : ℕ) (l : Learned) (ls : List Active) (arrays : List Candidate)
+        → IsSoFar s (Known s n) levels l ls arrays
         → (ws : List Active) → ArePassed s (Known s n) l ls ls ws → ((a : Active) → a ∈ ws → IsUnready l a) → IsAllOpen s (Known s n) l ls }
-    ensures right { (s : Core) (n levels : ℕ) (l : Learned) (ls : List Active) (arrays : List Candidate) → IsSoFar s (Known s n) levels l ls arrays → IsRight s (Known s n) l ls }
+    ensures right { (s : Core) (n levels : ℕ) (l : Learned) (ls : List Active) (arrays : List Candidate) → IsSoFar s (Known s n) levels l ls arrays
+        → IsRight s (Known s n) l ls }
 {}
 
 /// What was opened so far is so after the next round.
 pub fn a_round_later_it_is_so()
-    ensures so { (s : Core) → WellFormed s → SinglyAssigned s → (n levels : ℕ) (l : Learned) (k : Facts) (ls : List Active) (arrays : List Candidate) → IsSoFar s (Known s n) levels l ls arrays
+    ensures so { (s : Core) → WellFormed s → SinglyAssigned s → (n levels : ℕ) (l : Learned) (k : Facts) (ls : List Active) (arrays : List Candidate)
+        → IsSoFar s (Known s n) levels l ls arrays
         → Holds (Known s (suc n)) (with_facts l k) → IsSoFar s (Known s (suc n)) levels (with_facts l k) ls arrays }
-    ensures passed { (s : Core) → WellFormed s → SinglyAssigned s → (n : ℕ) (l : Learned) (k : Facts) (ls ps ws : List Active) → ArePassed s (Known s n) l ls ps ws
+    ensures passed { (s : Core) → WellFormed s → SinglyAssigned s → (n : ℕ) (l : Learned) (k : Facts) (ls ps ws : List Active)
+        → ArePassed s (Known s n) l ls ps ws
         → ArePassed s (Known s (suc n)) (with_facts l k) ls ps ws }
 {}
 
 /// The body of a call of a live statement may be opened, and so may a block that a live header opens in a turn of its choice, where
 /// what is given is what the call names, and what the variables of the loop are in that turn.
 pub fn what_may_be_opened()
-    ensures calls { (s : Core) (n levels : ℕ) (l : Learned) (ls : List Active) (arrays : List Candidate) → WellFormed s → IsSoFar s (Known s n) levels l ls arrays
-        → (i : ℕ) (x : Step) (g : Given) (st : Stmt) (c : Call) (f : Function) → active i st ∈ ls → c ∈ stmt_calls st → slice_get s.functions c.function ≡ Some f
+    ensures calls { (s : Core) (n levels : ℕ) (l : Learned) (ls : List Active) (arrays : List Candidate) → WellFormed s
+        → IsSoFar s (Known s n) levels l ls arrays
+        → (i : ℕ) (x : Step) (g : Given) (st : Stmt) (c : Call) (f : Function) → active i st ∈ ls → c ∈ stmt_calls st
+        → slice_get s.functions c.function ≡ Some f
         → length (path_of l.instances.all.items i) < most_steps → x.offset ≡ c.at → x.key ≡ Key.Number (pos 0)
         → g.inputs.items ≡ spots l.instances.all.items i c.inputs → g.outputs.items ≡ spots l.instances.all.items i c.outputs → g.variables.items ≡ []
         → IsOpening s (Known s n) l i x g f.body }
-    ensures turns { (s : Core) (n levels : ℕ) (l : Learned) (ls : List Active) (arrays : List Candidate) → WellFormed s → OffsetsApart s → IsSoFar s (Known s n) levels l ls arrays
-        → (i : ℕ) (x : Step) (g : Given) (at node : ℕ) (header : Action) (c : Chosen) (j : ℕ) (b : Block) → active i (stmt at node header) ∈ ls → chosen_in (sight_of l i) header ≡ Some c
+    ensures turns { (s : Core) (n levels : ℕ) (l : Learned) (ls : List Active) (arrays : List Candidate) → WellFormed s → OffsetsApart s
+        → IsSoFar s (Known s n) levels l ls arrays
+        → (i : ℕ) (x : Step) (g : Given) (at node : ℕ) (header : Action) (c : Chosen) (j : ℕ) (b : Block) → active i (stmt at node header) ∈ ls
+        → chosen_in (sight_of l i) header ≡ Some c
         → j < count_in c → block_in header c ≡ Some b → length (path_of l.instances.all.items i) < most_steps → x.offset ≡ at → x.key ≡ key_in c j
         → g.inputs.items ≡ [] → g.outputs.items ≡ [] → g.variables.items ≡ turn_variables header c j → IsOpening s (Known s n) l i x g b }
 {}
@@ -95,8 +104,10 @@ pub fn what_may_be_opened()
 pub fn one_close_more_is_so()
     ensures so { (s : Core) (n levels : ℕ) (l : Learned) (ls : List Active) (arrays : List Candidate) → IsSoFar s (Known s n) levels l ls arrays
         → (p : Spot) (b : Block) → ◌∈◌ {X = Candidate} (p, b) arrays → IsDone s l (goal_of p b) → one_writer_in (writes_at l.facts p) ≡ true
-        → (m : Learned) → m.facts ≡ l.facts → m.instances ≡ l.instances → ((q : Spot) → closed_at m q ≡ cond (same_place p q) true (closed_at l q)) → IsSoFar s (Known s n) levels m ls arrays }
-    ensures passed { (s : Core) (n : ℕ) (l m : Learned) (ls ps ws : List Active) → m.facts ≡ l.facts → m.instances ≡ l.instances → ArePassed s (Known s n) l ls ps ws → ArePassed s (Known s n) m ls ps ws }
+        → (m : Learned) → m.facts ≡ l.facts → m.instances ≡ l.instances → ((q : Spot) → closed_at m q ≡ cond (same_place p q) true (closed_at l q))
+        → IsSoFar s (Known s n) levels m ls arrays }
+    ensures passed { (s : Core) (n : ℕ) (l m : Learned) (ls ps ws : List Active) → m.facts ≡ l.facts → m.instances ≡ l.instances
+        → ArePassed s (Known s n) l ls ps ws → ArePassed s (Known s n) m ls ps ws }
 {}
 
 /// In the core of a placed tree, as of each text that reads as one, headers have offsets of their own, which are no call's.

@@ -28,7 +28,7 @@ use Rattle.meaning_invariants.proofs.Calling.{call_opening}
 use Rattle.meaning_invariants.proofs.Turning.{seen_opening}
 use Rattle.meaning_invariants.proofs.Entering.{entered}
 use Rattle.meaning_round.specs.declared.state.State.{State}
-use Rattle.meaning_round.specs.Made.{arrays_of, declares_here, declares_here_by, no_calls, tasks_of, telling_of}
+use Rattle.meaning_round.specs.Made.{arrays_of, declares_here, declares_here_by, no_calls, tasks_of}
 use Rattle.meaning_openings.specs.Opening.{IsEnteredBy, IsGood, IsMore, IsStep}
 
 -- with no level of calls nothing is said of functions
@@ -85,17 +85,17 @@ short_path n e = grind (arith, nat_tests)
 
 -- nothing more
 pub more_none : {A : Type 0} (old : State A) → IsMore old old
-more_none old = record { more = []; tasks = sym (append-nil (tasks_of old)); telling = sym (append-nil (telling_of old)); facts = refl; closed = refl }
+more_none old = record { more = []; tasks = sym (append-nil (tasks_of old)); tellers = refl; facts = refl; closed = refl }
 
 pub more_entered : {A : Type 0} (old new : State A) (i : ℕ) (x : Step) (g : Given) (b : core.Block) → IsEnteredBy old i x g b new → new.learned.facts ≡ old.learned.facts
-    → new.learned.closed ≡ old.learned.closed → IsMore old new
-more_entered old new i x g b e p q = record { more = all_active e.child (block_list b); tasks = e.tasks; telling = e.telling; facts = p; closed = q }
+    → new.learned.closed ≡ old.learned.closed → new.tellers ≡ old.tellers → IsMore old new
+more_entered old new i x g b e p q r = record { more = all_active e.child (block_list b); tasks = e.tasks; tellers = r; facts = p; closed = q }
 
 pub more_joins : {A : Type 0} (a b c : State A) → IsMore a b → IsMore b c → IsMore a c
 more_joins a b c p q = record {
   more = p.more ++ q.more;
   tasks = q.tasks ∙ ap (λ (z : List Active). z ++ q.more) p.tasks ∙ append_assoc (tasks_of a) p.more q.more;
-  telling = q.telling ∙ ap (λ (z : List Active). z ++ q.more) p.telling ∙ append_assoc (telling_of a) p.more q.more;
+  tellers = q.tellers ∙ p.tellers;
   facts = q.facts ∙ p.facts;
   closed = q.closed ∙ p.closed;
 }

@@ -9,7 +9,7 @@ use Rattle.meaning_invariants.specs.Active.{Active, Candidate}
 use Rattle.meaning_invariants.specs.Opened.{GoesOn, IsSoFar, IsUnready}
 use Rattle.meaning_invariants.proofs.Going.{goes_nowhere}
 use Rattle.meaning_round.specs.declared.state.State.{State}
-use Rattle.meaning_round.specs.Made.{arrays_of, tasks_of, telling_of, waiting_of}
+use Rattle.meaning_round.specs.Made.{arrays_of, tasks_of, waiting_of}
 use Rattle.meaning_openings.specs.Opening.{IsGood, IsLookedAt, still_waits, IsMore, IsStep}
 
 -- what is so of these lists is so of a state that has them
@@ -28,11 +28,11 @@ pub stay_step : {A : Type 0} (s : Core) (n : ℕ) (old new : State A) → new.le
 stay_step {A} s n old new e f g good =
     step_as s n old new old.learned (tasks_of old) (arrays_of old) e f g good (goes_nowhere old.learned (tasks_of old) (tasks_of old) (λ a m. m))
 
-pub stay_more : {A : Type 0} (old new : State A) → new.learned ≡ old.learned → tasks_of new ≡ tasks_of old → telling_of new ≡ telling_of old → IsMore old new
+pub stay_more : {A : Type 0} (old new : State A) → new.learned ≡ old.learned → tasks_of new ≡ tasks_of old → new.tellers ≡ old.tellers → IsMore old new
 stay_more {A} old new e f g = record {
   more = [];
   tasks = f ∙ sym (append-nil (tasks_of old));
-  telling = g ∙ sym (append-nil (telling_of old));
+  tellers = g;
   facts = ap (λ (l : Learned). l.facts) e;
   closed = ap (λ (l : Learned). l.closed) e;
 }

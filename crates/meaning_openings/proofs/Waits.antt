@@ -18,7 +18,7 @@ use Rattle.meaning_invariants.specs.Opened.{content, IsUnready}
 use Rattle.meaning_invariants.proofs.Blocks.{block_goes_on, block_listed, so_far_listed}
 use Rattle.meaning_invariants.proofs.Right.{sees_choices}
 use Rattle.meaning_round.specs.declared.state.State.{State}
-use Rattle.meaning_round.specs.Made.{arrays_of, declares_here, tasks_of, telling_of, waiting_of}
+use Rattle.meaning_round.specs.Made.{arrays_of, declares_here, tasks_of, waiting_of}
 use Rattle.meaning_openings.specs.Opening.{IsGood, IsLookedAt, is_opened, IsMore, IsStep}
 use Rattle.meaning_openings.proofs.Entering.{here_declares}
 use Rattle.meaning_openings.proofs.Moving.{step_as}
@@ -45,8 +45,8 @@ content_step {A} s n old new a ns b good there is_wait come learned tasks arrays
     )
 
 pub content_more : {A : Type 0} (old new : State A) (i : ℕ) (b : core.Block) → new.learned ≡ old.learned → tasks_of new ≡ tasks_of old ++ all_active i (block_list b)
-    → telling_of new ≡ telling_of old ++ all_active i (block_list b) → IsMore old new
-content_more {A} old new i b e f g = record { more = all_active i (block_list b); tasks = f; telling = g; facts = ap (λ (l : Learned). l.facts) e; closed = ap (λ (l : Learned). l.closed) e }
+    → new.tellers ≡ old.tellers → IsMore old new
+content_more {A} old new i b e f g = record { more = all_active i (block_list b); tasks = f; tellers = g; facts = ap (λ (l : Learned). l.facts) e; closed = ap (λ (l : Learned). l.closed) e }
 
 names_same : {ns ms : List Awaited} {b d : core.Block} → wait ns b ≡ wait ms d → ns ≡ ms
 names_same h = cc

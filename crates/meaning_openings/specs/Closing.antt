@@ -1,8 +1,9 @@
 -- What is closed when arrays whose blocks are done are closed.
-use Rattle.std.specs.Prelude.{◌≡◌, ℕ, true, false, List}
+use Rattle.std.specs.Prelude.{◌≡◌, ◌⊎◌, ℕ, true, false, List, []}
 use Rattle.language.specs.Core.{Core}
 use Rattle.language.specs.Meaning.{Known}
 use Rattle.language.specs.Members.{◌∈◌}
+use Rattle.meaning_facts.specs.declared.facts.Place.{Place as Spot}
 use Rattle.meaning_facts.specs.declared.learned.Learned.{Learned}
 use Rattle.meaning_cells.specs.Ending.{IsDone}
 use Rattle.meaning_facts.specs.Sighted.{closed_at}
@@ -29,3 +30,10 @@ IsEnded s l c = closed_at l c.0 ≡ false → IsToClose s l c → ⊥
 
 abbrev pub AreEnded : Core → Learned → List Candidate → Type 0
 AreEnded s l cs = (c : Candidate) → ◌∈◌ {X = Candidate} c cs → IsEnded s l c
+
+-- an array was looked at: its place is among those that were closed, or nothing has changed and it is ended
+pub record IsTried (s : Core) (c : Candidate) (l m : Learned) (was now : List Spot) : Type 0 where
+  pub so : StaysSo s c l m
+  pub others : (q : Spot) → (q ∈ now) ⊎ (closed_at m q ≡ closed_at l q)
+  pub kept : (q : Spot) → q ∈ was → q ∈ now
+  pub ended : now ≡ [] → (was ≡ []) × (m ≡ l) × IsEnded s l c

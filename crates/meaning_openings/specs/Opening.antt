@@ -15,7 +15,7 @@ use Rattle.meaning_invariants.specs.Active.{Active, HasBlock}
 use Rattle.meaning_invariants.specs.Listed.{all_active}
 use Rattle.meaning_invariants.specs.Opened.{ArePassed, GoesOn, IsChildOf, IsOpened, IsSoFar, IsUnready}
 use Rattle.meaning_round.specs.declared.state.State.{State}
-use Rattle.meaning_round.specs.Made.{arrays_of, declares_here, tasks_of, telling_of, waiting_of}
+use Rattle.meaning_round.specs.Made.{arrays_of, declares_here, tasks_of, waiting_of}
 
 -- what was opened so far is so after so many rounds
 abbrev pub IsGood : {A : Type 0} → Core → ℕ → State A → Type 0
@@ -31,14 +31,13 @@ pub record IsEnteredBy {A : Type 0} (old : State A) (parent : ℕ) (x : Step) (g
   pub child : ℕ
   pub found : IsChildOf old.learned parent x g new.learned child
   pub tasks : tasks_of new ≡ tasks_of old ++ all_active child (block_list b)
-  pub telling : telling_of new ≡ telling_of old ++ all_active child (block_list b)
   pub arrays : arrays_of new ≡ arrays_of old ++ declares_here child b (block_list b)
 
--- more statements are live, which may all have something to tell; nothing was learned
+-- more statements are live, and nothing was learned
 pub record IsMore {A : Type 0} (old new : State A) : Type 0 where
   pub more : List Active
   pub tasks : tasks_of new ≡ tasks_of old ++ more
-  pub telling : telling_of new ≡ telling_of old ++ more
+  pub tellers : new.tellers ≡ old.tellers
   pub facts : new.learned.facts ≡ old.learned.facts
   pub closed : new.learned.closed ≡ old.learned.closed
 

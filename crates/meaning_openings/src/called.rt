@@ -30,7 +30,8 @@ pub(crate) fn open_calls<'a, A: Allocator>(
     alloc: Global,
     task: &Task<'a, A>,
 ) -> Result<(), AllocError>
-    ensures so { OnOk result ((s : Core) (n : ℕ) → s ≡ core_of state.old.flow.now → WellFormed s → IsGood s n state.old → active_of task.now ∈ tasks_of state.old
+    ensures so { OnOk result ((s : Core) (n : ℕ) → s ≡ core_of state.old.flow.now → WellFormed s → IsGood s n state.old
+        → active_of task.now ∈ tasks_of state.old
         → IsStep s n state.old state.new × AreCalled s state.new.learned (tasks_of state.new) (active_of task.now)) }
     ensures more { OnOk result (IsMore state.old state.new) }
     ensures flow { state.new.flow.now ≡ state.old.flow.now }
@@ -56,7 +57,8 @@ fn open_call<'a, A: Allocator>(
 ) -> Result<(), AllocError>
     ensures so { OnOk result ((s : Core) (n : ℕ) → s ≡ core_of state.old.flow.now → WellFormed s → IsGood s n state.old
         → (st : Stmt) → active instance st ∈ tasks_of state.old → call_view call.entry.now ∈ stmt_calls st
-        → IsStep s n state.old state.new × ((f : Function) → slice_get s.functions call.entry.now.function ≡ Some f → length (path_of state.old.learned.instances.all.items instance) < most_steps
+        → IsStep s n state.old state.new × ((f : Function) → slice_get s.functions call.entry.now.function ≡ Some f
+        → length (path_of state.old.learned.instances.all.items instance) < most_steps
         → HasBlock state.new.learned (tasks_of state.new) instance call.entry.now.at (StepKey.Number (pos 0)) f.body)) }
     ensures more { OnOk result (IsMore state.old state.new) }
     ensures flow { state.new.flow.now ≡ state.old.flow.now }

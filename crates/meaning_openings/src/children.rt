@@ -25,6 +25,7 @@ pub(crate) fn enter<'a, A: Allocator>(
     ensures entered { OnOk result (IsEnteredBy state.old parent step given (block_view block.entry.now) state.new) }
     ensures facts { state.new.learned.facts ≡ state.old.learned.facts }
     ensures closed { state.new.learned.closed ≡ state.old.learned.closed }
+    ensures tellers { state.new.tellers ≡ state.old.tellers }
     ensures flow { state.new.flow.now ≡ state.old.flow.now }
     ensures passed { state.new.passed ≡ state.old.passed }
     ensures waiting { waiting_of state.new ≡ waiting_of state.old }

@@ -1,11 +1,14 @@
 //! Which arrays are closed: those whose declaring block has nothing left to write in them.
-ghost use Rattle.std.specs.Prelude.{◌≡◌, cond, false, map, true, IfOk, OnOk};
+ghost use Rattle.std.specs.Prelude.{◌≡◌, ◌⊎◌, [], cond, false, map, true, IfOk, OnOk};
 ghost use Rattle.flow.specs.View.{core_of};
 ghost use Rattle.meaning_facts.specs.declared.facts.Place.{Place as Spot};
 ghost use Rattle.meaning_facts.specs.Sighted.{closed_at};
 ghost use Rattle.meaning_facts.specs.Store.{same_place};
-ghost use Rattle.meaning_openings.specs.Closing.{AllStaySo, AreEnded, IsEnded, IsToClose, StaysSo};
-ghost use Rattle.meaning_round.specs.Made.{arrays_of, candidate_of, tasks_of, telling_of, waiting_of};
+ghost use Rattle.meaning_openings.specs.Closing.{AllStaySo, AreEnded, IsTried, IsToClose};
+ghost use Rattle.language.specs.Members.{◌∈◌};
+ghost use Rattle.meaning_round.specs.Hearing.{AreHeard, AreWoken};
+ghost use Rattle.meaning_round.specs.Made.{arrays_of, candidate_of, tasks_of, waiting_of};
+ghost use Rattle.meaning_round.specs.Reads.{at};
 
 use flow::name::Owned;
 use flow::script::Flow;
@@ -13,6 +16,7 @@ use meaning_cells::finished::{Body, is_finished};
 use meaning_facts::facts::Place;
 use meaning_facts::learned::Learned;
 use meaning_round::state::{Array, State};
+use meaning_round::tellers::{Event, Tellers};
 use std::alloc::{AllocError, Allocator, Global};
 
 /// Closes the arrays of live blocks of which this is so by what is live and closed already. Whether there was one.
@@ -21,7 +25,8 @@ pub fn close_some<'a, A: Allocator>(
     alloc: Global,
 ) -> Result<bool, AllocError>
     ensures tasks { tasks_of state.new ≡ tasks_of state.old }
-    ensures telling { telling_of state.new ≡ telling_of state.old }
+    ensures heard { OnOk result (AreHeard state.old.learned (tasks_of state.old) state.old.tellers []
+        → AreHeard state.new.learned (tasks_of state.old) state.new.tellers []) }
     ensures waiting { waiting_of state.new ≡ waiting_of state.old }
     ensures arrays { arrays_of state.new ≡ arrays_of state.old }
     ensures passed { state.new.passed ≡ state.old.passed }
@@ -29,57 +34,71 @@ pub fn close_some<'a, A: Allocator>(
     ensures facts { state.new.learned.facts ≡ state.old.learned.facts }
     ensures instances { state.new.learned.instances ≡ state.old.learned.instances }
     ensures so { OnOk result (AllStaySo (core_of state.old.flow.now) (arrays_of state.old) state.old.learned state.new.learned) }
-    ensures ended { IfOk result (λ is_new. is_new ≡ false → (state.new.learned ≡ state.old.learned) × AreEnded (core_of state.old.flow.now) state.old.learned (arrays_of state.old)) }
+    ensures ended { IfOk result (λ is_new. is_new ≡ false
+        → (state.new.learned ≡ state.old.learned) × AreEnded (core_of state.old.flow.now) state.old.learned (arrays_of state.old)) }
 {
-    close_arrays(
+    let closed = close_arrays(
         &mut state.learned,
         alloc,
         state.flow,
         state.arrays.as_slice(),
-    )
+    )?;
+    wake_readers(&mut state.tellers, closed.as_slice())?;
+    Ok(!closed.is_empty())
 }
 
-/// Closes those of these arrays of which this is so. Whether there was one.
+/// Wakes those that read that these arrays are closed.
+fn wake_readers(tellers: &mut Tellers, closed: &[Place]) -> Result<(), AllocError>
+    ensures { OnOk result (AreWoken tellers.old tellers.new (map at closed.now)) }
+{
+    for place in closed {
+        tellers.wake(Event::at(*place))?;
+    }
+    Ok(())
+}
+
+/// Closes those of these arrays of which this is so. Their places.
 fn close_arrays<'a, A: Allocator>(
     learned: &mut Learned,
     alloc: Global,
     flow: &'a Flow<A>,
     arrays: &[Array<'a, A>],
-) -> Result<bool, AllocError>
+) -> Result<Vec<Place>, AllocError>
     ensures facts { learned.new.facts ≡ learned.old.facts }
     ensures instances { learned.new.instances ≡ learned.old.instances }
     ensures so { OnOk result (AllStaySo (core_of flow.now) (map candidate_of arrays.now) learned.old learned.new) }
-    ensures ended { IfOk result (λ is_new. is_new ≡ false → (learned.new ≡ learned.old) × AreEnded (core_of flow.now) learned.old (map candidate_of arrays.now)) }
+    ensures others { IfOk result (λ closed. (q : Spot) → (q ∈ closed.items) ⊎ (closed_at learned.new q ≡ closed_at learned.old q)) }
+    ensures ended { IfOk result (λ closed. closed.items ≡ []
+        → (learned.new ≡ learned.old) × AreEnded (core_of flow.now) learned.old (map candidate_of arrays.now)) }
 {
-    let mut is_new = false;
+    let mut closed = Vec::new(alloc);
     for array in arrays {
-        if close_one(learned, alloc, flow, array)? {
-            is_new = true;
-        }
+        close_one(learned, alloc, flow, array, &mut closed)?;
     }
-    Ok(is_new)
+    Ok(closed)
 }
 
-/// Closes an array if this is so, and it is not closed yet. Whether it is so.
+/// Closes an array if this is so, and it is not closed yet. Its place is put behind those that were closed.
 fn close_one<'a, A: Allocator>(
     learned: &mut Learned,
     alloc: Global,
     flow: &'a Flow<A>,
     array: &Array<'a, A>,
-) -> Result<bool, AllocError>
+    closed: &mut Vec<Place>,
+) -> Result<(), AllocError>
     ensures facts { learned.new.facts ≡ learned.old.facts }
     ensures instances { learned.new.instances ≡ learned.old.instances }
-    ensures so { OnOk result (StaysSo (core_of flow.now) (candidate_of array.now) learned.old learned.new) }
-    ensures ended { IfOk result (λ is_new. is_new ≡ false → (learned.new ≡ learned.old) × IsEnded (core_of flow.now) learned.old (candidate_of array.now)) }
+    ensures tried { OnOk result (IsTried (core_of flow.now) (candidate_of array.now) learned.old learned.new closed.old.items closed.new.items) }
 {
     if learned.is_closed(array.place) {
-        return Ok(false);
+        return Ok(());
     }
     if !is_closing(learned, alloc, flow, array)? {
-        return Ok(false);
+        return Ok(());
     }
     close(learned, array.place)?;
-    Ok(true)
+    closed.push(array.place)?;
+    Ok(())
 }
 
 /// Marks an array as closed.

@@ -7,7 +7,7 @@ ghost use Rattle.language.specs.Members.{◌∈◌};
 ghost use Rattle.language.specs.Openings.{Branches};
 ghost use Rattle.language.specs.WellFormed.{WellFormed};
 ghost use Rattle.meaning_invariants.specs.Opened.{OffsetsApart};
-ghost use Rattle.meaning_round.specs.Made.{arrays_of, tasks_of, telling_of, waiting_of};
+ghost use Rattle.meaning_round.specs.Made.{arrays_of, tasks_of, waiting_of};
 ghost use Rattle.meaning_round.specs.Standing.{active_of, content_view, deed_view};
 ghost use Rattle.meaning_openings.specs.Opening.{IsGood, IsLookedAt, IsMore, IsStep};
 ghost use Rattle.meaning_openings.specs.Insides.{inside, inside_view};
@@ -144,7 +144,7 @@ fn keep_waiting<'a, A: Allocator>(
 ) -> Result<(), AllocError>
     ensures waiting { OnOk result (waiting_of state.new ≡ waiting_of state.old ++ active_of task.entry ∷ []) }
     ensures tasks { tasks_of state.new ≡ tasks_of state.old }
-    ensures telling { telling_of state.new ≡ telling_of state.old }
+    ensures tellers { state.new.tellers ≡ state.old.tellers }
     ensures arrays { arrays_of state.new ≡ arrays_of state.old }
     ensures learned { state.new.learned ≡ state.old.learned }
     ensures flow { state.new.flow.now ≡ state.old.flow.now }

@@ -45,7 +45,8 @@ pub fn open_all<'a, A: Allocator>(state: &mut State<'a, A>, alloc: Global) -> Re
 
 /// Makes the blocks live of the headers that waited for their choice and have it now.
 fn open_waiting<'a, A: Allocator>(state: &mut State<'a, A>, alloc: Global) -> Result<(), AllocError>
-    ensures so { OnOk result ((s : Core) (n : ℕ) → WellFormed s → OffsetsApart s → IsGood s n state.old → ((a : Active) → a ∈ waiting_of state.old → a ∈ tasks_of state.old)
+    ensures so { OnOk result ((s : Core) (n : ℕ) → WellFormed s → OffsetsApart s → IsGood s n state.old
+        → ((a : Active) → a ∈ waiting_of state.old → a ∈ tasks_of state.old)
         → AreWoken s n state.old state.new []) }
     ensures more { OnOk result (IsMore state.old state.new) }
     ensures flow { state.new.flow.now ≡ state.old.flow.now }

@@ -34,7 +34,8 @@ pub(crate) fn open_choice<'a, A: Allocator>(
     action: &'a Action<A>,
     choice: &Choice,
 ) -> Result<(), AllocError>
-    ensures so { OnOk result ((s : Core) (n : ℕ) → WellFormed s → OffsetsApart s → IsGood s n state.old → (node : ℕ) → active instance (stmt at node (action_view action.entry.now)) ∈ tasks_of state.old
+    ensures so { OnOk result ((s : Core) (n : ℕ) → WellFormed s → OffsetsApart s → IsGood s n state.old → (node : ℕ)
+        → active instance (stmt at node (action_view action.entry.now)) ∈ tasks_of state.old
         → chosen_in (sight_of state.old.learned instance) (action_view action.entry.now) ≡ Some (choice_view choice.now)
         → AreTurned s n state.old state.new instance at (action_view action.entry.now) (choice_view choice.now) (count_in (choice_view choice.now))) }
     ensures more { OnOk result (IsMore state.old state.new) }
@@ -65,11 +66,13 @@ fn open_turn<'a, A: Allocator>(
     i: u64,
     block: &'a Block<A>,
 ) -> Result<(), AllocError>
-    ensures so { OnOk result ((s : Core) (n : ℕ) → WellFormed s → OffsetsApart s → IsGood s n state.old → (node : ℕ) → active instance (stmt at node (action_view action.entry.now)) ∈ tasks_of state.old
+    ensures so { OnOk result ((s : Core) (n : ℕ) → WellFormed s → OffsetsApart s → IsGood s n state.old → (node : ℕ)
+        → active instance (stmt at node (action_view action.entry.now)) ∈ tasks_of state.old
         → chosen_in (sight_of state.old.learned instance) (action_view action.entry.now) ≡ Some (choice_view choice.now) → i < count_in (choice_view choice.now)
         → block_in (action_view action.entry.now) (choice_view choice.now) ≡ Some (block_view block.entry.now)
         → length (path_of state.old.learned.instances.all.items instance) < most_steps
-        → IsStep s n state.old state.new × HasBlock state.new.learned (tasks_of state.new) instance at (key_in (choice_view choice.now) i) (block_view block.entry.now)) }
+        → IsStep s n state.old state.new × HasBlock state.new.learned (tasks_of state.new) instance at (key_in (choice_view choice.now) i)
+        (block_view block.entry.now)) }
     ensures more { OnOk result (IsMore state.old state.new) }
     ensures flow { state.new.flow.now ≡ state.old.flow.now }
     ensures passed { state.new.passed ≡ state.old.passed }
@@ -122,7 +125,8 @@ fn turn_of<A: Allocator>(
     i: u64,
 ) -> Result<Vec<Variable>, AllocError>
     ensures { IfOk result (λ vs. i < count_in (choice_view choice.now) → vs.items
-        ≡ record { node = node; value = value_at_turn (choice_view choice.now) i } ∷ key_variable (option_map (λ x. x.node) key.now) (key_in (choice_view choice.now) i)) }
+        ≡ record { node = node; value = value_at_turn (choice_view choice.now) i } ∷ key_variable (option_map (λ x. x.node) key.now)
+        (key_in (choice_view choice.now) i)) }
 {
     let mut variables = Vec::new(alloc);
     variables.push(Variable {

@@ -37,9 +37,12 @@ use Rattle.meaning_openings.proofs.Entering.{here_declares}
 use Rattle.meaning_round.specs.declared.state.State.{State}
 use Rattle.meaning_round.specs.Going.{IsBetween, StandsBetween}
 use Rattle.meaning_round.specs.Made.{arrays_of, declares_here, tasks_of, telling_of, waiting_of}
-use Rattle.meaning_round.specs.Standing.{actives_news, still_telling, HavePlaces, IsAfter}
+use Rattle.meaning_round.specs.Hearing.{AreHeard}
+use Rattle.meaning_round.specs.Standing.{actives_news, HavePlaces, IsAfter}
 use Rattle.meaning_faults.specs.Viewed.{facts_view}
+use Rattle.meaning_facts.proofs.Keeping.{name_located}
 use Rattle.meaning_round.proofs.Going.{nothing_told, round_goes}
+use Rattle.meaning_round.proofs.Heard.{heard_first}
 use Rattle.meaning_round.proofs.Listed.{none_of_few, not_both}
 use Rattle.meaning_round.proofs.Round.{told_so}
 use Rattle.meaning_outcomes.specs.declared.knowledge.Knowledge.{Knowledge}
@@ -80,6 +83,25 @@ to_found l (c ∷ ls) a i h = elim (split_in i) [
     here : (t : Bool) → t ≡ true → a ≡ c → stuck_of a ∈ stuck_if t c
     here true e q = subst (λ (z : Active). stuck_of z ∈ (stuck_of c ∷ [])) (sym q) first
     here false e q = absurd (cc (e))
+
+-- what asking leaves, and what learning does
+pub record IsAsking {A : Type 0} (old new : State A) : Type 0 where
+  pub heard : HavePlaces old.learned.instances.all.items (tasks_of old) → AreHeard old.learned (tasks_of old) old.tellers [] → AreHeard old.learned (tasks_of old) new.tellers []
+  pub learned : new.learned ≡ old.learned
+  pub tasks : tasks_of new ≡ tasks_of old
+  pub arrays : arrays_of new ≡ arrays_of old
+  pub waiting : waiting_of new ≡ waiting_of old
+  pub passed : new.passed ≡ old.passed
+
+pub record IsLearning {A : Type 0} (old new : State A) (news : List Fact) : Type 0 where
+  pub facts : AreAdded old.learned.facts news new.learned.facts
+  pub heard : AreHeard old.learned (tasks_of old) old.tellers [] → AreHeard new.learned (tasks_of old) new.tellers []
+  pub instances : new.learned.instances ≡ old.learned.instances
+  pub closed : new.learned.closed ≡ old.learned.closed
+  pub tasks : tasks_of new ≡ tasks_of old
+  pub arrays : arrays_of new ≡ arrays_of old
+  pub waiting : waiting_of new ≡ waiting_of old
+  pub passed : new.passed ≡ old.passed
 
 module _ (bytes : List ℕ) (t : Table) (tree : Tree) (r : Reads bytes tree) (w : WellTyped tree t) (single : SinglyAssigned (core t tree)) where
   abbrev s : Core
@@ -146,20 +168,38 @@ module _ (bytes : List ℕ) (t : Table) (tree : Tree) (r : Reads bytes tree) (w 
 
   -- THE NEXT ROUND
 
-  pub next_between : {A : Type 0} (n : ℕ) (old new : State A) (news : List Fact) → IsBetween s n old → IsAfter s n old.learned (tasks_of old) (telling_of old)
-      → (HavePlaces old.learned.instances.all.items (telling_of old) → AreInside old.learned.instances.all.items news) → AreAdded old.learned.facts news new.learned.facts
+  all_places : {A : Type 0} (n : ℕ) (old : State A) → IsAfter s n old.learned (tasks_of old) (telling_of old) → HavePlaces old.learned.instances.all.items (tasks_of old)
+  all_places n old after a i =
+      let within = after.live.within a i in
+      record { within = within; names = λ x. (name_located s old.learned after.placed a.instance within x).within }
+
+  -- of a settled state, behind what it tells and what it learns of that
+  pub next_between : {A : Type 0} (n : ℕ) (old asked new : State A) (news : List Fact) → IsBetween s n old → IsAfter s n old.learned (tasks_of old) (telling_of old)
+      → (HavePlaces old.learned.instances.all.items (telling_of old) → AreInside old.learned.instances.all.items news)
       → ((f : script.Fact) → Known s (suc n) f ↔ (Known s n f ⊎ (f ∈ facts_view old.learned.instances.all.items news)))
-      → telling_of new ≡ still_telling new.learned (telling_of old) → new.learned.instances ≡ old.learned.instances → new.learned.closed ≡ old.learned.closed
-      → tasks_of new ≡ tasks_of old → arrays_of new ≡ arrays_of old → waiting_of new ≡ waiting_of old → new.passed ≡ old.passed → IsBetween s (suc n) new
-  next_between n old new news h after inside added round telling instances closed tasks arrays waiting passed =
-      let go = round_goes bytes t tree r w single n old.learned (tasks_of old) (arrays_of old) (take old.passed (tasks_of old)) (waiting_of old) (telling_of old) news new.learned.facts h after inside added round in
+      → IsAsking old asked → IsLearning asked new news → IsBetween s (suc n) new
+  next_between n old asked new news h after inside round asks learns =
+      let added : AreAdded old.learned.facts news new.learned.facts = subst (λ (z : Learned). AreAdded z.facts news new.learned.facts) asks.learned learns.facts in
+      let go = round_goes bytes t tree r w single n old.learned (tasks_of old) (arrays_of old) (take old.passed (tasks_of old)) (waiting_of old) (telling_of old) news new.learned.facts h.stands after inside added round in
+      let instances : new.learned.instances ≡ old.learned.instances = learns.instances ∙ ap (λ (z : Learned). z.instances) asks.learned in
+      let closed : new.learned.closed ≡ old.learned.closed = learns.closed ∙ ap (λ (z : Learned). z.closed) asks.learned in
       let same : with_facts old.learned new.learned.facts ≡ new.learned = λ i. record { facts = new.learned.facts; instances = (sym instances) i; closed = (sym closed) i } in
-      let go_learned = subst (λ (z : Learned). StandsBetween s (suc n) z (tasks_of old) (arrays_of old) (take old.passed (tasks_of old)) (waiting_of old) (still_telling z (telling_of old))) same go in
-      let go_telling = subst (λ (z : List Active). StandsBetween s (suc n) new.learned (tasks_of old) (arrays_of old) (take old.passed (tasks_of old)) (waiting_of old) z) (sym telling) go_learned in
-      let go_waiting = subst (λ (z : List Active). StandsBetween s (suc n) new.learned (tasks_of old) (arrays_of old) (take old.passed (tasks_of old)) z (telling_of new)) (sym waiting) go_telling in
-      let go_passed = subst (λ (z : ℕ). StandsBetween s (suc n) new.learned (tasks_of old) (arrays_of old) (take z (tasks_of old)) (waiting_of new) (telling_of new)) (sym passed) go_waiting in
-      let go_arrays = subst (λ (z : List Candidate). StandsBetween s (suc n) new.learned (tasks_of old) z (take new.passed (tasks_of old)) (waiting_of new) (telling_of new)) (sym arrays) go_passed in
-      subst (λ (z : List Active). StandsBetween s (suc n) new.learned z (arrays_of new) (take new.passed z) (waiting_of new) (telling_of new)) (sym tasks) go_arrays
+      let tasks : tasks_of new ≡ tasks_of old = learns.tasks ∙ asks.tasks in
+      let go_learned = subst (λ (z : Learned). StandsBetween s (suc n) z (tasks_of old) (arrays_of old) (take old.passed (tasks_of old)) (waiting_of old)) same go in
+      let go_waiting = subst (λ (z : List Active). StandsBetween s (suc n) new.learned (tasks_of old) (arrays_of old) (take old.passed (tasks_of old)) z) (sym (learns.waiting ∙ asks.waiting)) go_learned in
+      let go_passed = subst (λ (z : ℕ). StandsBetween s (suc n) new.learned (tasks_of old) (arrays_of old) (take z (tasks_of old)) (waiting_of new)) (sym (learns.passed ∙ asks.passed)) go_waiting in
+      let go_arrays = subst (λ (z : List Candidate). StandsBetween s (suc n) new.learned (tasks_of old) z (take new.passed (tasks_of old)) (waiting_of new)) (sym (learns.arrays ∙ asks.arrays)) go_passed in
+      let heard = asks.heard (all_places n old after) h.heard in
+      let asked_heard = subst (λ (z : Learned). AreHeard z (tasks_of old) asked.tellers []) (sym asks.learned) heard in
+      let learned_heard = learns.heard (subst (λ (z : List Active). AreHeard asked.learned z asked.tellers []) (sym asks.tasks) asked_heard) in
+      record {
+        stands = subst (λ (z : List Active). StandsBetween s (suc n) new.learned z (arrays_of new) (take new.passed z) (waiting_of new)) (sym tasks) go_arrays;
+        heard = subst (λ (z : List Active). AreHeard new.learned z new.tellers []) (sym learns.tasks) learned_heard;
+      }
+
+-- by the same that is learned and live
+pub same_stuck : (l m : Learned) (ls ms : List Active) → l ≡ m → ls ≡ ms → stuck_among l ls ≡ stuck_among m ms
+same_stuck l m ls ms e f = ap (λ (z : Learned). stuck_among z ls) e ∙ ap (stuck_among m) f
 
 -- WHETHER A LIST IS EMPTY
 
@@ -171,13 +211,15 @@ not_empty xs b e f q = not_both (sym (e ∙ eq-eqb (length xs) 0 (ap length q)) 
 
 -- THE FIRST ROUND
 
-pub starts_between : {A : Type 0} (c : Core) (state : State A) → IsFresh state.learned → tasks_of state ≡ all_active 0 (block_list c.body) → telling_of state ≡ all_active 0 (block_list c.body) → state.passed ≡ 0
+pub starts_between : {A : Type 0} (c : Core) (state : State A) → IsFresh state.learned → tasks_of state ≡ all_active 0 (block_list c.body) → state.tellers.fresh ≡ 0 → state.passed ≡ 0
     → waiting_of state ≡ [] → arrays_of state ≡ declares_here 0 c.body (block_list c.body) → IsBetween c 0 state
-starts_between c state new tasks telling passed waiting arrays =
+starts_between c state new tasks unasked passed waiting arrays =
     let all = all_active 0 (block_list c.body) in
     let start = starts c state.learned new in
-    let go_arrays = subst (λ (z : List Candidate). StandsBetween c 0 state.learned all z [] [] all) (sym (arrays ∙ here_declares c 0 c.body (block_list c.body))) start in
-    let go_waiting = subst (λ (z : List Active). StandsBetween c 0 state.learned all (arrays_of state) [] z all) (sym waiting) go_arrays in
-    let go_telling = subst (λ (z : List Active). StandsBetween c 0 state.learned all (arrays_of state) [] (waiting_of state) z) (sym telling) go_waiting in
-    let go_passed = subst (λ (z : ℕ). StandsBetween c 0 state.learned all (arrays_of state) (take z all) (waiting_of state) (telling_of state)) (sym passed) go_telling in
-    subst (λ (z : List Active). StandsBetween c 0 state.learned z (arrays_of state) (take state.passed z) (waiting_of state) (telling_of state)) (sym tasks) go_passed
+    let go_arrays = subst (λ (z : List Candidate). StandsBetween c 0 state.learned all z [] []) (sym (arrays ∙ here_declares c 0 c.body (block_list c.body))) start in
+    let go_waiting = subst (λ (z : List Active). StandsBetween c 0 state.learned all (arrays_of state) [] z) (sym waiting) go_arrays in
+    let go_passed = subst (λ (z : ℕ). StandsBetween c 0 state.learned all (arrays_of state) (take z all) (waiting_of state)) (sym passed) go_waiting in
+    record {
+      stands = subst (λ (z : List Active). StandsBetween c 0 state.learned z (arrays_of state) (take state.passed z) (waiting_of state)) (sym tasks) go_passed;
+      heard = heard_first state.learned (tasks_of state) state.tellers unasked;
+    }

@@ -77,7 +77,7 @@ module _ (s : Core) (l : Learned) (fresh : IsFresh l) where
   clash : {b : Bool} → b ≡ true → b ≡ false → ⊥
   clash p q = let e : true ≡ false = sym p ∙ q in absurd (cc (e))
 
-  pub starts : StandsBetween s 0 l (all_active 0 all) (declares s 0 0 s.body all) [] [] (all_active 0 all)
+  pub starts : StandsBetween s 0 l (all_active 0 all) (declares s 0 0 s.body all) [] []
   starts = record {
     good = record {
       holds = nothing_held l fresh.facts s;
@@ -90,6 +90,5 @@ module _ (s : Core) (l : Learned) (fresh : IsFresh l) where
       candidates = candidate_all;
     };
     passed_so = record { called = λ a i. elim i [ ]; opened = λ a i. elim i [ ] };
-    telling_so = record { among = λ a i. i; quiet = λ a i. inl i };
     waiting_live = λ a i. elim i [ ];
   }

@@ -77,7 +77,8 @@ fn add_stuck<'a, A: Allocator>(
     task: &Task<'a, A>,
     stuck: &mut Vec<Stuck>,
 ) -> Result<(), AllocError>
-    ensures { OnOk result (stuck.new.items ≡ stuck.old.items ++ stuck_if (is_stuck_in learned.now (active_of task.now).instance (active_of task.now).statement) (active_of task.now)) }
+    ensures { OnOk result (stuck.new.items ≡ stuck.old.items
+        ++ stuck_if (is_stuck_in learned.now (active_of task.now).instance (active_of task.now).statement) (active_of task.now)) }
 {
     if is_task_stuck(learned, alloc, task)? {
         stuck.push(Stuck {

@@ -22,6 +22,7 @@ use meaning_facts::learned::Learned;
 pub fn what_is_stuck()
     ensures { (bytes : List ℕ) (t : Table) (tree : Tree) → Reads bytes tree → WellTyped tree t → SinglyAssigned (core t tree)
         → (n : ℕ) (l : Learned) → IsPlaced (core t tree) l.instances → Keeps (core t tree) (Known (core t tree) n) (kept_of l) → Holds (Known (core t tree) n) l
-        → (i : ℕ) → i < length l.instances.all.items → (at m : ℕ) (a : Action) → LiveStmt (core t tree) (Known (core t tree) n) (path_of l.instances.all.items i) (stmt at m a)
+        → (i : ℕ) → i < length l.instances.all.items → (at m : ℕ) (a : Action)
+        → LiveStmt (core t tree) (Known (core t tree) n) (path_of l.instances.all.items i) (stmt at m a)
         → (is_stuck_in l i (stmt at m a) ≡ true) ↔ Stuck (core t tree) (Known (core t tree) n) (path_of l.instances.all.items i) at m a }
 {}

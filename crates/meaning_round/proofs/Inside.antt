@@ -9,7 +9,7 @@ use Rattle.meaning_facts.specs.declared.facts.Place.{Place}
 use Rattle.meaning_facts.specs.declared.facts.Write.{Write}
 use Rattle.meaning_facts.specs.declared.instances.Instance.{Instance}
 use Rattle.meaning_facts.specs.Store.{spot}
-use Rattle.meaning_invariants.specs.Held.{AreInside, HasPlaces, StayInside}
+use Rattle.meaning_invariants.specs.Held.{AreInside, StayInside}
 use Rattle.meaning_faults.proofs.Inside.{one_inside}
 
 module _ (ns : List Instance) (i : ℕ) {old new : List Fact} where

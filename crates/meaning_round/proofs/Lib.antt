@@ -1,4 +1,6 @@
+pub mod Asking
 pub mod Behind
+pub mod Called
 pub mod Calls
 pub mod Going
 pub mod Inside
@@ -6,9 +8,11 @@ pub mod Lasting
 pub mod Listed
 pub mod Made
 pub mod Meant
-pub mod Quiet
+pub mod Heard
 pub mod Ranges
+pub mod Reading
 pub mod Round
 pub mod Steps
+pub mod Still
 pub mod Views
 pub mod Never

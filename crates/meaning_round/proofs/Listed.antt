@@ -1,6 +1,6 @@
 -- Members and filters of lists.
 use Rattle.std.specs.Prelude.{◌≡◌, ℕ, zero, suc, ◌<◌, Bool, true, false, List, [], ◌∷◌, length, map, filter, refl}
-use Rattle.std.proofs.Common.{rules, inl, inr, ap, ◌∙◌, arith, get_or}
+use Rattle.std.proofs.Common.{inl, inr, ap, arith, get_or}
 use Rattle.std.proofs.lemmas.Bool.{cases_Bool}
 use Rattle.language.specs.Members.{◌∈◌, first, later}
 

@@ -1,5 +1,5 @@
 -- The statements of a block that become live, one after another.
-use Rattle.std.specs.Prelude.{◌≡◌, ℕ, ◌+◌, ◌<◌, List, [], ◌∷◌, ◌++◌, map, length, take, refl}
+use Rattle.std.specs.Prelude.{◌≡◌, ℕ, ◌+◌, ◌<◌, List, [], ◌∷◌, ◌++◌, length, take, refl}
 use Rattle.std.proofs.Common.{rules, sym, ap, ◌∙◌, get_or}
 use Rattle.std.proofs.lemmas.List.{map-append, append_assoc, take_more}
 use Rattle.flow.specs.declared.statement.Block.{Block, out-Block}

@@ -1,11 +1,10 @@
 -- What is told of all tasks is what is told of the live statements.
-use Rattle.std.specs.Prelude.{◌≡◌, ◌↔◌, ◌⊎◌, ℕ, suc, ◌<◌, Bool, true, false, List, [], ◌∷◌, ◌++◌, length, map, refl}
+use Rattle.std.specs.Prelude.{◌≡◌, ◌↔◌, ◌⊎◌, ℕ, suc, ◌<◌, List, [], ◌∷◌, ◌++◌, length, refl}
 use Rattle.std.proofs.Common.{sym, ap, ◌∙◌, subst, inl, inr}
-use Rattle.std.proofs.lemmas.List.{append-nil}
 use Rattle.meaning_steps.specs.Kept.{sight_by, past_by}
-use Rattle.language.specs.Core.{Core, Name, Stmt, stmt}
+use Rattle.language.specs.Core.{Core, Stmt, stmt}
 use Rattle.language.specs.Facts.{Fact, Knowledge}
-use Rattle.language.specs.Meaning.{Known, LiveStmt}
+use Rattle.language.specs.Meaning.{Known}
 use Rattle.language.specs.Reads.{Reads}
 use Rattle.language.specs.Resolved.{core}
 use Rattle.language.specs.Single.{SinglyAssigned}
@@ -29,7 +28,6 @@ use Rattle.meaning_steps.proofs.Seen as seen
 use Rattle.meaning_invariants.specs.Active.{Active, active}
 use Rattle.meaning_round.specs.Standing.{active_path, site_of, active_news, actives_news, AreLive, IsAfter}
 use Rattle.meaning_round.proofs.Meant.{told_is_news}
-use Rattle.meaning_round.proofs.Quiet.{told_is_silent}
 
 -- MEMBERS
 
@@ -105,7 +103,7 @@ module _ (s : Core) (l : Learned) (placed : IsPlaced s l.instances) where
     told_here : (a : Active) (f : Fact) → a ∈ ls → f ∈ active_news l a → f ∈ actives_news l telling
     told_here a f i j = elim (live.quiet a i) [
       | inl k ↦ told_by_all l telling a f k j
-      | inr e ↦ (let none : f ∈ [] = subst (λ (fs : List Fact). f ∈ fs) (told_is_silent l (site_of a) (stmt_action a.statement) e) j in elim none [ ])
+      | inr e ↦ (let none : f ∈ [] = subst (λ (fs : List Fact). f ∈ fs) e j in elim none [ ])
     ]
 
     pub told_all : (f : Fact) → ToldOf s K (λ path. see path) (λ path. recall path) f → f ∈ actives_news l telling

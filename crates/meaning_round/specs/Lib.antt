@@ -1,5 +1,7 @@
 pub mod Told
-pub mod Silence
+pub mod More
+pub mod Reads
 pub mod Standing
+pub mod Hearing
 pub mod Made
 pub mod Going

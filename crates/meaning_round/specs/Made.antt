@@ -1,5 +1,5 @@
 -- What a state has more when the statements of a block become live in an instance.
-use Rattle.std.specs.Prelude.{ℕ, Bool, true, false, List, [], ◌∷◌, ◌++◌, map, nat_eq}
+use Rattle.std.specs.Prelude.{ℕ, Bool, true, false, List, [], ◌∷◌, ◌++◌, length, map, nat_eq, option_to_list, slice_get}
 use Rattle.std.specs.HashSet.{contains}
 use Rattle.language.specs.Core as core
 use Rattle.language.specs.Core.{Stmt, declare, local}
@@ -12,14 +12,20 @@ use Rattle.meaning_round.specs.declared.ending.Sought.{Sought}
 use Rattle.meaning_round.specs.declared.ending.Sought.TheVariants.{All, Among}
 use Rattle.meaning_round.specs.declared.state.Array.{Array}
 use Rattle.meaning_round.specs.declared.state.State.{State}
+use Rattle.meaning_round.specs.Hearing.{numbers_of}
 use Rattle.meaning_round.specs.Standing.{active_of}
 
 abbrev pub tasks_of : {A : Type 0} → State A → List Active
 tasks_of s = map active_of s.tasks.items
 
+-- those of these numbers
+abbrev pub picks : List Active → List ℕ → List Active
+picks ls [] = []
+picks ls (k ∷ ks) = option_to_list (slice_get ls k) ++ picks ls ks
+
 -- those that may have something left to tell
 abbrev pub telling_of : {A : Type 0} → State A → List Active
-telling_of s = map active_of s.telling.items
+telling_of s = picks (tasks_of s) (numbers_of s.tellers (length (tasks_of s)))
 
 -- those that wait for their choice
 abbrev pub waiting_of : {A : Type 0} → State A → List Active

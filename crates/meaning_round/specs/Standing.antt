@@ -1,5 +1,5 @@
 -- The live statements of a program are those of the script after so many rounds, and what it keeps is what is known then.
-use Rattle.std.specs.Prelude.{◌≡◌, ◌⊎◌, ℕ, ◌<◌, Bool, true, not, List, [], ◌∷◌, ◌++◌, length, map, filter}
+use Rattle.std.specs.Prelude.{◌≡◌, ◌⊎◌, ℕ, ◌<◌, List, [], ◌∷◌, ◌++◌, length, map}
 use Rattle.flow.specs.View.{action_view, awaited_view, block_view, waits_around}
 use Rattle.meaning_steps.specs.Kept.{Keeps}
 use Rattle.language.specs.Core as core
@@ -15,12 +15,10 @@ use Rattle.meaning_facts.specs.Keeping.{kept_of, IsPlaced}
 use Rattle.meaning_facts.specs.Paths.{path_of}
 use Rattle.meaning_invariants.specs.Held.{HasPlaces}
 use Rattle.meaning_invariants.specs.Active.{Active, active, IsListed}
-use Rattle.meaning_faults.specs.declared.site.Site.{Site}
+use Rattle.meaning_faults.specs.declared.site.LiveStatement.{LiveStatement}
 use Rattle.meaning_round.specs.declared.state.Content.{Content}
 use Rattle.meaning_round.specs.declared.state.Deed.{Deed}
-use Rattle.meaning_round.specs.declared.state.Deed.TheVariants as Deed
 use Rattle.meaning_round.specs.declared.state.Task.{Task}
-use Rattle.meaning_round.specs.Silence.{has_told}
 use Rattle.meaning_round.specs.Told.{site_news}
 
 abbrev pub content_view : {A : Type 0} → Content A → core.Block
@@ -37,7 +35,7 @@ active_of t = active t.site.instance (stmt t.site.at t.site.node (deed_view t.de
 abbrev pub active_path : Learned → Active → Path
 active_path l a = path_of l.instances.all.items a.instance
 
-abbrev pub site_of : Active → Site
+abbrev pub site_of : Active → LiveStatement
 site_of a = record { instance = a.instance; at = stmt_at a.statement; node = stmt_node a.statement }
 
 -- what a round tells of it
@@ -48,25 +46,17 @@ abbrev pub actives_news : Learned → List Active → List Fact
 actives_news l [] = []
 actives_news l (a ∷ others) = active_news l a ++ actives_news l others
 
--- it has nothing more to tell
-abbrev pub active_told : Learned → Active → Bool
-active_told l a = has_told l (site_of a) (stmt_action a.statement)
-
--- those that may have something left to tell
-abbrev pub still_telling : Learned → List Active → List Active
-still_telling l xs = filter (λ a. not (active_told l a)) xs
-
 -- the instances of these are there, and what names denote in them
 abbrev pub HavePlaces : List Instance → List Active → Type 0
 HavePlaces ns xs = (a : Active) → a ∈ xs → HasPlaces ns a.instance
 
--- these are the live statements, and what is not among the others has nothing more to tell
+-- these are the live statements, and what is not among the others tells nothing
 pub record AreLive (s : Core) (K : Knowledge) (l : Learned) (ls telling : List Active) : Type 0 where
   pub within : (a : Active) → a ∈ ls → a.instance < length l.instances.all.items
   pub so : (a : Active) → a ∈ ls → LiveStmt s K (active_path l a) a.statement
   pub all : (path : Path) (st : Stmt) → LiveStmt s K path st → IsListed l ls path st
   pub among : (a : Active) → a ∈ telling → a ∈ ls
-  pub quiet : (a : Active) → a ∈ ls → (a ∈ telling) ⊎ (active_told l a ≡ true)
+  pub quiet : (a : Active) → a ∈ ls → (a ∈ telling) ⊎ (active_news l a ≡ [])
 
 -- what was learned is what is known after so many rounds, by instances that stand where blocks do
 pub record IsAfter (s : Core) (n : ℕ) (l : Learned) (ls telling : List Active) : Type 0 where

@@ -10,7 +10,7 @@ use flow::cell::{Cell, Outer, Part};
 use meaning_facts::facts::Fact;
 use meaning_facts::learned::Learned;
 use meaning_faults::faults::add_fault;
-use meaning_faults::site::Site;
+use meaning_faults::site::LiveStatement;
 use std::alloc::{AllocError, Allocator, Global};
 use values::value::Value;
 
@@ -18,7 +18,7 @@ use values::value::Value;
 pub(crate) fn comes<A: Allocator>(
     learned: &Learned,
     alloc: Global,
-    site: Site,
+    site: LiveStatement,
     outer: &Outer<A>,
     news: &mut Vec<Fact>,
 ) -> Result<Option<Value>, AllocError>
@@ -36,7 +36,7 @@ pub(crate) fn comes<A: Allocator>(
 pub(crate) fn add_parts<A: Allocator>(
     learned: &Learned,
     alloc: Global,
-    site: Site,
+    site: LiveStatement,
     parts: &Vec<Part<A>, A>,
     news: &mut Vec<Fact>,
 ) -> Result<(), AllocError>
@@ -54,7 +54,7 @@ pub(crate) fn add_parts<A: Allocator>(
 fn add_part<A: Allocator>(
     learned: &Learned,
     alloc: Global,
-    site: Site,
+    site: LiveStatement,
     part: &Part<A>,
     news: &mut Vec<Fact>,
 ) -> Result<(), AllocError>
@@ -72,7 +72,7 @@ fn add_part<A: Allocator>(
 fn cell_comes<A: Allocator>(
     learned: &Learned,
     alloc: Global,
-    site: Site,
+    site: LiveStatement,
     cell: &Cell<A>,
     news: &mut Vec<Fact>,
 ) -> Result<Option<Value>, AllocError>

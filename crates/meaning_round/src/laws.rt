@@ -17,11 +17,11 @@ ghost use Rattle.meaning_facts.specs.Growing.{with_facts};
 ghost use Rattle.meaning_facts.specs.Sighted.{closed_at};
 ghost use Rattle.meaning_facts.specs.Indexed.{one_writer_in};
 ghost use Rattle.meaning_facts.specs.Store.{writes_at};
-ghost use Rattle.meaning_invariants.specs.Held.{AreAdded, AreInside};
+ghost use Rattle.meaning_invariants.specs.Held.{AreAdded, AreInside, HasPlaces};
 ghost use Rattle.meaning_invariants.specs.Active.{Active, Candidate, goal_of};
 ghost use Rattle.meaning_invariants.specs.Opened.{IsUnready, OffsetsApart};
-ghost use Rattle.meaning_round.specs.Going.{StandsBetween};
-ghost use Rattle.meaning_round.specs.Standing.{still_telling, HavePlaces, IsAfter};
+ghost use Rattle.meaning_round.specs.Going.{IsTelling, StandsBetween};
+ghost use Rattle.meaning_round.specs.Standing.{HavePlaces, IsAfter};
 ghost use Rattle.meaning_faults.specs.Viewed.{facts_view};
 ghost use Rattle.language.specs.Places.{place};
 ghost use Rattle.meaning_facts.specs.Keeping.{past_of};
@@ -29,34 +29,34 @@ ghost use Rattle.meaning_facts.specs.Paths.{path_of};
 ghost use Rattle.meaning_facts.specs.Sighted.{sight_of};
 ghost use Rattle.meaning_facts.specs.declared.learned.Learned.{Learned};
 ghost use Rattle.meaning_steps.specs.News.{news};
-ghost use Rattle.meaning_faults.specs.declared.site.Site.{Site};
-ghost use Rattle.meaning_round.specs.Silence.{has_told, KnowsMore};
+ghost use Rattle.meaning_faults.specs.declared.site.LiveStatement.{LiveStatement};
+ghost use Rattle.meaning_round.specs.More.{KnowsMore};
+ghost use Rattle.meaning_round.specs.Reads.{site_reads, IsSame};
+ghost use Rattle.meaning_round.specs.declared.tellers.Event.{Event};
 ghost use Rattle.meaning_round.specs.Told.{lies_at, site_news};
 
 use meaning_facts::facts::{Fact, Facts};
 
 /// What a live statement tells is `news` of the meaning, where names lie at the places that they denote.
 pub fn told_is_news()
-    ensures { (s : Core) (l : Learned) (t : Site) (a : Action) → ((x : Name) → lies_at l t x ≡ place s (path_of l.instances.all.items t.instance) x)
+    ensures { (s : Core) (l : Learned) (t : LiveStatement) (a : Action) → ((x : Name) → lies_at l t x ≡ place s (path_of l.instances.all.items t.instance) x)
         → site_news l t a ≡ news s (sight_of l t.instance) (past_of l t.instance) (path_of l.instances.all.items t.instance) (stmt t.at t.node a) }
 {}
 
-/// A statement that has nothing more to tell, as `has_told` has it, tells nothing.
-pub fn told_is_silent()
-    ensures { (l : Learned) (t : Site) (a : Action) → has_told l t a ≡ true → site_news l t a ≡ [] }
-{}
-
-/// And it has nothing more to tell where more is known, of the instances that are there and others.
-pub fn told_stays()
-    ensures { (l m : Learned) → KnowsMore l m → (t : Site) (a : Action) → t.instance < length l.instances.all.items → has_told l t a ≡ true → has_told m t a ≡ true }
+/// A statement that told nothing when less was known tells nothing still where nothing has come of what it read.
+pub fn silence_stays()
+    ensures { (l m : Learned) → KnowsMore l m → (t : LiveStatement) (a : Action) → HasPlaces l.instances.all.items t.instance
+        → site_news l t a ≡ [] → ((e : Event) → e ∈ site_reads l t a → IsSame l m e) → site_news m t a ≡ [] }
 {}
 
 /// Of an accepted script: where a state stands between rounds, all that is ready is open and all that is finished is closed, it is
 /// that after so many rounds.
 pub fn a_settled_state_is_after()
-    ensures { (s : Core) → WellFormed s → SinglyAssigned s → OffsetsApart s → (n : ℕ) (l : Learned) (ls : List Active) (arrays : List Candidate) (waiting telling : List Active)
-        → StandsBetween s n l ls arrays ls waiting telling → ((a : Active) → a ∈ waiting → IsUnready l a)
-        → ((p : Spot) (b : Block) → ◌∈◌ {X = Candidate} (p, b) arrays → closed_at l p ≡ false → IsDone s l (goal_of p b) → one_writer_in (writes_at l.facts p) ≡ true → ⊥)
+    ensures { (s : Core) → WellFormed s → SinglyAssigned s → OffsetsApart s
+        → (n : ℕ) (l : Learned) (ls : List Active) (arrays : List Candidate) (waiting telling : List Active)
+        → StandsBetween s n l ls arrays ls waiting → IsTelling l ls telling → ((a : Active) → a ∈ waiting → IsUnready l a)
+        → ((p : Spot) (b : Block) → ◌∈◌ {X = Candidate} (p, b) arrays → closed_at l p ≡ false → IsDone s l (goal_of p b)
+        → one_writer_in (writes_at l.facts p) ≡ true → ⊥)
         → IsAfter s n l ls telling }
 {}
 
@@ -64,8 +64,8 @@ pub fn a_settled_state_is_after()
 pub fn a_round_goes_on()
     ensures { (bytes : List ℕ) (t : Table) (tree : Tree) → Reads bytes tree → WellTyped tree t → SinglyAssigned (core t tree)
         → (n : ℕ) (l : Learned) (ls : List Active) (arrays : List Candidate) (passed waiting telling : List Active) (news : List Fact) (k : Facts)
-        → StandsBetween (core t tree) n l ls arrays passed waiting telling → IsAfter (core t tree) n l ls telling
+        → StandsBetween (core t tree) n l ls arrays passed waiting → IsAfter (core t tree) n l ls telling
         → (HavePlaces l.instances.all.items telling → AreInside l.instances.all.items news) → AreAdded l.facts news k
         → ((f : Told) → Known (core t tree) (suc n) f ↔ (Known (core t tree) n f ⊎ (f ∈ facts_view l.instances.all.items news)))
-        → StandsBetween (core t tree) (suc n) (with_facts l k) ls arrays passed waiting (still_telling (with_facts l k) telling) }
+        → StandsBetween (core t tree) (suc n) (with_facts l k) ls arrays passed waiting }
 {}

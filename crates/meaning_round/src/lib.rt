@@ -7,7 +7,8 @@
 mod adding;
 pub mod ending;
 pub mod laws;
-mod silence;
+mod reads;
 pub mod state;
+pub mod tellers;
 mod telling;
 pub mod told;

@@ -9,16 +9,17 @@ ghost use Rattle.meaning_facts.specs.Fresh.{IsFresh};
 ghost use Rattle.meaning_invariants.specs.Active.{active};
 ghost use Rattle.meaning_invariants.specs.Never.{never_in};
 ghost use Rattle.meaning_invariants.specs.Listed.{all_active, unless_never};
-ghost use Rattle.meaning_round.specs.Made.{arrays_of, candidate_of, declares_here, declares_here_by, no_calls, tasks_of, telling_of, waiting_of};
+ghost use Rattle.meaning_round.specs.Made.{arrays_of, candidate_of, declares_here, declares_here_by, no_calls, tasks_of, waiting_of};
 ghost use Rattle.meaning_round.specs.Standing.{active_of, deed_view};
 
 use crate::ending::nevers_of;
+use crate::tellers::Tellers;
 use flow::name::Name;
 use flow::script::Flow;
 use flow::statement::{Action, Block, Header, Statement};
 use meaning_facts::facts::Place;
 use meaning_facts::learned::Learned;
-use meaning_faults::site::Site;
+use meaning_faults::site::LiveStatement;
 use std::alloc::{AllocError, Allocator, Global};
 use std::collections::HashSet;
 
@@ -40,7 +41,7 @@ pub enum Deed<'a, A: Allocator> {
 /// A live statement: where it stands, and what it does.
 #[derive(Drop)]
 pub struct Task<'a, A: Allocator> {
-    pub site: Site,
+    pub site: LiveStatement,
     pub deed: Deed<'a, A>,
 }
 
@@ -51,15 +52,15 @@ pub struct Array<'a, A: Allocator> {
     pub block: &'a Block<A>,
 }
 
-/// What is known of a script, with what is live and closed by it: the live statements, and those among them that may have
-/// something left to tell. Of the first so many, which were passed, the blocks of their calls are live, and those that they open
+/// What is known of a script, with what is live and closed by it: the live statements, and who among them may have something
+/// left to tell. Of the first so many, which were passed, the blocks of their calls are live, and those that they open
 /// as headers, but where they wait for their choice.
 #[derive(Drop)]
 pub struct State<'a, A: Allocator> {
     pub flow: &'a Flow<A>,
     pub learned: Learned,
     pub tasks: Vec<Task<'a, A>>,
-    pub telling: Vec<Task<'a, A>>,
+    pub tellers: Tellers,
     pub passed: usize,
     pub waiting: Vec<Task<'a, A>>,
     pub arrays: Vec<Array<'a, A>>,
@@ -92,7 +93,7 @@ impl<'a, A: Allocator> State<'a, A> {
     pub fn new(alloc: Global, flow: &'a Flow<A>) -> Result<State<'a, A>, AllocError>
         ensures learned { IfOk result (λ state. IsFresh state.learned) }
         ensures tasks { IfOk result (λ state. tasks_of state ≡ all_active 0 (block_list (core_of flow.entry.now).body)) }
-        ensures telling { IfOk result (λ state. telling_of state ≡ all_active 0 (block_list (core_of flow.entry.now).body)) }
+        ensures fresh { IfOk result (λ state. state.tellers.fresh ≡ 0) }
         ensures passed { IfOk result (λ state. (state.passed ≡ 0) × (waiting_of state ≡ [])) }
         ensures arrays { IfOk result (λ state. arrays_of state ≡ declares_here 0 (core_of flow.entry.now).body (block_list (core_of flow.entry.now).body)) }
         ensures flow { IfOk result (λ state. state.flow.now ≡ flow.entry.now) }
@@ -101,7 +102,7 @@ impl<'a, A: Allocator> State<'a, A> {
             flow,
             learned: Learned::new(alloc)?,
             tasks: Vec::new(alloc),
-            telling: Vec::new(alloc),
+            tellers: Tellers::new(alloc),
             passed: 0,
             waiting: Vec::new(alloc),
             arrays: Vec::new(alloc),
@@ -117,9 +118,11 @@ impl<'a, A: Allocator> State<'a, A> {
         waits: &'a [Header<A>],
         block: &'a Block<A>,
     ) -> Result<(), AllocError>
-        ensures tasks { OnOk result (tasks_of self.new ≡ tasks_of self.old ++ all_active instance (block_list (waits_around waits.entry.now (block_view block.entry.now)))) }
-        ensures telling { OnOk result (telling_of self.new ≡ telling_of self.old ++ all_active instance (block_list (waits_around waits.entry.now (block_view block.entry.now)))) }
-        ensures arrays { OnOk result (let inside = waits_around waits.entry.now (block_view block.entry.now) in arrays_of self.new ≡ arrays_of self.old ++ declares_here instance inside (block_list inside)) }
+        ensures tasks { OnOk result (tasks_of self.new
+            ≡ tasks_of self.old ++ all_active instance (block_list (waits_around waits.entry.now (block_view block.entry.now)))) }
+        ensures tellers { self.new.tellers ≡ self.old.tellers }
+        ensures arrays { OnOk result (let inside = waits_around waits.entry.now (block_view block.entry.now) in arrays_of self.new
+            ≡ arrays_of self.old ++ declares_here instance inside (block_list inside)) }
         ensures learned { self.new.learned ≡ self.old.learned }
         ensures flow { self.new.flow.now ≡ self.old.flow.now }
         ensures passed { self.new.passed ≡ self.old.passed }
@@ -128,7 +131,7 @@ impl<'a, A: Allocator> State<'a, A> {
         match waits {
             [] => self.add_statements(instance, block),
             [wait, inner @ ..] => self.add_task(
-                Site {
+                LiveStatement {
                     instance,
                     at: wait.at,
                     node: wait.node,
@@ -146,8 +149,9 @@ impl<'a, A: Allocator> State<'a, A> {
 
     fn add_statements(&mut self, instance: usize, block: &'a Block<A>) -> Result<(), AllocError>
         ensures tasks { OnOk result (tasks_of self.new ≡ tasks_of self.old ++ all_active instance (block_list (block_view block.entry.now))) }
-        ensures telling { OnOk result (telling_of self.new ≡ telling_of self.old ++ all_active instance (block_list (block_view block.entry.now))) }
-        ensures arrays { OnOk result (arrays_of self.new ≡ arrays_of self.old ++ declares_here instance (block_view block.entry.now) (block_list (block_view block.entry.now))) }
+        ensures tellers { self.new.tellers ≡ self.old.tellers }
+        ensures arrays { OnOk result (arrays_of self.new
+            ≡ arrays_of self.old ++ declares_here instance (block_view block.entry.now) (block_list (block_view block.entry.now))) }
         ensures learned { self.new.learned ≡ self.old.learned }
         ensures flow { self.new.flow.now ≡ self.old.flow.now }
         ensures passed { self.new.passed ≡ self.old.passed }
@@ -169,15 +173,16 @@ impl<'a, A: Allocator> State<'a, A> {
     ) -> Result<(), AllocError>
         requires { (n : ℕ) → contains nat_eq nevers.now n ≡ never_in no_calls (local n) (block_view block.now) }
         ensures tasks { OnOk result (tasks_of self.new ≡ tasks_of self.old ++ active instance (statement_view statement.entry.now) ∷ []) }
-        ensures telling { OnOk result (telling_of self.new ≡ telling_of self.old ++ active instance (statement_view statement.entry.now) ∷ []) }
-        ensures arrays { OnOk result (arrays_of self.new ≡ arrays_of self.old ++ declares_here instance (block_view block.entry.now) (statement_view statement.entry.now ∷ [])) }
+        ensures tellers { self.new.tellers ≡ self.old.tellers }
+        ensures arrays { OnOk result (arrays_of self.new
+            ≡ arrays_of self.old ++ declares_here instance (block_view block.entry.now) (statement_view statement.entry.now ∷ [])) }
         ensures learned { self.new.learned ≡ self.old.learned }
         ensures flow { self.new.flow.now ≡ self.old.flow.now }
         ensures passed { self.new.passed ≡ self.old.passed }
         ensures waiting { waiting_of self.new ≡ waiting_of self.old }
     {
         add_declared(&mut self.arrays, instance, block, nevers, &statement.action)?;
-        let site = Site {
+        let site = LiveStatement {
             instance,
             at: statement.at,
             node: statement.node,
@@ -185,9 +190,9 @@ impl<'a, A: Allocator> State<'a, A> {
         self.add_task(site, deed_of(&statement.action))
     }
 
-    fn add_task(&mut self, site: Site, deed: Deed<'a, A>) -> Result<(), AllocError>
+    fn add_task(&mut self, site: LiveStatement, deed: Deed<'a, A>) -> Result<(), AllocError>
         ensures tasks { OnOk result (tasks_of self.new ≡ tasks_of self.old ++ active site.instance (stmt site.at site.node (deed_view deed.entry)) ∷ []) }
-        ensures telling { OnOk result (telling_of self.new ≡ telling_of self.old ++ active site.instance (stmt site.at site.node (deed_view deed.entry)) ∷ []) }
+        ensures tellers { self.new.tellers ≡ self.old.tellers }
         ensures arrays { arrays_of self.new ≡ arrays_of self.old }
         ensures learned { self.new.learned ≡ self.old.learned }
         ensures flow { self.new.flow.now ≡ self.old.flow.now }
@@ -195,7 +200,6 @@ impl<'a, A: Allocator> State<'a, A> {
         ensures waiting { waiting_of self.new ≡ waiting_of self.old }
     {
         let task = Task { site, deed };
-        self.telling.push(task.again())?;
         self.tasks.push(task)?;
         Ok(())
     }
@@ -210,7 +214,8 @@ fn add_declared<'a, A: Allocator>(
     action: &'a Action<A>,
 ) -> Result<(), AllocError>
     requires { (n : ℕ) → contains nat_eq nevers.now n ≡ never_in no_calls (local n) (block_view block.now) }
-    ensures { OnOk result (map candidate_of arrays.new.items ≡ map candidate_of arrays.old.items ++ declares_here_by instance (block_view block.entry.now) (action_view action.entry.now)) }
+    ensures { OnOk result (map candidate_of arrays.new.items
+        ≡ map candidate_of arrays.old.items ++ declares_here_by instance (block_view block.entry.now) (action_view action.entry.now)) }
 {
     match action {
         Action::Declare(variable) => add_array(arrays, instance, block, nevers, variable.node),
@@ -237,7 +242,8 @@ fn add_array<'a, A: Allocator>(
 ) -> Result<(), AllocError>
     requires { (n : ℕ) → contains nat_eq nevers.now n ≡ never_in no_calls (local n) (block_view block.now) }
     ensures { OnOk result (map candidate_of arrays.new.items
-        ≡ map candidate_of arrays.old.items ++ unless_never instance (block_view block.entry.now) node (never_in no_calls (local node) (block_view block.entry.now))) }
+        ≡ map candidate_of arrays.old.items ++ unless_never instance (block_view block.entry.now) node
+        (never_in no_calls (local node) (block_view block.entry.now))) }
 {
     if !nevers.contains(&node) {
         arrays.push(Array {

@@ -18,7 +18,7 @@ use meaning_cells::choices::range_of;
 use meaning_facts::facts::{Fact, Write, Written, kind_of_operation};
 use meaning_facts::learned::Learned;
 use meaning_faults::faults::{add_deep, add_deep_items, add_fault};
-use meaning_faults::site::Site;
+use meaning_faults::site::LiveStatement;
 use paths::FaultKind;
 use std::alloc::{AllocError, Allocator, Global};
 use values::key::KeyRef;
@@ -29,7 +29,7 @@ use values::value::{Scalar, Value};
 pub(crate) fn add_news<A: Allocator>(
     learned: &Learned,
     alloc: Global,
-    site: Site,
+    site: LiveStatement,
     action: &Action<A>,
     news: &mut Vec<Fact>,
 ) -> Result<(), AllocError>
@@ -65,7 +65,7 @@ pub(crate) fn add_news<A: Allocator>(
 fn add_assigned<A: Allocator>(
     learned: &Learned,
     alloc: Global,
-    site: Site,
+    site: LiveStatement,
     target: Name,
     right: &Outer<A>,
     news: &mut Vec<Fact>,
@@ -88,7 +88,7 @@ fn add_assigned<A: Allocator>(
 fn add_filled<A: Allocator>(
     learned: &Learned,
     alloc: Global,
-    site: Site,
+    site: LiveStatement,
     array: Name,
     right: &Outer<A>,
     news: &mut Vec<Fact>,
@@ -106,7 +106,7 @@ fn add_filled<A: Allocator>(
 
 fn add_elements(
     learned: &Learned,
-    site: Site,
+    site: LiveStatement,
     array: Name,
     elements: &[Element],
     news: &mut Vec<Fact>,
@@ -131,7 +131,7 @@ fn add_elements(
 fn add_inserted<A: Allocator>(
     learned: &Learned,
     alloc: Global,
-    site: Site,
+    site: LiveStatement,
     array: Name,
     index: &Outer<A>,
     right: &Outer<A>,
@@ -139,7 +139,8 @@ fn add_inserted<A: Allocator>(
 ) -> Result<(), AllocError>
     ensures told { OnOk result (facts_view learned.now.instances.all.items news.new.items
         ≡ facts_view learned.now.instances.all.items news.old.items
-        ++ (outers_news learned.now site (outer_view index.now ∷ outer_view right.now ∷ []) ++ own_news learned.now site (core.insert (name_view array) (outer_view index.now) (outer_view right.now)))) }
+        ++ (outers_news learned.now site (outer_view index.now ∷ outer_view right.now ∷ [])
+        ++ own_news learned.now site (core.insert (name_view array) (outer_view index.now) (outer_view right.now)))) }
     ensures inside { OnOk result (StayInside learned.now.instances.all.items site.instance news.old.items news.new.items) }
 {
     let index = comes(learned, alloc, site, index, news)?;
@@ -150,7 +151,7 @@ fn add_inserted<A: Allocator>(
 /// Adds the write of an element where its index and its value are there.
 fn add_pair(
     learned: &Learned,
-    site: Site,
+    site: LiveStatement,
     array: Name,
     index: Option<Value>,
     right: Option<Value>,
@@ -175,7 +176,7 @@ fn add_pair(
 /// Adds a write of a key, or where it is known and another statement has written the key, the fault.
 fn add_element(
     learned: &Learned,
-    site: Site,
+    site: LiveStatement,
     array: Name,
     key: KeyRef<'_>,
     value: &Scalar,
@@ -204,7 +205,7 @@ fn add_element(
 fn add_printed<A: Allocator>(
     learned: &Learned,
     alloc: Global,
-    site: Site,
+    site: LiveStatement,
     line: &Outer<A>,
     news: &mut Vec<Fact>,
 ) -> Result<(), AllocError>
@@ -226,14 +227,15 @@ fn add_printed<A: Allocator>(
 fn add_branch<A: Allocator>(
     learned: &Learned,
     alloc: Global,
-    site: Site,
+    site: LiveStatement,
     condition: &Outer<A>,
     other: bool,
     news: &mut Vec<Fact>,
 ) -> Result<(), AllocError>
     ensures told { OnOk result (facts_view learned.now.instances.all.items news.new.items
         ≡ facts_view learned.now.instances.all.items news.old.items
-        ++ (outers_news learned.now site (outer_view condition.now ∷ []) ++ branch_news learned.now site (comes_at learned.now site (outer_view condition.now).cell) other)) }
+        ++ (outers_news learned.now site (outer_view condition.now ∷ [])
+        ++ branch_news learned.now site (comes_at learned.now site (outer_view condition.now).cell) other)) }
     ensures inside { OnOk result (StayInside learned.now.instances.all.items site.instance news.old.items news.new.items) }
 {
     match comes(learned, alloc, site, condition, news)? {
@@ -246,13 +248,14 @@ fn add_branch<A: Allocator>(
 fn add_range<A: Allocator>(
     learned: &Learned,
     alloc: Global,
-    site: Site,
+    site: LiveStatement,
     range: &Range<A>,
     news: &mut Vec<Fact>,
 ) -> Result<(), AllocError>
     ensures told { OnOk result (facts_view learned.now.instances.all.items news.new.items
         ≡ facts_view learned.now.instances.all.items news.old.items
-        ++ (outers_news learned.now site (range_outers range.now) ++ range_news learned.now site (comes_all (sight_at learned.now site) (map (λ o. o.cell) (range_outers range.now))))) }
+        ++ (outers_news learned.now site (range_outers range.now)
+        ++ range_news learned.now site (comes_all (sight_at learned.now site) (map (λ o. o.cell) (range_outers range.now))))) }
     ensures inside { OnOk result (StayInside learned.now.instances.all.items site.instance news.old.items news.new.items) }
 {
     let low = comes(learned, alloc, site, &range.low, news)?;
@@ -269,7 +272,7 @@ fn add_range<A: Allocator>(
 /// The same of a range with these bounds and no step, where they are there.
 fn add_between(
     learned: &Learned,
-    site: Site,
+    site: LiveStatement,
     low: Option<Value>,
     high: Option<Value>,
     news: &mut Vec<Fact>,
@@ -287,14 +290,15 @@ fn add_between(
 /// The same of a range with these bounds and this step, where they are there.
 fn add_stepped(
     learned: &Learned,
-    site: Site,
+    site: LiveStatement,
     low: Option<Value>,
     high: Option<Value>,
     step: Option<Value>,
     news: &mut Vec<Fact>,
 ) -> Result<(), AllocError>
     ensures told { OnOk result (facts_view learned.now.instances.all.items news.new.items
-        ≡ facts_view learned.now.instances.all.items news.old.items ++ range_news learned.now site (with_value low (with_value high (with_value step (Some []))))) }
+        ≡ facts_view learned.now.instances.all.items news.old.items
+        ++ range_news learned.now site (with_value low (with_value high (with_value step (Some []))))) }
     ensures inside { OnOk result (StayInside learned.now.instances.all.items site.instance news.old.items news.new.items) }
 {
     match (low, high, step) {
@@ -306,7 +310,7 @@ fn add_stepped(
 /// The same of a range with these bounds.
 fn add_bounds(
     learned: &Learned,
-    site: Site,
+    site: LiveStatement,
     values: &[Value],
     news: &mut Vec<Fact>,
 ) -> Result<(), AllocError>
@@ -325,7 +329,7 @@ fn add_bounds(
 #[tactic(auto, using(crate::proofs::Behind::deep_shallow, crate::proofs::Behind::deep_not))]
 pub(crate) fn add_deep_calls<A: Allocator>(
     learned: &Learned,
-    site: Site,
+    site: LiveStatement,
     action: &Action<A>,
     news: &mut Vec<Fact>,
 ) -> Result<(), AllocError>

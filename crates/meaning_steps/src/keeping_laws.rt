@@ -18,9 +18,11 @@ ghost use Rattle.meaning_steps.specs.Kept.{Kept, Keeps, sight_by, past_by};
 /// Where what is kept is what is known, and a name has one scalar, what is seen and was told by it at each path is what is
 /// known there.
 pub fn kept_is_seen()
-    ensures sees { (s : Core) (n : ℕ) (k : Kept) → Keeps s (Known s n) k → ((p : Place) (v u : Scalar) → HasValue s (Known s n) p v → HasValue s (Known s n) p u → v ≡ u)
+    ensures sees { (s : Core) (n : ℕ) (k : Kept) → Keeps s (Known s n) k
+        → ((p : Place) (v u : Scalar) → HasValue s (Known s n) p v → HasValue s (Known s n) p u → v ≡ u)
         → (path : Path) → Sees s (Known s n) path (sight_by s k path) }
-    ensures recalls { (s : Core) (n : ℕ) (k : Kept) → Keeps s (Known s n) k → ((p : Place) (v u : Scalar) → HasValue s (Known s n) p v → HasValue s (Known s n) p u → v ≡ u)
+    ensures recalls { (s : Core) (n : ℕ) (k : Kept) → Keeps s (Known s n) k
+        → ((p : Place) (v u : Scalar) → HasValue s (Known s n) p v → HasValue s (Known s n) p u → v ≡ u)
         → (path : Path) → Recalls s (Known s n) path (past_by s k path) }
 {}
 
@@ -29,8 +31,10 @@ pub fn kept_is_seen()
 pub fn rounds_by_what_is_kept()
     ensures round { (bytes : List ℕ) (t : Table) (tree : Tree) → Reads bytes tree → WellTyped tree t → SinglyAssigned (core t tree)
         → (n : ℕ) (k : Kept) → Keeps (core t tree) (Known (core t tree) n) k
-        → (f : Fact) → Known (core t tree) (suc n) f ↔ (Known (core t tree) n f ⊎ ToldOf (core t tree) (Known (core t tree) n) (sight_by (core t tree) k) (past_by (core t tree) k) f) }
+        → (f : Fact) → Known (core t tree) (suc n) f ↔
+        (Known (core t tree) n f ⊎ ToldOf (core t tree) (Known (core t tree) n) (sight_by (core t tree) k) (past_by (core t tree) k) f) }
     ensures finished { (bytes : List ℕ) (t : Table) (tree : Tree) → Reads bytes tree → WellTyped tree t → SinglyAssigned (core t tree)
         → (n : ℕ) (k : Kept) → Keeps (core t tree) (Known (core t tree) n) k
-        → IsFinished (core t tree) n ↔ ((f : Fact) → ToldOf (core t tree) (Known (core t tree) n) (sight_by (core t tree) k) (past_by (core t tree) k) f → Known (core t tree) n f) }
+        → IsFinished (core t tree) n ↔ ((f : Fact) → ToldOf (core t tree) (Known (core t tree) n) (sight_by (core t tree) k) (past_by (core t tree) k) f
+        → Known (core t tree) n f) }
 {}

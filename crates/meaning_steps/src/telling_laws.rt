@@ -59,7 +59,8 @@ pub fn sight_is_exact()
 pub fn news_is_exact()
     ensures sound { (s : Core) (fs : List Fact) (path : Path) (g : Sight) (m : Past) → Sees s (Knows fs) path g → Recalls s (Knows fs) path m
         → (st : Stmt) (f : Fact) → LiveStmt s (Knows fs) path st → f ∈ news s g m path st → New s (Knows fs) f }
-    ensures complete { (s : Core) (fs : List Fact) (g : Path → Sight) (m : Path → Past) → ((path : Path) → Sees s (Knows fs) path (g path)) → ((path : Path) → Recalls s (Knows fs) path (m path))
+    ensures complete { (s : Core) (fs : List Fact) (g : Path → Sight) (m : Path → Past) → ((path : Path) → Sees s (Knows fs) path (g path))
+        → ((path : Path) → Recalls s (Knows fs) path (m path))
         → IsSteady s (Knows fs) → (f : Fact) → New s (Knows fs) f
         → ToldOf s (Knows fs) g m f ⊎ (f ∈ fs) }
 {}
@@ -79,10 +80,14 @@ pub fn a_round_is_what_is_told()
 /// script that is accepted each round adds just what is told of its live statements.
 pub fn accepted_rounds()
     ensures nodes { (bytes : List ℕ) (t : Table) (tree : Tree) → Reads bytes tree → NodesTell (core t tree) }
-    ensures round { (bytes : List ℕ) (t : Table) (tree : Tree) → Reads bytes tree → WellTyped tree t → SinglyAssigned (core t tree) → (n : ℕ) (g : Path → Sight) (m : Path → Past)
-        → ((path : Path) → Sees (core t tree) (Known (core t tree) n) path (g path)) → ((path : Path) → Recalls (core t tree) (Known (core t tree) n) path (m path))
+    ensures round { (bytes : List ℕ) (t : Table) (tree : Tree) → Reads bytes tree → WellTyped tree t → SinglyAssigned (core t tree)
+        → (n : ℕ) (g : Path → Sight) (m : Path → Past)
+        → ((path : Path) → Sees (core t tree) (Known (core t tree) n) path (g path))
+        → ((path : Path) → Recalls (core t tree) (Known (core t tree) n) path (m path))
         → (f : Fact) → Known (core t tree) (suc n) f ↔ (Known (core t tree) n f ⊎ ToldOf (core t tree) (Known (core t tree) n) g m f) }
-    ensures finished { (bytes : List ℕ) (t : Table) (tree : Tree) → Reads bytes tree → WellTyped tree t → SinglyAssigned (core t tree) → (n : ℕ) (g : Path → Sight) (m : Path → Past)
-        → ((path : Path) → Sees (core t tree) (Known (core t tree) n) path (g path)) → ((path : Path) → Recalls (core t tree) (Known (core t tree) n) path (m path))
+    ensures finished { (bytes : List ℕ) (t : Table) (tree : Tree) → Reads bytes tree → WellTyped tree t → SinglyAssigned (core t tree)
+        → (n : ℕ) (g : Path → Sight) (m : Path → Past)
+        → ((path : Path) → Sees (core t tree) (Known (core t tree) n) path (g path))
+        → ((path : Path) → Recalls (core t tree) (Known (core t tree) n) path (m path))
         → IsFinished (core t tree) n ↔ ((f : Fact) → ToldOf (core t tree) (Known (core t tree) n) g m f → Known (core t tree) n f) }
 {}

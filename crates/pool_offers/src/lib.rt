@@ -61,7 +61,8 @@ impl Offers {
         ensures did { self.old.drawn < u64.MAX → TakeDid (view self.old.seat) (view self.new.seat) (kind_order side) result }
         ensures some { IfSome result (λ n. self.new.drawn ≡ self.old.drawn + 1) }
         ensures none { IfNone result (self.new.drawn ≡ self.old.drawn) }
-        ensures rest { (self.new.offered ≡ self.old.offered) × (self.new.full ≡ self.old.full) × (self.new.lost ≡ self.old.lost) × (self.new.pending ≡ self.old.pending) × (self.new.list ≡ self.old.list) }
+        ensures rest { (self.new.offered ≡ self.old.offered) × (self.new.full ≡ self.old.full) × (self.new.lost ≡ self.old.lost)
+            × (self.new.pending ≡ self.old.pending) × (self.new.list ≡ self.old.list) }
     {
         if self.drawn == u64::MAX {
             return None;

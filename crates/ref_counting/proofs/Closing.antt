@@ -12,7 +12,7 @@ use Rattle.ref_counting.specs.Openings.{AreHomes, AreOpenings}
 use Rattle.ref_counting.specs.Rights.{Adds, AllLead, AllWithin, ByHomes, IsClosed, Passes, StepsOn}
 use Rattle.ref_counting.specs.Rows.{row}
 use Rattle.ref_counting.proofs.Adding.{passes_home, home_passes, passed_led, passed_within}
-use Rattle.ref_counting.proofs.Growing.{still_has, old_or_new}
+use Rattle.ref_counting.proofs.Growing.{still_has, still_plain, old_or_new}
 
 -- one more of a list's beginning
 pub take_next : {X : Type 0} (xs : List X) (i : ℕ) (d : X) → i < length xs → take i xs ++ get_or xs i d ∷ [] ≡ take (i + 1) xs
@@ -79,6 +79,7 @@ module _ (C : Code) (hs : List (List ℕ)) (os : List (List Opening)) (H : AreHo
       record {
         kept = λ i r t. still_has adds.grows t;
         within = still_within C hs os H O lead old new there adds;
+        plain = still_plain adds.grows;
         sound = still_led C hs os H O lead old new there adds;
         closed = λ W before. one_closed C hs os H O lead old new there adds n lead h is W before;
       }

@@ -2,7 +2,7 @@
 use Rattle.std.proofs.Common.{◌≡◌, ◌⊎◌, inl, inr, ℕ, zero, suc, ◌<◌, ◌≤◌, List, [], ◌∷◌, ◌++◌, map, length, get_or, slice_set, Vec, Global, refl, sym, ap, subst, ◌∙◌, arith}
 use Rattle.dataflow.specs.System.{In}
 use Rattle.dataflow.proofs.Lists.{in_left, in_right, in_split}
-use Rattle.ref_counting.specs.Rows.{row, Fills, Puts}
+use Rattle.ref_counting.specs.Rows.{row, Fills, put_in}
 
 -- ROWS OF VECTORS
 
@@ -37,30 +37,51 @@ module _ {X : Type 0} where
       only : (k : ℕ) (x : X) → In x (row c k) → In x (row a k) ⊎ P k x
       only k x t = elim (g.only k x t) [ inl u ↦ f.only k x u | inr q ↦ inr (weaken k x q) ]
 
-  -- one list gets a value, where there is one
-  pub puts_here : (vs : List (Vec X Global)) (n : ℕ) (x : X) (w : Vec X Global) (d : Vec X Global) → n < length vs → w.items ≡ (get_or vs n d).items ++ x ∷ [] → Puts n x (rows_of vs) (rows_of (slice_set vs n w))
+  -- A VALUE IS PUT BEHIND A LIST
+
+  pub put_count : (rs : List (List X)) (n : ℕ) (x : X) → length (put_in rs n x) ≡ length rs
+  put_count [] n x = refl
+  put_count (r ∷ rs) zero x = refl
+  put_count (r ∷ rs) (suc n) x = ap suc (put_count rs n x)
+
+  pub put_here : (rs : List (List X)) (n : ℕ) (x : X) → n < length rs → row (put_in rs n x) n ≡ row rs n ++ x ∷ []
+  put_here [] n x h = absurd (omega arith)
+  put_here (r ∷ rs) zero x h = refl
+  put_here (r ∷ rs) (suc n) x h = put_here rs n x (omega arith)
+
+  -- every list is as it was, or is that of the number and has the value behind it
+  pub put_row : (rs : List (List X)) (n : ℕ) (x : X) (k : ℕ) → (row (put_in rs n x) k ≡ row rs k) ⊎ ((k ≡ n) × (row (put_in rs n x) k ≡ row rs k ++ x ∷ []))
+  put_row [] n x k = inl refl
+  put_row (r ∷ rs) zero x zero = inr (refl, refl)
+  put_row (r ∷ rs) zero x (suc k) = inl refl
+  put_row (r ∷ rs) (suc n) x zero = inl refl
+  put_row (r ∷ rs) (suc n) x (suc k) = elim (put_row rs n x k) [ inl e ↦ inl e | inr q ↦ inr (ap suc q.0, q.1) ]
+
+  pub put_there : (rs : List (List X)) (n : ℕ) (x : X) → n < length rs → In x (row (put_in rs n x) n)
+  put_there rs n x h = subst (In x) (sym (put_here rs n x h)) (in_right x (row rs n) (x ∷ []) (inl refl))
+
+  pub put_fills : (rs : List (List X)) (n : ℕ) (x : X) → Fills (λ k y. (k ≡ n) × (y ≡ x)) rs (put_in rs n x)
+  put_fills rs n x = record { count = put_count rs n x; kept = kept; only = only }
+    where
+      kept : (k : ℕ) (y : X) → In y (row rs k) → In y (row (put_in rs n x) k)
+      kept k y t = elim (put_row rs n x k) [ inl e ↦ subst (In y) (sym e) t | inr q ↦ subst (In y) (sym q.1) (in_left y (row rs k) (x ∷ []) t) ]
+
+      behind : (k : ℕ) (y : X) → k ≡ n → In y (row rs k) ⊎ In y (x ∷ []) → In y (row rs k) ⊎ ((k ≡ n) × (y ≡ x))
+      behind k y e (inl u) = inl u
+      behind k y e (inr (inl s)) = inr (e, s)
+      behind k y e (inr (inr f)) = absurd f
+
+      only : (k : ℕ) (y : X) → In y (row (put_in rs n x) k) → In y (row rs k) ⊎ ((k ≡ n) × (y ≡ x))
+      only k y t = elim (put_row rs n x k) [ inl e ↦ inl (subst (In y) e t) | inr q ↦ behind k y q.0 (in_split y (row rs k) (x ∷ []) (subst (In y) q.1 t)) ]
+
+  -- IN VECTORS
+
+  pub puts_here : (vs : List (Vec X Global)) (n : ℕ) (x : X) (w : Vec X Global) (d : Vec X Global) → n < length vs → w.items ≡ (get_or vs n d).items ++ x ∷ [] → rows_of (slice_set vs n w) ≡ put_in (rows_of vs) n x
   puts_here [] n x w d h e = absurd (omega arith)
-  puts_here (v ∷ vs) zero x w d h e = record { fills = record { count = refl; kept = kept; only = only }; there = λ l. subst (In x) (sym e) (in_right x v.items (x ∷ []) (inl refl)) }
-    where
-      kept : (k : ℕ) (y : X) → In y (row (rows_of (v ∷ vs)) k) → In y (row (rows_of (w ∷ vs)) k)
-      kept zero y t = subst (In y) (sym e) (in_left y v.items (x ∷ []) t)
-      kept (suc k) y t = t
+  puts_here (v ∷ vs) zero x w d h e = ap (λ r. r ∷ rows_of vs) e
+  puts_here (v ∷ vs) (suc n) x w d h e = ap (λ rs. v.items ∷ rs) (puts_here vs n x w d (omega arith) e)
 
-      only : (k : ℕ) (y : X) → In y (row (rows_of (w ∷ vs)) k) → In y (row (rows_of (v ∷ vs)) k) ⊎ ((k ≡ zero) × (y ≡ x))
-      only zero y t = elim (in_split y v.items (x ∷ []) (subst (In y) e t)) [ inl u ↦ inl u | inr u ↦ elim u [ inl s ↦ inr (refl, s) | inr f ↦ absurd f ] ]
-      only (suc k) y t = inl t
-  puts_here (v ∷ vs) (suc n) x w d h e = further (puts_here vs n x w d (omega arith) e)
-    where
-      further : Puts n x (rows_of vs) (rows_of (slice_set vs n w)) → Puts (suc n) x (rows_of (v ∷ vs)) (rows_of (v ∷ slice_set vs n w))
-      further p = record { fills = record { count = ap suc p.fills.count; kept = kept; only = only }; there = λ l. p.there (omega arith) }
-        where
-          kept : (k : ℕ) (y : X) → In y (row (rows_of (v ∷ vs)) k) → In y (row (rows_of (v ∷ slice_set vs n w)) k)
-          kept zero y t = t
-          kept (suc k) y t = p.fills.kept k y t
-
-          only : (k : ℕ) (y : X) → In y (row (rows_of (v ∷ slice_set vs n w)) k) → In y (row (rows_of (v ∷ vs)) k) ⊎ ((k ≡ suc n) × (y ≡ x))
-          only zero y t = inl t
-          only (suc k) y t = elim (p.fills.only k y t) [ inl u ↦ inl u | inr q ↦ inr (ap suc q.0, q.1) ]
-
-  pub puts_nowhere : (vs : List (List X)) (n : ℕ) (x : X) → length vs ≤ n → Puts n x vs vs
-  puts_nowhere vs n x h = record { fills = fills_not vs; there = λ l. absurd (omega arith) }
+  pub puts_nowhere : (vs : List (Vec X Global)) (n : ℕ) (x : X) → length vs ≤ n → rows_of vs ≡ put_in (rows_of vs) n x
+  puts_nowhere [] n x h = refl
+  puts_nowhere (v ∷ vs) zero x h = absurd (omega arith)
+  puts_nowhere (v ∷ vs) (suc n) x h = ap (λ rs. v.items ∷ rs) (puts_nowhere vs n x (omega arith))

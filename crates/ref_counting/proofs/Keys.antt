@@ -1,9 +1,9 @@
 -- The keys of a set as one is inserted, where equal keys are the same.
 use Rattle.std.proofs.Common.{◌≡◌, ◌⊎◌, inl, inr, Bool, true, false, ◌||◌, List, [], ◌∷◌, ◌++◌, refl, sym, ap, subst, ◌∙◌, if◌then◌else◌, true≢false}
-use Rattle.std.specs.List.{list_any}
+use Rattle.std.specs.List.{AllByRecursion, IsDistinct, list_any}
 use Rattle.std.proofs.Math.Bool.{beq}
 use Rattle.indexmap.specs.IndexSet.{insert_key}
-use Rattle.dataflow.specs.System.{In}
+use Rattle.dataflow.specs.System.{Distinct, In}
 use Rattle.dataflow.proofs.Lists.{in_left, in_right, in_split}
 
 pub same_flag : (a b : Bool) → beq a b ≡ true → a ≡ b
@@ -51,3 +51,14 @@ module _ {K : Type 0} (eq : K → K → Bool) (same_self : (a : K) → eq a a �
       by : (b : Bool) → list_any (eq k) ms ≡ true → (b || list_any (eq k) ms) ≡ true
       by true h = refl
       by false h = h
+
+  -- keys none of which is equal to one after it are distinct
+  apart_out : (k : K) (ks : List K) → AllByRecursion (λ m. eq k m ≡ false) ks → In k ks → ⊥
+  apart_out k [] h t = t
+  apart_out k (m ∷ ms) h (inl e) = true≢false (sym (same_self k) ∙ subst (λ n. eq k n ≡ false) (sym e) h.0)
+  apart_out k (m ∷ ms) h (inr t) = apart_out k ms h.1 t
+
+  pub distinct_keys : (ks : List K) → IsDistinct eq ks → Distinct ks
+  unfolding IsDistinct
+  distinct_keys [] h = tt
+  distinct_keys (k ∷ ks) h = (apart_out k ks h.0, distinct_keys ks h.1)

@@ -7,8 +7,8 @@ use Rattle.task_code.specs.Code.{Code, body, entry, ways}
 use Rattle.ref_counting.specs.declared.openings.Opening.{Opening}
 use Rattle.ref_counting.specs.declared.openings.Way.{Way}
 use Rattle.ref_counting.specs.Openings.{Noted, NotesAll, NotesHomes, OpeningsUpTo, HomesUpTo, way_of}
-use Rattle.ref_counting.specs.Rows.{row, Fills, Puts}
-use Rattle.ref_counting.proofs.Filling.{fills_not}
+use Rattle.ref_counting.specs.Rows.{row, Fills, put_in}
+use Rattle.ref_counting.proofs.Filling.{fills_not, put_fills, put_there}
 
 pub below_or_at : (i n : ℕ) → i < n + 1 → (i < n) ⊎ (i ≡ n)
 below_or_at i n h = by (nat_lt i n) refl
@@ -17,17 +17,26 @@ below_or_at i n h = by (nat_lt i n) refl
     by true e = inl (grind arith)
     by false e = inr (grind arith)
 
-pub noted_one : (i : ℕ) (way : Way) (b : ℕ) (old new : List (List Opening)) → Puts b (record { entry = i; way = way }) old new → NotesAll i ((way_of way, b) ∷ []) old new
-noted_one i way b old new p = record { fills = record { count = p.fills.count; kept = p.fills.kept; only = only }; all = all }
+abbrev pub opening_by : ℕ → Way → Opening
+opening_by i way = record { entry = i; way = way }
+
+pub noted_one : (i : ℕ) (way : Way) (b : ℕ) (old new : List (List Opening)) → new ≡ put_in old b (opening_by i way) → NotesAll i ((way_of way, b) ∷ []) old new
+noted_one i way b old new is = record { fills = record { count = fills.count; kept = fills.kept; only = only }; all = all }
   where
+    fills : Fills (λ (k : ℕ) (o : Opening). (k ≡ b) × (o ≡ opening_by i way)) old new
+    fills = subst (Fills (λ (k : ℕ) (o : Opening). (k ≡ b) × (o ≡ opening_by i way)) old) (sym is) (put_fills old b (opening_by i way))
+
+    there : b < length old → In (opening_by i way) (row new b)
+    there h = subst (λ rs. In (opening_by i way) (row rs b)) (sym is) (put_there old b (opening_by i way) h)
+
     only : (k : ℕ) (o : Opening) → In o (row new k) → In o (row old k) ⊎ ((o.entry ≡ i) × In {X = pure.Way × ℕ} (way_of o.way, k) ((way_of way, b) ∷ []))
-    only k o t = elim (p.fills.only k o t) [ inl u ↦ inl u | inr q ↦ inr (ap (λ (x : Opening). x.entry) q.1, inl (λ j. (way_of (q.1 j).way, q.0 j))) ]
+    only k o t = elim (fills.only k o t) [ inl u ↦ inl u | inr q ↦ inr (ap (λ (x : Opening). x.entry) q.1, inl (λ j. (way_of (q.1 j).way, q.0 j))) ]
 
     all : (w : pure.Way) (k : ℕ) → In {X = pure.Way × ℕ} (w, k) ((way_of way, b) ∷ []) → k < length old → Noted i w (row new k)
     all w k (inl e) h =
         let at : k ≡ b = ap (λ (q : pure.Way × ℕ). q.1) e in
         let by : w ≡ way_of way = ap (λ (q : pure.Way × ℕ). q.0) e in
-        record { opening = record { entry = i; way = way }; there = subst (λ n. In (record { entry = i; way = way }) (row new n)) (sym at) (p.there (subst (λ n. n < length old) at h)); of = refl; by = sym by }
+        record { opening = opening_by i way; there = subst (λ n. In (opening_by i way) (row new n)) (sym at) (there (subst (λ n. n < length old) at h)); of = refl; by = sym by }
     all w k (inr f) h = absurd f
 
 pub noted_still : {P : ℕ → Opening → Type 0} {i : ℕ} {w : pure.Way} {old new : List (List Opening)} (k : ℕ) → Fills P old new → Noted i w (row old k) → Noted i w (row new k)
@@ -89,17 +98,23 @@ module _ (C : Code) where
 pub no_home : (b : ℕ) (hs : List (List ℕ)) → NotesHomes b [] hs hs
 no_home b hs = record { fills = fills_not hs; all = λ j t. absurd t }
 
-pub next_home : (b j : ℕ) (js : List ℕ) (x y z : List (List ℕ)) → NotesHomes b js x y → Puts j b y z → NotesHomes b (js ++ j ∷ []) x z
-next_home b j js x y z f p = record { fills = record { count = p.fills.count ∙ f.fills.count; kept = λ k c t. p.fills.kept k c (f.fills.kept k c t); only = only }; all = all }
+pub next_home : (b j : ℕ) (js : List ℕ) (x y z : List (List ℕ)) → NotesHomes b js x y → z ≡ put_in y j b → NotesHomes b (js ++ j ∷ []) x z
+next_home b j js x y z f is = record { fills = record { count = fills.count ∙ f.fills.count; kept = λ k c t. fills.kept k c (f.fills.kept k c t); only = only }; all = all }
   where
+    fills : Fills (λ k c. (k ≡ j) × (c ≡ b)) y z
+    fills = subst (Fills (λ k c. (k ≡ j) × (c ≡ b)) y) (sym is) (put_fills y j b)
+
+    there : j < length y → In b (row z j)
+    there h = subst (λ rs. In b (row rs j)) (sym is) (put_there y j b h)
+
     only : (k c : ℕ) → In c (row z k) → In c (row x k) ⊎ ((c ≡ b) × In k (js ++ j ∷ []))
-    only k c t = elim (p.fills.only k c t) [
+    only k c t = elim (fills.only k c t) [
       | inl u ↦ elim (f.fills.only k c u) [ inl v ↦ inl v | inr q ↦ inr (q.0, in_left k js (j ∷ []) q.1) ]
       | inr q ↦ inr (q.1, in_right k js (j ∷ []) (inl q.0))
     ]
 
     all : (k : ℕ) → In k (js ++ j ∷ []) → k < length x → In b (row z k)
     all k t h = elim (in_split k js (j ∷ []) t) [
-      | inl u ↦ p.fills.kept k b (f.all k u h)
-      | inr u ↦ elim u [ inl e ↦ subst (λ m. In b (row z m)) (sym e) (p.there (subst (λ m. m < length y) e (subst (λ m. k < m) (sym f.fills.count) h))) | inr q ↦ absurd q ]
+      | inl u ↦ fills.kept k b (f.all k u h)
+      | inr u ↦ elim u [ inl e ↦ subst (λ m. In b (row z m)) (sym e) (there (subst (λ m. m < length y) e (subst (λ m. k < m) (sym f.fills.count) h))) | inr q ↦ absurd q ]
     ]

@@ -1,11 +1,18 @@
 -- Lists of leads: entries with the names that they use or lead to, in the order in which they were found.
-use Rattle.std.specs.Prelude.{◌≡◌, ℕ, List, ◌++◌, if◌then◌else◌}
+use Rattle.std.specs.Prelude.{◌≡◌, ℕ, Bool, true, false, List, ◌++◌, if◌then◌else◌}
 use Rattle.dataflow.specs.System.{In}
 use Rattle.task_code.specs.Code.{Local, Name, Parameter}
 use Rattle.ref_counting.specs.declared.lead.Lead.{Lead}
 
 abbrev pub name_of : Lead → Name
 name_of l = record { up = l.up; owned = if l.local then Local (record { node = l.node; array = l.array }) else Parameter l.place l.array }
+
+-- a lead to a variable has no place, and one to a parameter has no node
+abbrev pub IsPlain : Lead → Type 0
+IsPlain l = (l.local ≡ true → l.place ≡ 0) × (l.local ≡ false → l.node ≡ 0)
+
+abbrev pub AllPlain : List Lead → Type 0
+AllPlain ls = (l : Lead) → In l ls → IsPlain l
 
 -- one of these leads is of the entry to the name
 pub record Has (ls : List Lead) (i : ℕ) (r : Name) : Type 0 where
@@ -19,6 +26,7 @@ pub record Grows (P : ℕ → Name → Type 0) (old new : List Lead) : Type 0 wh
   pub more : List Lead
   pub is : new ≡ old ++ more
   pub each : (l : Lead) → In l more → P l.entry (name_of l)
+  pub plain : AllPlain more
 
 abbrev pub IsThis : ℕ → Name → ℕ → Name → Type 0
 IsThis i r j s = (j ≡ i) × (s ≡ r)

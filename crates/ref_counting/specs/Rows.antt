@@ -1,5 +1,5 @@
 -- Lists by number, as values are put into them.
-use Rattle.std.specs.Prelude.{◌≡◌, ◌⊎◌, ℕ, ◌<◌, zero, suc, List, [], ◌∷◌, length}
+use Rattle.std.specs.Prelude.{◌≡◌, ◌⊎◌, ℕ, zero, suc, List, [], ◌∷◌, ◌++◌, length}
 use Rattle.dataflow.specs.System.{In}
 
 -- the list of a number, which is empty past the last
@@ -14,7 +14,8 @@ pub record Fills {X : Type 0} (P : ℕ → X → Type 0) (old new : List (List X
   pub kept : (k : ℕ) (x : X) → In x (row old k) → In x (row new k)
   pub only : (k : ℕ) (x : X) → In x (row new k) → In x (row old k) ⊎ P k x
 
--- a value is put into the list of a number, if there is one
-pub record Puts {X : Type 0} (n : ℕ) (v : X) (old new : List (List X)) : Type 0 where
-  pub fills : Fills (λ k x. (k ≡ n) × (x ≡ v)) old new
-  pub there : n < length old → In v (row new n)
+-- these lists with a value put behind those of a number, if there is a list for it
+abbrev pub put_in : {X : Type 0} → List (List X) → ℕ → X → List (List X)
+put_in [] n v = []
+put_in (r ∷ rs) zero v = (r ++ v ∷ []) ∷ rs
+put_in (r ∷ rs) (suc n) v = r ∷ put_in rs n v

@@ -1,7 +1,7 @@
 //! Names that entries use or lead to, in the order in which they are found.
 ghost use Rattle.std.specs.Prelude.{◌≡◌, OnOk};
 ghost use Rattle.task_code.specs.View.{name_view};
-ghost use Rattle.ref_counting.specs.Leads.{Grows, Has, IsThis, name_of};
+ghost use Rattle.ref_counting.specs.Leads.{Grows, Has, IsPlain, IsThis, name_of};
 
 use indexmap::IndexSet;
 use std::alloc::AllocError;
@@ -26,6 +26,7 @@ impl Lead {
     pub fn new(entry: u32, name: Name) -> Lead
         ensures entry { result.entry ≡ entry }
         ensures name { name_of result ≡ name_view name }
+        ensures plain { IsPlain result }
     {
         match name.owned {
             Owned::Local(variable) => Lead {

@@ -52,7 +52,8 @@ fn argument_at(
     place: usize,
     array: bool,
 ) -> Option<Name>
-    ensures { Answers result (λ r. argument_in (map argument_view inputs.now.items ++ map Named (map name_view outputs.now.items)) place array ≡ Some (Named r)) }
+    ensures { Answers result (λ r. argument_in (map argument_view inputs.now.items ++ map Named (map name_view outputs.now.items)) place
+        array ≡ Some (Named r)) }
 {
     match inputs.get(place) {
         None => output_at(outputs, place - inputs.len(), array),

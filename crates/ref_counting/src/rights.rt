@@ -1,12 +1,12 @@
 //! Rights: what each entry may read and write.
-ghost use Rattle.dataflow.specs.System.{In};
+ghost use Rattle.dataflow.specs.System.{Distinct, In};
 ghost use Rattle.ref_counting.specs.Rows.{row};
 ghost use Rattle.std.specs.Prelude.{List, ◌≡◌, ℕ, ◌<◌, ◌≤◌, ◌^◌, [], length, map, OnOk, IfOk};
 ghost use Rattle.task_code.specs.Code as pure;
 ghost use Rattle.task_code.specs.Code.{body, entry};
 ghost use Rattle.ref_counting.specs.Uses.{own_of};
 ghost use Rattle.task_code.specs.View.{name_view};
-ghost use Rattle.ref_counting.specs.Leads.{Grows, Has, name_of};
+ghost use Rattle.ref_counting.specs.Leads.{AllPlain, Grows, Has, name_of};
 ghost use Rattle.ref_counting.specs.Makes.{AreMade};
 ghost use Rattle.ref_counting.specs.Openings.{AreHomes, AreOpenings, way_of};
 ghost use Rattle.ref_counting.specs.Passing.{Sees};
@@ -67,21 +67,21 @@ fn pass_body(
 
 /// What is looked up while names are passed on.
 #[derive(Drop)]
-struct Index {
+struct RightsIndex {
     homes: Rows<u32>,
     openings: Rows<Opening>,
     made: IndexSet<Made>,
 }
 
-impl Index {
-    fn new(alloc: Global, code: &Draft) -> Result<Index, AllocError>
+impl RightsIndex {
+    fn new(alloc: Global, code: &Draft) -> Result<RightsIndex, AllocError>
         requires entries { length code.now.entries < 2 ^ 32 }
         requires bodies { length code.now.bodies < 2 ^ 32 }
         ensures homes { IfOk result (λ index. AreHomes code.now index.homes) }
         ensures openings { IfOk result (λ index. AreOpenings code.now index.openings) }
         ensures made { IfOk result (λ index. AreMade code.now index.made.keys) }
     {
-        Ok(Index {
+        Ok(RightsIndex {
             homes: homes(alloc, code)?,
             openings: openings(alloc, code)?,
             made: declarations(alloc, code)?,
@@ -92,7 +92,7 @@ impl Index {
 /// Passes a lead on to each entry that opens a body in which its entry stands.
 fn pass_on(
     code: &Draft,
-    index: &Index,
+    index: &RightsIndex,
     lead: Lead,
     leads: &mut IndexSet<Lead>,
 ) -> Result<(), AllocError>
@@ -112,7 +112,7 @@ fn pass_on(
 /// Passes the lead of a number on.
 fn pass_next(
     code: &Draft,
-    index: &Index,
+    index: &RightsIndex,
     next: usize,
     leads: &mut IndexSet<Lead>,
 ) -> Result<(), AllocError>
@@ -134,7 +134,7 @@ fn pass_next(
 }
 
 /// Passes all leads on, until nothing new is found.
-fn pass_all(code: &Draft, index: &Index, leads: &mut IndexSet<Lead>) -> Result<(), AllocError>
+fn pass_all(code: &Draft, index: &RightsIndex, leads: &mut IndexSet<Lead>) -> Result<(), AllocError>
     requires homes { AreHomes code.now index.now.homes }
     requires openings { AreOpenings code.now index.now.openings }
     requires made { AreMade code.now index.now.made.keys }
@@ -143,6 +143,7 @@ fn pass_all(code: &Draft, index: &Index, leads: &mut IndexSet<Lead>) -> Result<(
     ensures within { OnOk result (AllWithin code.now leads.new.keys) }
     ensures closed { OnOk result (IsClosed code.now leads.new.keys leads.new.keys) }
     ensures kept { OnOk result ((i : ℕ) (r : pure.Name) → Has leads.old.keys i r → Has leads.new.keys i r) }
+    ensures plain { OnOk result (AllPlain leads.old.keys → AllPlain leads.new.keys) }
     ensures sound { OnOk result ((own : pure.Entry → List pure.Name) → AllLead code.now own leads.old.keys → AllLead code.now own leads.new.keys) }
 {
     let mut next = 0;
@@ -169,7 +170,8 @@ fn lay_next(leads: &IndexSet<Lead>, next: usize, found: &mut Rows<Name>) -> Resu
 
 /// The names of each entry's leads.
 fn lay_out(alloc: Global, count: usize, leads: &IndexSet<Lead>) -> Result<Rows<Name>, AllocError>
-    ensures { IfOk result (λ found. LaysOut count leads.now.keys found) }
+    ensures laid { IfOk result (λ found. LaysOut count leads.now.keys found) }
+    ensures distinct { OnOk result (Distinct leads.now.keys) }
 {
     let mut found = Rows::new(alloc, count)?;
     for next in 0..leads.len() {
@@ -190,7 +192,7 @@ pub fn rights(alloc: Global, code: &Draft, right: Right) -> Result<Rows<Name>, A
     requires marks { HasMarks code.now }
     ensures { IfOk result (λ found. AreRights code.now (own_of right) found) }
 {
-    let index = Index::new(alloc, code)?;
+    let index = RightsIndex::new(alloc, code)?;
     let mut leads = uses(alloc, code, right)?;
     pass_all(code, &index, &mut leads)?;
     let found = lay_out(alloc, code.entry_count(), &leads)?;

@@ -1,7 +1,7 @@
 //! Lists by number.
 ghost use Rattle.std.specs.Prelude.{◌≡◌, ℕ, ◌<◌, [], length, OnOk, IfOk};
 ghost use Rattle.dataflow.specs.System.{In};
-ghost use Rattle.ref_counting.specs.Rows.{row, Puts};
+ghost use Rattle.ref_counting.specs.Rows.{put_in, row};
 
 use std::alloc::{AllocError, Global};
 use std::marker::Model;
@@ -45,7 +45,7 @@ impl<T: Copy> Rows<T> {
 
     /// Puts a value behind the others of a number, if there is a list for it.
     pub fn put(&mut self, number: usize, value: T) -> Result<(), AllocError>
-        ensures { OnOk result (Puts number value self.old self.new) }
+        ensures { OnOk result (self.new ≡ put_in self.old number value) }
     {
         if number < self.rows.len() {
             self.rows[number].push(value)?;

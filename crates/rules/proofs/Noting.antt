@@ -24,7 +24,7 @@ or_second : (x y : Bool) → y ≡ true → (x || y) ≡ true
 or_second true y e = refl
 or_second false y e = e
 
-nat_sound : (m n : ℕ) → nat_eq m n ≡ true → m ≡ n
+pub nat_sound : (m n : ℕ) → nat_eq m n ≡ true → m ≡ n
 nat_sound m n h = grind arith
 
 nat_itself : (n : ℕ) → nat_eq n n ≡ true
@@ -109,11 +109,11 @@ count_next slots at =
     let e : suc at ≡ at + 1 = omega arith in
     subst (λ m. count_by is_some (take m slots) ≡ count_by is_some (take at slots) + cond (is_some (get_or slots at None)) 1 0) e (count_more slots at)
 
-equal_at : (a b : ℕ) → a ≡ b → nat_eq b a ≡ true
+pub equal_at : (a b : ℕ) → a ≡ b → nat_eq b a ≡ true
 equal_at a b e = subst (λ m. nat_eq m a ≡ true) e (nat_itself a)
 
 -- who misses what an input covers is noted at that input's address
-covers_at : (i j : Input) → covers i j ≡ true → is_at (address i) j ≡ true
+pub covers_at : (i j : Input) → covers i j ≡ true → is_at (address i) j ≡ true
 covers_at (Whole a) (Whole b) h = or_first _ _ (equal_at (a % 2 ^ 32) (b % 2 ^ 32) (ap (λ d. d % 2 ^ 32) (nat_sound a b h)))
 covers_at (Whole a) (Element b k) h = or_second _ _ (equal_at (a % 2 ^ 32) (b % 2 ^ 32) (ap (λ d. d % 2 ^ 32) (nat_sound a b h)))
 covers_at (Element a k) (Whole b) h = absurd (true_false (sym h))

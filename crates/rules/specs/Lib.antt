@@ -1,4 +1,5 @@
 pub mod Inputs
+pub mod Many
 pub mod Missing
 pub mod Places
 pub mod Slots

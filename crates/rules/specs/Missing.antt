@@ -16,11 +16,11 @@ inputs_in (TwoWholes a b) = Whole a ∷ Whole b ∷ []
 inputs_in (WholeAndElement a b l) = Whole a ∷ Element b l ∷ []
 inputs_in (ElementAndWhole a k b) = Element a k ∷ Whole b ∷ []
 inputs_in (TwoElements a k b l) = Element a k ∷ Element b l ∷ []
-inputs_in (More list) = list.items
+inputs_in (More many) = many
 
 -- the inputs, in their order
 abbrev pub inputs_of : Listed → List Input
 inputs_of Lists.Nothing = []
 inputs_of (Lists.One i) = i ∷ []
 inputs_of (Lists.Two i j) = i ∷ j ∷ []
-inputs_of (Lists.More list) = list.now
+inputs_of (Lists.More many) = many.now

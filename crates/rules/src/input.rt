@@ -34,6 +34,16 @@ impl Input {
         }
     }
 
+    /// The same.
+    pub(crate) fn same(&self) -> Input
+        ensures { result ≡ self.now }
+    {
+        match self {
+            Input::Whole(datum) => Input::Whole(*datum),
+            Input::Element(datum, mark) => Input::Element(*datum, *mark),
+        }
+    }
+
     /// The number in whose list those that wait for it are noted. It has 32 bits: inputs may share it.
     pub(crate) fn address(&self) -> u32
         ensures { result ≡ address self.now }

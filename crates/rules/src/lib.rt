@@ -3,6 +3,7 @@
 
 pub mod input;
 pub mod listing;
+mod many;
 mod missing;
 mod places;
 mod visit;

@@ -217,7 +217,7 @@ impl Rules {
         }
         self.make_room()?;
         self.refresh(inputs.len());
-        self.keep(Waiter::new(item, inputs));
+        self.keep(Waiter::new(self.alloc, item, inputs));
         Ok(false)
     }
 

@@ -1,13 +1,15 @@
 //! What an item misses, in few words.
-ghost use Rattle.std.specs.Prelude.{◌≡◌, ◌≢◌, ◌<◌, Vec, [], ◌∷◌, ◌==◌, not, length, filter};
-ghost use Rattle.std.specs.Global.{Global};
+ghost use Rattle.std.specs.Prelude.{◌≡◌, ◌≢◌, ◌<◌, List, [], ◌∷◌, ◌==◌, not, length, filter};
 ghost use Rattle.rules.specs.declared.input.Input.{Input};
+ghost use Rattle.rules.specs.declared.input.Input.{Input as AnInput};
 ghost use Rattle.rules.specs.declared.missing.Missing.TheVariants.{More};
 ghost use Rattle.rules.specs.Inputs.{covers};
 ghost use Rattle.rules.specs.Missing.{inputs_in, inputs_of};
 
 use crate::input::Input;
+use crate::many::Many;
 use smallvec::SmallVec;
+use std::alloc::Global;
 
 /// The inputs that an item misses, in their order: one or two in as few words as that takes, a datum by its number and an element by
 /// those of its array and its mark, and more in a list.
@@ -20,7 +22,7 @@ pub enum Missing {
     WholeAndElement(u64, u64, u64),
     ElementAndWhole(u64, u64, u64),
     TwoElements(u64, u64, u64, u64),
-    More(Vec<Input>),
+    More(Many),
 }
 
 /// The inputs, by how many there are.
@@ -29,7 +31,7 @@ pub enum Listed<'a> {
     Nothing,
     One(Input),
     Two(Input, Input),
-    More(&'a [Input]),
+    More(&'a Many),
 }
 
 /// One input.
@@ -57,12 +59,12 @@ fn two(first: &Input, second: &Input) -> Missing
 }
 
 /// More than two inputs, which lie in an allocation.
-fn more(inputs: SmallVec<Input, 2>) -> Missing
+fn more(alloc: Global, inputs: SmallVec<Input, 2>) -> Missing
     requires { 2 < length inputs.items }
     ensures { inputs_in result ≡ inputs.items }
 {
     match inputs.into_vec() {
-        Ok(list) => Missing::More(list),
+        Ok(list) => Missing::More(Many::of(alloc, list)),
         Err(_) => unreachable!(),
     }
 }
@@ -93,11 +95,11 @@ fn left_of_two(input: &Input, first: &Input, second: &Input) -> Missing
 }
 
 impl Missing {
-    pub fn of(inputs: SmallVec<Input, 2>) -> Missing
+    pub fn of(alloc: Global, inputs: SmallVec<Input, 2>) -> Missing
         ensures { inputs_in result ≡ inputs.items }
     {
         if inputs.len() > 2 {
-            return more(inputs);
+            return more(alloc, inputs);
         }
         match inputs.as_slice() {
             [] => Missing::Nothing,
@@ -113,7 +115,7 @@ impl Missing {
     {
         match self {
             Missing::Nothing => true,
-            Missing::More(list) => list.is_empty(),
+            Missing::More(many) => many.len() == 0,
             _ => false,
         }
     }
@@ -125,7 +127,7 @@ impl Missing {
         match self {
             Missing::Nothing => 0,
             Missing::OneWhole(_) | Missing::OneElement(_, _) => 1,
-            Missing::More(list) => list.len(),
+            Missing::More(many) => many.len(),
             _ => 2,
         }
     }
@@ -152,14 +154,14 @@ impl Missing {
                 Input::Element(*a, *k),
                 Input::Element(*b, *l),
             ),
-            Missing::More(list) => Listed::More(list.as_slice()),
+            Missing::More(many) => Listed::More(many),
         }
     }
 
     /// What is left of up to two inputs.
     #[inline(always)]
     fn left(&self, input: &Input) -> Missing
-        requires { (list : Vec Input Global) → self.now ≢ More list }
+        requires { (many : List AnInput) → self.now ≢ More many }
         ensures { inputs_in result ≡ filter (λ j. not (covers input.now j)) (inputs_in self.now) }
     {
         match self {
@@ -184,8 +186,8 @@ impl Missing {
     pub fn learn(&mut self, input: &Input)
         ensures { inputs_in self.new ≡ filter (λ j. not (covers input.now j)) (inputs_in self.old) }
     {
-        if let Missing::More(list) = self {
-            list.retain(|missed| !input.covers(missed));
+        if let Missing::More(many) = self {
+            many.learn(input);
             return;
         }
         *self = self.left(input);

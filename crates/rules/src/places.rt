@@ -1,6 +1,5 @@
 //! Where the items that wait for an input are found.
 ghost use Rattle.std.specs.Prelude.{◌≡◌, ◌⊎◌, ℕ, ◌+◌, ◌<◌, ◌≤◌, ◌%◌, [], true, cond, is_some, None, Some, length, Contains, IfOk};
-ghost use Rattle.std.specs.List.{list_any};
 ghost use Rattle.slab.specs.Slab.{get, slab_len};
 ghost use Rattle.rules.specs.Places.{IsAt, IsAllBut, IsLast, no_slot, note_at, Grows, IsFound, IsNoted, is_at, needs, slot_needs};
 
@@ -79,13 +78,22 @@ impl Places {
     pub fn sized(alloc: Global, slots: usize, heavy: usize) -> Result<Places, AllocError>
         ensures place { IfOk result (λ places. places.place ≡ slots) }
     {
-        let mut heads = Vec::new(alloc);
-        heads.resize(slots.saturating_mul(2), 0)?;
+        let lists = lists_for(slots, heavy);
+        let mut places = Places::listed(alloc, lists, ample(slots, heavy))?;
+        places.strays = Vec::with_capacity(alloc, slots)?;
+        places.heavy = heavy;
+        Ok(places)
+    }
+
+    /// So many lists with nothing in them, and memory for so many notes. There is place for no stray.
+    pub fn listed(alloc: Global, lists: usize, notes: usize) -> Result<Places, AllocError> {
+        let mut heads = Vec::with_capacity(alloc, lists)?;
+        heads.resize(lists, 0)?;
         Ok(Places {
             heads,
-            notes: Vec::with_capacity(alloc, ample(slots, heavy))?,
-            strays: Vec::with_capacity(alloc, slots)?,
-            heavy,
+            notes: Vec::with_capacity(alloc, notes)?,
+            strays: Vec::new(alloc),
+            heavy: 0,
             passed: 0,
         })
     }
@@ -231,9 +239,9 @@ impl Places {
         true
     }
 
-    // Notes a slot where those that wait for the input are found.
+    /// Notes a slot where those that wait for the input are found.
     #[tactic(auto, using(crate::proofs::Noting::grows_on, crate::proofs::Noting::input_noted))]
-    fn note_input(&mut self, input: &Input, slot: usize) -> bool
+    pub fn note_input(&mut self, input: &Input, slot: usize) -> bool
         ensures grows { Grows self.old self.new }
         ensures strays { self.new.strays ≡ self.old.strays }
         ensures noted { result ≡ true → (a : ℕ) → is_at a input.now ≡ true → IsAt self.new.notes a slot }
@@ -245,20 +253,6 @@ impl Places {
             return true;
         }
         self.put(input.datum(), slot)
-    }
-
-    // Notes a slot where those that wait for one of the inputs are found.
-    fn note_all(&mut self, inputs: &[Input], slot: usize) -> bool
-        ensures grows { Grows self.old self.new }
-        ensures strays { self.new.strays ≡ self.old.strays }
-        ensures noted { result ≡ true → (a : ℕ) → list_any (is_at a) inputs.now ≡ true → IsAt self.new.notes a slot }
-    {
-        for input in inputs {
-            if !self.note_input(input, slot) {
-                return false;
-            }
-        }
-        true
     }
 
     // Notes the slot of an item wherever it is to be, where there is place.
@@ -273,7 +267,7 @@ impl Places {
             Listed::Two(first, second) => {
                 self.note_input(&first, slot) && self.note_input(&second, slot)
             }
-            Listed::More(inputs) => self.note_all(inputs, slot),
+            Listed::More(many) => many.note_in(self, slot),
         }
     }
 
@@ -319,14 +313,14 @@ impl Places {
         }
     }
 
-    // One list less than there are, or twice as many as slots where those are all but as many. Two addresses that share one of n
-    // lists share none of n - 1, unless they lie n times n - 1 apart.
+    // One list less than there are, or as many as there is memory for where those are half as many. Two addresses that share one of
+    // n lists share none of n - 1, unless they lie n times n - 1 apart.
     fn other_lists(&self) -> usize {
-        let slots = self.strays.capacity();
-        if self.heads.len() > slots.saturating_add(1) {
+        let most = self.heads.capacity();
+        if self.heads.len() > most / 2 + 1 {
             self.heads.len() - 1
         } else {
-            slots.saturating_mul(2)
+            most
         }
     }
 
@@ -390,20 +384,22 @@ impl Places {
         self.heavy = heavy;
     }
 
-    // Makes all notes anew in memory for so many.
+    // Makes all notes anew in memory for so many notes of items of more than two inputs.
     fn widen(
         &mut self,
         alloc: Global,
         waiters: &Slab<Waiter>,
-        notes: usize,
+        heavy: usize,
     ) -> Result<(), AllocError>
         requires place { slab_len waiters.now ≤ self.old.place }
         requires noted { IsNoted self.old waiters.now.slots }
         ensures noted { IsNoted self.new waiters.now.slots }
         ensures place { self.new.place ≡ self.old.place }
     {
-        let notes = Vec::with_capacity(alloc, notes)?;
-        self.clear();
+        let slots = waiters.capacity();
+        let notes = Vec::with_capacity(alloc, ample(slots, heavy))?;
+        let heads = Vec::with_capacity(alloc, lists_for(slots, heavy))?;
+        self.heads = heads;
         self.notes = notes;
         self.renew(waiters);
         Ok(())
@@ -428,11 +424,12 @@ impl Places {
             return Ok(());
         }
         self.count(heavy(waiters));
-        let wanted = ample(slots, self.heavy.saturating_add(more));
+        let heavier = self.heavy.saturating_add(more);
+        let wanted = ample(slots, heavier);
         if self.notes.capacity() >= wanted {
             return Ok(());
         }
-        self.widen(alloc, waiters, wanted)
+        self.widen(alloc, waiters, heavier)
     }
 
     // How many more notes there is memory for.
@@ -499,6 +496,11 @@ fn ample(slots: usize, heavy: usize) -> usize {
         .saturating_add(heavy.saturating_mul(4))
 }
 
+// How many lists there are at most: one for each two notes that items of two inputs in all slots, and items of more, have.
+fn lists_for(slots: usize, heavy: usize) -> usize {
+    slots.saturating_mul(2).saturating_add(heavy / 2)
+}
+
 /// How many notes those items may have that have more than an item of two inputs.
 pub fn heavy(waiters: &Slab<Waiter>) -> usize {
     let mut sum = 0_usize;
@@ -511,12 +513,12 @@ pub fn heavy(waiters: &Slab<Waiter>) -> usize {
     sum
 }
 
-// Whether what lies in the slot is to be noted at this address.
+// False only where what lies in the slot is not to be noted at this address.
 fn is_needed(waiters: &Slab<Waiter>, address: u32, slot: usize) -> bool
-    ensures { result ≡ slot_needs address (get waiters.now slot) }
+    ensures { slot_needs address (get waiters.now slot) ≡ true → result ≡ true }
 {
     match waiters.get(slot) {
         None => false,
-        Some(waiter) => waiter.needs(address),
+        Some(waiter) => waiter.may_need(address),
     }
 }

@@ -1,13 +1,13 @@
 //! An item that waits.
-ghost use Rattle.std.specs.Prelude.{◌≡◌, ◌==◌, length};
-ghost use Rattle.std.specs.List.{list_any};
+ghost use Rattle.std.specs.Prelude.{◌≡◌, ◌==◌, true, length};
 ghost use Rattle.rules.specs.Missing.{inputs_of};
 ghost use Rattle.rules.specs.Waiting.{with_known};
-ghost use Rattle.rules.specs.Places.{needs, is_at};
+ghost use Rattle.rules.specs.Places.{needs};
 
 use crate::input::Input;
 use crate::missing::{Listed, Missing};
 use smallvec::SmallVec;
+use std::alloc::Global;
 use std::marker::Model;
 
 /// An item with the inputs that it still misses.
@@ -27,12 +27,12 @@ impl Model for Waiter {
 }
 
 impl Waiter {
-    pub fn new(item: u64, missing: SmallVec<Input, 2>) -> Waiter
+    pub fn new(alloc: Global, item: u64, missing: SmallVec<Input, 2>) -> Waiter
         ensures { result ≡ record { item = item; missing = missing.items } }
     {
         Waiter {
             item,
-            missing: Missing::of(missing),
+            missing: Missing::of(alloc, missing),
         }
     }
 
@@ -57,15 +57,15 @@ impl Waiter {
         self.missing.listed()
     }
 
-    /// Whether it is to be noted at this address.
-    pub fn needs(&self, address: u32) -> bool
-        ensures { result ≡ needs address self.now }
+    /// False only where it is not to be noted at this address.
+    pub fn may_need(&self, address: u32) -> bool
+        ensures { needs address self.now ≡ true → result ≡ true }
     {
         match self.missing() {
             Listed::Nothing => false,
             Listed::One(only) => only.is_at(address),
             Listed::Two(first, second) => first.is_at(address) || second.is_at(address),
-            Listed::More(inputs) => is_any_at(inputs, address),
+            Listed::More(many) => many.may_be_at(address),
         }
     }
 
@@ -82,11 +82,4 @@ impl Waiter {
     {
         self.missing.learn(input);
     }
-}
-
-// Whether those that wait for one of the inputs are noted at this address.
-fn is_any_at(inputs: &[Input], address: u32) -> bool
-    ensures { result ≡ list_any (is_at address) inputs.now }
-{
-    inputs.iter().any(|input| input.is_at(address))
 }

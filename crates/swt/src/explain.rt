@@ -3,7 +3,7 @@
 use compile::compile::read;
 use compile::fault::CompileFault;
 use explain_blocked::blocked::add_all_blocked;
-use explain_blocked::index::Index;
+use explain_blocked::index::ScriptIndex;
 use explain_blocked::scene::Scene;
 use explain_blocked::writers::Writers;
 use explain_faults::faults::{add_all_faults, add_printed_fault, known_for};
@@ -17,7 +17,7 @@ use std::alloc::{AllocError, Global};
 
 /// What is told of a script.
 #[derive(Clone, Copy, Drop)]
-enum Told<'p> {
+enum Topic<'p> {
     /// All that is known of it, with the limit where so many rounds were not enough, and with each blocked statement or in short.
     Meaning(u32, bool),
     /// The blocked statements, each or in short.
@@ -44,7 +44,7 @@ pub fn explain_meaning(
     all: bool,
     out: &mut Vec<u8>,
 ) -> Result<(), AllocError> {
-    explain(alloc, file, text, Told::Meaning(limit, all), out)
+    explain(alloc, file, text, Topic::Meaning(limit, all), out)
 }
 
 /// Adds what is said of a script that was run and ended blocked: of the blocked statements of its meaning.
@@ -55,7 +55,7 @@ pub fn explain_blocked(
     all: bool,
     out: &mut Vec<u8>,
 ) -> Result<(), AllocError> {
-    explain(alloc, file, text, Told::Blocked(all), out)
+    explain(alloc, file, text, Topic::Blocked(all), out)
 }
 
 /// Adds what is said of a script whose run ended with the fault that is the last of what was printed.
@@ -67,7 +67,7 @@ pub fn explain_fault(
     out: &mut Vec<u8>,
 ) -> Result<(), AllocError> {
     match Printed::read(alloc, printed)? {
-        Some(fault) => explain(alloc, file, text, Told::Fault(&fault), out),
+        Some(fault) => explain(alloc, file, text, Topic::Fault(&fault), out),
         None => Ok(()),
     }
 }
@@ -77,7 +77,7 @@ fn explain(
     alloc: Global,
     file: &str,
     text: &[u8],
-    told: Told<'_>,
+    topic: Topic<'_>,
     out: &mut Vec<u8>,
 ) -> Result<(), AllocError> {
     match read(alloc, alloc, text) {
@@ -87,7 +87,7 @@ fn explain(
                 text,
                 flow: &flow,
             };
-            explain_script(alloc, script, told, out)
+            explain_script(alloc, script, topic, out)
         }
         Err(CompileFault::Memory) => Err(AllocError),
         Err(_) => Ok(()),
@@ -97,19 +97,19 @@ fn explain(
 fn explain_script(
     alloc: Global,
     script: Script<'_>,
-    told: Told<'_>,
+    topic: Topic<'_>,
     out: &mut Vec<u8>,
 ) -> Result<(), AllocError> {
-    let known = known_of(alloc, script.flow, told)?;
-    explain_known(alloc, script, &known, told, out)
+    let known = known_of(alloc, script.flow, topic)?;
+    explain_known(alloc, script, &known, topic, out)
 }
 
 /// What has to be known of the statements for what is told.
-fn known_of(alloc: Global, flow: &Flow<Global>, told: Told<'_>) -> Result<Knowledge, AllocError> {
-    match told {
-        Told::Meaning(limit, _) => rounds(alloc, flow, limit),
-        Told::Blocked(_) => rounds(alloc, flow, u32::MAX),
-        Told::Fault(fault) => known_for(alloc, flow, fault),
+fn known_of(alloc: Global, flow: &Flow<Global>, topic: Topic<'_>) -> Result<Knowledge, AllocError> {
+    match topic {
+        Topic::Meaning(limit, _) => rounds(alloc, flow, limit),
+        Topic::Blocked(_) => rounds(alloc, flow, u32::MAX),
+        Topic::Fault(fault) => known_for(alloc, flow, fault),
     }
 }
 
@@ -117,19 +117,19 @@ fn explain_known(
     alloc: Global,
     script: Script<'_>,
     known: &Knowledge,
-    told: Told<'_>,
+    topic: Topic<'_>,
     out: &mut Vec<u8>,
 ) -> Result<(), AllocError> {
-    let index = Index::new(alloc, script.flow)?;
-    explain_indexed(alloc, script, known, &index, told, out)
+    let index = ScriptIndex::new(alloc, script.flow)?;
+    explain_indexed(alloc, script, known, &index, topic, out)
 }
 
 fn explain_indexed(
     alloc: Global,
     script: Script<'_>,
     known: &Knowledge,
-    index: &Index<'_, Global>,
-    told: Told<'_>,
+    index: &ScriptIndex<'_, Global>,
+    topic: Topic<'_>,
     out: &mut Vec<u8>,
 ) -> Result<(), AllocError> {
     let writers = Writers::new(alloc, known, index)?;
@@ -141,19 +141,19 @@ fn explain_indexed(
         known,
         writers: &writers,
     };
-    add_told(&scene, script.file, told, out)
+    add_told(&scene, script.file, topic, out)
 }
 
 fn add_told(
     scene: &Scene<'_, '_, Global>,
     file: &str,
-    told: Told<'_>,
+    topic: Topic<'_>,
     out: &mut Vec<u8>,
 ) -> Result<(), AllocError> {
-    match told {
-        Told::Blocked(all) => add_all_blocked(scene, out, file, all),
-        Told::Fault(fault) => add_printed_fault(scene, out, file, fault),
-        Told::Meaning(limit, all) => {
+    match topic {
+        Topic::Blocked(all) => add_all_blocked(scene, out, file, all),
+        Topic::Fault(fault) => add_printed_fault(scene, out, file, fault),
+        Topic::Meaning(limit, all) => {
             add_all_blocked(scene, out, file, all)?;
             add_all_faults(scene, out, file)?;
             if scene.known.finished {

@@ -31,7 +31,7 @@ struct Block {
 
 /// Where a variable is: a block's instance and a node, or nowhere since it is a literal.
 #[derive(Clone, Copy, PartialEq, Eq, Debug, Drop)]
-pub enum Place {
+pub enum Home {
     Of(usize, u32),
     Literal,
     Nowhere,
@@ -125,7 +125,7 @@ impl Items {
         scalar: &Scalar,
     ) -> Result<(), AllocError> {
         match &entry.act {
-            Act::Cell(_) => self.store(Place::Of(item.block, entry.node), scalar),
+            Act::Cell(_) => self.store(Home::Of(item.block, entry.node), scalar),
             Act::Set(name, _) => {
                 let place = self.place(code, item.block, *name);
                 self.store(place, scalar)
@@ -144,7 +144,7 @@ impl Items {
     ) -> Result<(), AllocError> {
         match (&entry.act, computed) {
             (Act::Read, Computed::Gives(scalar)) => {
-                self.store(Place::Of(item.block, entry.node), scalar)
+                self.store(Home::Of(item.block, entry.node), scalar)
             }
             (Act::Call { body, .. }, _) => self.open_inside(code, item.block, item.entry, *body),
             (Act::Wait(_, body), _) => self.open(code, item.block, *body),
@@ -162,8 +162,8 @@ impl Items {
         }
     }
 
-    fn store(&mut self, place: Place, scalar: &Scalar) -> Result<(), AllocError> {
-        if let Place::Of(block, node) = place {
+    fn store(&mut self, place: Home, scalar: &Scalar) -> Result<(), AllocError> {
+        if let Home::Of(block, node) = place {
             self.stored.insert((block, node), scalar.share()?)?;
         }
         Ok(())
@@ -245,9 +245,9 @@ impl Items {
         key: &Scalar,
     ) -> Result<(), AllocError> {
         let block = self.blocks.len();
-        self.store(Place::Of(block, turns.value), value)?;
+        self.store(Home::Of(block, turns.value), value)?;
         if let Some(node) = turns.turn {
-            self.store(Place::Of(block, node), key)?;
+            self.store(Home::Of(block, node), key)?;
         }
         self.open_inside(code, item.block, None, turns.body)
     }
@@ -268,24 +268,24 @@ impl Items {
 
 impl Items {
     /// Where the variable of a name is, seen from a block.
-    pub fn place(&self, code: &Code, block: usize, name: Name) -> Place {
+    pub fn place(&self, code: &Code, block: usize, name: Name) -> Home {
         let mut block = block;
         let mut name = name;
         for _ in 0..self.blocks.len() {
             let inside = self.outer(block, name.up);
             match name.owned {
-                Owned::Local(variable) => return Place::Of(inside, variable.node),
+                Owned::Local(variable) => return Home::Of(inside, variable.node),
                 Owned::Parameter(place, _) => match self.given(code, inside, place) {
                     Given::Name(outer, given) => {
                         block = outer;
                         name = given;
                     }
-                    Given::Literal => return Place::Literal,
-                    Given::Nothing => return Place::Nowhere,
+                    Given::Literal => return Home::Literal,
+                    Given::Nothing => return Home::Nowhere,
                 },
             }
         }
-        Place::Nowhere
+        Home::Nowhere
     }
 
     /// The block so many steps further out.
@@ -331,9 +331,9 @@ impl Items {
     }
 
     /// The scalar that is stored at a place.
-    pub fn scalar(&self, place: Place) -> Option<&Scalar> {
+    pub fn scalar(&self, place: Home) -> Option<&Scalar> {
         match place {
-            Place::Of(block, node) => self.stored.get(&(block, node)),
+            Home::Of(block, node) => self.stored.get(&(block, node)),
             _ => None,
         }
     }
@@ -368,12 +368,12 @@ impl Items {
         }
     }
 
-    fn is_stored(&self, place: Place) -> bool {
-        place == Place::Literal || self.scalar(place).is_some()
+    fn is_stored(&self, place: Home) -> bool {
+        place == Home::Literal || self.scalar(place).is_some()
     }
 
     /// Whether no item that has not ended may write there.
-    fn is_closed(&self, code: &Code, place: Place) -> bool {
+    fn is_closed(&self, code: &Code, place: Home) -> bool {
         for item in &self.items {
             if !item.is_over && self.may_write(code, item, place) {
                 return false;
@@ -382,7 +382,7 @@ impl Items {
         true
     }
 
-    fn may_write(&self, code: &Code, item: &Item, place: Place) -> bool {
+    fn may_write(&self, code: &Code, item: &Item, place: Home) -> bool {
         match entry_in(code, item.entry) {
             Some(entry) => {
                 for name in &entry.writes {
@@ -397,7 +397,7 @@ impl Items {
     }
 
     /// The number of the item, of those that have not ended, that stores at a place what it works out for its own statement.
-    pub fn maker(&self, code: &Code, place: Place) -> Option<u64> {
+    pub fn maker(&self, code: &Code, place: Home) -> Option<u64> {
         for i in 0..self.items.len() {
             let item = &self.items[i];
             if !item.is_over && makes(code, item, place) {
@@ -430,11 +430,11 @@ fn given_among(outer: usize, inputs: &[Argument], outputs: &[Name], place: usize
 }
 
 /// Whether an item stores a cell or an element that was read at a place.
-fn makes(code: &Code, item: &Item, place: Place) -> bool {
+fn makes(code: &Code, item: &Item, place: Home) -> bool {
     match entry_in(code, item.entry) {
         Some(entry) => {
             matches!(&entry.act, Act::Cell(_) | Act::Read)
-                && place == Place::Of(item.block, entry.node)
+                && place == Home::Of(item.block, entry.node)
         }
         None => false,
     }

@@ -3,8 +3,8 @@ ghost use Rattle.std.specs.Prelude.{◌≡◌, []};
 
 use crate::ending::{Ended, explain_ending};
 use crate::kept::Kept;
-use host::host::{ArgumentFault, Host, HostFault, Stream};
 use host::identity::Identity;
+use host::{ArgumentFault, Host, HostFault, Stream};
 use host_system::system::System;
 use std::alloc::AllocError;
 use swt_arguments::request::Request;

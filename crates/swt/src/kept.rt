@@ -9,22 +9,22 @@ use swt_arguments::request::Request;
 
 /// Which files are kept.
 #[derive(Clone, Copy, PartialEq, Eq, Debug, Drop)]
-enum Wanted {
+enum Keeping {
     Nothing,
     /// One at a time: before the next is opened it is said of the last why it is refused.
     Each,
     All,
 }
 
-impl Wanted {
+impl Keeping {
     /// Those of which something is to be said.
-    fn by(request: &Request) -> Wanted {
+    fn by(request: &Request) -> Keeping {
         if !request.explain && !request.json {
-            return Wanted::Nothing;
+            return Keeping::Nothing;
         }
         match &request.line {
-            Line::Check { .. } => Wanted::Each,
-            _ => Wanted::All,
+            Line::Check { .. } => Keeping::Each,
+            _ => Keeping::All,
         }
     }
 }
@@ -40,7 +40,7 @@ struct Source {
 #[derive(Drop)]
 pub struct Kept<'r> {
     rt: &'r HostRuntime,
-    wanted: Wanted,
+    wanted: Keeping,
     /// Refusals are told as JSON.
     json: bool,
     sources: Vec<Source>,
@@ -53,7 +53,7 @@ impl<'r> Kept<'r> {
     pub fn new(rt: &'r HostRuntime) -> Kept<'r> {
         Kept {
             rt,
-            wanted: Wanted::Nothing,
+            wanted: Keeping::Nothing,
             json: false,
             sources: Vec::new(rt.alloc()),
             lacks: false,
@@ -62,7 +62,7 @@ impl<'r> Kept<'r> {
 
     /// Keeps from now on what is wanted for what is asked for.
     pub fn want(&mut self, request: &Request) {
-        self.wanted = Wanted::by(request);
+        self.wanted = Keeping::by(request);
         self.json = request.json;
     }
 
@@ -110,10 +110,10 @@ impl<'r> Kept<'r> {
 
     /// A file of this name is opened.
     pub fn begin(&mut self, name: &str) {
-        if self.wanted == Wanted::Each {
+        if self.wanted == Keeping::Each {
             self.tell_refusal();
         }
-        if self.wanted != Wanted::Nothing && !self.lacks && self.add_source(name).is_err() {
+        if self.wanted != Keeping::Nothing && !self.lacks && self.add_source(name).is_err() {
             self.give_up();
         }
     }

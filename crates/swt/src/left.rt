@@ -1,6 +1,6 @@
 //! How far a script follows a trace, and what was left to be done where a run was cut off.
 
-use board::board::Board;
+use board::Board;
 use board::refusal::Refusal;
 use board_program::program::Program;
 use board_runs::turn::finish;

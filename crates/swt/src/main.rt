@@ -29,7 +29,7 @@ use crate::ending::Ended;
 use crate::keeper::Keeper;
 use crate::output::Output;
 use crate::progress::Teller;
-use host::host::Stream;
+use host::Stream;
 use host_system::stream::Standard;
 use std::alloc::AllocError;
 use std::process::{self, ExitCode};

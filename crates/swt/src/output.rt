@@ -1,7 +1,7 @@
 //! Standard output, of which the last line is kept where that is wanted.
 ghost use Rattle.std.specs.Prelude.{◌≡◌, []};
 
-use host::host::Stream;
+use host::Stream;
 use host_system::stream::Standard;
 use std::alloc::AllocError;
 use std::io::Error;

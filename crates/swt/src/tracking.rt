@@ -4,13 +4,13 @@ ghost use Rattle.board.specs.Board.{IsWorker};
 
 use crate::items::Items;
 use crate::waiting::{View, say_waits};
-use board::board::Board;
+use board::Board;
 use board::refusal::Refusal;
 use board_program::program::Program;
 use board_work::work::{Done, Work};
 use compile::compile::{compile, read};
 use compile::fault::CompileFault;
-use explain_blocked::index::Index;
+use explain_blocked::index::ScriptIndex;
 use explain_faults::traces::{NoStep, WhyNot};
 use explain_text::lines::Lines;
 use explain_text::position::position_of;
@@ -184,7 +184,7 @@ fn add_waits(
 ) -> Result<(), AllocError> {
     match read(alloc, alloc, text) {
         Ok(flow) => {
-            let index = Index::new(alloc, &flow)?;
+            let index = ScriptIndex::new(alloc, &flow)?;
             let lines = Lines::of(alloc, text)?;
             let view = View {
                 alloc,

@@ -3,7 +3,7 @@
 use crate::left::follow;
 use crate::tracking::{Traced, words_on};
 use explain_faults::limits::add_bad_count;
-use explain_faults::traces::{Told, add_bad_line, add_no_step, add_wrong_end};
+use explain_faults::traces::{BadEvent, add_bad_line, add_no_step, add_wrong_end};
 use explain_text::words::say;
 use std::alloc::{AllocError, Global};
 use std::io::Error;
@@ -86,7 +86,7 @@ pub fn explain_trace(
                 count: followed.left.events,
             };
             let words = words_on(alloc, script, step)?;
-            let told = Told {
+            let told = BadEvent {
                 step,
                 statement: words.statement.as_slice(),
                 waits: words.waits.as_slice(),

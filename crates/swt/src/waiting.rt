@@ -1,7 +1,7 @@
 //! What an item of a run waits for, in words.
 
-use crate::items::{Items, Place};
-use explain_blocked::index::Index;
+use crate::items::{Home, Items};
+use explain_blocked::index::ScriptIndex;
 use explain_blocked::names::say_owned;
 use explain_blocked::words::{say_scalar, say_text};
 use explain_text::lines::Lines;
@@ -20,7 +20,7 @@ const MOST: usize = 64;
 pub struct View<'v, 'a> {
     pub alloc: Global,
     pub lines: &'v Lines<'v>,
-    pub index: &'v Index<'a, Global>,
+    pub index: &'v ScriptIndex<'a, Global>,
     pub code: &'v Code,
     pub items: &'v Items,
 }
@@ -149,7 +149,7 @@ fn say_element(
         None => {
             say(out, "for an element of ")?;
             say_name(view, out, block, array)?;
-            if place == Place::Literal {
+            if place == Home::Literal {
                 Ok(())
             } else {
                 say(out, " whose index is not known")

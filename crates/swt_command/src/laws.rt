@@ -28,18 +28,22 @@ ghost use Rattle.swt_command.specs.Sinks.{Held};
 /// that writes no key twice the lines of every report are a part of the script's, and the fault of one that ends in a fault is
 /// among the script's.
 pub fn reports_are_meant()
-    ensures quiet { (src : List ℕ) (code : Code) (limit : ℕ) (r : Report) (w : IsCompiled src code) → Reports code limit r → r.end ≡ Ends.Quiet → IsWhole (core w.table w.tree) r }
+    ensures quiet { (src : List ℕ) (code : Code) (limit : ℕ) (r : Report) (w : IsCompiled src code) → Reports code limit r → r.end ≡ Ends.Quiet
+        → IsWhole (core w.table w.tree) r }
     ensures part { (src : List ℕ) (code : Code) (limit : ℕ) (r : Report) (w : IsCompiled src code) → Clean (core w.table w.tree) → Reports code limit r
         → PartOfLines (Meaning (core w.table w.tree)) r.lines.items }
-    ensures fault { (src : List ℕ) (code : Code) (limit : ℕ) (r : Report) (f : Fault) (w : IsCompiled src code) → Clean (core w.table w.tree) → Reports code limit r → r.end ≡ Ends.Fault f
+    ensures fault { (src : List ℕ) (code : Code) (limit : ℕ) (r : Report) (f : Fault) (w : IsCompiled src code) → Clean (core w.table w.tree)
+        → Reports code limit r → r.end ≡ Ends.Fault f
         → IsScriptFault (core w.table w.tree) f }
 {}
 
 /// A command that ran or replayed a script and ended with status 0 or 4 has printed all that the script means, and nothing
 /// else.
 pub fn runs_print_the_meaning()
-    ensures run { (file : List ℕ) (engines workers steps : ℕ) (wanted : Option (List ℕ)) (files : Files) (out out_new err err_new trace trace_new : Held) (number : ℕ)
-        → Owes (Run file engines workers steps wanted) files out out_new err err_new trace trace_new number → (number ≡ 0) ⊎ (number ≡ 4) → PrintsWhole files out out_new }
+    ensures run { (file : List ℕ) (engines workers steps : ℕ) (wanted : Option (List ℕ)) (files : Files)
+        (out out_new err err_new trace trace_new : Held) (number : ℕ)
+        → Owes (Run file engines workers steps wanted) files out out_new err err_new trace trace_new number → (number ≡ 0) ⊎ (number ≡ 4)
+        → PrintsWhole files out out_new }
     ensures replay { (file events : List ℕ) (files : Files) (out out_new err err_new trace trace_new : Held) (number : ℕ)
         → Owes (Replay file events) files out out_new err err_new trace trace_new number → (number ≡ 0) ⊎ (number ≡ 4) → PrintsWhole files out out_new }
 {}
@@ -59,7 +63,8 @@ pub fn enough_is_meant()
 pub fn mean_prints_the_meaning()
     ensures told { (s : Core) (limit : ℕ) (t : Told) → IsTold s limit t → t.enough ≡ true → IsMeaning s t }
     ensures printed { (file : List ℕ) (rounds : ℕ) (files : Files) (out out_new err err_new trace trace_new : Held) (number : ℕ)
-        → Owes (Mean file rounds) files out out_new err err_new trace trace_new number → (number ≡ 0) ⊎ ((number ≡ 3) ⊎ (number ≡ 4)) → PrintsMeaning files rounds out out_new }
+        → Owes (Mean file rounds) files out out_new err err_new trace trace_new number → (number ≡ 0) ⊎ ((number ≡ 3) ⊎ (number ≡ 4))
+        → PrintsMeaning files rounds out out_new }
 {}
 
 /// The number that `command` answers tells its cause: 0 that all is done, 1 that the text of a file is refused, 2 that the line asks for
@@ -84,7 +89,8 @@ pub fn statuses_tell()
     ensures failed { (line : Line) (files : Files) (out out_new err err_new trace trace_new : Held) (number : ℕ)
         → Owes line files out out_new err err_new trace trace_new number → number ≡ 7 → HasFailed line files out out_new err err_new trace trace_new }
     ensures writes { (line : Line) (files : Files) (out out_new err err_new trace trace_new : Held) (number : ℕ)
-        → Owes line files out out_new err err_new trace trace_new number → (out.failures < out_new.failures) ⊎ (trace.failures < trace_new.failures) → number ≡ 7 }
+        → Owes line files out out_new err err_new trace trace_new number
+        → (out.failures < out_new.failures) ⊎ (trace.failures < trace_new.failures) → number ≡ 7 }
     ensures unread { (line : Line) (files : Files) (out out_new err err_new trace trace_new : Held) (number : ℕ)
         → Owes line files out out_new err err_new trace trace_new number → 0 < length (files_of line) → source_of files 0 ≡ None → number ≡ 7 }
 {}

@@ -19,6 +19,7 @@ use Rattle.swt_command.specs.Runs.{Runs, StopsRun}
 use Rattle.swt_command.specs.Sinks.{Held, Given, Kept, Lost, held}
 use Rattle.swt_command.specs.Troubles.{trouble_line}
 use Rattle.swt_process.specs.Ends.{Did, is_reported}
+use Rattle.std.proofs.lemmas.Bool.{both_ways}
 
 -- WHAT IS SAID
 
@@ -98,9 +99,6 @@ untouched {line = line} {files = files} {out = out} {out_new = out_new} {trace =
 pub same_held : (bytes more : List ℕ) (k n : ℕ) → bytes ≡ more → k ≡ n → held bytes k ≡ held more n
 same_held bytes more k n e f = ap (λ bs. held bs k) e ∙ ap (λ j. held more j) f
 
-is_not : (b : Bool) → b ≡ false → b ≡ true → ⊥
-is_not b e f = cc
-
 module _ (line : Line) (files : Files) (place : List ℕ) (h : List Event) (out out_new err mid : Held) (failures number : ℕ) (trace new : Held) where
   owed : trace ≡ held [] 0 → new ≡ held (given h) failures → Owes line files out out_new err mid trace new number
       → Owes line files out out_new err mid (held [] 0) (held (given h) failures) number
@@ -114,7 +112,7 @@ module _ (line : Line) (files : Files) (place : List ℕ) (h : List Event) (out 
   pub did_stop : trace ≡ held [] 0 → new ≡ held (given h) failures → Owes line files out out_new err mid trace new number → is_reported number ≡ false → (0 < failures → replaced h ≡ [])
       → Did line files place h out out_new err mid number
   did_stop e f o n c =
-      did_close e f o (λ z. inl (ap (λ (t : Held). t.bytes) (untouched (owed e f o) (λ y. is_not (is_reported number) n y) refl z))) c
+      did_close e f o (λ z. inl (ap (λ (t : Held). t.bytes) (untouched (owed e f o) (λ y. both_ways (is_reported number) n y) refl z))) c
 
   pub did_lose : (last : Held) → trace ≡ held [] 0 → new ≡ held (given h) failures → Owes line files out out_new err mid trace new number → is_reported number ≡ true → failures ≡ 0
       → Given mid (trouble_line Is.Untraced []) last → Did line files place h out out_new err last 7

@@ -9,7 +9,7 @@ ghost use Rattle.swt_process.specs.Ends.{Ran};
 
 use crate::files::MAX_SOURCE;
 use bumpalo::Bump;
-use host::host::Host;
+use host::Host;
 use host::identity::Identity;
 use host::reading::read_file;
 use std::alloc::{AllocError, Global};

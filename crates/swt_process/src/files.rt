@@ -4,7 +4,7 @@ ghost use Rattle.host.specs.Events.{asked, changes, inputs, links, reads};
 ghost use Rattle.swt_command.specs.Files.{contents};
 ghost use Rattle.swt_process.specs.Reads.{AreRead, most_at};
 
-use host::host::Host;
+use host::Host;
 use host::identity::Identity;
 use host::reading::read_file;
 use std::alloc::{AllocError, Global};

@@ -3,7 +3,7 @@ ghost use Rattle.std.specs.Prelude.{◌≡◌, [], map, option_map, option_to_li
 ghost use Rattle.host.specs.Events.{asked, changes, inputs, links, reads};
 ghost use Rattle.swt_process.specs.Places.{name_of, place_of, trace_of};
 
-use host::host::Host;
+use host::Host;
 use itoa::Buffer;
 use std::alloc::{AllocError, Global};
 use swt_arguments::line::Line;

@@ -13,7 +13,7 @@ use crate::files::read_files;
 use crate::place::{find_place, name_beside};
 use crate::traced::with_trace;
 use bumpalo::Bump;
-use host::host::Host;
+use host::Host;
 use host::identity::Identity;
 use std::alloc::{AllocError, Global};
 use std::marker::Brand;

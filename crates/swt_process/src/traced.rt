@@ -6,7 +6,7 @@ ghost use Rattle.swt_command.specs.Sinks.{held};
 ghost use Rattle.swt_process.specs.Ends.{Did, is_reported};
 
 use bumpalo::Bump;
-use host::host::Host;
+use host::Host;
 use host::identity::Identity;
 use host::trace::{Past, TraceFile};
 use std::alloc::Global;

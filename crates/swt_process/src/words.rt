@@ -3,7 +3,7 @@ ghost use Rattle.std.specs.Prelude.{◌≡◌, [], Some, None, IfErr, IfOk, OnEr
 ghost use Rattle.host.specs.Events.{asked, changes, inputs, links, reads};
 ghost use Rattle.swt_process.specs.Process.{requested};
 
-use host::host::{ArgumentFault, Host};
+use host::{ArgumentFault, Host};
 use std::alloc::Global;
 use swt_arguments::fault::LineFault;
 use swt_arguments::request::Request;

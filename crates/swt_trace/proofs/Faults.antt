@@ -1,6 +1,6 @@
 -- Faults of a trace that is run again, where memory is wanted.
 use Rattle.std.proofs.Common.{◌≡◌, ◌∙◌, refl, sym, ℕ}
-use Rattle.std.specs.Prelude.{Result, Ok, Err, IfErr, IfOk, IsErrAnd}
+use Rattle.std.specs.Prelude.{Result, Ok, Err, IfErr, IsErrAnd}
 use Rattle.swt_trace.specs.declared.fault.ReplayFault.{ReplayFault}
 use Rattle.swt_trace.specs.declared.fault.ReplayFault.TheVariants as Fault
 
@@ -30,11 +30,6 @@ no_other (Fault.BadLine n) line event other = absurd (line n refl)
 no_other (Fault.NotARun n) line event other = absurd (event n refl)
 no_other (Fault.WrongEnd n) line event other = absurd (other n refl)
 no_other Fault.Memory line event other = refl
-
--- what follows of a report, and of a fault
-pub of_report : {T E : Type 0} (r : Result T E) (P Q : T → Type 0) → ((x : T) → P x → Q x) → IfOk r P → IfOk r Q
-of_report (Ok x) P Q f h = f x h
-of_report (Err e) P Q f h = tt
 
 pub of_fault : {T E : Type 0} (r : Result T E) (P Q R : E → Type 0) → ((e : E) → P e → Q e → R e) → IfErr r P → IfErr r Q → IfErr r R
 of_fault (Ok x) P Q R f h k = tt

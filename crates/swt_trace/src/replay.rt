@@ -13,7 +13,7 @@ ghost use Rattle.swt_trace.specs.Replay.{IsFirstNoStep, IsNamed, IsTraceOf, IsWr
 use crate::ending::Ending;
 use crate::fault::ReplayFault;
 use crate::read::read_trace;
-use board::board::Board;
+use board::Board;
 use board::refusal::Refusal;
 use board_program::program::Program;
 use board_runs::report::{Report, report_of};

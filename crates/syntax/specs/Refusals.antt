@@ -7,8 +7,8 @@ use Rattle.lexer.specs.declared.fault.LexFault.{LexFault}
 use Rattle.language.specs.Tree.{Tree}
 use Rattle.language.specs.Reads.{Reads}
 use Rattle.language.specs.Grammar.{IsScript}
-use Rattle.syntax.specs.declared.stop.Stop.{Stop}
-use Rattle.syntax.specs.declared.stop.Stop.TheVariants.{AtEnd}
+use Rattle.syntax.specs.declared.stop.ParseStop.{ParseStop}
+use Rattle.syntax.specs.declared.stop.ParseStop.TheVariants.{AtEnd}
 use Rattle.syntax.specs.Endings.{ending}
 use Rattle.syntax.specs.Readers.{refused, start}
 use Rattle.syntax.specs.Reading.{read_script}
@@ -21,7 +21,7 @@ abbrev pub HasNone : List ℕ → Type 0
 HasNone bytes = (tree : Tree) → ¬ Reads bytes tree
 
 -- its tokens, which this ends, are read within 64 levels of nesting up to this stop, and so far they begin a script
-abbrev pub Stopped : List ℕ → Option LexFault → Stop → Type 0
+abbrev pub Stopped : List ℕ → Option LexFault → ParseStop → Type 0
 Stopped bytes fault stop = (ts : List Lexeme) × Tokens bytes (map Ok ts ++ ending fault) × (read_script 64 (start ts) ≡ refused stop) × StopsFirst ts stop
 
 -- its tokens are a script of their own, and then comes its first lexical fault
@@ -31,8 +31,8 @@ Spoilt bytes f = (ts : List Lexeme) × (tree : Tree) × Tokens bytes (map Ok ts 
 -- a text that is refused has no tree; a text of more than 1,048,576 bytes is refused as too long, and no other is
 abbrev pub Refuses : List ℕ → ParseFault → Type 0
 Refuses bytes (Lex f) = (length bytes ≤ 1048576) × HasNone bytes × (Stopped bytes (Some f) AtEnd ⊎ Spoilt bytes f)
-Refuses bytes (Unexpected s) = (length bytes ≤ 1048576) × HasNone bytes × (((fault : Option LexFault) × Stopped bytes fault (Stop.Unexpected s)) ⊎ (Stopped bytes None AtEnd × (s ≡ record { from = length bytes; to = length bytes })))
-Refuses bytes (TooNested s) = (length bytes ≤ 1048576) × HasNone bytes × (fault : Option LexFault) × Stopped bytes fault (Stop.TooNested s)
+Refuses bytes (Unexpected s) = (length bytes ≤ 1048576) × HasNone bytes × (((fault : Option LexFault) × Stopped bytes fault (ParseStop.Unexpected s)) ⊎ (Stopped bytes None AtEnd × (s ≡ record { from = length bytes; to = length bytes })))
+Refuses bytes (TooNested s) = (length bytes ≤ 1048576) × HasNone bytes × (fault : Option LexFault) × Stopped bytes fault (ParseStop.TooNested s)
 Refuses bytes (TooLong s) = (1048576 < length bytes) × HasNone bytes × (s ≡ record { from = 1048576; to = 1048576 })
 Refuses bytes Memory = length bytes ≤ 1048576
 

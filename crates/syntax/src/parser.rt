@@ -13,7 +13,7 @@ ghost use Rattle.syntax.specs.Refusals.{Refuses};
 use crate::cursor::Cursor;
 use crate::error::ParseFault;
 use crate::script::script;
-use crate::stop::Stop;
+use crate::stop::ParseStop;
 use crate::tokens::{fault_behind, fault_of};
 use lexer::token::Span;
 use std::alloc::Allocator;
@@ -26,20 +26,20 @@ pub const MAX_SOURCE: usize = 1_048_576;
 pub const MAX_NESTING: u32 = 64;
 
 /// The answer to a text, by where its reading stops.
-fn answer(stop: Stop, src: &[u8]) -> ParseFault
+fn answer(stop: ParseStop, src: &[u8]) -> ParseFault
     ensures { (ts : List Lexeme) (fault : Option LexFault) → Tokens src.now (map Ok ts ++ ending fault) → result ≡ answer_of stop fault (length src.now) }
 {
     match stop {
-        Stop::AtEnd => match fault_of(src) {
+        ParseStop::AtEnd => match fault_of(src) {
             Some(fault) => ParseFault::Lex(fault),
             None => ParseFault::Unexpected(Span {
                 from: src.len(),
                 to: src.len(),
             }),
         },
-        Stop::Unexpected(span) => ParseFault::Unexpected(span),
-        Stop::TooNested(span) => ParseFault::TooNested(span),
-        Stop::Memory => ParseFault::Memory,
+        ParseStop::Unexpected(span) => ParseFault::Unexpected(span),
+        ParseStop::TooNested(span) => ParseFault::TooNested(span),
+        ParseStop::Memory => ParseFault::Memory,
     }
 }
 

@@ -6,8 +6,8 @@ ghost use Rattle.lexer.specs.Tokens.{Tokens};
 ghost use Rattle.lexer.specs.declared.fault.LexFault.{LexFault};
 ghost use Rattle.syntax.specs.Endings.{ending};
 
+use lexer::Lexer;
 use lexer::fault::LexFault;
-use lexer::lexer::Lexer;
 
 /// The fault that ends the tokens of a text, if there is one.
 pub fn fault_of(source: &[u8]) -> Option<LexFault>

@@ -130,7 +130,8 @@ fn loop_header<A: Allocator>(header: &mut Header<A>, from: u32) -> u32
     requires { from + 1 + option_size word_size (option_map word_of header.old.key) + over_size (over_of header.old.source) < 2 ^ 32 }
     ensures value { word_of header.new.value ≡ numbered_word from (word_of header.old.value) }
     ensures key { option_map word_of header.new.key ≡ option_map (numbered_word (from + 1)) (option_map word_of header.old.key) }
-    ensures source { over_of header.new.source ≡ numbered_over (from + 1 + option_size word_size (option_map word_of header.old.key)) (over_of header.old.source) }
+    ensures source { over_of header.new.source ≡ numbered_over (from + 1 + option_size word_size (option_map word_of header.old.key))
+        (over_of header.old.source) }
     ensures next { result ≡ from + 1 + option_size word_size (option_map word_of header.old.key) + over_size (over_of header.old.source) }
 {
     let behind = name(&mut header.value, from);

@@ -400,7 +400,8 @@ fn copy_loop<A: Allocator, B: Allocator + Clone>(
     body: Box<Block<B>, B>,
     alloc: &B,
 ) -> Result<StmtKind<B>, AllocError>
-    ensures { IfOk result (λ k. command_view k ≡ loop (word_of header.now.value) (option_map word_of header.now.key) (over_of header.now.source) (body_view body.value)) }
+    ensures { IfOk result (λ k. command_view k ≡ loop (word_of header.now.value) (option_map word_of header.now.key) (over_of header.now.source)
+        (body_view body.value)) }
 {
     let header = copy_header(header, alloc)?;
     Ok(StmtKind::Foreach(header, body))

@@ -21,6 +21,7 @@ use Rattle.values.specs.declared.value.Scalar.{Scalar}
 use Rattle.values.specs.declared.value.Value.{Value}
 use Rattle.values.specs.declared.value.Value.TheVariants.{Many}
 use Rattle.values.proofs.Literals.{rising_numbered}
+use Rattle.values.specs.Limits.{chunk_size}
 
 elements_pairs : (es : List Element) → elements (pairs es) ≡ es
 elements_pairs [] = refl
@@ -38,10 +39,10 @@ in_dropped (suc n) (y ∷ xs) x h = inr (in_dropped n xs x h)
 
 in_left_at : {X : Type 0} (c : ℕ) (xs : List X) (x : X) → In x (left_at c xs) → In x xs
 in_left_at zero xs x h = h
-in_left_at (suc c) xs x h = in_dropped 64 xs x (in_left_at c (drop 64 xs) x h)
+in_left_at (suc c) xs x h = in_dropped chunk_size xs x (in_left_at c (drop chunk_size xs) x h)
 
 pub in_chunk : {X : Type 0} (c : ℕ) (xs : List X) (x : X) → In x (chunk c xs) → In x xs
-in_chunk c xs x h = in_left_at c xs x (in_taken 64 (left_at c xs) x h)
+in_chunk c xs x h = in_left_at c xs x (in_taken chunk_size (left_at c xs) x h)
 
 distinct_taken : {X : Type 0} (n : ℕ) (xs : List X) → Distinct xs → Distinct (take n xs)
 distinct_taken zero xs d = tt
@@ -55,10 +56,10 @@ distinct_dropped (suc n) (y ∷ xs) d = distinct_dropped n xs d.1
 
 distinct_left : {X : Type 0} (c : ℕ) (xs : List X) → Distinct xs → Distinct (left_at c xs)
 distinct_left zero xs d = d
-distinct_left (suc c) xs d = distinct_left c (drop 64 xs) (distinct_dropped 64 xs d)
+distinct_left (suc c) xs d = distinct_left c (drop chunk_size xs) (distinct_dropped chunk_size xs d)
 
 pub distinct_chunk : {X : Type 0} (c : ℕ) (xs : List X) → Distinct xs → Distinct (chunk c xs)
-distinct_chunk c xs d = distinct_taken 64 (left_at c xs) (distinct_left c xs d)
+distinct_chunk c xs d = distinct_taken chunk_size (left_at c xs) (distinct_left c xs d)
 
 cut : {X : Type 0} (n : ℕ) (xs : List X) → Distinct xs → (x : X) → In x (take n xs) → In x (drop n xs) → ⊥
 cut zero xs d x i j = i
@@ -68,9 +69,9 @@ cut {X} (suc n) (y ∷ xs) d x i j =
 
 pub chunk_once : {X : Type 0} (xs : List X) (c d : ℕ) (x : X) → Distinct xs → In x (chunk c xs) → In x (chunk d xs) → c ≡ d
 chunk_once xs zero zero x ds i j = refl
-chunk_once xs zero (suc d) x ds i j = absurd (cut 64 xs ds x i (in_chunk d (drop 64 xs) x j))
-chunk_once xs (suc c) zero x ds i j = absurd (cut 64 xs ds x j (in_chunk c (drop 64 xs) x i))
-chunk_once xs (suc c) (suc d) x ds i j = ap suc (chunk_once (drop 64 xs) c d x (distinct_dropped 64 xs ds) i j)
+chunk_once xs zero (suc d) x ds i j = absurd (cut chunk_size xs ds x i (in_chunk d (drop chunk_size xs) x j))
+chunk_once xs (suc c) zero x ds i j = absurd (cut chunk_size xs ds x j (in_chunk c (drop chunk_size xs) x i))
+chunk_once xs (suc c) (suc d) x ds i j = ap suc (chunk_once (drop chunk_size xs) c d x (distinct_dropped chunk_size xs ds) i j)
 
 map_taken : {X Y : Type 0} (f : X → Y) (n : ℕ) (xs : List X) → map f (take n xs) ≡ take n (map f xs)
 map_taken f zero xs = refl
@@ -84,10 +85,10 @@ map_dropped f (suc n) (x ∷ xs) = map_dropped f n xs
 
 map_left : {X Y : Type 0} (f : X → Y) (c : ℕ) (xs : List X) → map f (left_at c xs) ≡ left_at c (map f xs)
 map_left f zero xs = refl
-map_left f (suc c) xs = map_left f c (drop 64 xs) ∙ ap (left_at c) (map_dropped f 64 xs)
+map_left f (suc c) xs = map_left f c (drop chunk_size xs) ∙ ap (left_at c) (map_dropped f chunk_size xs)
 
 pub map_chunk : {X Y : Type 0} (f : X → Y) (c : ℕ) (xs : List X) → map f (chunk c xs) ≡ chunk c (map f xs)
-map_chunk f c xs = map_taken f 64 (left_at c xs) ∙ ap (take 64) (map_left f c xs)
+map_chunk f c xs = map_taken f chunk_size (left_at c xs) ∙ ap (take chunk_size) (map_left f c xs)
 
 -- the turns of a loop, and the elements of an array, have different keys
 whole_same : {a b : ℕ} → number_key (pos a) ≡ number_key (pos b) → a ≡ b

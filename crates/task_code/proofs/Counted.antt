@@ -22,6 +22,7 @@ use Rattle.values.specs.declared.value.Scalar.{Scalar}
 use Rattle.dataflow.proofs.Lists.{in_left, in_right, in_unmap, in_split}
 use Rattle.dataflow.proofs.Settled.{Settled, can_of_comes}
 use Rattle.dataflow.proofs.Theorem.{known_settled}
+use Rattle.values.specs.Limits.{chunk_size}
 
 sum_same : {A : Type 0} (f g : A → ℕ) → ((x : A) → f x ≡ g x) → (xs : List A) → sum_by f xs ≡ sum_by g xs
 sum_same f g h [] = refl
@@ -43,12 +44,12 @@ length_dropped zero xs = omega arith
 length_dropped (suc n) [] = omega arith
 length_dropped (suc n) (x ∷ xs) = let h = length_dropped n xs in omega arith
 
-left_long : {X : Type 0} (c : ℕ) (xs : List X) → is_some_list (left_at c xs) ≡ true → 64 * c < length xs
+left_long : {X : Type 0} (c : ℕ) (xs : List X) → is_some_list (left_at c xs) ≡ true → chunk_size * c < length xs
 left_long zero [] h = absurd (cc)
 left_long zero (x ∷ xs) h = omega arith
-left_long (suc c) xs h = let l = left_long c (drop 64 xs) h in let d = length_dropped 64 xs in omega arith
+left_long (suc c) xs h = let l = left_long c (drop chunk_size xs) h in let d = length_dropped chunk_size xs in omega arith
 
-few_rests : (c m : ℕ) → 64 * suc c < m → suc c ≤ rests_of m
+few_rests : (c m : ℕ) → chunk_size * suc c < m → suc c ≤ rests_of m
 few_rests c m h = grind arith
 
 last_or : (c k : ℕ) → suc c ≤ suc k → (c ≡ k) ⊎ (suc c ≤ k)

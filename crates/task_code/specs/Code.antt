@@ -5,6 +5,9 @@ use Rattle.values.specs.declared.value.Scalar.{Scalar}
 use Rattle.values.specs.declared.value.Scalar.TheVariants.{Number}
 use Rattle.values.specs.Values.{same_truth}
 use Rattle.values.specs.Operators.{Operation}
+-- engines run control items, workers run leaf items
+pub use Rattle.work_queue.specs.declared.entry.Kind.{Kind}
+pub use Rattle.work_queue.specs.declared.entry.Kind.TheVariants.{Control, Leaf}
 
 -- what has a datum in each instance of its block: the node of the source that it belongs to, and whether it is an array
 pub record Variable : Type 0 where
@@ -81,10 +84,6 @@ pub record Entry : Type 0 where
   pub act : Act
   pub reads : List Name  -- what it may read, by itself or through entries that it leads to
   pub writes : List Name  -- what it may write, likewise
-
--- engines run control items, workers run leaf items
-pub data Kind : Type 0 where
-  Control Leaf : Kind
 
 -- what opens a body: nothing but the start, a wait, a branch or loop, or the calls of its function
 pub data Opener : Type 0 where

@@ -10,6 +10,7 @@ use Rattle.task_code.specs.Places.{Place, Step}
 use Rattle.task_code.specs.System.{answered, code_system}
 use Rattle.values.specs.declared.key.Key.{Key}
 use Rattle.values.specs.declared.value.Scalar.{Scalar}
+use Rattle.values.specs.Limits.{chunk_size}
 
 -- the items of a loop after its first one
 abbrev pub rest_from : ℕ → List Step → ℕ → List Task
@@ -18,7 +19,7 @@ rest_from i p (suc c) = Item i p (suc c) ∷ rest_from i p c
 
 -- a loop of m turns leaves a rest to so many items
 abbrev pub rests_of : ℕ → ℕ
-rests_of m = (m - 1) / 64
+rests_of m = (m - 1) / chunk_size
 
 module _ (C : Code) where
   -- the list has each block that is ever opened

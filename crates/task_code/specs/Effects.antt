@@ -8,9 +8,9 @@ use Rattle.task_code.specs.Places.{Datum, Place, Step, place_at}
 use Rattle.values.specs.declared.key.Key.{Key}
 use Rattle.values.specs.declared.key.Key.TheVariants.{Number as number_key}
 use Rattle.values.specs.declared.value.Scalar.{Scalar}
-use Rattle.values.specs.Limits.{most_steps}
+use Rattle.values.specs.Limits.{chunk_size, most_steps}
 
--- the task that opens the script, or an entry in a block's instance; a loop's chunk c begins at its turn 64 c, and other entries have the chunk 0 alone
+-- the task that opens the script, or an entry in a block's instance; a loop's chunk c begins at its turn c times `chunk_size`, and other entries have the chunk 0 alone
 pub data Task : Type 0 where
   Main : Task
   Item : (entry : ℕ) → (path : List Step) → (chunk : ℕ) → Task
@@ -27,11 +27,11 @@ at_first (suc c) xs = []
 -- what is left of a loop's turns before its chunk c
 abbrev pub left_at : {X : Type 0} → ℕ → List X → List X
 left_at zero xs = xs
-left_at (suc c) xs = left_at c (drop 64 xs)
+left_at (suc c) xs = left_at c (drop chunk_size xs)
 
--- the turns of chunk c: at most 64
+-- the turns of chunk c: at most `chunk_size`
 abbrev pub chunk : {X : Type 0} → ℕ → List X → List X
-chunk c xs = take 64 (left_at c xs)
+chunk c xs = take chunk_size (left_at c xs)
 
 -- the list has a member
 abbrev pub is_some_list : {X : Type 0} → List X → Bool

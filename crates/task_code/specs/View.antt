@@ -15,8 +15,6 @@ use Rattle.task_code.specs.declared.entry.Argument.{Argument}
 use Rattle.task_code.specs.declared.entry.Argument.TheVariants as Passed
 use Rattle.task_code.specs.declared.entry.Loop.{Loop}
 use Rattle.task_code.specs.declared.entry.Header.{Header}
-use Rattle.task_code.specs.declared.entry.Kind.{Kind}
-use Rattle.task_code.specs.declared.entry.Kind.TheVariants as Run
 use Rattle.task_code.specs.declared.entry.Act.{Act}
 use Rattle.task_code.specs.declared.entry.Act.TheVariants as Does
 use Rattle.task_code.specs.declared.entry.Entry.{Entry}
@@ -92,10 +90,6 @@ loop_view w = record { body = w.body; value = w.value; turn = w.turn }
 
 abbrev pub header_view : Header → Pure.Header
 header_view h = record { at = h.at; needs = map need_view h.needs.items }
-
-abbrev pub kind_view : Kind → Pure.Kind
-kind_view Run.Control = Pure.Control
-kind_view Run.Leaf = Pure.Leaf
 
 -- what an entry does
 abbrev pub act_view : Act → Pure.Act

@@ -18,6 +18,7 @@ use Rattle.values.specs.declared.format.Piece.TheVariants.{Byte, Number as digit
 use Rattle.values.specs.declared.op.Sign.TheVariants.{Plus, Minus}
 use Rattle.values.specs.declared.op.Factor.TheVariants.{Times}
 use Rattle.values.specs.declared.op.Order.TheVariants.{Less}
+use Rattle.values.specs.Limits.{chunk_size}
 
 -- an array of a node
 abbrev array : ℕ → Variable
@@ -496,7 +497,7 @@ ComparesTen = (code_system fibonacci).effect (Item 2 (step 92 0 ∷ []) 0) [] �
 -- 65 turns are a chunk of 64 and a chunk of one
 abbrev pub Chunks : Type 0
 Chunks =
-    (length (chunk 0 (range_turns (pos 1) (pos 1) 0 65)) ≡ 64)
+    (length (chunk 0 (range_turns (pos 1) (pos 1) 0 65)) ≡ chunk_size)
     × (length (chunk 1 (range_turns (pos 1) (pos 1) 0 65)) ≡ 1)
     × (length (chunk 2 (range_turns (pos 1) (pos 1) 0 65)) ≡ 0)
 

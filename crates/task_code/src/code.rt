@@ -2,7 +2,7 @@
 ghost use Rattle.std.specs.Prelude.{◌≡◌, ◌<◌, ◌≤◌, length, IfOk, MatchOption};
 ghost use Rattle.std.specs.Arc.{arc_value};
 ghost use Rattle.task_code.specs.Code.{entry, body, kind_of};
-ghost use Rattle.task_code.specs.View.{entry_view, body_view, kind_view};
+ghost use Rattle.task_code.specs.View.{entry_view, body_view};
 ghost use Rattle.task_code.specs.Whole.{IsCode};
 
 use crate::draft::Draft;
@@ -92,28 +92,31 @@ impl Code {
 
     /// The entry of this number, where there is one.
     pub fn entry(&self, number: u32) -> Option<&Entry>
-        ensures { MatchOption result (length self.now.entries ≤ number) (λ found. (number < length self.now.entries) × (entry_view found.now ≡ entry self.now number)) }
+        ensures { MatchOption result (length self.now.entries ≤ number)
+            (λ found. (number < length self.now.entries) × (entry_view found.now ≡ entry self.now number)) }
     {
         self.draft.entry(number)
     }
 
     /// The same for whoever keeps the entry.
     pub fn share_entry(&self, number: u32) -> Result<Option<Arc<Entry>>, AllocError>
-        ensures { IfOk result (λ found. MatchOption found (length self.now.entries ≤ number) (λ shared. (number < length self.now.entries) × (entry_view (arc_value shared) ≡ entry self.now number))) }
+        ensures { IfOk result (λ found. MatchOption found (length self.now.entries ≤ number)
+            (λ shared. (number < length self.now.entries) × (entry_view (arc_value shared) ≡ entry self.now number))) }
     {
         self.draft.share_entry(number)
     }
 
     /// The body of this number, where there is one.
     pub fn body(&self, number: u32) -> Option<&Body>
-        ensures { MatchOption result (length self.now.bodies ≤ number) (λ found. (number < length self.now.bodies) × (body_view found.now ≡ body self.now number)) }
+        ensures { MatchOption result (length self.now.bodies ≤ number)
+            (λ found. (number < length self.now.bodies) × (body_view found.now ≡ body self.now number)) }
     {
         self.draft.body(number)
     }
 
     /// Who runs the entry of this number. A number that there is not is a leaf's.
     pub fn kind(&self, number: u32) -> Kind
-        ensures { kind_view result ≡ kind_of (entry self.now number).act }
+        ensures { result ≡ kind_of (entry self.now number).act }
     {
         self.draft.kind(number)
     }

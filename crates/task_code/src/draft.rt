@@ -2,7 +2,7 @@
 ghost use Rattle.std.specs.Prelude.{◌≡◌, ◌<◌, ◌≤◌, ◌++◌, ◌∷◌, [], length, map, IfOk, OnOk, OnErr, MatchOption};
 ghost use Rattle.std.specs.Arc.{arc_value};
 ghost use Rattle.task_code.specs.Code.{blank_entry, blank_body, entry, body, kind_of};
-ghost use Rattle.task_code.specs.View.{entry_view, body_view, kind_view};
+ghost use Rattle.task_code.specs.View.{entry_view, body_view};
 
 use crate::code::Body;
 use crate::entry::{Entry, Kind};
@@ -81,7 +81,8 @@ impl Draft {
 
     /// The entry of this number, where there is one.
     pub fn entry(&self, number: u32) -> Option<&Entry>
-        ensures { MatchOption result (length self.now.entries ≤ number) (λ found. (number < length self.now.entries) × (entry_view found.now ≡ entry self.now number)) }
+        ensures { MatchOption result (length self.now.entries ≤ number)
+            (λ found. (number < length self.now.entries) × (entry_view found.now ≡ entry self.now number)) }
     {
         match self.entries.get(number as usize) {
             Some(found) => Some(&**found),
@@ -91,7 +92,8 @@ impl Draft {
 
     /// The same for whoever keeps the entry.
     pub fn share_entry(&self, number: u32) -> Result<Option<Arc<Entry>>, AllocError>
-        ensures { IfOk result (λ found. MatchOption found (length self.now.entries ≤ number) (λ shared. (number < length self.now.entries) × (entry_view (arc_value shared) ≡ entry self.now number))) }
+        ensures { IfOk result (λ found. MatchOption found (length self.now.entries ≤ number)
+            (λ shared. (number < length self.now.entries) × (entry_view (arc_value shared) ≡ entry self.now number))) }
     {
         match self.entries.get(number as usize) {
             Some(found) => Ok(Some(found.clone()?)),
@@ -101,7 +103,8 @@ impl Draft {
 
     /// The body of this number, where there is one.
     pub fn body(&self, number: u32) -> Option<&Body>
-        ensures { MatchOption result (length self.now.bodies ≤ number) (λ found. (number < length self.now.bodies) × (body_view found.now ≡ body self.now number)) }
+        ensures { MatchOption result (length self.now.bodies ≤ number)
+            (λ found. (number < length self.now.bodies) × (body_view found.now ≡ body self.now number)) }
     {
         match self.bodies.get(number as usize) {
             Some(found) => Some(&**found),
@@ -111,7 +114,7 @@ impl Draft {
 
     /// Who runs the entry of this number. A number that there is not is a leaf's.
     pub fn kind(&self, number: u32) -> Kind
-        ensures { kind_view result ≡ kind_of (entry self.now number).act }
+        ensures { result ≡ kind_of (entry self.now number).act }
     {
         match self.entry(number) {
             Some(found) => found.act.kind(),

@@ -1,11 +1,12 @@
 //! The entries of a code: what each waits for, what it does when it ends, and what it may read and write.
 ghost use Rattle.std.specs.Prelude.{◌≡◌};
-ghost use Rattle.task_code.specs.View.{act_view, kind_view};
+ghost use Rattle.task_code.specs.View.{act_view};
 ghost use Rattle.task_code.specs.Code.{kind_of};
 
 use crate::expr::Expr;
 use values::key::Key;
 use values::value::Scalar;
+pub use work_queue::entry::Kind;
 
 /// What has a datum in each instance of its block: the node of the source that it belongs to, and whether it is an array.
 #[derive(Clone, Copy, PartialEq, Eq, Debug, Drop)]
@@ -66,13 +67,6 @@ pub struct Header {
     pub needs: Vec<Need>,
 }
 
-/// Who runs an item: engines run control items, workers run leaf items.
-#[derive(Clone, Copy, PartialEq, Eq, Debug, Drop)]
-pub enum Kind {
-    Control,
-    Leaf,
-}
-
 /// What an entry does when it ends.
 #[derive(Drop)]
 pub enum Act {
@@ -127,7 +121,7 @@ pub struct Entry {
 impl Act {
     /// Who runs an entry that does this.
     pub fn kind(&self) -> Kind
-        ensures { kind_view result ≡ kind_of (act_view self.now) }
+        ensures { result ≡ kind_of (act_view self.now) }
     {
         match self {
             Act::Cell(_) | Act::Set(_, _) | Act::Fill(_, _) | Act::Print(_) | Act::Assert(_) => {

@@ -6,10 +6,10 @@ use board_changes::world::World;
 use board_instances::instance::{Slot, datum_at, enter, leave, path_of, slot_at};
 use board_instances::item::{Mark, PackedItem, item_of, mark_item};
 use board_instances::opening::{Around, Opening, inner, outermost};
-use board_instances::outer::{Outer, Way};
+use board_instances::outer::{LastStep, Outer};
 use board_instances::packed::PackedSlot;
 use board_instances::placing::{go_on, place_all};
-use board_instances::turns::{Site, push_block, push_elements, push_range};
+use board_instances::turns::{InnerBody, push_block, push_elements, push_range};
 use board_program::spot::Spot;
 use std::alloc::{AllocError, Global};
 use std::process::Abort;
@@ -133,7 +133,13 @@ fn outermost_lies_in_none(rt: &impl Abort, alloc: Global, world: &Opened) {
 
 /// An instance that lies in the script's, a step further.
 fn inner_lies_in_first(rt: &impl Abort, alloc: Global, world: &Opened) {
-    let found = inner(alloc, around(world), 0, Way::to_number(40, 7), (0, &[]));
+    let found = inner(
+        alloc,
+        around(world),
+        0,
+        LastStep::to_number(40, 7),
+        (0, &[]),
+    );
     let inside = found.expect(rt, "memory").expect(rt, "an instance");
     is_equal(rt, (inside.level, inside.depth, inside.live), (1, 1, 2));
     is_equal(rt, inside.parent.key(), Some(0));
@@ -141,7 +147,7 @@ fn inner_lies_in_first(rt: &impl Abort, alloc: Global, world: &Opened) {
 
 /// There is no instance of a body that is not.
 fn no_body_has_none(rt: &impl Abort, alloc: Global, world: &Opened) {
-    let none = inner(alloc, around(world), 1, Way::none(), (0, &[]));
+    let none = inner(alloc, around(world), 1, LastStep::none(), (0, &[]));
     assert!(rt; none.expect(rt, "memory").is_none());
 }
 
@@ -153,8 +159,8 @@ fn instances_lie_in_one_another(rt: HostRuntime) {
     no_body_has_none(&rt, rt.alloc(), &world);
 }
 
-fn site(world: &Opened, alloc: Global) -> Site<'_> {
-    Site {
+fn site(world: &Opened, alloc: Global) -> InnerBody<'_> {
+    InnerBody {
         alloc,
         around: around(world),
         body: 0,
@@ -166,7 +172,13 @@ fn site(world: &Opened, alloc: Global) -> Site<'_> {
 fn turns(alloc: Global, world: &Opened) -> Result<Vec<Opening>, AllocError> {
     let mut list = Vec::new(alloc);
     let values = (None, None);
-    push_block(site(world, alloc), &mut list, Way::none(), (0, &[]), values)?;
+    push_block(
+        site(world, alloc),
+        &mut list,
+        LastStep::none(),
+        (0, &[]),
+        values,
+    )?;
     let one = Element {
         key: Key::Number(3),
         value: Scalar::Truth(true),
@@ -186,16 +198,16 @@ fn keeps_the_outer(rt: &impl Abort) {
 
 /// A step is kept, and that there is none.
 fn keeps_the_step(rt: &impl Abort) {
-    let kept = Way::to_number(40, 3);
+    let kept = LastStep::to_number(40, 3);
     let step = kept.step().expect(rt, "memory").expect(rt, "a step");
     assert!(rt; step.offset == 40 && matches!(step.key, Key::Number(3)));
-    assert!(rt; Way::none().step().expect(rt, "memory").is_none());
+    assert!(rt; LastStep::none().step().expect(rt, "memory").is_none());
 }
 
 /// A step to a text is kept with all of its bytes.
 fn keeps_the_text(rt: &impl Abort, alloc: Global) {
     let text = Text::from_slice(alloc, b"a\n").expect(rt, "memory");
-    let kept = Way::to(40, KeyRef::Text(&text)).expect(rt, "memory");
+    let kept = LastStep::to(40, KeyRef::Text(&text)).expect(rt, "memory");
     let step = kept.step().expect(rt, "memory").expect(rt, "a step");
     let is_text = matches!(&step.key, Key::Text(key) if key.as_bytes() == b"a\n".as_slice());
     assert!(rt; step.offset == 40 && is_text);

@@ -4,7 +4,7 @@ use crate::asserts::{boxed, holds, is_equal};
 use crate::flows::{array, call_part, computed, element, output, scalar, sum};
 use crate::lists::two;
 use emit_cells::names::{named, own, small};
-use emit_cells::needs::{Wanted, listed, note, note_name, place_of};
+use emit_cells::needs::{PlainNeed, listed, note, note_name, place_of};
 use emit_cells::operators::{operator, text};
 use emit_cells::over::{all_placed, placed};
 use emit_cells::plain::{is_outer_plain, is_plain, local_node};
@@ -28,17 +28,17 @@ fn datum(node: u32, array: bool) -> Name {
 }
 
 /// No needs, in a box.
-fn no_needs(rt: &impl Abort, alloc: Global) -> Box<IndexSet<Wanted>> {
+fn no_needs(rt: &impl Abort, alloc: Global) -> Box<IndexSet<PlainNeed>> {
     boxed(rt, alloc, IndexSet::new(alloc))
 }
 
 /// Notes a name.
-fn notes(rt: &impl Abort, needs: &mut IndexSet<Wanted>, name: Name) {
+fn notes(rt: &impl Abort, needs: &mut IndexSet<PlainNeed>, name: Name) {
     note_name(needs, name).expect(rt, "memory");
 }
 
 /// The needs of two names, each once.
-fn needs_of(rt: &impl Abort, alloc: Global, first: Name, second: Name) -> Box<IndexSet<Wanted>> {
+fn needs_of(rt: &impl Abort, alloc: Global, first: Name, second: Name) -> Box<IndexSet<PlainNeed>> {
     let mut needs = no_needs(rt, alloc);
     notes(rt, &mut needs, first);
     notes(rt, &mut needs, second);
@@ -119,10 +119,10 @@ fn is_closed(need: &Need, datum: Name) -> bool {
 
 #[test]
 fn a_name_is_wanted_stored_or_closed(rt: HostRuntime) {
-    let one = Wanted::new(datum(3, false));
+    let one = PlainNeed::new(datum(3, false));
     is_equal(&rt, one.name(), datum(3, false));
     holds(&rt, is_stored(&one.need(), datum(3, false)));
-    let all = Wanted::new(datum(4, true));
+    let all = PlainNeed::new(datum(4, true));
     holds(&rt, is_closed(&all.need(), datum(4, true)));
 }
 
@@ -142,7 +142,7 @@ fn six_and_eighth(rt: &impl Abort, alloc: Global) -> Box<Expr<Global>> {
 }
 
 /// The scalar of node 3, and then what the expression waits for.
-fn needs_behind(rt: &impl Abort, alloc: Global, expr: &Expr<Global>) -> Box<IndexSet<Wanted>> {
+fn needs_behind(rt: &impl Abort, alloc: Global, expr: &Expr<Global>) -> Box<IndexSet<PlainNeed>> {
     let mut needs = no_needs(rt, alloc);
     notes(rt, &mut needs, datum(3, false));
     note(&mut needs, 0, expr).expect(rt, "memory");
@@ -153,7 +153,7 @@ fn needs_behind(rt: &impl Abort, alloc: Global, expr: &Expr<Global>) -> Box<Inde
 fn over(
     rt: &impl Abort,
     alloc: Global,
-    needs: &IndexSet<Wanted>,
+    needs: &IndexSet<PlainNeed>,
     expr: &Expr<Global>,
 ) -> Box<Placed> {
     let found = placed(alloc, needs, 0, expr).expect(rt, "memory");
@@ -182,7 +182,7 @@ fn an_expression_stands_over_its_needs(rt: HostRuntime) {
 fn all_over(
     rt: &impl Abort,
     alloc: Global,
-    needs: &IndexSet<Wanted>,
+    needs: &IndexSet<PlainNeed>,
     exprs: &Vec<Expr<Global>>,
 ) -> Vec<Placed> {
     all_placed(alloc, needs, 0, exprs).expect(rt, "memory")
@@ -269,7 +269,7 @@ fn seen(
     alloc: Global,
     plain: &Cell<Global>,
     other: &Cell<Global>,
-) -> Box<IndexSet<Wanted>> {
+) -> Box<IndexSet<PlainNeed>> {
     let mut needs = no_needs(rt, alloc);
     note_seen(&mut needs, 0, plain, true).expect(rt, "memory");
     note_seen(&mut needs, 0, other, false).expect(rt, "memory");
@@ -280,7 +280,7 @@ fn seen(
 fn need_seen(
     rt: &impl Abort,
     alloc: Global,
-    needs: &IndexSet<Wanted>,
+    needs: &IndexSet<PlainNeed>,
     other: &Cell<Global>,
 ) -> Option<u32> {
     let found = placed_seen(alloc, needs, 0, other, false).expect(rt, "memory");

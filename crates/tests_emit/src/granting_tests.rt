@@ -31,7 +31,16 @@ fn x(up: usize) -> Name {
 
 /// An entry without rights.
 fn bare(alloc: Global, mark: usize, needs: Vec<Need>, act: Act) -> Entry
-    ensures { entry_view result ≡ record { node = 0; at = mark; mark = mark; priority = pos 0; needs = map need_view needs.items; act = act_view act; reads = []; writes = [] } }
+    ensures { entry_view result ≡ record {
+      node = 0;
+      at = mark;
+      mark = mark;
+      priority = pos 0;
+      needs = map need_view needs.items;
+      act = act_view act;
+      reads = [];
+      writes = [];
+    } }
 {
     Entry {
         node: 0,

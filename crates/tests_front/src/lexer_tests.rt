@@ -1,8 +1,8 @@
 //! Texts with their tokens and their faults.
 
 use crate::asserts::is_equal;
+use lexer::Lexer;
 use lexer::fault::LexFault;
-use lexer::lexer::Lexer;
 use lexer::token::{Span, Token, TokenKind};
 use lexer::value::{number_value, string_content};
 use std::alloc::Global;

@@ -218,3 +218,73 @@ fn an_item_of_three_inputs_waits_in_memory_that_was_taken(rt: HostRuntime) {
     let mut rules = no_rules(&rt, rt.alloc());
     three_inputs(&rt, rt.alloc(), &mut rules);
 }
+
+/// So many elements of an array, and as many scalars, in turn, with the first element twice.
+fn elements_and_scalars(
+    alloc: Global,
+    array: u64,
+    count: u8,
+) -> Result<SmallVec<Input, 2>, AllocError> {
+    let mut inputs = SmallVec::new(alloc);
+    for number in 0..count {
+        inputs.push(Input::Element(array, u64::from(number)))?;
+        inputs.push(Input::Whole(100 + u64::from(number)))?;
+    }
+    inputs.push(Input::Element(array, 0))?;
+    Ok(inputs)
+}
+
+/// An item waits for so many elements of array 3, and as many scalars.
+fn waits_for_many(rt: &impl Abort, alloc: Global, rules: &mut Rules, count: u8, item: u64) {
+    let inputs = elements_and_scalars(alloc, 3, count).expect(rt, "memory");
+    waits(rt, rules, inputs, item);
+}
+
+/// The scalars and then the elements become known, from the last to the second, and wake nothing. Then the first does.
+fn many_one_by_one(rt: &impl Abort, alloc: Global, rules: &mut Rules, count: u8) {
+    waits_for_many(rt, alloc, rules, count, 5);
+    for number in 0..count {
+        wakes(rt, alloc, rules, Input::Whole(100 + u64::from(number)), &[]);
+    }
+    for number in 1..count {
+        wakes(
+            rt,
+            alloc,
+            rules,
+            Input::Element(3, u64::from(count - number)),
+            &[],
+        );
+    }
+    is_equal(rt, rules.waiting(), 1);
+    wakes(rt, alloc, rules, Input::Element(3, 0), &[5]);
+}
+
+// From eight inputs on there is an index to them.
+#[test]
+fn many_inputs_wake_with_the_last_of_them(rt: HostRuntime) {
+    let mut rules = no_rules(&rt, rt.alloc());
+    many_one_by_one(&rt, rt.alloc(), &mut rules, 3);
+    many_one_by_one(&rt, rt.alloc(), &mut rules, 4);
+    many_one_by_one(&rt, rt.alloc(), &mut rules, 200);
+}
+
+/// Two items wait for the elements of one array, in whose place another's are told first; then it is closed, and the scalars are told.
+fn closed_before_scalars(rt: &impl Abort, alloc: Global, rules: &mut Rules) {
+    waits_for_many(rt, alloc, rules, 30, 5);
+    waits_for_many(rt, alloc, rules, 30, 6);
+    wakes(rt, alloc, rules, Input::Whole(4), &[]);
+    wakes(rt, alloc, rules, Input::Whole(3), &[]);
+    wakes(rt, alloc, rules, Input::Whole(3), &[]);
+    for number in 1..30u64 {
+        wakes(rt, alloc, rules, Input::Whole(100 + number), &[]);
+    }
+    let items = woken(rt, alloc, rules, &Input::Whole(100));
+    holds(rt, are_both(items.as_slice(), 5, 6));
+    is_equal(rt, rules.waiting(), 0);
+}
+
+#[test]
+fn a_closed_array_leaves_the_scalars_of_many(rt: HostRuntime) {
+    let mut rules = no_rules(&rt, rt.alloc());
+    closed_before_scalars(&rt, rt.alloc(), &mut rules);
+}

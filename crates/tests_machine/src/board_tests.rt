@@ -2,9 +2,8 @@
 ghost use Rattle.board.specs.Board.{IsWorker};
 
 use crate::asserts::is_equal;
-use board::board::{Board, Remains};
 use board::refusal::Refusal;
-use board::{Done, Work};
+use board::{Board, Done, Remains, Work};
 use board_program::program::Program;
 use std::alloc::Global;
 use std::process::Abort;

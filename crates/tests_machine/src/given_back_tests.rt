@@ -2,7 +2,7 @@
 ghost use Rattle.board.specs.Board.{IsWorker};
 
 use crate::asserts::is_equal;
-use board::board::Board;
+use board::Board;
 use board::refusal::Refusal;
 use board_program::program::Program;
 use std::alloc::Global;

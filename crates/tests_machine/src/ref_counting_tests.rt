@@ -16,7 +16,16 @@ use values::value::Scalar;
 
 /// The call at an offset, with an input and an output.
 fn call(alloc: Global, mark: usize, input: Argument, output: Name) -> Result<Entry, AllocError>
-    ensures { IfOk result (λ e. entry_view e ≡ record { node = 0; at = mark; mark = mark; priority = pos 0; needs = []; act = Call 1 (argument_view input ∷ []) (name_view output ∷ []); reads = []; writes = [] }) }
+    ensures { IfOk result (λ e. entry_view e ≡ record {
+      node = 0;
+      at = mark;
+      mark = mark;
+      priority = pos 0;
+      needs = [];
+      act = Call 1 (argument_view input ∷ []) (name_view output ∷ []);
+      reads = [];
+      writes = [];
+    }) }
 {
     let mut inputs = Vec::new(alloc);
     inputs.push(input)?;

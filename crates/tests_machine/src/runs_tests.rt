@@ -1,7 +1,7 @@
 //! Runs of `printf("hello");`: whole ones, ones that the limit cuts, and a turn taken by hand.
 
 use crate::asserts::is_equal;
-use board::board::Board;
+use board::Board;
 use board_program::program::Program;
 use board_runs::one::run_one;
 use board_runs::report::{End, Report, last_report, report_of};

@@ -1,12 +1,12 @@
 //! A machine in memory.
 ghost use Rattle.std.specs.Prelude.{◌≡◌, [], ◌≤◌, length, IfSome};
 
-use host::host::{ArgumentFault, Host, HostFault, Stream};
 use host::identity::Identity;
 use host::record::{
     ARGUMENT, BEGAN, BROKEN, EMPTIED, ERROR, FAILED, FOLLOWED, GOT, KNOWN, LAST_ARGUMENT,
     LED_NOWHERE, LED_TO, NAMED, OPENED, OUT, PUT, REMOVED, Record, UNOPENED, note_found,
 };
+use host::{ArgumentFault, Host, HostFault, Stream};
 use std::alloc::{AllocError, Global};
 
 /// A name of a file. A name that is a link has another one behind it.

@@ -7,7 +7,7 @@ use meaning_facts::facts::{Fact, Write};
 use meaning_facts::instances::{Given, MOST_STEPS};
 use meaning_facts::learned::Learned;
 use meaning_faults::faults::{add_deep, add_deep_items, add_fault};
-use meaning_faults::site::Site;
+use meaning_faults::site::LiveStatement;
 use paths::{FaultKind, Step};
 use std::alloc::Global;
 use std::process::Abort;
@@ -18,8 +18,8 @@ use values::value::Scalar;
 const ARRAY: u32 = 2;
 
 /// A statement of an instance, at 40, by its node.
-fn statement(instance: usize) -> Site {
-    Site {
+fn statement(instance: usize) -> LiveStatement {
+    LiveStatement {
         instance,
         at: 40,
         node: 7,
@@ -54,7 +54,7 @@ fn open_all(rt: &impl Abort, alloc: Global, learned: &mut Learned) -> usize {
 }
 
 /// It is one fault, of this kind, at a node of the statement.
-fn is_fault(rt: &impl Abort, news: &Vec<Fact>, kind: FaultKind, site: Site, node: u32) {
+fn is_fault(rt: &impl Abort, news: &Vec<Fact>, kind: FaultKind, site: LiveStatement, node: u32) {
     match only(rt, news) {
         Fact::Fault(fault) => {
             is_equal(rt, fault.kind, kind);
@@ -75,7 +75,7 @@ fn a_fault_is_told(rt: HostRuntime) {
 }
 
 /// What is told of a statement with a path that is too long, or not.
-fn told(rt: &impl Abort, alloc: Global, learned: &Learned, site: Site) -> Vec<Fact> {
+fn told(rt: &impl Abort, alloc: Global, learned: &Learned, site: LiveStatement) -> Vec<Fact> {
     let mut news = Vec::new(alloc);
     add_deep(learned, site, &mut news).expect(rt, "memory");
     news
@@ -94,7 +94,7 @@ fn a_path_is_too_long(rt: HostRuntime) {
 }
 
 /// The array of the statement's instance has an element, which the statement wrote.
-fn write_element(rt: &impl Abort, alloc: Global, learned: &mut Learned, site: Site) {
+fn write_element(rt: &impl Abort, alloc: Global, learned: &mut Learned, site: LiveStatement) {
     let write = Write {
         key: Key::Number(3),
         writer: site.own_place(),
@@ -105,7 +105,12 @@ fn write_element(rt: &impl Abort, alloc: Global, learned: &mut Learned, site: Si
 }
 
 /// What is told of a statement for the elements of the array.
-fn told_of_items(rt: &impl Abort, alloc: Global, learned: &Learned, site: Site) -> Vec<Fact> {
+fn told_of_items(
+    rt: &impl Abort,
+    alloc: Global,
+    learned: &Learned,
+    site: LiveStatement,
+) -> Vec<Fact> {
     let name = Name {
         up: 0,
         what: Owned::Local(ARRAY),

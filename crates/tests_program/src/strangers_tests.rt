@@ -1,9 +1,8 @@
 //! Results of items that look alike: of the same entry, under the same numbers of items and data, but with other inputs.
 use crate::asserts::{boxed, holds, is_equal};
 use crate::doing::{code_of, program_of};
-use board::Done;
-use board::board::Board;
 use board::refusal::Refusal;
+use board::{Board, Done};
 use std::alloc::Global;
 use std::process::Abort;
 use task_code::code::Code;

@@ -1,4 +1,5 @@
 pub mod Outcomes
+pub mod FaultNames
 pub mod Faults
 pub mod Known
 pub mod Names

@@ -72,7 +72,8 @@ pub fn whole<A: Allocator>(
     settled: &mut Vec<Settled>,
     value: &Expr<A>,
 ) -> Result<VariableType, TypeFault>
-    ensures { Gives type_of result settled.new.items (checks.whole (signatures_of functions.now) (around_of scope.now) (expression_view value.now) settled.old.items) }
+    ensures { Gives type_of result settled.new.items (checks.whole (signatures_of functions.now) (around_of scope.now)
+        (expression_view value.now) settled.old.items) }
 {
     form(functions, scope, settled, &value.kind, value.first)
 }
@@ -86,7 +87,8 @@ fn form<A: Allocator>(
     kind: &ExprKind<A>,
     at: Span,
 ) -> Result<VariableType, TypeFault>
-    ensures { Gives type_of result settled.new.items (checks.whole_form (signatures_of functions.now) (around_of scope.now) (form_view kind.now) at settled.old.items) }
+    ensures { Gives type_of result settled.new.items (checks.whole_form (signatures_of functions.now) (around_of scope.now)
+        (form_view kind.now) at settled.old.items) }
 {
     match kind {
         ExprKind::Number(_) => Ok(one_of(Base::Int)),
@@ -120,7 +122,8 @@ pub fn expr<A: Allocator>(
     settled: &mut Vec<Settled>,
     value: &Expr<A>,
 ) -> Result<Base, TypeFault>
-    ensures { Gives (λ b. b) result settled.new.items (checks.typed (signatures_of functions.now) (around_of scope.now) (expression_view value.now) settled.old.items) }
+    ensures { Gives (λ b. b) result settled.new.items
+        (checks.typed (signatures_of functions.now) (around_of scope.now) (expression_view value.now) settled.old.items) }
 {
     let found = whole(functions, scope, settled, value)?;
     let base = scalar(found, value.first)?;
@@ -137,7 +140,8 @@ pub fn expect<A: Allocator>(
     value: &Expr<A>,
     wanted: Base,
 ) -> Result<(), TypeFault>
-    ensures { Gives (λ _. tt) result settled.new.items (checks.expected (signatures_of functions.now) (around_of scope.now) (expression_view value.now) wanted settled.old.items) }
+    ensures { Gives (λ _. tt) result settled.new.items
+        (checks.expected (signatures_of functions.now) (around_of scope.now) (expression_view value.now) wanted settled.old.items) }
 {
     let found = expr(functions, scope, settled, value)?;
     same_base(found, wanted, value.first)?;
@@ -155,7 +159,9 @@ fn chain<A: Allocator>(
     operands: &Vec<Expr<A>, A>,
     at: Span,
 ) -> Result<Base, TypeFault>
-    ensures { Gives (λ b. b) result settled.new.items (checks.chained (signatures_of functions.now) (around_of scope.now) (expressions_of (map expression_view operands.now.items)) operators.now.items at settled.old.items) }
+    ensures { Gives (λ b. b) result settled.new.items
+        (checks.chained (signatures_of functions.now) (around_of scope.now) (expressions_of (map expression_view operands.now.items))
+        operators.now.items at settled.old.items) }
 {
     let Some(first) = operands.first() else {
         return Err(TypeFault::Mismatch(at));
@@ -210,7 +216,9 @@ fn further<A: Allocator>(
     given: Base,
     at: Span,
 ) -> Result<(), TypeFault>
-    ensures { Gives (λ _. tt) result settled.new.items (checks.further (signatures_of functions.now) (around_of scope.now) (expressions_of (map expression_view (drop from operands.now.items))) operators.now base given at settled.old.items) }
+    ensures { Gives (λ _. tt) result settled.new.items
+        (checks.further (signatures_of functions.now) (around_of scope.now) (expressions_of (map expression_view (drop from operands.now.items))) operators.now
+        base given at settled.old.items) }
 {
     let mut before = at;
     for i in from..operands.len() {
@@ -247,7 +255,8 @@ fn call<A: Allocator>(
     given: &Vec<Expr<A>, A>,
     at: Span,
 ) -> Result<VariableType, TypeFault>
-    ensures { Gives type_of result settled.new.items (checks.whole_form (signatures_of functions.now) (around_of scope.now) (trees.call (word_of name.now) (expressions_of (map expression_view given.now.items))) at settled.old.items) }
+    ensures { Gives type_of result settled.new.items (checks.whole_form (signatures_of functions.now) (around_of scope.now)
+        (trees.call (word_of name.now) (expressions_of (map expression_view given.now.items))) at settled.old.items) }
 {
     match builtin_of(name.text.as_slice()) {
         Some(builtin) => {
@@ -292,7 +301,9 @@ pub fn builtin_call<A: Allocator>(
     given: &Vec<Expr<A>, A>,
     at: Span,
 ) -> Result<Base, TypeFault>
-    ensures { Gives (λ b. b) result settled.new.items (checks.builtin_type (signatures_of functions.now) (around_of scope.now) builtin (expressions_of (map expression_view given.now.items)) at settled.old.items) }
+    ensures { Gives (λ b. b) result settled.new.items
+        (checks.builtin_type (signatures_of functions.now) (around_of scope.now) builtin
+        (expressions_of (map expression_view given.now.items)) at settled.old.items) }
 {
     match builtin {
         Builtin::Strcat => {
@@ -318,7 +329,8 @@ fn only<A: Allocator>(
     given: &Vec<Expr<A>, A>,
     at: Span,
 ) -> Result<Base, TypeFault>
-    ensures { Gives (λ b. b) result settled.new.items (checks.only (signatures_of functions.now) (around_of scope.now) (expressions_of (map expression_view given.now.items)) builtin at settled.old.items) }
+    ensures { Gives (λ b. b) result settled.new.items
+        (checks.only (signatures_of functions.now) (around_of scope.now) (expressions_of (map expression_view given.now.items)) builtin at settled.old.items) }
 {
     if given.len() != 1 {
         return Err(TypeFault::WrongCount(at));
@@ -379,7 +391,9 @@ pub fn arguments<A: Allocator>(
     inputs: &[VariableType],
     at: Span,
 ) -> Result<(), TypeFault>
-    ensures { Gives (λ _. tt) result settled.new.items (checks.arguments (signatures_of functions.now) (around_of scope.now) (expressions_of (map expression_view (drop from given.now.items))) (map type_of inputs.now) at settled.old.items) }
+    ensures { Gives (λ _. tt) result settled.new.items
+        (checks.arguments (signatures_of functions.now) (around_of scope.now) (expressions_of (map expression_view (drop from given.now.items)))
+        (map type_of inputs.now) at settled.old.items) }
 {
     for i in from..given.len() {
         let Some(input) = inputs.get(i - from) else {
@@ -429,7 +443,8 @@ pub fn elements<A: Allocator>(
     values: &Vec<Expr<A>, A>,
     wanted: Option<Base>,
 ) -> Result<(), TypeFault>
-    ensures { Gives (λ _. tt) result settled.new.items (checks.elements (signatures_of functions.now) (around_of scope.now) (expressions_of (map expression_view values.now.items)) wanted settled.old.items) }
+    ensures { Gives (λ _. tt) result settled.new.items
+        (checks.elements (signatures_of functions.now) (around_of scope.now) (expressions_of (map expression_view values.now.items)) wanted settled.old.items) }
 {
     for i in 0..values.len() {
         let value = &values[i];

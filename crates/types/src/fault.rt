@@ -1,33 +1,28 @@
 //! Why a script is not well typed.
-ghost use Rattle.std.specs.Prelude.{◌≡◌};
+ghost use Rattle.std.specs.Prelude.{◌≡◌, ◌≤◌, length};
+ghost use Rattle.types.specs.FaultNames.{type_name};
 
 use lexer::token::Span;
 use std::alloc::{AllocError, AllocFailed};
-use thiserror::Error;
+use std::error::Error;
+use std::fmt;
 
 /// The first rule of the types that a script breaks, with the place where it does.
-#[derive(Clone, Copy, PartialEq, Eq, Debug, Drop, Error)]
+#[derive(Clone, Copy, PartialEq, Eq, Debug, Drop)]
 pub enum TypeFault {
     /// A name that is no visible variable, at it.
-    #[error("Y1 Unknown")]
     Unknown(Span),
     /// A variable that is declared while one of its name is visible, or a function whose name is taken, at the declared name.
-    #[error("Y2 Declared")]
     Declared(Span),
     /// An expression or a name of a wrong type, at its first token.
-    #[error("Y3 Mismatch")]
     Mismatch(Span),
     /// A wrong number of arguments or outputs, at the called name.
-    #[error("Y4 WrongCount")]
     WrongCount(Span),
     /// The first argument of `printf` is no string literal that is a format, at that argument.
-    #[error("Y5 BadFormat")]
     BadFormat(Span),
     /// A called name that is no function, at it.
-    #[error("Y6 NotAFunction")]
     NotAFunction(Span),
     /// Memory that was asked for was refused.
-    #[error("no memory")]
     Memory,
 }
 
@@ -48,7 +43,31 @@ impl TypeFault {
             TypeFault::Memory => None,
         }
     }
+
+    /// Its number and its name.
+    pub fn name(self) -> &'static str
+        ensures text { result.now ≡ type_name self }
+        ensures short { length result.now ≤ 20 }
+    {
+        match self {
+            TypeFault::Unknown(_) => "Y1 Unknown",
+            TypeFault::Declared(_) => "Y2 Declared",
+            TypeFault::Mismatch(_) => "Y3 Mismatch",
+            TypeFault::WrongCount(_) => "Y4 WrongCount",
+            TypeFault::BadFormat(_) => "Y5 BadFormat",
+            TypeFault::NotAFunction(_) => "Y6 NotAFunction",
+            TypeFault::Memory => "no memory",
+        }
+    }
 }
+
+impl fmt::Display for TypeFault {
+    fn fmt<W: fmt::Write>(&self, f: &mut fmt::Formatter<W>) -> fmt::Result {
+        write!(f, "{}", self.name())
+    }
+}
+
+impl Error for TypeFault {}
 
 impl From<AllocError> for TypeFault {
     ghost use Rattle.types.specs.declared.fault.TypeFault.TheVariants.{Memory};

@@ -50,7 +50,8 @@ fn first_places(
     alloc: Global,
     functions: &[Signature],
 ) -> Result<IndexMap<Vec<u8>, usize>, AllocError>
-    ensures { IfOk result (λ places. (text : List ℕ) → get_by (λ key. bytes_eq text key.items) places ≡ checks.place_of (checks.find (map signature_of functions.now) text)) }
+    ensures { IfOk result (λ places. (text : List ℕ) → get_by (λ key. bytes_eq text key.items) places
+        ≡ checks.place_of (checks.find (map signature_of functions.now) text)) }
 {
     let mut places = IndexMap::new(alloc);
     for behind in 0..functions.len() {
@@ -99,7 +100,8 @@ pub fn declared<A: Allocator>(decl: &Decl<A>) -> VariableType
 
 /// The first function of a name.
 pub fn find_function<'a>(functions: &'a Functions, text: &[u8]) -> Option<Found<'a>>
-    ensures { MatchOption result (checks.find (signatures_of functions.now) text.now ≡ checks.missing) (λ it. checks.find (signatures_of functions.now) text.now ≡ checks.found it.place (signature_of it.signature.now)) }
+    ensures { MatchOption result (checks.find (signatures_of functions.now) text.now ≡ checks.missing)
+        (λ it. checks.find (signatures_of functions.now) text.now ≡ checks.found it.place (signature_of it.signature.now)) }
 {
     let place = *functions.places.get(text)?;
     let signature = functions.list.get(place)?;
@@ -129,7 +131,8 @@ pub fn function_called<'a, A: Allocator>(
     inputs: usize,
     outputs: usize,
 ) -> Result<&'a Signature, TypeFault>
-    ensures { Gives (λ found. signature_of found.now) result settled.new.items (checks.function_called (signatures_of functions.now) (word_of name.now) inputs outputs settled.old.items) }
+    ensures { Gives (λ found. signature_of found.now) result settled.new.items
+        (checks.function_called (signatures_of functions.now) (word_of name.now) inputs outputs settled.old.items) }
 {
     let Some(found) = find_function(functions, name.text.as_slice()) else {
         return Err(TypeFault::NotAFunction(name.span));

@@ -54,7 +54,8 @@ fn find(scope: &Scope, text: &[u8]) -> Option<Known>
 /// Refuses a name that is visible already.
 pub fn fresh<A: Allocator>(scope: &Scope, name: &Name<A>) -> Result<(), TypeFault>
     ensures judges { Judges (λ _. tt) result (checks.fresh (around_of scope.now) (word_of name.now)) }
-    ensures seen { MatchResult result (λ _. checks.seen (around_of scope.now).names name.now.text.items ≡ None) (λ fault. (fault ≡ TypeFault.Declared name.now.span) × IsSome (checks.seen (around_of scope.now).names name.now.text.items)) }
+    ensures seen { MatchResult result (λ _. checks.seen (around_of scope.now).names name.now.text.items ≡ None)
+        (λ fault. (fault ≡ TypeFault.Declared name.now.span) × IsSome (checks.seen (around_of scope.now).names name.now.text.items)) }
 {
     match find(scope, name.text.as_slice()) {
         Some(_) => Err(TypeFault::Declared(name.span)),
@@ -92,7 +93,9 @@ pub fn declare<A: Allocator>(
     of: VariableType,
 ) -> Result<(), TypeFault>
     ensures added { OnOk result (around_of scope.new ≡ checks.added (around_of scope.old) (word_of name.now) what (type_of of)) }
-    ensures free { MatchResult result (λ _. checks.seen (around_of scope.old).names name.now.text.items ≡ None) (λ fault. fault ≢ TypeFault.Memory → (fault ≡ TypeFault.Declared name.now.span) × IsSome (checks.seen (around_of scope.old).names name.now.text.items)) }
+    ensures free { MatchResult result (λ _. checks.seen (around_of scope.old).names name.now.text.items ≡ None)
+        (λ fault. fault ≢ TypeFault.Memory → (fault ≡ TypeFault.Declared name.now.span)
+        × IsSome (checks.seen (around_of scope.old).names name.now.text.items)) }
 {
     fresh(scope, name)?;
     add(alloc, scope, name, what, of)?;

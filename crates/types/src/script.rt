@@ -56,7 +56,8 @@ fn parts<A: Allocator>(
     settled: &mut Vec<Settled>,
     items: &[Item<A>],
 ) -> Result<(), TypeFault>
-    ensures { Gives (λ _. tt) result settled.new.items (checks.parts_checked (signatures_of functions.now) 0 nowhere (map part_of items.now) settled.old.items) }
+    ensures { Gives (λ _. tt) result settled.new.items
+        (checks.parts_checked (signatures_of functions.now) 0 nowhere (map part_of items.now) settled.old.items) }
 {
     let mut scope = empty(alloc);
     let mut above: usize = 0;
@@ -77,8 +78,10 @@ fn part<A: Allocator>(
 ) -> Result<usize, TypeFault>
     requires { above + 1 < 2 ^ 64 }
     ensures counts { IfOk result (λ n. n < above + 2) }
-    ensures goes_on { IfOk result (λ n. (ps : Tree) → checks.parts_checked (signatures_of functions.now) above (around_of scope.old) (part_of item.now ∷ ps) settled.old.items ≡ checks.parts_checked (signatures_of functions.now) n (around_of scope.new) ps settled.new.items) }
-    ensures stops { IfErr result (λ y. y ≢ TypeFault.Memory → (ps : Tree) → checks.parts_checked (signatures_of functions.now) above (around_of scope.old) (part_of item.now ∷ ps) settled.old.items ≡ refused y) }
+    ensures goes_on { IfOk result (λ n. (ps : Tree) → checks.parts_checked (signatures_of functions.now) above (around_of scope.old) (part_of item.now ∷ ps)
+        settled.old.items ≡ checks.parts_checked (signatures_of functions.now) n (around_of scope.new) ps settled.new.items) }
+    ensures stops { IfErr result (λ y. y ≢ TypeFault.Memory → (ps : Tree)
+        → checks.parts_checked (signatures_of functions.now) above (around_of scope.old) (part_of item.now ∷ ps) settled.old.items ≡ refused y) }
 {
     match item {
         Item::Import(_) => Ok(above),
@@ -101,7 +104,8 @@ fn function<A: Allocator>(
     above: usize,
     function: &Function<A>,
 ) -> Result<(), TypeFault>
-    ensures { Gives (λ _. tt) result settled.new.items (checks.function_checked (signatures_of functions.now) above (composite_of function.now) settled.old.items) }
+    ensures { Gives (λ _. tt) result settled.new.items
+        (checks.function_checked (signatures_of functions.now) above (composite_of function.now) settled.old.items) }
 {
     let mut scope = empty(alloc);
     outputs(alloc, &mut scope, function.outputs.as_slice())?;

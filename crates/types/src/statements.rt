@@ -37,7 +37,8 @@ fn right<A: Allocator>(
     right: &Right<A>,
     target: VariableType,
 ) -> Result<(), TypeFault>
-    ensures { Gives (λ _. tt) result settled.new.items (steps.right (signatures_of functions.now) (around_of scope.now) (right_of right.now) (type_of target) settled.old.items) }
+    ensures { Gives (λ _. tt) result settled.new.items
+        (steps.right (signatures_of functions.now) (around_of scope.now) (right_of right.now) (type_of target) settled.old.items) }
 {
     match right {
         Right::Value(value) => {
@@ -57,7 +58,8 @@ fn literal<A: Allocator>(
     list: &ListOf<A>,
     target: VariableType,
 ) -> Result<(), TypeFault>
-    ensures { Gives (λ _. tt) result settled.new.items (steps.right (signatures_of functions.now) (around_of scope.now) (list_of list.now) (type_of target) settled.old.items) }
+    ensures { Gives (λ _. tt) result settled.new.items
+        (steps.right (signatures_of functions.now) (around_of scope.now) (list_of list.now) (type_of target) settled.old.items) }
 {
     match target.shape {
         Shape::Array(keys) => {
@@ -88,7 +90,8 @@ fn refer_all<A: Allocator>(
     settled: &mut Vec<Settled>,
     names: &[Name<A>],
 ) -> Result<Vec<VariableType>, TypeFault>
-    ensures { Gives (λ types. map type_of types.items) result settled.new.items (steps.refer_all (around_of scope.now) (map word_of names.now) settled.old.items) }
+    ensures { Gives (λ types. map type_of types.items) result settled.new.items
+        (steps.refer_all (around_of scope.now) (map word_of names.now) settled.old.items) }
 {
     let mut types = Vec::new(alloc);
     for name in names {
@@ -132,7 +135,8 @@ fn several<A: Allocator>(
     call: &Call<A>,
     targets: &[VariableType],
 ) -> Result<(), TypeFault>
-    ensures { Gives (λ _. tt) result settled.new.items (steps.several (signatures_of functions.now) (around_of scope.now) (calling_of call.now) (map type_of targets.now) settled.old.items) }
+    ensures { Gives (λ _. tt) result settled.new.items
+        (steps.several (signatures_of functions.now) (around_of scope.now) (calling_of call.now) (map type_of targets.now) settled.old.items) }
 {
     let at = call.name.span;
     match builtin_of(call.name.text.as_slice()) {
@@ -172,7 +176,8 @@ fn call_statement<A: Allocator>(
     settled: &mut Vec<Settled>,
     call: &Call<A>,
 ) -> Result<(), TypeFault>
-    ensures { Gives (λ _. tt) result settled.new.items (steps.call_alone (signatures_of functions.now) (around_of scope.now) (calling_of call.now) settled.old.items) }
+    ensures { Gives (λ _. tt) result settled.new.items
+        (steps.call_alone (signatures_of functions.now) (around_of scope.now) (calling_of call.now) settled.old.items) }
 {
     let given = &call.arguments;
     let at = call.name.span;
@@ -206,7 +211,8 @@ fn builtin_statement<A: Allocator>(
     given: &Vec<Expr<A>, A>,
     at: Span,
 ) -> Result<(), TypeFault>
-    ensures { Gives (λ _. tt) result settled.new.items (steps.builtin_statement builtin (signatures_of functions.now) (around_of scope.now) (map expression_view given.now.items) at settled.old.items) }
+    ensures { Gives (λ _. tt) result settled.new.items
+        (steps.builtin_statement builtin (signatures_of functions.now) (around_of scope.now) (map expression_view given.now.items) at settled.old.items) }
 {
     match builtin {
         Builtin::Printf => print(alloc, functions, scope, settled, given, at),
@@ -239,7 +245,8 @@ fn print<A: Allocator>(
     given: &Vec<Expr<A>, A>,
     at: Span,
 ) -> Result<(), TypeFault>
-    ensures { Gives (λ _. tt) result settled.new.items (steps.print (signatures_of functions.now) (around_of scope.now) (map expression_view given.now.items) at settled.old.items) }
+    ensures { Gives (λ _. tt) result settled.new.items
+        (steps.print (signatures_of functions.now) (around_of scope.now) (map expression_view given.now.items) at settled.old.items) }
 {
     let Some(format) = given.first() else {
         return Err(TypeFault::WrongCount(at));
@@ -294,7 +301,8 @@ fn source<A: Allocator>(
     settled: &mut Vec<Settled>,
     source: &Source<A>,
 ) -> Result<Elements, TypeFault>
-    ensures { Gives (λ given. given) result settled.new.items (steps.source (signatures_of functions.now) (around_of scope.now) (over_of source.now) settled.old.items) }
+    ensures { Gives (λ given. given) result settled.new.items
+        (steps.source (signatures_of functions.now) (around_of scope.now) (over_of source.now) settled.old.items) }
 {
     match source {
         Source::Array(name) => elements_of(refer(scope, settled, name)?, name.span),
@@ -312,7 +320,8 @@ fn range<A: Allocator>(
     settled: &mut Vec<Settled>,
     range: &Range<A>,
 ) -> Result<Elements, TypeFault>
-    ensures { Gives (λ given. given) result settled.new.items (steps.source (signatures_of functions.now) (around_of scope.now) (range_of range.now) settled.old.items) }
+    ensures { Gives (λ given. given) result settled.new.items
+        (steps.source (signatures_of functions.now) (around_of scope.now) (range_of range.now) settled.old.items) }
 {
     expect(functions, scope, settled, &range.low, Base::Int)?;
     expect(functions, scope, settled, &range.high, Base::Int)?;
@@ -330,7 +339,8 @@ fn step<A: Allocator>(
     settled: &mut Vec<Settled>,
     step: &Option<Expr<A>>,
 ) -> Result<(), TypeFault>
-    ensures { Gives (λ _. tt) result settled.new.items (steps.step_of (signatures_of functions.now) (around_of scope.now) (option_map expression_view step.now) settled.old.items) }
+    ensures { Gives (λ _. tt) result settled.new.items
+        (steps.step_of (signatures_of functions.now) (around_of scope.now) (option_map expression_view step.now) settled.old.items) }
 {
     match step {
         Some(step) => expect(functions, scope, settled, step, Base::Int),
@@ -367,8 +377,10 @@ fn add_variables<A: Allocator>(
     key: &Option<Name<A>>,
     given: Elements,
 ) -> Result<(), AllocError>
-    requires { (settled : List Settled) → steps.fresh_variables (around_of scope.old) (word_of value.now) (option_map word_of key.now) settled ≡ got tt settled }
-    ensures { OnOk result (around_of scope.new ≡ steps.with_key (steps.declared (around_of scope.old) (word_of value.now) (scopes.one_of given.value)) (option_map word_of key.now) given.key) }
+    requires { (settled : List Settled) → steps.fresh_variables (around_of scope.old) (word_of value.now) (option_map word_of key.now)
+        settled ≡ got tt settled }
+    ensures { OnOk result (around_of scope.new ≡ steps.with_key (steps.declared (around_of scope.old) (word_of value.now) (scopes.one_of given.value))
+        (option_map word_of key.now) given.key) }
 {
     add(
         alloc,
@@ -399,7 +411,8 @@ pub fn stmt<A: Allocator>(
     settled: &mut Vec<Settled>,
     stmt: &Stmt<A>,
 ) -> Result<(), TypeFault>
-    ensures { Gives (λ _. around_of scope.new) result settled.new.items (steps.stated (signatures_of functions.now) (around_of scope.old) (statement_view stmt.now) settled.old.items) }
+    ensures { Gives (λ _. around_of scope.new) result settled.new.items
+        (steps.stated (signatures_of functions.now) (around_of scope.old) (statement_view stmt.now) settled.old.items) }
 {
     command(alloc, functions, scope, settled, &stmt.kind)
 }
@@ -413,7 +426,8 @@ fn command<A: Allocator>(
     settled: &mut Vec<Settled>,
     kind: &StmtKind<A>,
 ) -> Result<(), TypeFault>
-    ensures { Gives (λ _. around_of scope.new) result settled.new.items (steps.commanded (signatures_of functions.now) (around_of scope.old) (command_view kind.now) settled.old.items) }
+    ensures { Gives (λ _. around_of scope.new) result settled.new.items
+        (steps.commanded (signatures_of functions.now) (around_of scope.old) (command_view kind.now) settled.old.items) }
 {
     match kind {
         StmtKind::Declare(decl, value) => declaration(
@@ -447,7 +461,9 @@ fn declaration<A: Allocator>(
     decl: &Decl<A>,
     value: &Option<Right<A>>,
 ) -> Result<(), TypeFault>
-    ensures { Gives (λ _. around_of scope.new) result settled.new.items (steps.commanded (signatures_of functions.now) (around_of scope.old) (trees.declare (declaration_of decl.now) (option_map right_of value.now)) settled.old.items) }
+    ensures { Gives (λ _. around_of scope.new) result settled.new.items
+        (steps.commanded (signatures_of functions.now) (around_of scope.old)
+        (trees.declare (declaration_of decl.now) (option_map right_of value.now)) settled.old.items) }
 {
     declare(
         alloc,
@@ -468,7 +484,8 @@ fn initial<A: Allocator>(
     value: &Option<Right<A>>,
     target: VariableType,
 ) -> Result<(), TypeFault>
-    ensures { Gives (λ _. tt) result settled.new.items (steps.initial (signatures_of functions.now) (around_of scope.now) (option_map right_of value.now) (type_of target) settled.old.items) }
+    ensures { Gives (λ _. tt) result settled.new.items
+        (steps.initial (signatures_of functions.now) (around_of scope.now) (option_map right_of value.now) (type_of target) settled.old.items) }
 {
     match value {
         None => Ok(()),
@@ -485,7 +502,8 @@ fn assignment<A: Allocator>(
     name: &Name<A>,
     value: &Right<A>,
 ) -> Result<(), TypeFault>
-    ensures { Gives (λ _. around_of scope.now) result settled.new.items (steps.commanded (signatures_of functions.now) (around_of scope.now) (trees.assign (word_of name.now) (right_of value.now)) settled.old.items) }
+    ensures { Gives (λ _. around_of scope.now) result settled.new.items
+        (steps.commanded (signatures_of functions.now) (around_of scope.now) (trees.assign (word_of name.now) (right_of value.now)) settled.old.items) }
 {
     let target = refer(scope, settled, name)?;
     right(functions, scope, settled, value, target)?;
@@ -502,7 +520,9 @@ fn write<A: Allocator>(
     index: &Expr<A>,
     value: &Expr<A>,
 ) -> Result<(), TypeFault>
-    ensures { Gives (λ _. around_of scope.now) result settled.new.items (steps.commanded (signatures_of functions.now) (around_of scope.now) (trees.write (word_of name.now) (expression_view index.now) (expression_view value.now)) settled.old.items) }
+    ensures { Gives (λ _. around_of scope.now) result settled.new.items
+        (steps.commanded (signatures_of functions.now) (around_of scope.now)
+        (trees.write (word_of name.now) (expression_view index.now) (expression_view value.now)) settled.old.items) }
 {
     let given = elements_of(refer(scope, settled, name)?, name.span)?;
     expect(functions, scope, settled, index, given.key)?;
@@ -520,7 +540,9 @@ fn assignments<A: Allocator>(
     names: &Vec<Name<A>, A>,
     call: &Call<A>,
 ) -> Result<(), TypeFault>
-    ensures { Gives (λ _. around_of scope.now) result settled.new.items (steps.commanded (signatures_of functions.now) (around_of scope.now) (trees.assign_all (words_view names.now) (calling_of call.now)) settled.old.items) }
+    ensures { Gives (λ _. around_of scope.now) result settled.new.items
+        (steps.commanded (signatures_of functions.now) (around_of scope.now)
+        (trees.assign_all (words_view names.now) (calling_of call.now)) settled.old.items) }
 {
     let targets = refer_all(alloc, scope, settled, names.as_slice())?;
     several(functions, scope, settled, call, targets.as_slice())?;
@@ -537,7 +559,8 @@ fn called_alone<A: Allocator>(
     priority: i32,
     call: &Call<A>,
 ) -> Result<(), TypeFault>
-    ensures { Gives (λ _. around_of scope.now) result settled.new.items (steps.commanded (signatures_of functions.now) (around_of scope.now) (trees.calls priority (calling_of call.now)) settled.old.items) }
+    ensures { Gives (λ _. around_of scope.now) result settled.new.items
+        (steps.commanded (signatures_of functions.now) (around_of scope.now) (trees.calls priority (calling_of call.now)) settled.old.items) }
 {
     call_statement(alloc, functions, scope, settled, call)?;
     Ok(())
@@ -555,7 +578,9 @@ fn choice<A: Allocator>(
     then: &Block<A>,
     other: &Option<Box<Block<A>, A>>,
 ) -> Result<(), TypeFault>
-    ensures { Gives (λ _. around_of scope.new) result settled.new.items (steps.commanded (signatures_of functions.now) (around_of scope.old) (choice_of (expression_view condition.now) (body_view then.now) (option_map (λ it. body_view it.value) other.now)) settled.old.items) }
+    ensures { Gives (λ _. around_of scope.new) result settled.new.items
+        (steps.commanded (signatures_of functions.now) (around_of scope.old)
+        (choice_of (expression_view condition.now) (body_view then.now) (option_map (λ it. body_view it.value) other.now)) settled.old.items) }
 {
     expect(functions, scope, settled, condition, Base::Boolean)?;
     branch(alloc, functions, scope, settled, then)?;
@@ -576,7 +601,9 @@ fn repetition<A: Allocator>(
     header: &Header<A>,
     body: &Block<A>,
 ) -> Result<(), TypeFault>
-    ensures { Gives (λ _. around_of scope.new) result settled.new.items (steps.commanded (signatures_of functions.now) (around_of scope.old) (trees.loop (word_of header.now.value) (option_map word_of header.now.key) (over_of header.now.source) (body_view body.now)) settled.old.items) }
+    ensures { Gives (λ _. around_of scope.new) result settled.new.items
+        (steps.commanded (signatures_of functions.now) (around_of scope.old)
+        (trees.loop (word_of header.now.value) (option_map word_of header.now.key) (over_of header.now.source) (body_view body.now)) settled.old.items) }
 {
     fresh_variables(scope, &header.value, &header.key)?;
     let given = source(functions, scope, settled, &header.source)?;
@@ -599,7 +626,8 @@ fn waiting<A: Allocator>(
     names: &Vec<Name<A>, A>,
     body: &Block<A>,
 ) -> Result<(), TypeFault>
-    ensures { Gives (λ _. around_of scope.new) result settled.new.items (steps.commanded (signatures_of functions.now) (around_of scope.old) (trees.waits (words_view names.now) (body_view body.now)) settled.old.items) }
+    ensures { Gives (λ _. around_of scope.new) result settled.new.items
+        (steps.commanded (signatures_of functions.now) (around_of scope.old) (trees.waits (words_view names.now) (body_view body.now)) settled.old.items) }
 {
     let _types = refer_all(alloc, scope, settled, names.as_slice())?;
     block(alloc, functions, scope, settled, body)?;
@@ -615,7 +643,8 @@ fn branch<A: Allocator>(
     settled: &mut Vec<Settled>,
     body: &Block<A>,
 ) -> Result<(), TypeFault>
-    ensures gives { Gives (λ _. tt) result settled.new.items (steps.enclosed (signatures_of functions.now) (steps.inside (around_of scope.old)) (body_view body.now) settled.old.items) }
+    ensures gives { Gives (λ _. tt) result settled.new.items
+        (steps.enclosed (signatures_of functions.now) (steps.inside (around_of scope.old)) (body_view body.now) settled.old.items) }
     ensures same { OnOk result (around_of scope.new ≡ around_of scope.old) }
 {
     let visible = scope.names.len();
@@ -643,7 +672,8 @@ pub fn block<A: Allocator>(
     settled: &mut Vec<Settled>,
     body: &Block<A>,
 ) -> Result<(), TypeFault>
-    ensures gives { Gives (λ _. tt) result settled.new.items (steps.enclosed (signatures_of functions.now) (around_of scope.old) (body_view body.now) settled.old.items) }
+    ensures gives { Gives (λ _. tt) result settled.new.items
+        (steps.enclosed (signatures_of functions.now) (around_of scope.old) (body_view body.now) settled.old.items) }
     ensures same { OnOk result (around_of scope.new ≡ around_of scope.old) }
 {
     let visible = scope.names.len();
@@ -662,7 +692,8 @@ fn each<A: Allocator>(
     settled: &mut Vec<Settled>,
     statements: &Vec<Stmt<A>, A>,
 ) -> Result<(), TypeFault>
-    ensures gives { Gives (λ _. tt) result settled.new.items (steps.in_order (signatures_of functions.now) (around_of scope.old) (statements_of (map statement_view statements.now.items)) settled.old.items) }
+    ensures gives { Gives (λ _. tt) result settled.new.items
+        (steps.in_order (signatures_of functions.now) (around_of scope.old) (statements_of (map statement_view statements.now.items)) settled.old.items) }
     ensures grown { OnOk result (Grown (around_of scope.old) (around_of scope.new)) }
 {
     for inner in statements {

@@ -121,7 +121,8 @@ pub fn by_number(alloc: Global, settled: &[Settled]) -> Result<Typed, AllocError
 
 /// Puts a meaning at its number, behind as many empty ones as there must be; the only refusal is that of memory.
 fn place(meanings: &mut Vec<Meaning>, number: usize, meaning: Meaning) -> Result<(), AllocError>
-    ensures { OnOk result ((other : ℕ) → or_nothing (slice_get meanings.new.items other) ≡ cond (nat_eq number other) meaning (or_nothing (slice_get meanings.old.items other))) }
+    ensures { OnOk result ((other : ℕ) → or_nothing (slice_get meanings.new.items other)
+        ≡ cond (nat_eq number other) meaning (or_nothing (slice_get meanings.old.items other))) }
 {
     for _ in meanings.len()..number {
         meanings.push(Meaning::Nothing)?;

@@ -1,5 +1,5 @@
 -- Actions with one block in the place of another that is seen alike.
-use Rattle.std.proofs.Common.{rules, ◌≡◌, ◌&&◌, ◌++◌, Option, map, List, [], ◌∷◌, refl, ap, sym, ◌∙◌, Vec, Box}
+use Rattle.std.proofs.Common.{rules, true, ◌≡◌, ◌&&◌, ◌++◌, Option, option_map, map, List, [], ◌∷◌, refl, ap, sym, ◌∙◌, Vec, Box}
 use Rattle.flow.specs.declared.name.Name.{Name}
 use Rattle.flow.specs.declared.cell.Outer.{Outer}
 use Rattle.flow.specs.declared.statement.Variable.{Variable}
@@ -9,6 +9,7 @@ use Rattle.flow.specs.declared.statement.Block.{Block}
 use Rattle.flow.specs.declared.statement.Statement.{Statement, out-Statement, roll-Statement}
 use Rattle.flow.specs.declared.statement.Action.{Action, When, Choose, Range, Each, Wait, the_lemmas}
 use Rattle.flow.specs.View.{action_view, awaited_view, block_view, statement_view, waits_around}
+use Rattle.flow_listed.specs.Listed.{Listed, declared, action_listed, block_listed, statement_listed, content, looping, other, waiting, whole}
 use Rattle.flow.specs.Shapes.{Declared, action_declared, block_declared, statement_declared}
 use Rattle.language.specs.Core as core
 use Rattle.wait_merge.specs.Merged.{action_seen, block_seen, statement_seen}
@@ -68,6 +69,27 @@ module _ {A : Type 0} where
   pub each_merged : (n : Name) (v : Variable A) (k : Option (Variable A)) (b : Box (Block A) A) → (action_seen (Each n v k b)).merged ≡ (block_seen b.value).merged
   each_merged n v k b = search (rules, the_lemmas)
 
+  -- WHAT A LISTING SHOWS
+
+  pub when_listed : (e : Box (Outer A) A) (b : Box (Block A) A) → action_listed (When e b) ≡ other (whole (block_listed b.value))
+  when_listed e b = search (rules, the_lemmas)
+
+  pub choose_listed : (e : Box (Outer A) A) (b d : Box (Block A) A) → action_listed (Choose e b d) ≡ other (whole (block_listed b.value) ++ whole (block_listed d.value))
+  choose_listed e b d = search (rules, the_lemmas)
+
+  pub range_listed : (r : Box (Ranged A) A) (v : Variable A) (k : Option (Variable A)) (b : Box (Block A) A) → action_listed (Range r v k b) ≡ looping (declared v) (option_map declared k) (block_listed b.value)
+  range_listed r v k b = search (rules, the_lemmas)
+
+  pub each_listed : (n : Name) (v : Variable A) (k : Option (Variable A)) (b : Box (Block A) A) → action_listed (Each n v k b) ≡ looping (declared v) (option_map declared k) (block_listed b.value)
+  each_listed n v k b = search (rules, the_lemmas)
+
+  pub wait_listed : (ns : Vec Name A) (hs : Vec (Header A) A) (b : Box (Block A) A) → action_listed (Wait ns hs b) ≡ waiting (block_listed b.value)
+  wait_listed ns hs b = search (rules, the_lemmas)
+
+-- a `wait` shows what its content does
+pub same_waiting : (b c : Listed) → content b ≡ content c → waiting b ≡ waiting c
+same_waiting b c same = ap (λ xs. record { wait = true; from = 0; shown = xs }) same
+
 pub both_declared : (a b c d : Declared) → a ≡ c → b ≡ d → a ++ b ≡ c ++ d
 both_declared a b c d e f = ap (λ (x : Declared). x ++ b) e ∙ ap (λ (x : Declared). c ++ x) f
 
@@ -81,6 +103,13 @@ declared_statement A s = search (rules, the_lemmas)
 
 pub seen_statement : (A : Type 0) (s : Statement A) → statement_seen s ≡ action_seen (out-Statement A s).action
 seen_statement A s = search (rules, the_lemmas)
+
+pub listed_statement : (A : Type 0) (s : Statement A) → statement_listed s ≡ action_listed (out-Statement A s).action
+listed_statement A s = search (rules, the_lemmas)
+
+pub listed_changed : (A : Type 0) (s : Statement A) (a : Action A) → action_listed a ≡ action_listed (out-Statement A s).action
+    → statement_listed (roll-Statement A (record { at = (out-Statement A s).at; node = (out-Statement A s).node; action = a })) ≡ statement_listed s
+listed_changed A s a same = listed_statement A _ ∙ same ∙ sym (listed_statement A s)
 
 pub view_changed : (A : Type 0) (s : Statement A) (a : Action A) → action_view a ≡ action_view (out-Statement A s).action
     → statement_view (roll-Statement A (record { at = (out-Statement A s).at; node = (out-Statement A s).node; action = a })) ≡ statement_view s

@@ -1,12 +1,17 @@
 -- Blocks that are exactly one `wait`.
-use Rattle.std.proofs.Common.{rules, ◌≡◌, ◌<◌, List, [], ◌∷◌, ◌++◌, map, length, slice_index_or, Bool, true, false, ◌&&◌, IsTrue, refl, ap, sym, ◌∙◌, arith}
+use Rattle.std.proofs.Common.{rules, ◌≡◌, ◌<◌, List, [], ◌∷◌, ◌++◌, map, length, slice_index_or, Bool, true, false, ◌&&◌, if◌then◌else◌, IsTrue, refl, ap, sym, ◌∙◌, arith}
 use Rattle.std.proofs.lemmas.List.{append-nil}
 use Rattle.flow.specs.declared.statement.Statement.{Statement}
 use Rattle.flow.specs.declared.statement.Block.{Block, out-Block}
 use Rattle.flow.specs.declared.statement.Action.{the_lemmas}
 use Rattle.flow.specs.View.{block_view, block_of, statement_view}
 use Rattle.flow.specs.Shapes.{block_declared, statement_declared, together}
+use Rattle.flow.specs.declared.statement.Statement.{out-Statement}
+use Rattle.flow_listed.specs.Listed as shows
+use Rattle.flow_listed.specs.Listed.{Listed, block_listed, content, statement_listed}
 use Rattle.language.specs.Core as core
+use Rattle.wait_merge.proofs.Actions.{listed_statement, seen_statement}
+use Rattle.wait_merge.proofs.Forms.{same_wait}
 use Rattle.wait_merge.specs.Merged.{Seen, alone, all_merged, block_seen, statement_seen}
 
 view_block : (A : Type 0) (b : Block A) → block_view b ≡ block_of (map statement_view (out-Block A b).statements.items)
@@ -14,6 +19,9 @@ view_block A b = search (rules, the_lemmas)
 
 declared_block : (A : Type 0) (b : Block A) → block_declared b ≡ together (map statement_declared (out-Block A b).statements.items)
 declared_block A b = search (rules, the_lemmas)
+
+listed_block : (A : Type 0) (b : Block A) → block_listed b ≡ shows.block_of (out-Block A b).from (map statement_listed (out-Block A b).statements.items)
+listed_block A b = search (rules, the_lemmas)
 
 pub seen_alone : (A : Type 0) (b : Block A) → (block_seen b).wait ≡ alone (map statement_seen (out-Block A b).statements.items)
 seen_alone A b = search (rules, the_lemmas)
@@ -58,3 +66,11 @@ module _ (A : Type 0) (b : Block A) (xs : List (Statement A)) (only : Statement 
 
   pub one_merged : (block_seen b).merged ≡ (statement_seen only).merged
   one_merged = seen_merged A b ∙ ap (λ (ys : List (Statement A)). all_merged (map statement_seen ys)) one_only ∙ sym (both ((statement_seen only).merged) _ refl)
+
+  -- its content is shown in its place
+  pub one_listed : content (block_listed b) ≡ (statement_listed only).shown
+  one_listed =
+      ap content (listed_block A b ∙ ap (λ (ys : List (Statement A)). shows.block_of (out-Block A b).from (map statement_listed ys)) one_only)
+      ∙ ap (λ (w : Bool). if w then (statement_listed only).shown ++ [] else shows.opens (out-Block A b).from ∷ (statement_listed only).shown ++ [])
+      (ap (λ (l : Listed). l.wait) (listed_statement A only) ∙ same_wait A (out-Statement A only).action ∙ sym (ap (λ (s : Seen). s.wait) (seen_statement A only)) ∙ one_wait)
+      ∙ append-nil (statement_listed only).shown

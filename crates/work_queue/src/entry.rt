@@ -8,8 +8,8 @@ ghost use Rattle.work_queue.specs.Order.{order, precedes};
 
 use std::cmp::Ordering;
 
-/// What an item does: a control item changes what other items there are, a leaf item computes a value.
-#[derive(Clone, Copy, PartialEq, Eq, Debug)]
+/// Who runs an item: engines run control items, which change what other items there are; workers run leaf items, which compute a value.
+#[derive(Clone, Copy, PartialEq, Eq, Debug, Drop)]
 pub enum Kind {
     Control,
     Leaf,

@@ -128,7 +128,8 @@ impl Queue {
     ///
     /// `AllocError` where memory is refused.
     pub fn list(&self) -> Result<Vec<(Kind, i32, u64)>, AllocError>
-        ensures all { IfOk result (λ v. IsPermutation (map (listed Kind.Control) self.now.control.entries ++ map (listed Kind.Leaf) self.now.leaf.entries) v.items) }
+        ensures all { IfOk result (λ v. IsPermutation
+            (map (listed Kind.Control) self.now.control.entries ++ map (listed Kind.Leaf) self.now.leaf.entries) v.items) }
         ensures in_order { IfOk result (λ v. IsListedInOrder v.items) }
     {
         let mut list = self.control.list(Kind::Control)?;

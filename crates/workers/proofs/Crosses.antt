@@ -50,7 +50,10 @@ use Rattle.workers.specs.contracts.book.Front as front
 use Rattle.workers.specs.contracts.desk.Desk as desk
 use Rattle.workers.specs.contracts.floor.Floor as floor
 use Rattle.workers.specs.contracts.hand.Hand as hand
-use Rattle.workers.specs.contracts.hand.Ended as ended
+use Rattle.workers.specs.contracts.idle.Idle as idle
+use Rattle.workers.specs.contracts.recent.Recent as recent
+use Rattle.workers.proofs.crowd.Crowds.TheSendSync as crowds
+use Rattle.workers.proofs.floor.Shift.TheSendSync as shift
 
 pub job_send : IsSend (job.the_field).row
 job_send = search (entry_send, entry_sync, crosses, sendable) depth 60 fits 4000
@@ -93,6 +96,9 @@ core_send = search (items_send, world.the_field_send, option.the_field_send, sca
 pub board_send : IsSend (board.the_field).row
 board_send = search (program_send, core_send, event.the_send, answer.the_send, crosses, sendable) depth 60 fits 4000
 
+recent_send : IsSend recent.the_row
+recent_send = search (crosses, sendable) depth 60 fits 4000
+
 module _ (J : RattleType) (g : jobs.Ghosts J.Denot) where
   log_send : IsSend (log.the_field J g).row
   log_send = search (word.the_send, crosses, sendable) depth 60 fits 4000
@@ -110,14 +116,15 @@ module _ (J E N : RattleType) (g : jobs.Ghosts J.Denot) (h : ledger.Ghosts E.Den
   desk_send : IsSend (desk.the_row J E N g h k)
   desk_send = search (board_send, log_send, front_send, book.the_send, crosses, sendable) depth 60 fits 4000
 
-  pub floor_send : IsSend (floor.the_row J E N g h k)
-  floor_send = search (desk_send, crosses, sendable) depth 60 fits 4000
-
   hand_send : IsSend (hand.the_field J E N g h k).row
   hand_send = search (begun_send, finished_send, offers.the_field_send, share.the_send, kinds.the_field_send, crosses, sendable) depth 60 fits 4000
 
-  pub ended_send : IsSend (ended.the_row J E N g h k)
-  ended_send = search (hand_send, crosses, sendable) depth 60 fits 4000
+  idle_send : IsSend (idle.the_row J E N g h k)
+  idle_send = search (hand_send, Box-send, crosses, sendable) depth 60 fits 4000
+
+  -- its fields in place of a search: a search looks into a desk, and into each hand, more than once
+  pub floor_send : IsSend (floor.the_row J E N g h k)
+  floor_send = declared_send (floor.the_type J E N g h k) (desk_send, (crowds.the_send, (idle_send, (recent_send, (shift.the_send, tt)))))
 
 parts_send : (Ts : List RattleType) → AllSend Ts → FieldsHave IsSend (parts Ts)
 parts_send [] s = tt

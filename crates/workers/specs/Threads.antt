@@ -6,7 +6,7 @@ use Rattle.dataflow.specs.System.{In}
 use Rattle.board.specs.Board.{Seen}
 use Rattle.board_work.specs.Assigned.{Assigned}
 use Rattle.workers.specs.Begun.{AreItems}
-use Rattle.workers.specs.declared.desk.Stop.{Stop}
+use Rattle.workers.specs.declared.desk.StopReason.{StopReason}
 use Rattle.task_code.specs.Code.{Code, Control, Kind, Leaf}
 use Rattle.task_code.specs.Machine.{CodeItem, CodeState, CodeStep}
 use Rattle.task_code.specs.System.{code_system, task_kind}
@@ -35,7 +35,7 @@ module _ (C : Code) (engines workers : ℕ) where
 -- what lies under the lock: the board, why the run is to stop, how many items came to be ready, what the books have, and what was begun
 pub record Kept : Type 0 where
   pub board : Seen
-  pub stop : Option Stop
+  pub stop : Option StopReason
   pub told : ℕ
   pub events : ℕ
   pub news : ℕ

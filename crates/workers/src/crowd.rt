@@ -1,4 +1,4 @@
-//! Who has nothing to run, and how many items there are for them.
+//! How many items there are for engines and for workers, and how far a run is.
 
 use crate::job::Progress;
 use board::board::Board;
@@ -6,31 +6,20 @@ use std::cmp;
 use task_code::entry::Kind;
 
 /// So many items one thread begins in one hold of the lock at most.
-const BATCH: usize = 16;
+const BATCH: usize = 64;
 
-/// The threads of one kind. Those that wait for a call are asleep or called.
+/// The numbers of one kind, and the items for them.
 #[derive(Clone, Copy, Drop)]
 pub struct Crowd {
-    threads: usize,
+    /// How many numbers there are.
+    numbers: usize,
     /// How many items can begin that are for them.
     ready: usize,
-    asleep: usize,
-    /// Called, and not awake yet.
-    called: usize,
-    /// Awake, with nothing to run, and about to look again.
-    coming: usize,
 }
 
 impl Crowd {
-    /// So many threads, that all are about to look for an item, of which there are so many.
-    fn new(threads: usize, ready: usize) -> Crowd {
-        Crowd {
-            threads,
-            ready,
-            asleep: 0,
-            called: 0,
-            coming: 0,
-        }
+    fn new(numbers: usize, ready: usize) -> Crowd {
+        Crowd { numbers, ready }
     }
 
     /// One more item can begin.
@@ -43,61 +32,15 @@ impl Crowd {
         self.ready = self.ready.saturating_sub(1);
     }
 
-    /// How many items one thread begins in one hold: some are left for the others of its kind.
+    /// How many items one thread begins in one hold: where there are more numbers, some are left for the others.
     pub fn share(&self) -> usize {
-        if self.threads == 0 {
-            return 1;
-        }
-        cmp::max(cmp::min(self.ready / self.threads / 2, BATCH), 1)
-    }
-
-    /// Whether one who found nothing may stay awake: one of a kind does.
-    pub fn stays(&mut self) -> bool {
-        if self.coming > 0 {
-            return false;
-        }
-        self.coming = 1;
-        true
-    }
-
-    /// One who was about to look again does.
-    pub fn arrives(&mut self) {
-        self.coming = self.coming.saturating_sub(1);
-    }
-
-    /// One falls asleep.
-    pub fn falls_asleep(&mut self) {
-        self.asleep = self.asleep.saturating_add(1);
-    }
-
-    /// One wakes up, and is about to look again.
-    pub fn wakes_up(&mut self) {
-        if self.called > 0 {
-            self.called -= 1;
+        let part = if self.numbers < 2 {
+            self.ready
         } else {
-            self.asleep = self.asleep.saturating_sub(1);
-        }
-        self.coming = self.coming.saturating_add(1);
+            self.ready / self.numbers / 2
+        };
+        cmp::max(cmp::min(part, BATCH), 1)
     }
-
-    /// What those are told who wait: there are so many items at least for them.
-    pub fn calls(&mut self, some: usize) -> Call {
-        let ready = cmp::max(self.ready, some);
-        let shows = ready > 0 && self.coming > 0;
-        let wakes = self.asleep > 0 && ready > self.called.saturating_add(self.coming);
-        if wakes {
-            self.asleep = self.asleep.saturating_sub(1);
-            self.called = self.called.saturating_add(1);
-        }
-        Call { shows, wakes }
-    }
-}
-
-/// What the threads of one kind are told once the lock is let go: that there is an item for who stays awake, and that one is to wake up.
-#[derive(Clone, Copy, Drop)]
-pub struct Call {
-    pub shows: bool,
-    pub wakes: bool,
 }
 
 /// The engines and the workers, and the items that there are for both.

@@ -3,7 +3,6 @@ ghost use Rattle.std.specs.Prelude.{◌≡◌, ◌≢◌, ◌⊎◌, ◌+◌, �
 ghost use Rattle.dataflow.specs.Events.{backs};
 ghost use Rattle.dataflow.specs.Machine.{start};
 ghost use Rattle.task_code.specs.System.{code_system};
-ghost use Rattle.task_code.specs.View.{kind_view};
 ghost use Rattle.board.specs.Board.{Accepts, IsItems, IsWorker};
 ghost use Rattle.dataflow.specs.Machine as Machine;
 ghost use Rattle.workers.specs.Begun.{AreItems};
@@ -16,7 +15,6 @@ use crate::crowd::Crowds;
 use crate::fresh::{count_fresh, list_fresh};
 use crate::job::Job;
 use board::board::Board;
-use board::laws::work_stays;
 use board::refusal::Refusal;
 use board_work::work::{Done, Work};
 use pool_offers::Fresh;
@@ -32,7 +30,7 @@ const MOST_BEGUN: u64 = 1 << 61;
 
 /// Why a run stopped before its end.
 #[derive(Clone, Copy, PartialEq, Eq, Drop)]
-pub enum Stop {
+pub enum StopReason {
     Memory,
     Spawn,
     Stranger,
@@ -44,7 +42,7 @@ pub struct Desk<J: Job, E: Ledger, N: Ledger> {
     board: Board,
     log: Log<J>,
     front: Front<J>,
-    stop: Option<Stop>,
+    stop: Option<StopReason>,
     told: u64,
     events: Book<E>,
     news: Book<N>,
@@ -88,7 +86,7 @@ impl<J: Job, E: Ledger, N: Ledger> Desk<J, E, N> {
     }
 
     /// The run is to stop, for the first of the causes that are given.
-    pub fn halt(&mut self, why: Stop)
+    pub fn halt(&mut self, why: StopReason)
         ensures stops { self.new.stop ≢ None }
         ensures rest { self.new ≡ record self.old { stop = self.new.stop } }
     {
@@ -144,7 +142,7 @@ impl<J: Job, E: Ledger, N: Ledger> Desk<J, E, N> {
         mine: &mut Share<E>,
     ) -> Result<Begun<J>, Refusal>
         requires part { 0 < mine.old.parts }
-        requires place { IsPlace J.engines J.workers worker (kind_view kind) }
+        requires place { IsPlace J.engines J.workers worker kind }
         ensures ok { OnOk result ((mine.new.amount ≡ mine.old.amount + 1) × (mine.new.amount < 2 ^ 64)) }
         ensures err { OnErr result (mine.new.amount ≡ mine.old.amount) }
         ensures parts { mine.new.parts ≡ mine.old.parts }
@@ -152,7 +150,6 @@ impl<J: Job, E: Ledger, N: Ledger> Desk<J, E, N> {
         if self.told >= MOST {
             return Err(Refusal::Stranger);
         }
-        work_stays();
         let _before = self.board.history();
         let Some(found) = self.board.kind(item) else {
             return Err(Refusal::NotReady);
@@ -178,7 +175,7 @@ impl<J: Job, E: Ledger, N: Ledger> Desk<J, E, N> {
         mine: &mut Share<E>,
     ) -> Result<Begun<J>, Refusal>
         requires part { 0 < mine.old.parts }
-        requires place { IsPlace J.engines J.workers worker (kind_view kind) }
+        requires place { IsPlace J.engines J.workers worker kind }
         ensures ok { OnOk result ((mine.new.amount ≡ mine.old.amount + 1) × (mine.new.amount < 2 ^ 64)) }
         ensures err { OnErr result (mine.new.amount ≡ mine.old.amount) }
         ensures parts { mine.new.parts ≡ mine.old.parts }
@@ -217,7 +214,6 @@ impl<J: Job, E: Ledger, N: Ledger> Desk<J, E, N> {
         if self.told >= MOST {
             return Err((finished.into_done(), Refusal::Stranger));
         }
-        work_stays();
         let _before = self.board.history();
         end_on(&mut self.board, &self.front, worker, finished)?;
         let Desk {
@@ -257,7 +253,6 @@ impl<J: Job, E: Ledger, N: Ledger> Desk<J, E, N> {
         if self.told >= MOST {
             return Err(Refusal::Stranger);
         }
-        work_stays();
         let _before = self.board.history();
         self.board.back(worker, item)?;
         let Desk {
@@ -269,7 +264,7 @@ impl<J: Job, E: Ledger, N: Ledger> Desk<J, E, N> {
             ..
         } = self;
         if stop.is_none() {
-            *stop = Some(Stop::Memory);
+            *stop = Some(StopReason::Memory);
         }
         let _within = board.history();
         let count = count_fresh(board);
@@ -294,7 +289,7 @@ impl<J: Job, E: Ledger, N: Ledger> Desk<J, E, N> {
     }
 
     /// The board, once all shares are gathered: what it shows is in them. And why the run stopped before its end.
-    pub fn close(self, events: &mut Share<E>, news: &mut Share<N>) -> (Board, Option<Stop>)
+    pub fn close(self, events: &mut Share<E>, news: &mut Share<N>) -> (Board, Option<StopReason>)
         requires { (events.old.parts ≡ E.parts) × (news.old.parts ≡ N.parts) }
         ensures code { (result.0.code ≡ J.code) × (result.0.limit ≡ J.limit) }
         ensures within { length result.0.history ≤ J.limit }

@@ -1,58 +1,81 @@
 //! All that lies under the lock.
 
-use crate::crowd::{Call, Crowds};
+use crate::bell::Bell;
+use crate::crowd::Crowds;
 use crate::desk::Desk;
+use crate::idle::Idle;
 use crate::job::{Job, Progress};
+use crate::recent::Recent;
 use std::sync::ledger::Ledger;
 use task_code::entry::Kind;
 
-/// The board with its books, and who has nothing to run.
+/// The board with its books, how many items there are, the hands that nobody has, what came to be ready last, and who works.
 #[derive(Drop)]
 pub struct Floor<J: Job, E: Ledger, N: Ledger> {
     pub desk: Desk<J, E, N>,
     pub crowds: Crowds,
+    pub idle: Idle<J, E, N>,
+    pub recent: Recent,
+    pub shift: Shift,
 }
 
-/// Who is told what once the lock is let go.
+/// Who works, and what those see of it who rest.
 #[derive(Clone, Copy, Drop)]
-pub enum Calls {
-    /// Nothing is left to be done: all wake up.
-    Over,
-    /// The engines and the workers.
-    On(Call, Call),
+pub struct Shift {
+    /// So many threads have something to run.
+    pub busy: usize,
+    /// So often the lock was let go.
+    times: u64,
+    /// Whether those who rest see that something can begin.
+    shows: bool,
+}
+
+impl Shift {
+    /// Nobody works.
+    pub fn new() -> Shift {
+        Shift {
+            busy: 0,
+            times: 0,
+            shows: false,
+        }
+    }
+
+    /// A thread that had something to run, or had not, has something to run now, or has not.
+    pub fn turns(&mut self, had: bool, has: bool) {
+        if had && !has {
+            self.busy = self.busy.saturating_sub(1);
+        }
+        if has && !had {
+            self.busy = self.busy.saturating_add(1);
+        }
+    }
+
+    /// Somebody takes the lock. Those who rest see it where they were to join.
+    pub fn opens(&self, bell: &Bell) {
+        if self.shows {
+            bell.shows_held(self.times);
+        }
+    }
+
+    /// And lets it go. Those who rest see whether they are to join.
+    pub fn closes(&mut self, bell: &Bell, ready: bool) {
+        self.times = self.times.wrapping_add(1);
+        if ready || self.shows {
+            bell.shows_free(self.times, ready);
+        }
+        self.shows = ready;
+    }
 }
 
 impl<J: Job, E: Ledger, N: Ledger> Floor<J, E, N> {
-    /// Whether one who runs items of the kind has to wait.
-    fn must_wait(&self, kind: Kind) -> bool {
-        !self.desk.is_over() && !self.desk.has_item(kind)
+    /// Whether an item of the kind can begin, and there is a hand for it.
+    pub fn wants(&self, kind: Kind) -> bool {
+        !self.idle.lacks(kind) && self.desk.has_item(kind)
     }
 
-    /// One who runs items of the kind falls asleep, if it has to wait. It may be awake with nothing to run.
-    pub fn falls_asleep(&mut self, kind: Kind, comes: bool) -> bool {
-        if !self.must_wait(kind) {
-            return false;
-        }
-        if comes {
-            self.crowds.of(kind).arrives();
-        }
-        self.crowds.of(kind).falls_asleep();
-        true
-    }
-
-    /// And wakes up.
-    pub fn wakes_up(&mut self, kind: Kind) {
-        self.crowds.of(kind).wakes_up();
-    }
-
-    /// One that was awake with nothing to run looks again.
-    pub fn arrives(&mut self, kind: Kind) {
-        self.crowds.of(kind).arrives();
-    }
-
-    /// Whether one who found nothing may stay awake.
-    pub fn stays(&mut self, kind: Kind) -> bool {
-        self.crowds.of(kind).stays()
+    /// Whether one more thread would have something to run.
+    pub fn wants_any(&self) -> bool {
+        self.wants(Kind::Leaf) || self.wants(Kind::Control)
     }
 
     /// How many items one thread begins at once.
@@ -63,18 +86,5 @@ impl<J: Job, E: Ledger, N: Ledger> Floor<J, E, N> {
     /// How far the run is.
     pub fn progress(&self) -> Progress {
         self.crowds.progress(self.desk.events(), self.desk.lines())
-    }
-
-    /// Who is told what once the lock is let go.
-    pub fn calls(&mut self) -> Calls {
-        if self.desk.is_over() {
-            return Calls::Over;
-        }
-        let engines = self.desk.has_item(Kind::Control) as usize;
-        let workers = self.desk.has_item(Kind::Leaf) as usize;
-        Calls::On(
-            self.crowds.of(Kind::Control).calls(engines),
-            self.crowds.of(Kind::Leaf).calls(workers),
-        )
     }
 }

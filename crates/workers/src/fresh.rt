@@ -1,6 +1,5 @@
 //! Items that can begin from now on, as they are offered.
 ghost use Rattle.std.specs.Prelude.{◌≡◌, ◌<◌, ◌≤◌, ◌+◌, ◌^◌, length, slice_get, vec_capacity, vec_len, OnErr, OnOk, Some};
-ghost use Rattle.task_code.specs.View.{kind_view};
 ghost use Rattle.workers.specs.Offering.{AreListed, IsOffer, class_of, side_of};
 
 use crate::crowd::Crowds;
@@ -12,7 +11,7 @@ use task_code::entry::Kind;
 
 /// Who runs an item, as the pool has it.
 pub fn side_of(kind: Kind) -> Side
-    ensures { result ≡ side_of (kind_view kind) }
+    ensures { result ≡ side_of kind }
 {
     match kind {
         Kind::Control => Side::Control,

@@ -1,8 +1,7 @@
-//! What a thread has: its number and kind, a seat at the pool, its shares of the books and its counts.
+//! What goes with a number: its kind, a seat at the pool, its shares of the books and its counts.
 ghost use Rattle.std.specs.Prelude.{◌≡◌, ◌⊎◌, ◌+◌, ◌<◌, length, reverse, OnOk};
 ghost use Rattle.pool.specs.Seats.{TakeDid, kind_order, view, seat_pool, pool_id};
 ghost use Rattle.pool_offers.specs.Offering.{OfferedEach};
-ghost use Rattle.task_code.specs.View.{kind_view};
 ghost use Rattle.workers.specs.Offering.{AreListed, side_of};
 ghost use Rattle.workers.specs.Threads.{IsPlace};
 
@@ -18,8 +17,8 @@ use std::marker::PhantomData;
 use std::sync::ledger::{Ledger, Share};
 use task_code::entry::Kind;
 
-/// What a thread has. The items that came to be ready by its events are what it offers to the pool. It runs some items, of which it has the
-/// work or what was done. It may be awake with nothing to run.
+/// What goes with a number. The items that came to be ready by its events are what it offers to the pool. It runs some items, of which it has
+/// the work or what was done. One thread has it at a time, or it lies under the lock.
 #[derive(Drop)]
 pub struct Hand<J: Job, E: Ledger, N: Ledger> {
     pub worker: u8,
@@ -30,9 +29,8 @@ pub struct Hand<J: Job, E: Ledger, N: Ledger> {
     pub tally: u64,
     pub works: Vec<Begun<J>>,
     pub dones: Vec<Finished<J>>,
-    pub comes: bool,
     pub of: PhantomData<J>,
-    ghost place: { IsPlace J.engines J.workers worker (kind_view kind) },
+    ghost place: { IsPlace J.engines J.workers worker kind },
     ghost of_pool: { seat_pool offers.seat ≡ J.pool },
     ghost one_each: { (events.parts ≡ 1) × (news.parts ≡ 1) },
     ghost tallied: { events.amount ≡ tally },
@@ -49,7 +47,7 @@ impl<J: Job, E: Ledger, N: Ledger> Hand<J, E, N> {
         events: Share<E>,
         news: Share<N>,
     ) -> Hand<J, E, N>
-        requires place { IsPlace J.engines J.workers worker (kind_view kind) }
+        requires place { IsPlace J.engines J.workers worker kind }
         requires seat { (seat_pool seat ≡ J.pool) × (length (view seat).offered ≡ 0) × (length (view seat).taken ≡ 0) }
         requires shares { (events.parts ≡ 1) × (news.parts ≡ 1) × (events.amount ≡ 0) × (news.amount ≡ 0) }
         ensures { result.offers.pending ≡ 0 }
@@ -63,7 +61,6 @@ impl<J: Job, E: Ledger, N: Ledger> Hand<J, E, N> {
             tally: 0,
             works: Vec::new(alloc),
             dones: Vec::new(alloc),
-            comes: false,
             of: PhantomData,
         }
     }
@@ -71,7 +68,8 @@ impl<J: Job, E: Ledger, N: Ledger> Hand<J, E, N> {
     /// A number from the pool, of its kind.
     pub fn draw(&mut self, pool: &Pool) -> Option<u64>
         requires { pool_id pool.now ≡ J.pool }
-        ensures did { self.old.offers.drawn < u64.MAX → TakeDid (view self.old.offers.seat) (view self.new.offers.seat) (kind_order (side_of (kind_view self.old.kind))) result }
+        ensures did { self.old.offers.drawn < u64.MAX
+            → TakeDid (view self.old.offers.seat) (view self.new.offers.seat) (kind_order (side_of self.old.kind)) result }
         ensures pending { self.new.offers.pending ≡ self.old.offers.pending }
     {
         let side = side_of(self.kind);
@@ -92,7 +90,7 @@ impl<J: Job, E: Ledger, N: Ledger> Hand<J, E, N> {
         ensures { self.new.offers.pending ≡ self.old.offers.pending }
     {
         let (worker, kind) = (self.worker, self.kind);
-        let Floor { desk, crowds } = floor;
+        let Floor { desk, crowds, .. } = floor;
         let Hand {
             events,
             tally,
@@ -157,10 +155,11 @@ impl<J: Job, E: Ledger, N: Ledger> Hand<J, E, N> {
 
     /// Ends an item. What can begin from now on it lists, where there is memory for that.
     pub fn end(&mut self, floor: &mut Floor<J, E, N>, done: Finished<J>) -> Result<(), Refusal>
-        ensures listed { OnOk result (AreListed floor.new.desk.board self.old.offers.list.items self.new.offers.list.items ⊎ (self.new.offers.list.items ≡ self.old.offers.list.items)) }
+        ensures listed { OnOk result (AreListed floor.new.desk.board self.old.offers.list.items self.new.offers.list.items
+            ⊎ (self.new.offers.list.items ≡ self.old.offers.list.items)) }
     {
         let worker = self.worker;
-        let Floor { desk, crowds } = floor;
+        let Floor { desk, crowds, .. } = floor;
         let Hand {
             events,
             news,

@@ -2,7 +2,7 @@
 #![tactic(auto)]
 
 mod begun;
-mod bells;
+mod bell;
 mod book;
 mod crowd;
 mod desk;
@@ -10,7 +10,9 @@ pub mod fault;
 mod floor;
 mod fresh;
 mod hand;
+mod idle;
 pub mod job;
+mod recent;
 pub mod run;
 mod sums;
 mod work;

@@ -7,14 +7,16 @@ ghost use Rattle.task_code.specs.System.{code_system};
 ghost use Rattle.board_runs.specs.Report.{Reports, Tells};
 ghost use Rattle.workers.specs.Reports.{IsReport};
 
-use crate::bells::Bells;
+use crate::bell::Bell;
 use crate::book::Opened;
 use crate::crowd::Crowds;
-use crate::desk::{Desk, Stop};
+use crate::desk::{Desk, StopReason};
 use crate::fault::RunFault;
-use crate::floor::Floor;
+use crate::floor::{Floor, Shift};
 use crate::hand::{Ended, Hand};
+use crate::idle::Idle;
 use crate::job::{Gate, Job};
+use crate::recent::Recent;
 use crate::sums::Sums;
 use crate::work::crew;
 use board::board::Board;
@@ -38,7 +40,7 @@ pub struct PoolCount {
     pub left: u64,
 }
 
-/// The hand of the thread of this number, with a part of the shares: the first so many are engines.
+/// The hand of this number, with a part of the shares: the first so many are engines'.
 fn hand_of<J: Job, E: Ledger, N: Ledger>(
     alloc: Global,
     engines: u8,
@@ -46,7 +48,7 @@ fn hand_of<J: Job, E: Ledger, N: Ledger>(
     seat: PoolSeat,
     events: &mut Share<E>,
     news: &mut Share<N>,
-) -> Ended<J, E, N>
+) -> Hand<J, E, N>
     requires places { (engines ≡ J.engines) × (worker < J.engines + J.workers) }
     requires seat { (seat_pool seat ≡ J.pool) × (view seat ≡ beginner 1) }
     requires parts { (0 < events.old.parts) × (0 < news.old.parts) }
@@ -60,31 +62,62 @@ fn hand_of<J: Job, E: Ledger, N: Ledger>(
         Kind::Leaf
     };
     let (mine, told) = (events.split_off(1, 0), news.split_off(1, 0));
-    Ended::new(Hand::new(alloc, worker, kind, seat, mine, told))
+    Hand::new(alloc, worker, kind, seat, mine, told)
 }
 
-/// A hand for each seat: the first so many are engines.
+/// A hand for each seat, which nobody has yet: the first so many are engines'.
 fn hands_of<J: Job, E: Ledger, N: Ledger>(
     alloc: Global,
     engines: u8,
     mut seats: Vec<PoolSeat>,
     events: &mut Share<E>,
     news: &mut Share<N>,
-) -> Result<Vec<Ended<J, E, N>>, AllocError>
+) -> Result<Idle<J, E, N>, AllocError>
     requires places { (engines ≡ J.engines) × (vec_len seats ≡ J.engines + J.workers) × (vec_len seats ≤ 64) }
     requires seats { All (λ s. (seat_pool s ≡ J.pool) × (view s ≡ beginner 1)) seats.items }
     requires parts { (events.old.parts ≡ vec_len seats) × (news.old.parts ≡ vec_len seats) }
     requires amounts { (events.old.amount ≡ 0) × (news.old.amount ≡ 0) }
-    ensures len { IfOk result (λ v. vec_len v ≡ vec_len seats) }
     ensures parts { OnOk result ((events.new.parts ≡ 0) × (news.new.parts ≡ 0)) }
     ensures amounts { OnOk result ((events.new.amount ≡ 0) × (news.new.amount ≡ 0)) }
 {
-    let mut hands = Vec::with_capacity(alloc, seats.len())?;
+    let mut idle = Idle::new(alloc, seats.len())?;
+    let mut worker = 0u8;
     while let Some(seat) = seats.pop() {
-        let worker = hands.len() as u8;
-        hands.push_reserved(hand_of(alloc, engines, worker, seat, events, news));
+        let hand = hand_of(alloc, engines, worker, seat, events, news);
+        idle.lay(Box::new(alloc, hand)?);
+        worker += 1;
     }
-    Ok(hands)
+    Ok(idle)
+}
+
+/// A hand once all that it had to offer is offered.
+fn told<J: Job, E: Ledger, N: Ledger>(pool: &Pool, hand: Box<Hand<J, E, N>>) -> Ended<J, E, N>
+    requires { pool_id pool.now ≡ J.pool }
+{
+    let mut hand = Box::into_inner(hand);
+    hand.offer_all(pool);
+    Ended::new(hand)
+}
+
+/// All hands of a run, once no thread has one, with all told that they had to offer.
+fn take_back<J: Job, E: Ledger, N: Ledger>(
+    alloc: Global,
+    pool: &Pool,
+    idle: &mut Idle<J, E, N>,
+    count: usize,
+) -> Result<Vec<Ended<J, E, N>>, RunFault>
+    requires { pool_id pool.now ≡ J.pool }
+    ensures len { IfOk result (λ back. vec_len back ≡ count) }
+    ensures fault { IfErr result (λ e. e ≢ RunFault.BadCount) }
+{
+    let mut back = Vec::with_capacity(alloc, count)?;
+    for _ in 0..count {
+        let Some(hand) = idle.take_any() else {
+            return Err(RunFault::Memory);
+        };
+        back.push_reserved(told(pool, hand));
+    }
+    Ok(back)
 }
 
 /// What all hands brought back.
@@ -119,7 +152,12 @@ fn is_counted(told: &[u32; 64], tallies: &[u64; 64]) -> bool
 }
 
 /// The report of a board on which nothing is left to be done, where no item was lost on its way to the pool, and why there is none else.
-fn report(alloc: Global, board: Board, stop: Option<Stop>, lost: u64) -> Result<Report, RunFault>
+fn report(
+    alloc: Global,
+    board: Board,
+    stop: Option<StopReason>,
+    lost: u64,
+) -> Result<Report, RunFault>
     ensures stopped { IfOk result (λ r. stop ≡ None) }
     ensures tells { IfOk result (Tells board) }
     ensures none_lost { IfOk result (λ r. lost ≡ 0) }
@@ -127,9 +165,9 @@ fn report(alloc: Global, board: Board, stop: Option<Stop>, lost: u64) -> Result<
 {
     match stop {
         None => {}
-        Some(Stop::Memory) => return Err(RunFault::Memory),
-        Some(Stop::Spawn) => return Err(RunFault::Spawn),
-        Some(Stop::Stranger) => return Err(RunFault::Stranger),
+        Some(StopReason::Memory) => return Err(RunFault::Memory),
+        Some(StopReason::Spawn) => return Err(RunFault::Spawn),
+        Some(StopReason::Stranger) => return Err(RunFault::Stranger),
     }
     if board.is_going() && !board.is_quiet() {
         return Err(RunFault::Stranger);
@@ -220,36 +258,7 @@ fn settle<J: Job, E: Ledger, N: Ledger>(
     Ok((report, count))
 }
 
-/// Lets the crew work on the floor until the run is over: all hands.
-fn work_on<
-    J: Job + Send + Sync,
-    E: Ledger + Send + Sync,
-    N: Ledger + Send + Sync,
-    R: Threads + Wait + Sync,
-    G: Gate,
->(
-    rt: &R,
-    alloc: Global,
-    pool: &Pool,
-    floor: &Mutex<Floor<J, E, N>>,
-    gate: &G,
-    hands: Vec<Ended<J, E, N>>,
-    count: usize,
-) -> Result<Vec<Ended<J, E, N>>, RunFault>
-    requires { pool_id pool.now ≡ J.pool }
-    ensures len { IfOk result (λ back. vec_len back ≡ count) }
-    ensures fault { IfErr result (λ e. e ≢ RunFault.BadCount) }
-{
-    let bells = Bells::new();
-    let back = crew(rt, alloc, floor, &bells, pool, gate, hands)?;
-    if back.len() == count {
-        Ok(back)
-    } else {
-        Err(RunFault::Spawn)
-    }
-}
-
-/// What a crew brought back from a floor on which nobody had worked.
+/// What a crew brought back that worked on a floor until the run was over.
 fn run_on<
     J: Job + Send + Sync,
     E: Ledger + Send + Sync,
@@ -260,25 +269,21 @@ fn run_on<
     rt: &R,
     alloc: Global,
     pool: &Pool,
-    seats: Vec<PoolSeat>,
     floor: &mut Mutex<Floor<J, E, N>>,
-    mut events: Share<E>,
-    mut news: Share<N>,
-    engines: u8,
+    events: Share<E>,
+    news: Share<N>,
     count: usize,
     gate: &G,
 ) -> Result<Sums<J, E, N>, RunFault>
-    requires count { (count ≤ 64) × (engines ≡ J.engines) × (count ≡ J.engines + J.workers) × (vec_len seats ≡ count) }
-    requires parts { (events.parts ≡ count) × (news.parts ≡ count) }
-    requires amounts { (events.amount ≡ 0) × (news.amount ≡ 0) }
+    requires shares { (events.parts ≡ 0) × (news.parts ≡ 0) × (events.amount ≡ 0) × (news.amount ≡ 0) }
     requires pool { pool_id pool.now ≡ J.pool }
-    requires seats { All (λ s. IsSeatOf pool.now s × (view s ≡ beginner 1)) seats.items }
     ensures seats { IfOk result (λ s. vec_len s.seats ≡ count) }
     ensures fault { IfErr result (λ e. e ≢ RunFault.BadCount) }
 {
-    let hands = hands_of::<J, E, N>(alloc, engines, seats, &mut events, &mut news)?;
-    let back = work_on(rt, alloc, pool, floor, gate, hands, count)?;
-    let desk = &mut floor.get_mut().desk;
+    let bell = Bell::new();
+    crew(rt, alloc, floor, &bell, pool, gate, count)?;
+    let Floor { desk, idle, .. } = floor.get_mut();
+    let back = take_back(alloc, pool, idle, count)?;
     let sums = gather(alloc, desk, back, events, news)?;
     Ok(sums)
 }
@@ -313,15 +318,22 @@ fn run<
     ensures report { IfOk result (λ r. IsReport J.code J.limit J.engines J.workers r.0 r.1) }
     ensures fault { IfErr result (λ e. e ≢ RunFault.BadCount) }
 {
-    let (event_book, all_events) = events.open::<E>();
-    let (news_book, all_news) = news.open::<N>();
+    let (event_book, mut all_events) = events.open::<E>();
+    let (news_book, mut all_news) = news.open::<N>();
     let desk = Desk::<J, E, N>::new(board, opened, event_book, news_book);
+    let idle = hands_of::<J, E, N>(alloc, engines, seats, &mut all_events, &mut all_news)?;
     let crowds = Crowds::new(engines as usize, count.saturating_sub(engines as usize));
-    let mut floor = Mutex::new(Floor { desk, crowds });
+    let mut floor = Mutex::new(Floor {
+        desk,
+        crowds,
+        idle,
+        recent: Recent::new(alloc),
+        shift: Shift::new(),
+    });
     let sums = run_on(
-        rt, alloc, &pool, seats, &mut floor, all_events, all_news, engines, count, gate,
+        rt, alloc, &pool, &mut floor, all_events, all_news, count, gate,
     )?;
-    let Floor { desk, crowds: _ } = floor.into_inner();
+    let Floor { desk, .. } = floor.into_inner();
     settle(alloc, pool, desk, sums)
 }
 

@@ -73,7 +73,8 @@ impl<J: Job, E: Ledger, N: Ledger> Sums<J, E, N> {
     /// `AllocError` where memory that was asked for was refused.
     pub fn add(&mut self, desk: &mut Desk<J, E, N>, ended: Ended<J, E, N>) -> Result<(), AllocError>
         ensures seats { OnOk result (vec_len self.new.seats ≡ vec_len self.old.seats + 1) }
-        ensures tallies { OnOk result (self.new.tallies ≡ slice_set self.old.tallies ended.hand.worker (slice_index self.old.tallies ended.hand.worker + ended.hand.tally)) }
+        ensures tallies { OnOk result (self.new.tallies
+            ≡ slice_set self.old.tallies ended.hand.worker (slice_index self.old.tallies ended.hand.worker + ended.hand.tally)) }
     {
         room(&mut self.seats, &mut self.draws)?;
         let Ended { hand } = ended;
@@ -86,7 +87,6 @@ impl<J: Job, E: Ledger, N: Ledger> Sums<J, E, N> {
             tally,
             works: _,
             dones: _,
-            comes: _,
             of: _,
         } = hand;
         let Offers {

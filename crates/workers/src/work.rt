@@ -1,98 +1,140 @@
 //! The loop of one thread, and the threads of a run.
-ghost use Rattle.std.specs.Prelude.{◌≡◌};
+ghost use Rattle.std.specs.Prelude.{◌≡◌, IfSome, Some};
 ghost use Rattle.pool.specs.Seats.{pool_id};
 
 use crate::begun::Finished;
-use crate::bells::Bells;
-use crate::desk::Stop;
+use crate::bell::Bell;
+use crate::desk::StopReason;
 use crate::floor::Floor;
-use crate::hand::{Ended, Hand};
-use crate::job::{Gate, Job};
+use crate::hand::Hand;
+use crate::job::{Gate, Job, Progress};
 use board::refusal::Refusal;
 use pool::Pool;
 use std::alloc::{AllocError, Global};
 use std::sync::ledger::Ledger;
-use std::sync::{Mutex, Wait};
+use std::sync::{Mutex, MutexGuard, Wait};
 use std::thread;
 use std::thread::{JoinHandle, Threads};
+use task_code::entry::Kind;
+
+/// So much more often than free a thread finds the lock taken before it rests.
+const CROWDED: u32 = 4;
+
+/// A thread draws a number each time that it has computed items so often.
+const DRAWS: u32 = 8;
 
 /// What a thread does next.
 #[derive(Clone, Copy, PartialEq, Eq, Drop)]
 enum Next {
-    /// It computes and ends the items that it runs, if it does any, and begins others.
+    /// It computes the items that it runs.
     Works,
     /// It waits for an item.
-    Waits,
+    Rests,
     Stops,
+}
+
+/// What one thread has, from one hold of the lock to the next.
+#[derive(Drop)]
+struct Member<J: Job, E: Ledger, N: Ledger> {
+    /// The hand under whose number it runs items, if it runs any.
+    hand: Option<Box<Hand<J, E, N>>>,
+    /// Whether it counts among those who have something to run.
+    busy: bool,
+    /// How much more often than free it found the lock taken.
+    crowded: u32,
+    /// How often it computed items.
+    rounds: u32,
 }
 
 /// The run is to stop, and all wake to see it.
 fn halt<J: Job, E: Ledger, N: Ledger, R: Wait>(
     rt: &R,
     floor: &Mutex<Floor<J, E, N>>,
-    bells: &Bells,
-    why: Stop,
+    bell: &Bell,
+    why: StopReason,
 ) {
     {
         let mut guard = floor.lock(rt);
         let under = &mut *guard;
         under.desk.halt(why);
     }
-    bells.ring_all();
+    bell.rings();
 }
 
-/// Begins items under the lock: the drawn one or the first of the hand's kind, and as many more as one thread takes at once.
+/// Begins as many items under the lock as one thread takes at once: of the hand's kind those first that came to be ready last, then the
+/// drawn one, and then what the board has first.
 fn begin_some<J: Job, E: Ledger, N: Ledger>(
     under: &mut Floor<J, E, N>,
     hand: &mut Hand<J, E, N>,
     drawn: Option<u64>,
-) -> Next
-    ensures { hand.new.offers.pending ≡ hand.old.offers.pending }
-{
-    if under.desk.is_over() {
-        return Next::Stops;
-    }
+) -> Next {
     let mut drawn = drawn;
     for _ in 0..under.share(hand.kind) {
-        match hand.begin(under, drawn) {
-            Ok(()) => drawn = None,
+        let number = match under.recent.take(hand.kind) {
+            Some(number) => Some(number),
+            None => drawn.take(),
+        };
+        match hand.begin(under, number) {
+            Ok(()) => {}
             Err(Refusal::NotReady) => break,
+            Err(Refusal::Ended) => return Next::Stops,
             Err(Refusal::Memory) => {
-                under.desk.halt(Stop::Memory);
+                under.desk.halt(StopReason::Memory);
                 return Next::Stops;
             }
             Err(_) => {
-                under.desk.halt(Stop::Stranger);
+                under.desk.halt(StopReason::Stranger);
                 return Next::Stops;
             }
         }
     }
     if hand.works.is_empty() {
-        Next::Waits
+        Next::Rests
     } else {
         Next::Works
     }
 }
 
-/// The same. A thread that finds nothing may stay awake.
-fn begin_or_stay<J: Job, E: Ledger, N: Ledger>(
+/// Takes a hand for the items of a kind that can begin, and begins some under its number.
+fn take_up<J: Job, E: Ledger, N: Ledger>(
     under: &mut Floor<J, E, N>,
-    bells: &Bells,
-    hand: &mut Hand<J, E, N>,
+    member: &mut Member<J, E, N>,
+    kind: Kind,
     drawn: Option<u64>,
-) -> Next
-    ensures { hand.new.offers.pending ≡ hand.old.offers.pending }
-{
-    if hand.comes {
-        under.arrives(hand.kind);
-        hand.comes = false;
+) -> Next {
+    if !under.wants(kind) {
+        return Next::Rests;
     }
-    let then = begin_some(under, hand, drawn);
-    if then == Next::Waits && under.stays(hand.kind) {
-        hand.comes = true;
-        bells.of(hand.kind).forget();
+    let Some(mut hand) = under.idle.take(kind) else {
+        return Next::Rests;
+    };
+    let then = begin_some(under, &mut *hand, drawn);
+    if then == Next::Works {
+        member.hand = Some(hand);
+    } else {
+        under.idle.lay(hand);
     }
     then
+}
+
+/// The drawn number, if it is of the kind.
+fn of_kind(drawn: Option<(Kind, u64)>, kind: Kind) -> Option<u64>
+    ensures { IfSome result (λ number. drawn ≡ Some (kind, number)) }
+{
+    let (found, number) = drawn?;
+    if found == kind { Some(number) } else { None }
+}
+
+/// Begins items that can, leaf items first.
+fn take_some<J: Job, E: Ledger, N: Ledger>(
+    under: &mut Floor<J, E, N>,
+    member: &mut Member<J, E, N>,
+    drawn: Option<(Kind, u64)>,
+) -> Next {
+    match take_up(under, member, Kind::Leaf, of_kind(drawn, Kind::Leaf)) {
+        Next::Rests => take_up(under, member, Kind::Control, of_kind(drawn, Kind::Control)),
+        then => then,
+    }
 }
 
 /// Gives an item back under the lock, for which no memory was found, and stops the run.
@@ -102,7 +144,7 @@ fn back_under<J: Job, E: Ledger, N: Ledger>(
     item: u64,
 ) {
     if hand.give_back(under, item).is_err() {
-        under.desk.halt(Stop::Memory);
+        under.desk.halt(StopReason::Memory);
     }
 }
 
@@ -117,7 +159,7 @@ fn end_one<J: Job, E: Ledger, N: Ledger>(
         Ok(()) => return true,
         Err(Refusal::Ended) => {}
         Err(Refusal::Memory) => back_under(under, hand, item),
-        Err(_) => under.desk.halt(Stop::Stranger),
+        Err(_) => under.desk.halt(StopReason::Stranger),
     }
     false
 }
@@ -138,26 +180,88 @@ fn end_all<J: Job, E: Ledger, N: Ledger>(
     true
 }
 
+/// Ends what is done under the thread's number, and lays its hand down. False where the run is to stop.
+fn lay_down<J: Job, E: Ledger, N: Ledger>(
+    under: &mut Floor<J, E, N>,
+    member: &mut Member<J, E, N>,
+) -> bool {
+    let Some(mut hand) = member.hand.take() else {
+        return true;
+    };
+    let went_on = end_all(under, &mut *hand);
+    under.recent.add_all(hand.offers.list.as_slice());
+    under.idle.lay(hand);
+    went_on
+}
+
+/// What a thread does in one hold of the lock: it ends all that is done, and begins the next items.
+fn turn<J: Job, E: Ledger, N: Ledger>(
+    under: &mut Floor<J, E, N>,
+    member: &mut Member<J, E, N>,
+    drawn: Option<(Kind, u64)>,
+) -> Next {
+    if !lay_down(under, member) || under.desk.is_over() {
+        return Next::Stops;
+    }
+    if member.busy && member.crowded >= CROWDED && under.shift.busy > 1 {
+        member.crowded = 0;
+        return Next::Rests;
+    }
+    take_some(under, member, drawn)
+}
+
+/// Takes the lock, and notes whether it was free.
+fn hold<'a, J: Job, E: Ledger, N: Ledger, R: Wait>(
+    rt: &R,
+    floor: &'a Mutex<Floor<J, E, N>>,
+    member: &mut Member<J, E, N>,
+) -> MutexGuard<'a, Floor<J, E, N>> {
+    match floor.try_lock() {
+        Some(guard) => {
+            member.crowded = member.crowded.saturating_sub(1);
+            guard
+        }
+        None => {
+            member.crowded = member.crowded.saturating_add(1);
+            floor.lock(rt)
+        }
+    }
+}
+
+/// What a thread does while it has the lock, what it does next, and how far the run is then. Those who rest see it.
+fn turn_seen<J: Job, E: Ledger, N: Ledger>(
+    under: &mut Floor<J, E, N>,
+    bell: &Bell,
+    member: &mut Member<J, E, N>,
+    drawn: Option<(Kind, u64)>,
+) -> (Next, Progress) {
+    under.shift.opens(bell);
+    let then = turn(under, member, drawn);
+    let busy = then == Next::Works;
+    under.shift.turns(member.busy, busy);
+    member.busy = busy;
+    let wanted = under.wants_any();
+    under.shift.closes(bell, wanted);
+    (then, under.progress())
+}
+
 /// Ends the items that are done, and begins the next ones where there are some.
 fn finish<J: Job, E: Ledger, N: Ledger, R: Wait, G: Gate>(
     rt: &R,
     floor: &Mutex<Floor<J, E, N>>,
-    bells: &Bells,
+    bell: &Bell,
     gate: &G,
-    hand: &mut Hand<J, E, N>,
-    drawn: Option<u64>,
+    member: &mut Member<J, E, N>,
+    drawn: Option<(Kind, u64)>,
 ) -> Next {
-    let (then, calls, progress) = {
-        let mut guard = floor.lock(rt);
+    let (then, progress) = {
+        let mut guard = hold(rt, floor, member);
         let under = &mut *guard;
-        let then = if end_all(under, hand) {
-            begin_or_stay(under, bells, hand, drawn)
-        } else {
-            Next::Stops
-        };
-        (then, under.calls(), under.progress())
+        turn_seen(under, bell, member, drawn)
     };
-    bells.ring(calls);
+    if then == Next::Stops {
+        bell.rings();
+    }
     gate.note(progress);
     then
 }
@@ -166,143 +270,120 @@ fn finish<J: Job, E: Ledger, N: Ledger, R: Wait, G: Gate>(
 fn give_back<J: Job, E: Ledger, N: Ledger, R: Wait>(
     rt: &R,
     floor: &Mutex<Floor<J, E, N>>,
-    bells: &Bells,
-    hand: &mut Hand<J, E, N>,
+    bell: &Bell,
+    member: &mut Member<J, E, N>,
     item: u64,
 ) {
     {
         let mut guard = floor.lock(rt);
         let under = &mut *guard;
-        back_under(under, hand, item);
+        if let Some(mut hand) = member.hand.take() {
+            back_under(under, &mut *hand, item);
+            under.idle.lay(hand);
+        }
     }
-    bells.ring_all();
+    bell.rings();
 }
 
-/// Computes items outside of the lock, ends them, begins the next ones, and offers what came to be ready.
+/// Offers what the last Ends made ready, computes what the thread runs, and draws a number now and then. The answer at `Err` is the item for
+/// which no memory was found.
+fn compute<J: Job, E: Ledger, N: Ledger, G: Gate>(
+    pool: &Pool,
+    gate: &G,
+    member: &mut Member<J, E, N>,
+) -> Result<Option<(Kind, u64)>, u64>
+    requires { pool_id pool.now ≡ J.pool }
+{
+    let Member { hand, rounds, .. } = member;
+    let Some(hand) = hand else {
+        return Ok(None);
+    };
+    *rounds = rounds.wrapping_add(1);
+    hand.offer_all(pool);
+    hand.compute_all(gate)?;
+    if *rounds % DRAWS != 0 {
+        return Ok(None);
+    }
+    match hand.draw(pool) {
+        Some(number) => Ok(Some((hand.kind, number))),
+        None => Ok(None),
+    }
+}
+
+/// Computes items outside of the lock, ends them and begins the next ones.
 fn step<J: Job, E: Ledger, N: Ledger, R: Wait, G: Gate>(
     rt: &R,
     floor: &Mutex<Floor<J, E, N>>,
-    bells: &Bells,
+    bell: &Bell,
     pool: &Pool,
     gate: &G,
-    hand: &mut Hand<J, E, N>,
+    member: &mut Member<J, E, N>,
 ) -> Next
-    requires pool { pool_id pool.now ≡ J.pool }
-    ensures { hand.new.offers.pending ≡ 0 }
+    requires { pool_id pool.now ≡ J.pool }
 {
-    let then = match hand.compute_all(gate) {
-        Ok(()) => {
-            let drawn = hand.draw(pool);
-            finish(rt, floor, bells, gate, hand, drawn)
-        }
+    match compute(pool, gate, member) {
+        Ok(drawn) => finish(rt, floor, bell, gate, member, drawn),
         Err(item) => {
-            give_back(rt, floor, bells, hand, item);
+            give_back(rt, floor, bell, member, item);
             Next::Stops
         }
-    };
-    hand.offer_all(pool);
-    then
-}
-
-/// Waits, awake for a while and then asleep, until there may be an item of the hand's kind.
-fn rest<J: Job, E: Ledger, N: Ledger, R: Wait>(
-    rt: &R,
-    floor: &Mutex<Floor<J, E, N>>,
-    bells: &Bells,
-    hand: &mut Hand<J, E, N>,
-)
-    ensures { hand.new.offers.pending ≡ hand.old.offers.pending }
-{
-    let bell = bells.of(hand.kind);
-    if hand.comes && bell.watch() {
-        return;
     }
-    let mut guard = floor.lock(rt);
-    let under = &mut *guard;
-    if !under.falls_asleep(hand.kind, hand.comes) {
-        return;
-    }
-    let mut guard = bell.sleep(rt, guard);
-    let under = &mut *guard;
-    under.wakes_up(hand.kind);
-    hand.comes = true;
 }
 
 /// Runs items until nothing is left to be done.
 fn work<J: Job, E: Ledger, N: Ledger, R: Wait, G: Gate>(
     rt: &R,
     floor: &Mutex<Floor<J, E, N>>,
-    bells: &Bells,
+    bell: &Bell,
     pool: &Pool,
     gate: &G,
-    mut hand: Hand<J, E, N>,
-) -> Ended<J, E, N>
-    requires pool { pool_id pool.now ≡ J.pool }
-    requires hand { hand.offers.pending ≡ 0 }
-{
-    let mut then = Next::Works;
-    for _ in rt.forever() {
-        then = match then {
-            Next::Works => step(rt, floor, bells, pool, gate, &mut hand),
-            Next::Waits => {
-                rest(rt, floor, bells, &mut hand);
-                Next::Works
-            }
-            Next::Stops => break,
-        };
-    }
-    Ended::new(hand)
-}
-
-/// Goes on with a hand that has nothing to offer.
-fn resume<J: Job, E: Ledger, N: Ledger, R: Wait, G: Gate>(
-    rt: &R,
-    floor: &Mutex<Floor<J, E, N>>,
-    bells: &Bells,
-    pool: &Pool,
-    gate: &G,
-    begun: Ended<J, E, N>,
-) -> Ended<J, E, N>
+)
     requires { pool_id pool.now ≡ J.pool }
 {
-    let Ended { hand } = begun;
-    work(rt, floor, bells, pool, gate, hand)
+    let mut member = Member {
+        hand: None,
+        busy: false,
+        crowded: 0,
+        rounds: 0,
+    };
+    for _ in rt.forever() {
+        match step(rt, floor, bell, pool, gate, &mut member) {
+            Next::Works => {}
+            Next::Rests => bell.rest(rt),
+            Next::Stops => break,
+        }
+    }
 }
 
 /// One more thread runs. Where it could not be started, or there is no room for it, all stop.
 fn one_more<J: Job, E: Ledger, N: Ledger, R: Wait>(
     rt: &R,
     floor: &Mutex<Floor<J, E, N>>,
-    bells: &Bells,
-    thread: Option<JoinHandle<Ended<J, E, N>>>,
-    running: &mut Vec<JoinHandle<Ended<J, E, N>>>,
+    bell: &Bell,
+    thread: Option<JoinHandle<()>>,
+    running: &mut Vec<JoinHandle<()>>,
 ) -> bool {
     let why = match thread {
-        None => Stop::Spawn,
+        None => StopReason::Spawn,
         Some(thread) => {
             if running.push(thread).is_ok() {
                 return true;
             }
-            Stop::Memory
+            StopReason::Memory
         }
     };
-    halt(rt, floor, bells, why);
+    halt(rt, floor, bell, why);
     false
 }
 
-/// The hands of threads that run, once these have ended.
-fn join_all<J: Job, E: Ledger, N: Ledger, R: Threads>(
-    rt: &R,
-    running: Vec<JoinHandle<Ended<J, E, N>>>,
-    mut back: Vec<Ended<J, E, N>>,
-) -> Result<Vec<Ended<J, E, N>>, AllocError> {
+/// The threads that run have ended.
+fn join_all<R: Threads>(rt: &R, running: Vec<JoinHandle<()>>) {
     for thread in running {
-        back.push(thread.join(rt))?;
+        thread.join(rt);
     }
-    Ok(back)
 }
 
-/// Runs a thread for each hand, and gives back the hands of those that ran. Where one can't be started the others stop.
+/// Lets so many threads work, of which this is one. Where one can't be started all stop.
 ///
 /// # Errors
 ///
@@ -317,30 +398,31 @@ pub fn crew<
     rt: &R,
     alloc: Global,
     floor: &Mutex<Floor<J, E, N>>,
-    bells: &Bells,
+    bell: &Bell,
     pool: &Pool,
     gate: &G,
-    hands: Vec<Ended<J, E, N>>,
-) -> Result<Vec<Ended<J, E, N>>, AllocError>
+    count: usize,
+) -> Result<(), AllocError>
     requires { pool_id pool.now ≡ J.pool }
 {
-    let back = Vec::with_capacity(alloc, hands.len())?;
-    let mut running = Vec::with_capacity(alloc, hands.len())?;
+    let mut running = Vec::with_capacity(alloc, count)?;
     thread::scope(
         thread::scope_env(),
         rt,
-        |scope| -> Result<Vec<Ended<J, E, N>>, AllocError>
+        |scope| -> ()
             requires { pool_id pool.now ≡ J.pool }
         {
-            for hand in hands {
-                let job = move || -> Ended<J, E, N>
+            for _ in 1..count {
+                let job = move || -> ()
                     requires { pool_id pool.now ≡ J.pool }
-                { resume(rt, floor, bells, pool, gate, hand) };
-                if !one_more(rt, floor, bells, scope.spawn(job).ok(), &mut running) {
+                { work(rt, floor, bell, pool, gate) };
+                if !one_more(rt, floor, bell, scope.spawn(job).ok(), &mut running) {
                     break;
                 }
             }
-            join_all(rt, running, back)
+            work(rt, floor, bell, pool, gate);
+            join_all(rt, running);
         },
-    )
+    );
+    Ok(())
 }

@@ -14,6 +14,7 @@ use Rattle.assign_check.specs.Breaks.{OnOne}
 use Rattle.assign_check.proofs.counting.Counts.{only_if_none, any_false, false_any}
 use Rattle.assign_check.proofs.through.Ways.{owned_is, some_way, nat_zero, way_holds}
 use Rattle.assign_check.proofs.through.WayNumbers.{More, more_from, from_more, no_more, on_way, way_on}
+use Rattle.std.proofs.lemmas.Bool.{or_parts, false_from_ne_true}
 
 -- MEMBERS
 
@@ -26,15 +27,6 @@ owned_in x (y ∷ ys) = elim (owned_is y x) [
     | inr k ↦ inr (λ i. elim (split_in i) [ inl e ↦ h (sym e) | inr j ↦ k j ])
   ]
 ]
-
-neither : (a b : Bool) → (a || b) ≡ false → (a ≡ false) × (b ≡ false)
-neither true b h = absurd (cc (h))
-neither false b h = (refl, h)
-
--- a truth that cannot be
-pub false_unless : (b : Bool) → (b ≡ true → ⊥) → b ≡ false
-false_unless true h = absurd (h refl)
-false_unless false h = refl
 
 -- ONE NUMBER ON ONE BRANCH ALONE
 
@@ -64,15 +56,15 @@ same_numbers : (l : Option ℕ) (n : ℕ) (at : Span) (p q : Outline) (x : Owned
 same_numbers l n at p q x none h out = elim (owned_in x (way l p ++ way l q)) [
   | inl i ↦ (
       let even = false_any (is_uneven l n p q) (way l p ++ way l q) (only_if_none (list_any (is_uneven l n p q) (way l p ++ way l q)) (PartlyAssigned at) none) x i in
-      neither (has_more (counts l x p) (counts l x q)) (has_more (counts l x q) (counts l x p))
+      or_parts (has_more (counts l x p) (counts l x q)) (has_more (counts l x q) (counts l x p))
       (sym (ap (λ (b : Bool). b && (has_more (counts l x p) (counts l x q) || has_more (counts l x q) (counts l x p))) h) ∙ even)
       )
   | inr k ↦ (
-    false_unless (has_more (counts l x p) (counts l x q)) (λ m. elim (one_listed l x p q out (one_more l x p q out m)) [
+    false_from_ne_true (has_more (counts l x p) (counts l x q)) (λ m. elim (one_listed l x p q out (one_more l x p q out m)) [
       | inl i ↦ k (to_left (way l p) (way l q) i)
       | inr i ↦ k (to_right (way l p) (way l q) i)
     ]),
-    false_unless (has_more (counts l x q) (counts l x p)) (λ m. elim (one_listed l x q p out (one_more l x q p out m)) [
+    false_from_ne_true (has_more (counts l x q) (counts l x p)) (λ m. elim (one_listed l x q p out (one_more l x q p out m)) [
       | inl i ↦ k (to_right (way l p) (way l q) i)
       | inr i ↦ k (to_left (way l p) (way l q) i)
     ]),
@@ -89,7 +81,7 @@ pub no_branch_fault : (l : Option ℕ) (n : ℕ) (at : Span) (p q : Outline)
 no_branch_fault l n at p q h = ap (λ (b : Bool). cond b (PartlyAssigned at ∷ []) []) (any_false (is_uneven l n p q) (way l p ++ way l q) each)
   where
     one_side : (x : Owned) (r s : Outline) → is_outer l x ≡ false → ((i j : ℕ) → OnWay x r i → OnWay x s j → i ≡ j) → has_more (counts l x r) (counts l x s) ≡ false
-    one_side x r s out alike = false_unless (has_more (counts l x r) (counts l x s)) (λ m. by (one_more l x r s out m))
+    one_side x r s out alike = false_from_ne_true (has_more (counts l x r) (counts l x s)) (λ m. by (one_more l x r s out m))
       where
         by : OnOne x r s → ⊥
         by w = let v = some_way x s in w.nowhere (subst (OnWay x s) (sym (alike w.so_often v.0 w.there v.1)) v.1)

@@ -16,8 +16,9 @@ use Rattle.assign_check.specs.Faults.{same, one_if, times, is_among, is_before, 
 use Rattle.assign_check.specs.Sets.{numbers, Same, differ, names, part_sums, parts_apart}
 use Rattle.assign_check.proofs.faults.Answered.{first_among-append}
 use Rattle.assign_check.proofs.counting.Counts.{same_is, times_zero, among_in, any_false, false_any}
-use Rattle.assign_check.proofs.counting.Even.{owned_in, false_unless}
+use Rattle.assign_check.proofs.counting.Even.{owned_in}
 use Rattle.assign_check.proofs.counting.Sums.{same_self, same_from, turned, same_on, both_same, sums_same, sums_swap, sums_group, zero_first, zero_last, twice_zero, differ_same, not_differ}
+use Rattle.std.proofs.lemmas.Bool.{false_from_ne_true}
 
 -- PARTS
 
@@ -163,7 +164,7 @@ any_on : (f g : Owned → Bool) (xs ys : List Owned) → ((x : Owned) → f x �
 any_on f g xs ys alike listed h = elim (either (list_any g ys) refl) [
   | inl e ↦ e
   | inr none ↦ (
-      let no : false ≡ true = sym (any_false f xs (λ x i. false_unless (f x) (λ e.
+      let no : false ≡ true = sym (any_false f xs (λ x i. false_from_ne_true (f x) (λ e.
       let there : true ≡ false = sym (sym (alike x) ∙ e) ∙ false_any g ys none x (listed x e) in
       absurd (cc (there))))) ∙ h in
       absurd (cc (no))
@@ -221,8 +222,8 @@ same_branches l n p q ps qs one other = any_same (parts_apart n ps qs) (is_uneve
     in_names x h = elim (owned_in x (names ps ++ names qs)) [
       | inl i ↦ i
       | inr none ↦ (
-          let left = no_part x ps (false_unless (is_among x (names ps)) (λ e. none (to_left (names ps) (names qs) (among_in x (names ps) e)))) in
-          let right = no_part x qs (false_unless (is_among x (names qs)) (λ e. none (to_right (names ps) (names qs) (among_in x (names qs) e)))) in
+          let left = no_part x ps (false_from_ne_true (is_among x (names ps)) (λ e. none (to_left (names ps) (names qs) (among_in x (names ps) e)))) in
+          let right = no_part x qs (false_from_ne_true (is_among x (names qs)) (λ e. none (to_right (names ps) (names qs) (among_in x (names qs) e)))) in
           let no : true ≡ false = sym (behind_and (is_before n x) (differ (part_sums x ps) (part_sums x qs)) h) ∙ not_differ (part_sums x ps) (part_sums x qs) (same_from (left ∙ sym right)) in
           absurd (cc (no))
           )

@@ -4,12 +4,11 @@ use Rattle.std.proofs.Common.{inl, inr, sym, ap, ap₂, ◌∙◌, subst, arith}
 use Rattle.std.proofs.Math.Seq.{get_or-append_seam}
 use Rattle.std.proofs.lemmas.List.{get_or_append_left, length-append}
 use mathlib.Core.Bool.{beq}
-use Rattle.std.proofs.lemmas.Bool.{eqb-true, eq-eqb}
+use Rattle.std.proofs.lemmas.Bool.{eqb-true, eq-eqb, false_from_ne_true}
 use Rattle.language.specs.Members.{◌∈◌, first, later}
 use Rattle.language.proofs.Members.{split_in, to_left, to_right, either}
 use Rattle.assign_check.specs.Faults.{sums, is_in, has_more}
 use Rattle.assign_check.specs.Sets.{has, numbers_from, numbers, Same, differ}
-use Rattle.assign_check.proofs.counting.Even.{false_unless}
 use Rattle.assign_check.proofs.through.WayNumbers.{more_from, from_more, is_in_from, in_from, in_sums, sums_in}
 
 -- THE SAME NUMBERS
@@ -102,7 +101,7 @@ differ_same ms ms' ns ns' s t = ap (λ (b : Bool). b || has_more ns ms) (more_sa
 
 -- lists of the same numbers do not differ
 pub not_differ : (ms ns : List ℕ) → Same ms ns → differ ms ns ≡ false
-not_differ ms ns s = false_unless (differ ms ns) (λ h. by (has_more ms ns) refl h)
+not_differ ms ns s = false_from_ne_true (differ ms ns) (λ h. by (has_more ms ns) refl h)
   where
     by : (b : Bool) → has_more ms ns ≡ b → (b || has_more ns ms) ≡ true → ⊥
     by true e h = let w = more_from ms ns e in w.not_there (s.to w.number w.there)
@@ -139,7 +138,7 @@ in_has (b ∷ bs) n i =
 -- no number of a set has a place behind all
 pub past : (bs : List Bool) (n : ℕ) → length bs ≤ n → 1 ≤ n → has bs n ≡ false
 past [] zero le one = absurd (omega arith)
-past [] (suc n) le one = false_unless (nat_eq (suc n) 0) (λ h. let e = eqb-true (suc n) 0 h in absurd (omega arith))
+past [] (suc n) le one = false_from_ne_true (nat_eq (suc n) 0) (λ h. let e = eqb-true (suc n) 0 h in absurd (omega arith))
 past (b ∷ bs) n le one = beyond (b ∷ bs) n le
   where
     beyond : (cs : List Bool) (k : ℕ) → length cs ≤ k → get_or cs k false ≡ false
@@ -182,7 +181,7 @@ found_sum one other n i le h k =
     sym (is_in_from n (sums (numbers one) (numbers other)) (subst (λ (z : ℕ). z ∈ sums (numbers one) (numbers other)) e (sums_in i (n - i) (numbers one) (numbers other) (has_in one i h) (has_in other (n - i) k))))
 
 pub no_sum : (one other : List Bool) (n : ℕ) → ((i : ℕ) → i < length one + 1 → i ≤ n → has one i ≡ true → has other (n - i) ≡ true → ⊥) → false ≡ is_in n (sums (numbers one) (numbers other))
-no_sum one other n none = sym (false_unless (is_in n (sums (numbers one) (numbers other))) (λ h.
+no_sum one other n none = sym (false_from_ne_true (is_in n (sums (numbers one) (numbers other))) (λ h.
     let s = in_sums n (numbers one) (numbers other) (in_from n (sums (numbers one) (numbers other)) h) in
     let q = s.is in
     let e : s.other ≡ n - s.one = omega arith in
@@ -248,7 +247,7 @@ has_either one other n = by (has one n) refl (has other n) refl
     by true e y f = ap (λ (b : Bool). b || has other n) e ∙ sym (is_in_from n (numbers one ++ numbers other) (to_left (numbers one) (numbers other) (has_in one n e)))
     by false e true f = ap (λ (b : Bool). b || has other n) e ∙ f ∙ sym (is_in_from n (numbers one ++ numbers other) (to_right (numbers one) (numbers other) (has_in other n f)))
     by false e false f =
-        ap (λ (b : Bool). b || has other n) e ∙ f ∙ sym (false_unless (is_in n (numbers one ++ numbers other)) (λ h. elim (either (numbers one) (numbers other) (in_from n (numbers one ++ numbers other) h)) [
+        ap (λ (b : Bool). b || has other n) e ∙ f ∙ sym (false_from_ne_true (is_in n (numbers one ++ numbers other)) (λ h. elim (either (numbers one) (numbers other) (in_from n (numbers one ++ numbers other) h)) [
           | inl i ↦ (let no : true ≡ false = sym (in_has one n i) ∙ e in absurd (cc (no)))
           | inr i ↦ (let no : true ≡ false = sym (in_has other n i) ∙ f in absurd (cc (no)))
         ]))

@@ -14,7 +14,8 @@ use Rattle.assign_check.specs.Faults.{same, is_kind, is_used, other_form, form_f
 use Rattle.assign_check.specs.Breaks.{IsTarget, BreaksIn}
 use Rattle.assign_check.proofs.counting.Counts.{same_is}
 use Rattle.assign_check.proofs.like.Like.{own_is_not_given, result_is_not_given}
-use Rattle.assign_check.proofs.faults.Variables.{used_when, unused_when, both_true, and_true, not_kind, kind_or, is_target, target_true}
+use Rattle.assign_check.proofs.faults.Variables.{used_when, unused_when, and_true, not_kind, kind_or, is_target, target_true}
+use Rattle.std.proofs.lemmas.Bool.{or_parts, not-true, and_parts}
 
 -- LISTS
 
@@ -38,21 +39,13 @@ only_unless : {A : Type 0} (b : Bool) (x y : A) → y ∈ cond b [] (x ∷ []) �
 only_unless true x y i = elim i [ ]
 only_unless false x y i = elim (split_in i) [ inl e ↦ (refl, e) | inr j ↦ elim j [ ] ]
 
-neither : (a b : Bool) → (a || b) ≡ false → (a ≡ false) × (b ≡ false)
-neither true b h = absurd (cc (h))
-neither false b h = (refl, h)
-
-turned : (b : Bool) → not b ≡ true → b ≡ false
-turned true h = absurd (cc (h))
-turned false h = refl
-
 -- A SCALAR THAT IS READ
 
 never_broken : (o : Outline) (d : Declared) (s : Shape) (f : AssignFault) → d ∈ declared_in o → (d.role ≡ given → ⊥) → d.shape ≡ s → f ∈ never_faults s d.what d.span (uses_in o) → BreaksIn o f
 never_broken o d (Array κ) f there role shape i = elim i [ ]
 never_broken o d Scalar f there role shape i =
     let r = only_if (is_used read d.what (uses_in o) && not (is_used named d.what (uses_in o))) (NeverAssigned d.span) f i in
-    let uses = both_true (is_used read d.what (uses_in o)) (not (is_used named d.what (uses_in o))) r.0 in
+    let uses = and_parts (is_used read d.what (uses_in o)) (not (is_used named d.what (uses_in o))) r.0 in
     subst (BreaksIn o) (sym r.1) (record {
       variable = d;
       declared = there;
@@ -60,7 +53,7 @@ never_broken o d Scalar f there role shape i =
       scalar = shape;
       not_given = role;
       is_read = used_when read d.what (uses_in o) uses.0;
-      not_named = unused_when named d.what (uses_in o) (turned (is_used named d.what (uses_in o)) uses.1);
+      not_named = unused_when named d.what (uses_in o) (not-true (is_used named d.what (uses_in o)) uses.1);
     })
 
 -- AN OUTPUT
@@ -68,7 +61,7 @@ never_broken o d Scalar f there role shape i =
 output_broken : (o : Outline) (d : Declared) (f : AssignFault) → d ∈ declared_in o → d.role ≡ result → f ∈ output_faults d.what d.span (uses_in o) → BreaksIn o f
 output_broken o d f there role i =
     let r = only_unless (is_used named d.what (uses_in o) || is_used written d.what (uses_in o)) (OutputUnassigned d.span) f i in
-    let uses = neither (is_used named d.what (uses_in o)) (is_used written d.what (uses_in o)) r.0 in
+    let uses = or_parts (is_used named d.what (uses_in o)) (is_used written d.what (uses_in o)) r.0 in
     subst (BreaksIn o) (sym r.1) (record {
       variable = d;
       declared = there;
@@ -117,8 +110,8 @@ other_found k x (u ∷ us) f i = by (is_target x u && not (is_kind u.kind k)) re
 
     by : (b : Bool) → (is_target x u && not (is_kind u.kind k)) ≡ b → f ∈ cond b (WholeAndElements u.span ∷ []) (other_form k x us) → (f ∈ other_form k x us → Other k x us f) → Other k x (u ∷ us) f
     by true h i rec =
-        let r = both_true (is_target x u) (not (is_kind u.kind k)) h in
-        let q = both_true (same u.of x) (not (is_kind u.kind read)) r.0 in
+        let r = and_parts (is_target x u) (not (is_kind u.kind k)) h in
+        let q = and_parts (same u.of x) (not (is_kind u.kind read)) r.0 in
         record {
           target = u;
           earlier = [];
@@ -170,7 +163,7 @@ both_found x (u ∷ us) f i = by (is_target x u) refl i (λ j. both_found x us f
 
     by : (b : Bool) → is_target x u ≡ b → f ∈ cond b (other_form u.kind x us) (form_faults x us) → (f ∈ form_faults x us → Both x us f) → Both x (u ∷ us) f
     by true h i rec =
-        let q = both_true (same u.of x) (not (is_kind u.kind read)) h in
+        let q = and_parts (same u.of x) (not (is_kind u.kind read)) h in
         let o = other_found u.kind x us f i in
         record {
           target = o.target;

@@ -14,8 +14,9 @@ use Rattle.assign_check.specs.Outline.{Kind, named, written, read, Use, Role, ow
 use Rattle.assign_check.specs.Faults.{same, is_kind, is_used, other_form, form_faults, never_faults, output_faults, role_faults, variable_faults, uses_in, declared_in}
 use Rattle.assign_check.specs.Breaks.{Used, IsTarget, IsNever, IsBoth, IsUnassigned}
 use Rattle.assign_check.proofs.counting.Counts.{same_is, kind_from}
-use Rattle.assign_check.proofs.faults.Variables.{both_true, and_true, used_or, not_kind, kind_or, is_target, target_true}
+use Rattle.assign_check.proofs.faults.Variables.{and_true, used_or, not_kind, kind_or, is_target, target_true}
 use Rattle.assign_check.proofs.faults.Broken.{no_target_read, target_of}
+use Rattle.std.proofs.lemmas.Bool.{and_parts}
 
 -- LISTS
 
@@ -65,7 +66,7 @@ other_there k x (v ∷ vs) behind u is form other same_form =
         by : (b : Bool) → is_target x v ≡ b → (b && not (is_kind v.kind k)) ≡ false
         by false e = refl
         by true e =
-            let q = both_true (same v.of x) (not (is_kind v.kind read)) e in
+            let q = and_parts (same v.of x) (not (is_kind v.kind read)) e in
             ap not (kind_from (same_form v first (same_is v.of x q.0) (target_of v.kind (not_kind v.kind read q.1))))
 
 -- of two forms that are not a third one, both are the other
@@ -85,7 +86,7 @@ forms_found x (v ∷ vs) behind u one is form differs i e t = by (is_target x v)
   where
     by : (b : Bool) → is_target x v ≡ b → (one ∈ vs → WholeAndElements u.span ∈ form_faults x (vs ++ u ∷ behind)) → WholeAndElements u.span ∈ form_faults x (v ∷ vs ++ u ∷ behind)
     by true h rec =
-        let q = both_true (same v.of x) (not (is_kind v.kind read)) h in
+        let q = and_parts (same v.of x) (not (is_kind v.kind read)) h in
         let is_v = same_is v.of x q.0 in
         let form_v = target_of v.kind (not_kind v.kind read q.1) in
         subst (λ (b : Bool). WholeAndElements u.span ∈ cond b (other_form v.kind x (vs ++ u ∷ behind)) (form_faults x (vs ++ u ∷ behind))) (sym h)

@@ -13,14 +13,10 @@ use Rattle.assign_check.specs.Outline.{Kind, named, written, read, Use, Role, ow
 use Rattle.assign_check.specs.Faults.{same, is_kind, is_used, other_form, form_faults, never_faults, output_faults, role_faults}
 use Rattle.assign_check.specs.Breaks.{Used}
 use Rattle.assign_check.proofs.counting.Counts.{same_is, same_from, kind_is, kind_from, none_left, none_right, none_both, only_if_none, only_unless_none, false_any}
+use Rattle.std.proofs.lemmas.Bool.{and_parts}
 
 used_later : {k : Kind} {x : Owned} {u : Use} {us : List Use} → Used k x us → Used k x (u ∷ us)
 used_later h = record { use_there = h.use_there; there = later h.there; kind = h.kind; is = h.is }
-
-pub both_true : (a b : Bool) → (a && b) ≡ true → (a ≡ true) × (b ≡ true)
-both_true true true h = (refl, refl)
-both_true true false h = absurd (cc (h))
-both_true false b h = absurd (cc (h))
 
 pub and_true : {a b : Bool} → a ≡ true → b ≡ true → (a && b) ≡ true
 and_true {a} {b} e f = ap (λ (c : Bool). c && b) e ∙ f
@@ -30,7 +26,7 @@ used_when k x [] h = absurd (cc (h))
 used_when k x (u ∷ us) h = by (is_kind u.kind k && same u.of x) refl h (λ g. used_when k x us g)
   where
     by : (b : Bool) → (is_kind u.kind k && same u.of x) ≡ b → (b || is_used k x us) ≡ true → (is_used k x us ≡ true → Used k x us) → Used k x (u ∷ us)
-    by true e g rec = let r = both_true (is_kind u.kind k) (same u.of x) e in record { use_there = u; there = first; kind = kind_is u.kind k r.0; is = same_is u.of x r.1 }
+    by true e g rec = let r = and_parts (is_kind u.kind k) (same u.of x) e in record { use_there = u; there = first; kind = kind_is u.kind k r.0; is = same_is u.of x r.1 }
     by false e g rec = used_later (rec g)
 
 pub unused_when : (k : Kind) (x : Owned) (us : List Use) → is_used k x us ≡ false → Used k x us → ⊥
@@ -104,8 +100,8 @@ other_clean k x (y ∷ us) h = by (is_target x y && not (is_kind y.kind k)) refl
   where
     by : (b : Bool) → (is_target x y && not (is_kind y.kind k)) ≡ b → other_form k x us ≡ [] → cond b (WholeAndElements y.span ∷ []) (other_form k x us) ≡ []
     by true e rec =
-        let r = both_true (is_target x y) (not (is_kind y.kind k)) e in
-        let s = both_true (same y.of x) (not (is_kind y.kind read)) r.0 in
+        let r = and_parts (is_target x y) (not (is_kind y.kind k)) e in
+        let s = and_parts (same y.of x) (not (is_kind y.kind read)) r.0 in
         absurd (not_kind y.kind k r.1 (h y first (same_is y.of x s.0) (not_kind y.kind read s.1)))
     by false e rec = rec
 
@@ -133,7 +129,7 @@ form_clean k x (y ∷ us) h = by (is_target x y) refl (form_clean k x us (formed
   where
     by : (b : Bool) → is_target x y ≡ b → form_faults x us ≡ [] → cond b (other_form y.kind x us) (form_faults x us) ≡ []
     by true e rec =
-        let s = both_true (same y.of x) (not (is_kind y.kind read)) e in
+        let s = and_parts (same y.of x) (not (is_kind y.kind read)) e in
         let same_kind : y.kind ≡ k = h y first (same_is y.of x s.0) (not_kind y.kind read s.1) in
         other_clean y.kind x us (λ u i f n. h u (later i) f n ∙ sym same_kind)
     by false e rec = rec

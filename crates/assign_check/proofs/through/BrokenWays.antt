@@ -18,8 +18,8 @@ use Rattle.assign_check.proofs.uses.Visible.{Among, Placed, placed, rises, step_
 use Rattle.assign_check.proofs.through.Ways.{some_step, StepAssigned, step_held, step_stands, branch_sees, branch_inner, given_in, Looped, looped_up, looped_in, looped_out}
 use Rattle.assign_check.proofs.counting.Even.{one_more}
 use Rattle.assign_check.proofs.through.Faultless.{within_later}
-use Rattle.assign_check.proofs.faults.Variables.{both_true}
 use Rattle.assign_check.proofs.faults.Broken.{only_if}
+use Rattle.std.proofs.lemmas.Bool.{and_parts, or_cases}
 
 -- WHAT A FAULT SAYS
 
@@ -221,16 +221,12 @@ uneven_in u out c = record {
   fault = u.fault;
 }
 
-either_true : (a b : Bool) → (a || b) ≡ true → (a ≡ true) ⊎ (b ≡ true)
-either_true true b h = inl refl
-either_true false b h = inr h
-
 branch_broken : {vs : List Seen} {m k : ℕ} (l : Option ℕ) (n : ℕ) (at : Span) (p q o : Outline) (f : AssignFault) → Placed vs (suc n) p m → Placed vs m q k → f ∈ branch_faults l n at p q
     → Uneven l (followed (splits n at p q) o) f
 branch_broken l n at p q o f pp pq i =
     let r = only_if (list_any (is_uneven l n p q) (way l p ++ way l q)) (PartlyAssigned at) f i in
     let x = any_found (is_uneven l n p q) (way l p ++ way l q) r.0 in
-    let both = both_true (is_before n x.one) (has_more (counts l x.one p) (counts l x.one q) || has_more (counts l x.one q) (counts l x.one p)) x.holds in
+    let both = and_parts (is_before n x.one) (has_more (counts l x.one p) (counts l x.one q) || has_more (counts l x.one q) (counts l x.one p)) x.holds in
     let out = branch_inner l x.one pp pq (branch_sees l x.one pp pq both.0 x.there) x.there in
     record {
       number = n;
@@ -241,7 +237,7 @@ branch_broken l n at p q o f pp pq i =
       inner = out;
       there = in_this_step the_step;
       outside = both.0;
-      differ = elim (either_true (has_more (counts l x.one p) (counts l x.one q)) (has_more (counts l x.one q) (counts l x.one p)) both.1) [
+      differ = elim (or_cases (has_more (counts l x.one p) (counts l x.one q)) (has_more (counts l x.one q) (counts l x.one p)) both.1) [
         | inl h ↦ inl (one_more l x.one p q out h)
         | inr h ↦ inr (one_more l x.one q p out h)
       ];

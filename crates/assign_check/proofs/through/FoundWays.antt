@@ -17,6 +17,7 @@ use Rattle.assign_check.proofs.counting.Counts.{in_among}
 use Rattle.assign_check.proofs.uses.Visible.{before_up, Placed, placed, rises, step_rises, placed_end, placed_on, StepPlaced, placed_declaration, placed_use, placed_split, placed_loop, placed_wait, nothing_in, NoLocals, no_locals, no_locals_more}
 use Rattle.assign_check.proofs.through.Ways.{nat_zero, step_holds, given_self}
 use Rattle.assign_check.proofs.counting.Even.{more_one, one_listed}
+use Rattle.std.proofs.lemmas.Bool.{or_right}
 
 -- TWICE
 
@@ -130,10 +131,6 @@ any_true {A = A} g (y ∷ ys) x i h = elim (split_in i) [
     by : (b : Bool) → list_any g ys ≡ true → (b || list_any g ys) ≡ true
     by true k = refl
     by false k = k
-
-or_right : (a b : Bool) → b ≡ true → (a || b) ≡ true
-or_right true b h = refl
-or_right false b h = h
 
 branch_found : (l : Option ℕ) (n : ℕ) (at : Span) (p q : Outline) (x : Owned) → is_outer l x ≡ false → is_before n x ≡ true → OnOne x p q ⊎ OnOne x q p → PartlyAssigned at ∈ branch_faults l n at p q
 branch_found l n at p q x out old w =

@@ -9,7 +9,7 @@ use Rattle.meaning_invariants.proofs.Offsets.{offsets_apart}
 use Rattle.meaning_round.specs.Going.{IsBetween}
 use Rattle.meaning_round.specs.Made.{tasks_of, telling_of}
 use Rattle.meaning_round.proofs.Listed.{none_of_few, not_both}
-use Rattle.meaning_outcomes.proofs.Knowing.{empty_so, finished_so, is_known, next_between, not_empty, starts_between, unfinished_so}
+use Rattle.meaning_outcomes.proofs.Knowing.{empty_so, finished_so, is_known, next_between, not_empty, same_stuck, starts_between, unfinished_so, IsAsking, IsLearning}
 use Rattle.meaning.proofs.rounds.Goals as goal
 
 pub loop-round-init : goal.loop-round-init
@@ -18,7 +18,7 @@ loop-round-init g c =
     let made = c.in_ok-state.ensures in
     record {
       between = λ bytes t tree r w single e. subst (λ (z : Core). IsBetween {A = A} z 0 c.in_ok-state.state) e
-          (starts_between {A = A} (core_of {A = A} c.args.flow.now) c.in_ok-state.state made.learned made.tasks made.telling made.passed.0 made.passed.1 made.arrays);
+          (starts_between {A = A} (core_of {A = A} c.args.flow.now) c.in_ok-state.state made.learned made.tasks made.fresh made.passed.0 made.passed.1 made.arrays);
       flow = made.flow;
     }
 
@@ -27,6 +27,24 @@ loop-round-preserved g c =
     let A = g.row.A.Denot in
     let n = c.loop-round.round in
     let known = c.in_ok-news.ensures in
+    let asks : IsAsking {A = g.row.A.Denot} c.settle.new.state c.news.new.self = record {
+      heard = c.in_ok-news.ensures.heard;
+      learned = c.news.ensures.learned;
+      tasks = c.news.ensures.tasks;
+      arrays = c.news.ensures.arrays;
+      waiting = c.news.ensures.waiting;
+      passed = c.news.ensures.passed;
+    } in
+    let learns : IsLearning {A = g.row.A.Denot} c.news.new.self c.learn.new.self c.in_ok-news.news.items = record {
+      facts = c.in_ok-learn.ensures.facts;
+      heard = c.in_ok-learn.ensures.heard;
+      instances = c.learn.ensures.instances;
+      closed = c.learn.ensures.closed;
+      tasks = c.learn.ensures.tasks;
+      arrays = c.learn.ensures.arrays;
+      waiting = c.learn.ensures.waiting;
+      passed = c.learn.ensures.passed;
+    } in
     record {
       between = λ bytes t tree r w single e. (
           let s = core t tree in
@@ -34,11 +52,10 @@ loop-round-preserved g c =
           let settled = c.in_ok-settle.ensures.so s n same (accepted_formed bytes t tree r w single) single (offsets_apart t tree (read_placed bytes tree r)) (c.loop-round.invariant.between bytes t tree r w single e) in
           let one : suc n ≡ n + 1 = omega arith in
           subst (λ (z : ℕ). IsBetween {A = A} s z c.learn.new.self) one
-          (next_between bytes t tree r w single {A = A} n c.settle.new.state c.learn.new.self c.in_ok-news.news.items settled.0 settled.1 known.inside c.in_ok-learn.ensures.facts
-          (known.round bytes t tree r w single n settled.1) c.in_ok-learn.ensures.telling c.learn.ensures.instances c.learn.ensures.closed c.learn.ensures.tasks c.learn.ensures.arrays c.learn.ensures.waiting
-          c.learn.ensures.passed)
+          (next_between bytes t tree r w single {A = A} n c.settle.new.state c.news.new.self c.learn.new.self c.in_ok-news.news.items settled.0 settled.1 known.inside (known.round bytes t tree r w single n settled.1)
+          asks learns)
           );
-      flow = c.learn.ensures.flow ∙ c.settle.ensures.flow ∙ c.loop-round.invariant.flow;
+      flow = c.learn.ensures.flow ∙ c.news.ensures.flow ∙ c.settle.ensures.flow ∙ c.loop-round.invariant.flow;
     }
 
 pub returns-then-is_empty : goal.returns-then-is_empty
@@ -58,8 +75,9 @@ returns-then-is_empty g c =
           let ls = tasks_of {A = A} c.settle.new.state in
           let telling = telling_of {A = A} c.settle.new.state in
           let round = c.in_ok-news.ensures.round bytes t tree r w single n settled.1 in
-          is_known bytes t tree r w single n l ls telling settled.1 settled.0.good.holds k made.rounds made.learned made.stuck
-          (λ f. finished_so bytes t tree r w single n l ls telling settled.1 settled.0.good.holds c.in_ok-news.news.items round empty) (λ f. absurd (not_both (sym made.finished ∙ f)))
+          is_known bytes t tree r w single n l ls telling settled.1 settled.0.stands.good.holds k made.rounds (made.learned ∙ c.news.ensures.learned)
+          (made.stuck ∙ same_stuck c.news.new.self.learned l (tasks_of {A = A} c.news.new.self) ls c.news.ensures.learned c.news.ensures.tasks)
+          (λ f. finished_so bytes t tree r w single n l ls telling settled.1 settled.0.stands.good.holds c.in_ok-news.news.items round empty) (λ f. absurd (not_both (sym made.finished ∙ f)))
           );
       within = let rounds = made.rounds in (omega (arith, rounds, below), λ f. absurd (not_both (sym made.finished ∙ f)));
     }
@@ -83,9 +101,10 @@ returns g c =
           let ls = tasks_of {A = A} c.settle-2.new.state in
           let telling = telling_of {A = A} c.settle-2.new.state in
           let round = c.in_ok-last.ensures.round bytes t tree r w single n settled.1 in
-          is_known bytes t tree r w single n l ls telling settled.1 settled.0.good.holds k made.rounds made.learned made.stuck
-          (λ f. finished_so bytes t tree r w single n l ls telling settled.1 settled.0.good.holds news round (empty_so news k.finished test f))
-          (λ f. unfinished_so bytes t tree r w single n l ls telling settled.1 settled.0.good.holds news round c.in_ok-last.ensures.told (not_empty news k.finished test f))
+          is_known bytes t tree r w single n l ls telling settled.1 settled.0.stands.good.holds k made.rounds (made.learned ∙ c.news-2.ensures.learned)
+          (made.stuck ∙ same_stuck c.news-2.new.self.learned l (tasks_of {A = A} c.news-2.new.self) ls c.news-2.ensures.learned c.news-2.ensures.tasks)
+          (λ f. finished_so bytes t tree r w single n l ls telling settled.1 settled.0.stands.good.holds news round (empty_so news k.finished test f))
+          (λ f. unfinished_so bytes t tree r w single n l ls telling settled.1 settled.0.stands.good.holds news round c.in_ok-last.ensures.told (not_empty news k.finished test f))
           );
       within = let rounds = made.rounds in (omega (arith, rounds), λ f. rounds);
     }

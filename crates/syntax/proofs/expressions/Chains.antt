@@ -10,7 +10,7 @@ use Rattle.language.specs.Rules.{Place}
 use Rattle.language.specs.Grammar.{spans}
 use Rattle.lexer.specs.declared.token.Span.{Span}
 use Rattle.lexer.specs.declared.token.TokenKind.{TokenKind}
-use Rattle.syntax.specs.declared.stop.Stop.{Stop}
+use Rattle.syntax.specs.declared.stop.ParseStop.{ParseStop}
 use Rattle.syntax.specs.Readers.{refused, got, Reader, ◌>>=◌, cond, choose, ◌∗◌, many_over, many, once, opened}
 use Rattle.syntax.specs.Reading.{at_operator, read_operator, operands, read_name, read_unary, read_form, read_prefixed, read_arguments, read_application, read_operand, read_operands, joined, read_link}
 use Rattle.syntax.proofs.combining.Combine.{bind_got, got_value}
@@ -72,7 +72,7 @@ link_got depth l first x v ps u os es holds more ops exprs =
     ∙ ap (λ e. got e u) (joined_some first x ps u (operands_some l (read_operand depth l) v ps u holds more))
     ∙ ap₂ (λ a b. got (expression (record { number = 0; first = first; to = u.before }) (chain a (expressions_of b))) u) (sym ops) (sym exprs)
 
-pub link_fails : (depth : ℕ) (l : Level) (first : Span) (x : Expression) (v : Place) (stop : Stop) → read_operands depth l [] v ≡ refused stop → read_link depth l first x v ≡ refused stop
+pub link_fails : (depth : ℕ) (l : Level) (first : Span) (x : Expression) (v : Place) (stop : ParseStop) → read_operands depth l [] v ≡ refused stop → read_link depth l first x v ≡ refused stop
 unfolding read_link
 link_fails depth l first x v stop more = ap (λ r. r >>= λ ps u. got (joined first x ps u) u) more
 
@@ -85,7 +85,7 @@ operand_one depth l s o v e u is holds one two =
     ∙ ap (λ b. cond b ((read_operator l ∗ read_operand depth l) s >>= λ a u. got (a ∷ []) u) (got [] s)) holds
     ∙ ap (λ z. z >>= λ a u. got (a ∷ []) u) (both_got (read_operator l) (read_operand depth l) s o v e u one two)
 
-pub operand_fails : (depth : ℕ) (l : Level) (s : Place) (o : Operator) (v : Place) (stop : Stop) → repeats l ≡ false → at_operator l s ≡ true
+pub operand_fails : (depth : ℕ) (l : Level) (s : Place) (o : Operator) (v : Place) (stop : ParseStop) → repeats l ≡ false → at_operator l s ≡ true
     → read_operator l s ≡ got o v → read_operand depth l v ≡ refused stop → read_operands depth l [] s ≡ refused stop
 unfolding read_operands
 operand_fails depth l s o v stop is holds one two =

@@ -11,7 +11,7 @@ use Rattle.language.specs.Tree.{Expression}
 use Rattle.language.specs.Kinds.{operator_of, level_of, same_level}
 use Rattle.language.specs.Rules.{Place}
 use Rattle.language.specs.Grammar.{first_of, chained}
-use Rattle.syntax.specs.declared.stop.Stop.{Stop}
+use Rattle.syntax.specs.declared.stop.ParseStop.{ParseStop}
 use Rattle.syntax.specs.Readers.{Read, refused, got, ◌>>=◌, cond, kind_at}
 use Rattle.syntax.specs.Answers.{Gives}
 use Rattle.syntax.specs.Reading.{operator_at, at_operator, of_level, is_some, operands, read_unary, read_form, read_operand, read_operands, read_chain, joined, read_link, read_links, rank, ranked, level_within, level_at}
@@ -230,7 +230,7 @@ pub links_step : (depth m : ℕ) (l k : Level) (f : Span) (x y : Expression) (v 
     → read_links depth (suc (rank l) - m) m f x v ≡ read_links depth (suc (rank l) - suc (rank k)) (suc (rank k)) f y u
 links_step depth m l k f x y v u some read = links_at depth m l k f x v some ∙ ap (λ r. r >>= λ y u. read_links depth (suc (rank l) - suc (rank k)) (suc (rank k)) f y u) read
 
-pub links_stop : (depth m : ℕ) (l k : Level) (f : Span) (x : Expression) (v : Place) (stop : Stop) → level_at m l v ≡ Some k → read_link depth k f x v ≡ refused stop
+pub links_stop : (depth m : ℕ) (l k : Level) (f : Span) (x : Expression) (v : Place) (stop : ParseStop) → level_at m l v ≡ Some k → read_link depth k f x v ≡ refused stop
     → read_links depth (suc (rank l) - m) m f x v ≡ refused stop
 links_stop depth m l k f x v stop some read = links_at depth m l k f x v some ∙ ap (λ r. r >>= λ y u. read_links depth (suc (rank l) - suc (rank k)) (suc (rank k)) f y u) read
 
@@ -251,7 +251,7 @@ level_above m l k v some = (some_within m l k (operator_of (kind_at v)) some).0
 pub unary_climbs : (depth : ℕ) (l : Level) (s : Place) (x : Expression) (v : Place) → read_form depth s ≡ got x v → read_chain depth l s ≡ read_links depth (suc (rank l)) 0 (first_of s.rest) x v
 unary_climbs depth l s x v read = climbs depth l s ∙ ap (λ r. r >>= λ x v. read_links depth (suc (rank l)) 0 (first_of s.rest) x v) (sym (form_same depth s) ∙ read)
 
-pub unary_stops : (depth : ℕ) (l : Level) (s : Place) (stop : Stop) → read_form depth s ≡ refused stop → read_chain depth l s ≡ refused stop
+pub unary_stops : (depth : ℕ) (l : Level) (s : Place) (stop : ParseStop) → read_form depth s ≡ refused stop → read_chain depth l s ≡ refused stop
 unary_stops depth l s stop read = climbs depth l s ∙ ap (λ r. r >>= λ x v. read_links depth (suc (rank l)) 0 (first_of s.rest) x v) (sym (form_same depth s) ∙ read)
 
 -- all levels up to one are those from the tightest on
@@ -259,12 +259,12 @@ pub links_all : (depth : ℕ) (l : Level) (f : Span) (x : Expression) (v : Place
 links_all depth l f x v = let all : suc (rank l) ≡ suc (rank l) - 0 = omega arith in ap (λ n. read_links depth n 0 f x v) all
 
 -- with no operator behind it, it is the chain
-pub unary_alone : {X : Type 0} (view : X → Expression) (r : Result X Stop) (depth : ℕ) (l : Level) (s u : Place) → Gives view r u (read_form depth s) → level_at 0 l u ≡ None → Gives view r u (read_chain depth l s)
+pub unary_alone : {X : Type 0} (view : X → Expression) (r : Result X ParseStop) (depth : ℕ) (l : Level) (s u : Place) → Gives view r u (read_form depth s) → level_at 0 l u ≡ None → Gives view r u (read_chain depth l s)
 unary_alone view (Ok x) depth l s u read none = unary_climbs depth l s (view x) u read ∙ links_all depth l (first_of s.rest) (view x) u ∙ links_end depth 0 l (first_of s.rest) (view x) u (omega arith) none
 unary_alone view (Err stop) depth l s u read none = fails_on stop (read_form depth s) (read_chain depth l s) (unary_stops depth l s) read
 
 -- what goes on behind it makes the chain
-pub unary_goes_on : {X : Type 0} (view : X → Expression) (r : Result X Stop) (depth : ℕ) (l : Level) (s v u : Place) (x : Expression) (first : Span) → read_form depth s ≡ got x v → first ≡ first_of s.rest
+pub unary_goes_on : {X : Type 0} (view : X → Expression) (r : Result X ParseStop) (depth : ℕ) (l : Level) (s v u : Place) (x : Expression) (first : Span) → read_form depth s ≡ got x v → first ≡ first_of s.rest
     → Gives view r u (read_links depth (suc (rank l)) 0 first x v) → Gives view r u (read_chain depth l s)
 unary_goes_on view r depth l s v u x first read is reads =
     subst (Gives view r u) (ap (λ f. read_links depth (suc (rank l)) 0 f x v) is ∙ sym (unary_climbs depth l s x v read)) reads

@@ -7,8 +7,8 @@ use Rattle.lexer.specs.Items.{Lexeme}
 use Rattle.lexer.specs.declared.token.TokenKind.{TokenKind}
 use Rattle.lexer.specs.declared.token.TokenKind.TheVariants as Kind
 use Rattle.language.specs.Rules.{Place}
-use Rattle.syntax.specs.declared.stop.Stop.{Stop}
-use Rattle.syntax.specs.declared.stop.Stop.TheVariants.{AtEnd, Unexpected, TooNested, Memory}
+use Rattle.syntax.specs.declared.stop.ParseStop.{ParseStop}
+use Rattle.syntax.specs.declared.stop.ParseStop.TheVariants.{AtEnd, Unexpected, TooNested, Memory}
 use Rattle.language.specs.declared.tree.Level.{Level}
 use Rattle.language.specs.Kinds.{repeats}
 use Rattle.language.specs.Grammar.{spans}
@@ -102,7 +102,7 @@ many_more test r (suc n) xs s a u pos holds read =
     ap (λ b. cond b (r s >>= λ a u. many_over test r n (xs ++ a ∷ []) u) (got xs s)) holds
     ∙ ap (λ z. z >>= λ a u. many_over test r n (xs ++ a ∷ []) u) read ∙ ap (λ m. many_over test r m (xs ++ a ∷ []) u) less
 
-pub many_fails : {A : Type 0} (test : Place → Bool) (r : Reader A) (n : ℕ) (xs : List A) (s : Place) (stop : Stop) → 0 < n → test s ≡ true → r s ≡ refused stop → many_over test r n xs s ≡ refused stop
+pub many_fails : {A : Type 0} (test : Place → Bool) (r : Reader A) (n : ℕ) (xs : List A) (s : Place) (stop : ParseStop) → 0 < n → test s ≡ true → r s ≡ refused stop → many_over test r n xs s ≡ refused stop
 unfolding many_over
 many_fails test r zero xs s stop pos holds read = absurd (omega arith)
 many_fails test r (suc n) xs s stop pos holds read =
@@ -119,14 +119,14 @@ commas_begin r s u a xs read is =
 pub drop_got : {A B : Type 0} (r : Reader A) (q : Reader B) (s : Place) (a : A) (v : Place) (b : B) (u : Place) → r s ≡ got a v → q v ≡ got b u → (r ▸ q) s ≡ got b u
 drop_got r q s a v b u one two = ap (λ z. z >>= λ x w. q w) one ∙ two
 
-pub drop_fails : {A B : Type 0} (r : Reader A) (q : Reader B) (s : Place) (a : A) (v : Place) (stop : Stop) → r s ≡ got a v → q v ≡ refused stop → (r ▸ q) s ≡ refused stop
+pub drop_fails : {A B : Type 0} (r : Reader A) (q : Reader B) (s : Place) (a : A) (v : Place) (stop : ParseStop) → r s ≡ got a v → q v ≡ refused stop → (r ▸ q) s ≡ refused stop
 drop_fails r q s a v stop one two = ap (λ z. z >>= λ x w. q w) one ∙ two
 
-pub drop_none : {A B : Type 0} (r : Reader A) (q : Reader B) (s : Place) (stop : Stop) → r s ≡ refused stop → (r ▸ q) s ≡ refused stop
+pub drop_none : {A B : Type 0} (r : Reader A) (q : Reader B) (s : Place) (stop : ParseStop) → r s ≡ refused stop → (r ▸ q) s ≡ refused stop
 drop_none r q s stop one = ap (λ z. z >>= λ x w. q w) one
 
 -- what fails by one reading fails by another that fails where it does
-pub fails_on : {A B : Type 0} (f : Stop) (one : Read A) (other : Read B) → ((stop : Stop) → one ≡ refused stop → other ≡ refused stop) → Fails f one → Fails f other
+pub fails_on : {A B : Type 0} (f : ParseStop) (one : Read A) (other : Read B) → ((stop : ParseStop) → one ≡ refused stop → other ≡ refused stop) → Fails f one → Fails f other
 fails_on AtEnd one other h fails = h AtEnd fails
 fails_on (Unexpected s) one other h fails = h (Unexpected s) fails
 fails_on (TooNested s) one other h fails = h (TooNested s) fails
@@ -135,7 +135,7 @@ fails_on Memory one other h fails = tt
 pub both_got : {A B : Type 0} (r : Reader A) (q : Reader B) (s : Place) (a : A) (v : Place) (b : B) (u : Place) → r s ≡ got a v → q v ≡ got b u → (r ∗ q) s ≡ got (a, b) u
 both_got r q s a v b u one two = ap (λ z. z >>= λ x w. q w >>= λ y t. got (x, y) t) one ∙ ap (λ z. z >>= λ y t. got (a, y) t) two
 
-pub both_fails : {A B : Type 0} (r : Reader A) (q : Reader B) (s : Place) (a : A) (v : Place) (stop : Stop) → r s ≡ got a v → q v ≡ refused stop → (r ∗ q) s ≡ refused stop
+pub both_fails : {A B : Type 0} (r : Reader A) (q : Reader B) (s : Place) (a : A) (v : Place) (stop : ParseStop) → r s ≡ got a v → q v ≡ refused stop → (r ∗ q) s ≡ refused stop
 both_fails r q s a v stop one two = ap (λ z. z >>= λ x w. q w >>= λ y t. got (x, y) t) one ∙ ap (λ z. z >>= λ y t. got (a, y) t) two
 
 -- the operands of a chain

@@ -8,8 +8,8 @@ use Rattle.lexer.specs.declared.token.TokenKind.TheVariants as Kind
 use Rattle.language.specs.Kinds.{same}
 use Rattle.language.specs.Rules.{Place, Rule, The, ◌⋆◌, ◌▹◌, ◌◃◌, Never, Many, Made, Maybe, Commas, Perhaps, Deeper}
 use Rattle.language.specs.Grammar.{first_of, node, IsName, IsDecl, AreParameters, IsCall, IsPriority, IsStmtOver, a_declaration, an_assignment, a_write, many_assigned, a_call, an_if, a_foreach, a_wait, IsBlockOver, IsStmt, IsBlock, IsModule, io, assert, string, IsPart, an_import, a_function, a_statement, IsScript}
-use Rattle.syntax.specs.declared.stop.Stop.{Stop}
-use Rattle.syntax.specs.declared.stop.Stop.TheVariants.{Unexpected}
+use Rattle.syntax.specs.declared.stop.ParseStop.{ParseStop}
+use Rattle.syntax.specs.declared.stop.ParseStop.TheVariants.{Unexpected}
 use Rattle.syntax.specs.Readers.{refused, got, ◌>>=◌, kind_of, kind_at, second_at, at, second, start, none_of, at_end, cond, choose, the, made, checked}
 use Rattle.syntax.specs.Reading.{spells, is_module, read_module, read_import, read_function, at_function, read_stmt, read_part, read_script}
 use Rattle.syntax.proofs.spellings.Spelling.{spells_true}
@@ -17,6 +17,7 @@ use Rattle.syntax.proofs.combining.Combine.{Law, Any, Begins, Sound, got_value, 
 use Rattle.syntax.proofs.expressions.Expressions.{name_law, second_end}
 use Rattle.syntax.proofs.statements.Declarations.{names_type, decl_begins, parameters_law, spells_is}
 use Rattle.syntax.proofs.statements.Statements.{After_stmt, starts_stmt, call_kinds, stmt_begins, block_law, stmt_law}
+use Rattle.std.proofs.lemmas.Bool.{or_right}
 
 -- IMPORTS
 
@@ -27,10 +28,6 @@ module_spelled s t u is false false one other h = absurd (cc)
 
 pub module_named : (s : Place) (t : Lexeme) (u : Place) → The Kind.Name s t u → is_module t ≡ true → IsModule s t u
 module_named s t u is holds = module_spelled s t u is (spells t.text (105 ∷ 111 ∷ [])) (spells t.text (97 ∷ 115 ∷ 115 ∷ 101 ∷ 114 ∷ 116 ∷ [])) refl refl holds
-
-or_true : (b c : Bool) → c ≡ true → (b || c) ≡ true
-or_true true c h = refl
-or_true false c h = h
 
 pub module_law : Law 1 read_module IsModule Any
 unfolding read_module at
@@ -56,7 +53,7 @@ module_law = record { sound = sound.gives; complete = complete }
 
     complete : (s : Place) (t : Lexeme) (u : Place) → IsModule s t u → Any (kind_at u) → read_module s ≡ got t u
     complete s t u (io is text) after = by_name s t u is (ap (λ b. b || spells t.text (97 ∷ 115 ∷ 115 ∷ 101 ∷ 114 ∷ 116 ∷ [])) (spells_true t.text (105 ∷ 111 ∷ []) text))
-    complete s t u (assert is text) after = by_name s t u is (or_true (spells t.text (105 ∷ 111 ∷ [])) (spells t.text (97 ∷ 115 ∷ 115 ∷ 101 ∷ 114 ∷ 116 ∷ [])) (spells_true t.text (97 ∷ 115 ∷ 115 ∷ 101 ∷ 114 ∷ 116 ∷ []) text))
+    complete s t u (assert is text) after = by_name s t u is (or_right (spells t.text (105 ∷ 111 ∷ [])) (spells t.text (97 ∷ 115 ∷ 115 ∷ 101 ∷ 114 ∷ 116 ∷ [])) (spells_true t.text (97 ∷ 115 ∷ 115 ∷ 101 ∷ 114 ∷ 116 ∷ []) text))
     complete s t u (string is) after =
         choose_first (at Kind.String) (the Kind.String) (checked is_module (the Kind.Name)) s (same_kind (kind_at s) Kind.String (kind_the Kind.String s t u is))
         ∙ (the_law Kind.String).complete s t u is tt
@@ -213,7 +210,7 @@ script_complete depth ts tree (u, parts, end) = (
 )
 
 -- where reading refuses, the tokens have no tree
-pub script_refused : (depth : ℕ) (ts : List Lexeme) (stop : Stop) → read_script depth (start ts) ≡ refused stop → (tree : Tree) → IsScript depth ts tree → ⊥
+pub script_refused : (depth : ℕ) (ts : List Lexeme) (stop : ParseStop) → read_script depth (start ts) ≡ refused stop → (tree : Tree) → IsScript depth ts tree → ⊥
 script_refused depth ts stop none tree is = let p = script_complete depth ts tree is in let bad = sym none ∙ p.1 in absurd (cc)
 
 -- tokens have at most one tree

@@ -9,8 +9,8 @@ use Rattle.language.specs.Tree.{Tree}
 use Rattle.language.specs.Numbered.{numbered}
 use Rattle.language.specs.Reads.{Reads}
 use Rattle.language.specs.Rules.{Place}
-use Rattle.syntax.specs.declared.stop.Stop.{Stop}
-use Rattle.syntax.specs.declared.stop.Stop.TheVariants.{AtEnd, Unexpected, TooNested, Memory}
+use Rattle.syntax.specs.declared.stop.ParseStop.{ParseStop}
+use Rattle.syntax.specs.declared.stop.ParseStop.TheVariants.{AtEnd, Unexpected, TooNested, Memory}
 use Rattle.syntax.specs.declared.error.ParseFault.{ParseFault}
 use Rattle.syntax.specs.declared.error.ParseFault.TheVariants as Fault
 use Rattle.syntax.specs.Answers.{Fails, answer_of}
@@ -25,11 +25,11 @@ use Rattle.syntax.proofs.stopping.Viable.{stops_first}
 use Rattle.syntax.proofs.scripts.Trees.{whole, reads_text, long_text, refused_text, faulty_text}
 
 -- a text whose tokens are refused has no tree, whatever ends them
-no_tree : (bytes : List ℕ) (ts : List Lexeme) (fault : Option LexFault) (stop : Stop) → Tokens bytes (map Ok ts ++ ending fault) → read_script 64 (start ts) ≡ refused stop → HasNone bytes
+no_tree : (bytes : List ℕ) (ts : List Lexeme) (fault : Option LexFault) (stop : ParseStop) → Tokens bytes (map Ok ts ++ ending fault) → read_script 64 (start ts) ≡ refused stop → HasNone bytes
 no_tree bytes ts None stop lexed read = refused_text bytes ts (whole bytes ts lexed) stop read
 no_tree bytes ts (Some f) stop lexed read = faulty_text bytes ts f lexed
 
-pub stop_refuses : (bytes : List ℕ) (ts : List Lexeme) (fault : Option LexFault) (stop : Stop) → length bytes ≤ 1048576 → Tokens bytes (map Ok ts ++ ending fault)
+pub stop_refuses : (bytes : List ℕ) (ts : List Lexeme) (fault : Option LexFault) (stop : ParseStop) → length bytes ≤ 1048576 → Tokens bytes (map Ok ts ++ ending fault)
     → Fails stop (read_script 64 (start ts)) → Refuses bytes (answer_of stop fault (length bytes))
 stop_refuses bytes ts None AtEnd short lexed fails = (short, no_tree bytes ts None AtEnd lexed fails, inr ((ts, lexed, fails, stops_first 64 ts AtEnd fails), refl))
 stop_refuses bytes ts (Some f) AtEnd short lexed fails = (short, faulty_text bytes ts f lexed, inl (ts, lexed, fails, stops_first 64 ts AtEnd fails))
@@ -67,7 +67,7 @@ ended_as : (bytes : List ℕ) (s : Place) (end found : Option LexFault) (tree : 
 ended_as bytes s end found tree u begun read ends is =
     subst (λ f. Tokens bytes (map Ok begun.0 ++ ending f)) (sym (ends begun.0 begun.1 begun.2 (begun_end bytes s tree u begun read)) ∙ is) begun.2
 
-pub begun_stops : (bytes : List ℕ) (s : Place) (stop : Stop) (answer : ParseFault) → length bytes ≤ 1048576 → Begins bytes s → Fails stop (read_script 64 s)
+pub begun_stops : (bytes : List ℕ) (s : Place) (stop : ParseStop) (answer : ParseFault) → length bytes ≤ 1048576 → Begins bytes s → Fails stop (read_script 64 s)
     → ((ts : List Lexeme) (fault : Option LexFault) → Tokens bytes (map Ok ts ++ ending fault) → answer ≡ answer_of stop fault (length bytes)) → Refuses bytes answer
 begun_stops bytes s stop answer short begun fails answers =
     subst (Refuses bytes) (sym (answers begun.0 begun.1 begun.2)) (stop_refuses bytes begun.0 begun.1 stop short begun.2 (subst (λ p. Fails stop (read_script 64 p)) begun.3 fails))

@@ -12,7 +12,7 @@ use Rattle.language.specs.Rules.{Place}
 use Rattle.language.specs.Grammar.{IsExpr, IsScript}
 use Rattle.language.specs.Numbered.{numbered}
 use Rattle.language.specs.Reads.{Reads}
-use Rattle.syntax.specs.declared.stop.Stop.{Stop}
+use Rattle.syntax.specs.declared.stop.ParseStop.{ParseStop}
 use Rattle.syntax.specs.Readers.{got, refused, start, kind_at, kind_of}
 use Rattle.syntax.specs.Reading.{read_script}
 use Rattle.syntax.proofs.combining.Combine.{law_only}
@@ -57,7 +57,7 @@ pub long_text : (bytes : List ℕ) → 1048576 < length bytes → (t : Tree) →
 long_text bytes long t is = let short = is.short in omega arith
 
 -- nor has one whose tokens are refused
-pub refused_text : (bytes : List ℕ) (ts : List Lexeme) → Tokens bytes (map Ok ts) → (stop : Stop) → read_script 64 (start ts) ≡ refused stop → (t : Tree) → Reads bytes t → ⊥
+pub refused_text : (bytes : List ℕ) (ts : List Lexeme) → Tokens bytes (map Ok ts) → (stop : ParseStop) → read_script 64 (start ts) ≡ refused stop → (t : Tree) → Reads bytes t → ⊥
 refused_text bytes ts lexed stop none t is =
     let same = same_tokens is.tokens ts (only_tokens 0 bytes (map Ok is.tokens) is.lexed ∙ sym (only_tokens 0 bytes (map Ok ts) lexed)) in
     script_refused 64 ts stop none is.parsed (subst (λ xs. IsScript 64 xs is.parsed) same is.is_script)

@@ -7,15 +7,13 @@ use Rattle.lexer.specs.Bytes.{is_plain, is_empty, escaped_byte}
 use Rattle.lexer.specs.Tokens.{Spells, ended, plain, escape, Quotes, IsString}
 use Rattle.language.specs.Grammar.{or_itself, spelled_from, behind_quote}
 use Rattle.syntax.specs.Formed.{closes, is_quoted}
+use Rattle.std.proofs.lemmas.Bool.{and_parts, and_from}
 
 if_false : {A : Type 0} (b : Bool) (x y : A) → b ≡ false → (if b then x else y) ≡ y
 if_false b x y is = ap (λ v. if v then x else y) is
 
 if_true : {A : Type 0} (b : Bool) (x y : A) → b ≡ true → (if b then x else y) ≡ x
 if_true b x y is = ap (λ v. if v then x else y) is
-
-both_true : (a b : Bool) → a ≡ true → b ≡ true → (a && b) ≡ true
-both_true a b p q = ap (λ v. v && b) p ∙ q
 
 some_is : {A : Type 0} (o : Option A) (d : A) → o ≡ Some d → is_some o ≡ true
 some_is o d e = ap (λ v. is_some v) e
@@ -27,8 +25,8 @@ closes_quote (plain {c} {bs} {s} is more) =
     let no_quote : nat_eq c 34 ≡ false = grind (arith, nat_tests) in
     let no_slash : nat_eq c 92 ≡ false = grind (arith, nat_tests) in
     if_false (nat_eq c 34) (is_empty (bs ++ 34 ∷ [])) _ no_quote ∙ if_false (nat_eq c 92) (closes true (bs ++ 34 ∷ [])) (is_plain c && closes false (bs ++ 34 ∷ [])) no_slash
-    ∙ both_true (is_plain c) (closes false (bs ++ 34 ∷ [])) is (closes_quote more)
-closes_quote (escape {c} {d} {bs} {s} is more) = both_true (is_some (escaped_byte c)) (closes false (bs ++ 34 ∷ [])) (some_is (escaped_byte c) d is) (closes_quote more)
+    ∙ and_from (is_plain c) (closes false (bs ++ 34 ∷ [])) is (closes_quote more)
+closes_quote (escape {c} {d} {bs} {s} is more) = and_from (is_some (escaped_byte c)) (closes false (bs ++ 34 ∷ [])) (some_is (escaped_byte c) d is) (closes_quote more)
 
 -- and spells what is read up to that quote
 spells_quote : {body s : List ℕ} → Spells body s → spelled_from false (body ++ 34 ∷ []) ≡ s
@@ -54,10 +52,6 @@ no_bytes : (cs : List ℕ) → is_empty cs ≡ true → cs ≡ []
 no_bytes [] e = refl
 no_bytes (c ∷ cs) e = absurd (cc)
 
-and_both : (a b : Bool) → (a && b) ≡ true → (a ≡ true) × (b ≡ true)
-and_both true b e = (refl, e)
-and_both false b e = absurd (cc)
-
 plain_body : (c : ℕ) (cs : List ℕ) → is_plain c ≡ true → Body cs → Body (c ∷ cs)
 plain_body c cs is (body, s, eq, more) = (c ∷ body, c ∷ s, ap (λ v. c ∷ v) eq, plain is more)
 
@@ -76,16 +70,16 @@ bodies (c ∷ cs) = (
     | true ↦ λ quote empty. let is : c ≡ 34 = eqb-true c 34 quote in let none : cs ≡ [] = no_bytes cs empty in ([], [], cc, ended)
     | false ↦ λ no_quote. elim (nat_eq c 92) as (λ b. nat_eq c 92 ≡ b → (if b then closes true cs else is_plain c && closes false cs) ≡ true → Body (c ∷ cs)) [
       | true ↦ λ slash h. let is : c ≡ 92 = eqb-true c 92 slash in subst (λ d. Body (d ∷ cs)) (sym is) ((bodies cs).1 h)
-      | false ↦ λ no_slash h. let p = and_both (is_plain c) (closes false cs) h in plain_body c cs p.0 ((bodies cs).0 p.1)
+      | false ↦ λ no_slash h. let p = and_parts (is_plain c) (closes false cs) h in plain_body c cs p.0 ((bodies cs).0 p.1)
     ] refl
   ] refl,
-  λ e. let p = and_both (is_some (escaped_byte c)) (closes false cs) e in escaped_body c cs (escaped_byte c) refl p.0 ((bodies cs).0 p.1),
+  λ e. let p = and_parts (is_some (escaped_byte c)) (closes false cs) e in escaped_body c cs (escaped_byte c) refl p.0 ((bodies cs).0 p.1),
 )
 
 pub quoted_string : (text : List ℕ) → IsTrue (is_quoted text) → IsString text
 quoted_string [] e = absurd (cc)
 quoted_string (c ∷ cs) e =
-    let p = and_both (nat_eq c 34) (closes false cs) e in
+    let p = and_parts (nat_eq c 34) (closes false cs) e in
     let is : c ≡ 34 = eqb-true c 34 p.0 in
     let b = (bodies cs).0 p.1 in
     (b.1, record { body = b.0; is = subst (λ d. d ∷ cs ≡ 34 ∷ (b.0 ++ 34 ∷ [])) (sym is) (ap (λ v. 34 ∷ v) b.2); spells = b.3 })

@@ -7,7 +7,7 @@ use Rattle.language.specs.Tree.{Word, Calling, assign_all, calls, Part, function
 use Rattle.language.specs.Tree.{choice_of}
 use Rattle.language.specs.Rules.{Place}
 use Rattle.language.specs.Grammar.{first_of, node, does, or_zero}
-use Rattle.syntax.specs.declared.stop.Stop.{Stop}
+use Rattle.syntax.specs.declared.stop.ParseStop.{ParseStop}
 use Rattle.syntax.specs.Readers.{◌◂◌, refused, got, ◌>>=◌, at, at_end, the, ◌▸◌, made, maybe, many_over}
 use Rattle.syntax.specs.Reading.{read_names, read_call, read_many, read_priority, read_calling, read_name, read_test, read_source, read_stmt, read_stmts, read_block, read_else, read_if, read_foreach, read_wait, read_command, read_part, read_script, read_parameters, read_function}
 use Rattle.syntax.proofs.combining.Combine.{bind_got, got_value, got_place}
@@ -43,7 +43,7 @@ else_if (suc depth) s x u some holds one =
     ∙ ap (λ z. z >>= λ x u. got (body (first_of s.rest).from (and_statement x no_statements)) u) inner
 
 -- and one that is refused
-pub else_if_fails : (depth : ℕ) (s : Place) → 0 < depth → at Kind.If s ≡ true → (stop : Stop) → read_command (depth - 1) s ≡ refused stop → read_else depth s ≡ refused stop
+pub else_if_fails : (depth : ℕ) (s : Place) → 0 < depth → at Kind.If s ≡ true → (stop : ParseStop) → read_command (depth - 1) s ≡ refused stop → read_else depth s ≡ refused stop
 unfolding read_else
 else_if_fails zero s some holds stop none = absurd (omega arith)
 else_if_fails (suc depth) s some holds stop none =
@@ -65,7 +65,7 @@ unfolding read_if read_else
 if_reads depth s t v e w b x o u one two three four = rw (one, two, three, four) refl
 
 pub if_branch_fails : (depth : ℕ) (s : Place) (t : Lexeme) (v : Place) (e : Expression) (w : Place) (b : Body) (x : Place)
-    → the Kind.If s ≡ got t v → read_test depth v ≡ got e w → read_block depth w ≡ got b x → (stop : Stop) → maybe (at Kind.Else) (the Kind.Else ▸ read_else depth) x ≡ refused stop
+    → the Kind.If s ≡ got t v → read_test depth v ≡ got e w → read_block depth w ≡ got b x → (stop : ParseStop) → maybe (at Kind.Else) (the Kind.Else ▸ read_else depth) x ≡ refused stop
     → read_if depth s ≡ refused stop
 unfolding read_if read_else
 if_branch_fails depth s t v e w b x one two three stop four = rw (one, two, three, four) refl

@@ -13,8 +13,8 @@ use Rattle.language.specs.Kinds.{same, operator_of, base_of, repeats}
 use Rattle.language.specs.Tree.{Expression, Form, number, text, truth, variable, element, call, prefixed, expressions_of, value, list, array, range}
 use Rattle.language.specs.Rules.{Place, behind, Rule, The, ◌⋆◌, ◌▹◌, Maybe, Perhaps, Made, cons, Commas, Round, Square}
 use Rattle.language.specs.Grammar.{node, spans, word, number_of, spelled, chained, shape_of, keys_of, signed, IsName, IsOperator, Repeated, IsChain, IsExprOver, AreArguments, IsUnaryOver, a_not, a_negative, a_number, a_string, a_true, a_false, a_name, an_element, a_call, a_parenthesis, IsUnary, IsExpr, IsType, AreKeys, IsDecl, AreParameters, AreNames, IsCall, IsRight, a_value, a_list, IsPrio, IsSmall, IsPriority, IsSource, an_array, a_range}
-use Rattle.syntax.specs.declared.stop.Stop.{Stop}
-use Rattle.syntax.specs.declared.stop.Stop.TheVariants.{AtEnd, Unexpected}
+use Rattle.syntax.specs.declared.stop.ParseStop.{ParseStop}
+use Rattle.syntax.specs.declared.stop.ParseStop.TheVariants.{AtEnd, Unexpected}
 use Rattle.syntax.specs.Readers.{refused, got, Reader, kind_of, kind_at, second_at, at, second, cond, the, ◌∗◌, made, perhaps, many, once, checked}
 use Rattle.syntax.specs.Reading.{at_operator, read_operator, operands, chain_over, expr_over, read_name, read_unary, read_expr, read_exprs, read_arguments, read_index, read_test, read_named, read_prefixed, read_literal, read_form, base_over, read_type, read_keys, read_brackets, read_decl, read_decls, read_parameters, read_words, read_names, read_call, read_elements, read_right, is_prio, read_prio, read_small, read_priority, bounds_over, read_range, read_source}
 use Rattle.syntax.proofs.combining.Combine.{tests_at}
@@ -29,7 +29,7 @@ pub name_looks : {I : Type 0} → Looks {I = I} true (λ x. same x Kind.Name) re
 unfolding read_name
 name_looks = made_looks (λ s t u. word t) (token_looks Kind.Name)
 
-sign_read : (l : Level) (b : ℕ) (ts : List Lexeme) (f : Stop) → operates l (kind_of ts) ≡ true → read_operator l (before_of b ts) ≡ refused f → ⊥
+sign_read : (l : Level) (b : ℕ) (ts : List Lexeme) (f : ParseStop) → operates l (kind_of ts) ≡ true → read_operator l (before_of b ts) ≡ refused f → ⊥
 sign_read l b [] f is h = absurd (cc)
 sign_read l b (t ∷ ts) f is h =
     let p = op_yes l (operator_of t.kind) is in
@@ -190,7 +190,7 @@ deep_expr n = below read_expr IsExpr n (λ d is. expr_looks d)
 
 -- DECLARATIONS, CALLS, RIGHT SIDES
 
-type_missed : (b : ℕ) (ts : List Lexeme) (m : Option Base) (f : Stop) → base_of (kind_of ts) ≡ m → base_over m (before_of b ts) ≡ refused f
+type_missed : (b : ℕ) (ts : List Lexeme) (m : Option Base) (f : ParseStop) → base_of (kind_of ts) ≡ m → base_over m (before_of b ts) ≡ refused f
     → ((ts ≡ []) × (AtEnd ≡ f)) ⊎ ((t : Lexeme) × (us : List Lexeme) × (ts ≡ t ∷ us) × (Unexpected t.span ≡ f) × (base_of t.kind ≡ None))
 type_missed b [] None f is h = let same' : AtEnd ≡ f = cc in inl (refl, same')
 type_missed b (t ∷ ts) None f is h = let same' : Unexpected t.span ≡ f = cc in inr (t, ts, refl, same', is)
@@ -217,7 +217,7 @@ type_looks {I} = record { here = λ s. record { gives = λ a u h. gives s a u h;
           λ i ws kind. inl (a, type_law.complete (before_of s.before (t ∷ ws)) a (before_of u.before ws) (t, (ws, refl, refl, ap (λ w. before_of w.before ws) q.3), p.2) tt),
         )
 
-    stops : (s : Place) (f : Stop) → ((s.rest ≡ []) × (AtEnd ≡ f)) ⊎ ((t : Lexeme) × (us : List Lexeme) × (s.rest ≡ t ∷ us) × (Unexpected t.span ≡ f) × (base_of t.kind ≡ None))
+    stops : (s : Place) (f : ParseStop) → ((s.rest ≡ []) × (AtEnd ≡ f)) ⊎ ((t : Lexeme) × (us : List Lexeme) × (s.rest ≡ t ∷ us) × (Unexpected t.span ≡ f) × (base_of t.kind ≡ None))
         → Halts none_of_all (λ (i : I) v. base_over (base_of (kind_at v)) v) (Spells IsType) s f
     stops s f (inl (none, is)) = subst (Halts none_of_all (λ (i : I) v. base_over (base_of (kind_at v)) v) (Spells IsType) s) is (subst (Opens (Spells IsType)) (sym none) type_word)
     stops s f (inr (t, us, rest, is, none)) =

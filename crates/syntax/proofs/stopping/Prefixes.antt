@@ -6,8 +6,8 @@ use Rattle.lexer.specs.declared.token.TokenKind.{TokenKind}
 use Rattle.lexer.specs.declared.token.TokenKind.TheVariants as Kind
 use Rattle.language.specs.Kinds.{same}
 use Rattle.language.specs.Rules.{Place, behind, Rule, The, ◌⋆◌, ◌▹◌, ◌◃◌, Many, Maybe, AtMostOne, Perhaps, Made, cons, Commas}
-use Rattle.syntax.specs.declared.stop.Stop.{Stop}
-use Rattle.syntax.specs.declared.stop.Stop.TheVariants.{AtEnd, Unexpected, TooNested, Memory}
+use Rattle.syntax.specs.declared.stop.ParseStop.{ParseStop}
+use Rattle.syntax.specs.declared.stop.ParseStop.TheVariants.{AtEnd, Unexpected, TooNested, Memory}
 use Rattle.syntax.specs.Readers.{Read, refused, got, Reader, ◌>>=◌, kind_of, tail_of, kind_at, second_at, stop_of, cond, choose, next_of, the, ◌∗◌, ◌▸◌, ◌◂◌, made, never, maybe, perhaps, many_over, many, once, commas, at, bracket, checked}
 use Rattle.syntax.proofs.combining.Combine.{Tests, bind_got, got_place, the_law, checked_law, tests_at}
 use Rattle.syntax.proofs.expressions.Forms.{bracket_zero, bracket_deep}
@@ -25,14 +25,14 @@ abbrev pub Opens : Language → List Lexeme → Type 0
 Opens L ts = (us : List Lexeme) × L (ts ++ us)
 
 abbrev pub Refused : {A : Type 0} → Read A → Type 0
-Refused x = (f : Stop) × (x ≡ refused f)
+Refused x = (f : ParseStop) × (x ≡ refused f)
 
 -- it comes to this place, or is refused
 abbrev pub Comes : {A : Type 0} → Read A → Place → Type 0
 Comes {A} x v = ((a : A) × (x ≡ got a v)) ⊎ Refused x
 
 -- where a reader stops: what it took can be gone on with, and what stands behind a token that is none of those allowed is not looked at
-abbrev pub Halts : {A I : Type 0} → (TokenKind → Bool) → (I → Reader A) → Language → Place → Stop → Type 0
+abbrev pub Halts : {A I : Type 0} → (TokenKind → Bool) → (I → Reader A) → Language → Place → ParseStop → Type 0
 Halts T q L s AtEnd = Opens L s.rest
 Halts {A} {I} T q L s (Unexpected p) =
     (xs : List Lexeme) × (t : Lexeme) × (zs : List Lexeme) × (s.rest ≡ xs ++ t ∷ zs) × (p ≡ t.span) × Opens L xs
@@ -44,7 +44,7 @@ Halts T q L s Memory = ⊥
 pub record At {A I : Type 0} (e : Bool) (T : TokenKind → Bool) (r : Reader A) (q : I → Reader A) (L : Language) (s : Place) : Type 0 where
   pub gives : (a : A) (u : Place) → r s ≡ got a u → (cs : List Lexeme) × (s.rest ≡ cs ++ u.rest) × (e ≡ true → cs ≡ [] → ⊥) × L cs
       × ((i : I) (ws : List Lexeme) → kind_of ws ≡ kind_of u.rest → Comes (q i (before_of s.before (cs ++ ws))) (before_of u.before ws))
-  pub stops : (f : Stop) → r s ≡ refused f → Halts T q L s f
+  pub stops : (f : ParseStop) → r s ≡ refused f → Halts T q L s f
 
 -- the same everywhere, of a language that is not empty
 pub record Looks {A I : Type 0} (e : Bool) (T : TokenKind → Bool) (r : Reader A) (q : I → Reader A) (L : Language) : Type 0 where
@@ -72,7 +72,7 @@ pub shift : {A B I J : Type 0} (T T' : TokenKind → Bool) (p : I → Reader A) 
     → ((ds : List Lexeme) → Opens Q ds → Opens P (cs ++ ds))
     → ((xs : List Lexeme) (t : Lexeme) (ws : List Lexeme) → kind_of (xs ++ t ∷ ws) ≡ kind_of v.rest → ((j : J) → Refused (q j (before_of v.before (xs ++ t ∷ ws)))) → (i : I) → Refused (p i (before_of s.before (cs ++ (xs ++ t ∷ ws)))))
     → (cs ≡ [] → T' (kind_at s) ≡ false → T (kind_at s) ≡ false)
-    → (f : Stop) → Halts T' q Q v f → Halts T p P s f
+    → (f : ParseStop) → Halts T' q Q v f → Halts T p P s f
 shift T T' p q P Q cs s v rest more stays first AtEnd h = subst (Opens P) (sym rest) (more v.rest h)
 shift T T' p q P Q cs s v rest more stays first (Unexpected x) (xs, t, zs, rest', span, opens, blocks, fresh) = (
   cs ++ xs,
@@ -126,7 +126,7 @@ alike {A} {I} {J} {e} {T} {r} {r'} {q} {q'} {L} {s} same others one = record {
 
 -- ONE BEHIND THE OTHER
 
-pub bind_stops : {A B : Type 0} (x : Read A) (g : A → Place → Read B) (f : Stop) → (x >>= g) ≡ refused f → (x ≡ refused f) ⊎ ((a : A) × (v : Place) × (x ≡ got a v) × (g a v ≡ refused f))
+pub bind_stops : {A B : Type 0} (x : Read A) (g : A → Place → Read B) (f : ParseStop) → (x >>= g) ≡ refused f → (x ≡ refused f) ⊎ ((a : A) × (v : Place) × (x ≡ got a v) × (g a v ≡ refused f))
 bind_stops (refused stop) g f h = let same : stop ≡ f = cc in inl (ap refused same)
 bind_stops (got a v) g f h = inr (a, v, refl, h)
 
@@ -173,7 +173,7 @@ bind_at {A} {B} {I} {e} {e'} {e''} {T} {T'} {T''} {r} {q} {L} {M} {N} k k' s one
     grown : (cs ds : List Lexeme) → L cs → Opens M ds → Opens N (cs ++ ds)
     grown cs ds is (us, more) = (us, subst N (sym (append_assoc cs ds us)) (join cs (ds ++ us) is more))
 
-    stops : (f : Stop) → (r s >>= k s) ≡ refused f → Halts T'' (λ i x. q i x >>= k' i x) N s f
+    stops : (f : ParseStop) → (r s >>= k s) ≡ refused f → Halts T'' (λ i x. q i x >>= k' i x) N s f
     stops f h = cases (bind_stops (r s) (k s) f h)
       where
         cases : (r s ≡ refused f) ⊎ ((a : A) × (v : Place) × (r s ≡ got a v) × (k s a v ≡ refused f)) → Halts T'' (λ i x. q i x >>= k' i x) N s f
@@ -217,10 +217,10 @@ unfolding the
 not_read k b t ws other = ap (λ c. cond c (got t (behind t ws)) (refused (Unexpected t.span))) other
 
 -- why it is not taken
-abbrev Missed : TokenKind → List Lexeme → Stop → Type 0
+abbrev Missed : TokenKind → List Lexeme → ParseStop → Type 0
 Missed k ts f = ((ts ≡ []) × (AtEnd ≡ f)) ⊎ ((t : Lexeme) × (us : List Lexeme) × (ts ≡ t ∷ us) × (Unexpected t.span ≡ f) × (same t.kind k ≡ false))
 
-missed_over : (k : TokenKind) (ts : List Lexeme) (f : Stop) → cond (same (kind_of ts) k) (next_of ts) (refused (stop_of ts)) ≡ refused f → Missed k ts f
+missed_over : (k : TokenKind) (ts : List Lexeme) (f : ParseStop) → cond (same (kind_of ts) k) (next_of ts) (refused (stop_of ts)) ≡ refused f → Missed k ts f
 missed_over k [] f h = cases (same Kind.End k) h
   where
     cases : (b : Bool) → ◌≡◌ {A = Read Lexeme} (cond b (refused AtEnd) (refused AtEnd)) (refused f) → Missed k [] f
@@ -232,12 +232,12 @@ missed_over k (t ∷ ts) f h = cases (same t.kind k) refl h
     cases true other g = absurd (cc)
     cases false other g = let is : Unexpected t.span ≡ f = cc in inr (t, ts, refl, is, other)
 
-missed : (k : TokenKind) (s : Place) (f : Stop) → the k s ≡ refused f → Missed k s.rest f
+missed : (k : TokenKind) (s : Place) (f : ParseStop) → the k s ≡ refused f → Missed k s.rest f
 unfolding the
 missed k s f h = missed_over k s.rest f h
 
 -- where its first token is missed, a reader stops
-first_stops : {A I : Type 0} (T : TokenKind → Bool) (k : TokenKind) (q : I → Reader A) (L : Language) (s : Place) (f : Stop) → (ds : List Lexeme) × L ds
+first_stops : {A I : Type 0} (T : TokenKind → Bool) (k : TokenKind) (q : I → Reader A) (L : Language) (s : Place) (f : ParseStop) → (ds : List Lexeme) × L ds
     → ((i : I) (t : Lexeme) (ws : List Lexeme) → same t.kind k ≡ false → Refused (q i (before_of s.before (t ∷ ws)))) → ((t : Lexeme) → same t.kind k ≡ false → T t.kind ≡ false)
     → Missed k s.rest f → Halts T q L s f
 first_stops T k q L s f some blocks fresh (inl (none, is)) = subst (Halts T q L s) is (subst (Opens L) (sym none) some)
@@ -327,10 +327,10 @@ map_at {A} {B} {I} {e} {T} {r} {q} {L} g g' s one = record { gives = gives; stop
               (λ a. inl (g' i (before_of s.before (x.0 ++ ws)) a (before_of u.before ws), refl)),
         )
 
-    no_got : (a : A) (w : Place) (f : Stop) → ◌≡◌ {A = Read B} (got (g s a w) w) (refused f) → ⊥
+    no_got : (a : A) (w : Place) (f : ParseStop) → ◌≡◌ {A = Read B} (got (g s a w) w) (refused f) → ⊥
     no_got a w f h = absurd (cc)
 
-    stops : (f : Stop) → (r s >>= λ a w. got (g s a w) w) ≡ refused f → Halts T (λ i x. q i x >>= λ a u. got (g' i x a u) u) L s f
+    stops : (f : ParseStop) → (r s >>= λ a w. got (g s a w) w) ≡ refused f → Halts T (λ i x. q i x >>= λ a u. got (g' i x a u) u) L s f
     stops f h = cases (bind_stops (r s) (λ a w. got (g s a w) w) f h)
       where
         cases : (r s ≡ refused f) ⊎ ((a : A) × (v : Place) × (r s ≡ got a v) × (got (g s a v) v ≡ refused f)) → Halts T (λ i x. q i x >>= λ a u. got (g' i x a u) u) L s f
@@ -421,7 +421,7 @@ same_at {A} {I} {e} {T} {r} {R} {q} {Q} {L} s is given stopped one = record {
   stops = λ f h. cases f (one.stops f (sym is ∙ h));
 }
   where
-    cases : (f : Stop) → Halts T q L s f → Halts T Q L s f
+    cases : (f : ParseStop) → Halts T q L s f → Halts T Q L s f
     cases AtEnd h = h
     cases (Unexpected p) (xs, t, zs, rest, span, opens, blocks, fresh) = (
       xs,
@@ -652,14 +652,14 @@ checked_looks {I} test k t₀ kind₀ test₀ = record { here = λ s. record { g
     fails : (b : ℕ) (t : Lexeme) (ws : List Lexeme) → t.kind ≡ k → test t ≡ false → checked test (the k) (before_of b (t ∷ ws)) ≡ refused (Unexpected t.span)
     fails b t ws kind no' = ap (λ z. z >>= λ t u. cond (test t) (got t u) (refused (Unexpected t.span))) (reads k b t ws kind) ∙ ap (λ b. cond b (got t (behind t ws)) (refused (Unexpected t.span))) no'
 
-    tested : (s : Place) (f : Stop) (t : Lexeme) (v : Place) → the k s ≡ got t v → (b : Bool) → test t ≡ b → cond b (got t v) (refused (Unexpected t.span)) ≡ refused f → Halts none_of_all (λ (i : I). checked test (the k)) (Spells (The_checked test k)) s f
+    tested : (s : Place) (f : ParseStop) (t : Lexeme) (v : Place) → the k s ≡ got t v → (b : Bool) → test t ≡ b → cond b (got t v) (refused (Unexpected t.span)) ≡ refused f → Halts none_of_all (λ (i : I). checked test (the k)) (Spells (The_checked test k)) s f
     tested s f t v read true is h = absurd (cc)
     tested s f t v read false is h =
         let same' : Unexpected t.span ≡ f = cc in
         let p = ((the_law k).sound s t v read).0 in
         subst (Halts none_of_all (λ (i : I). checked test (the k)) (Spells (The_checked test k)) s) same' ([], t, p.0, p.2, refl, word, λ i ws. (Unexpected t.span, fails s.before t ws p.1 is), λ none. refl)
 
-    stops : (s : Place) (f : Stop) → checked test (the k) s ≡ refused f → Halts none_of_all (λ (i : I). checked test (the k)) (Spells (The_checked test k)) s f
+    stops : (s : Place) (f : ParseStop) → checked test (the k) s ≡ refused f → Halts none_of_all (λ (i : I). checked test (the k)) (Spells (The_checked test k)) s f
     stops s f h = cases (bind_stops (the k s) (λ t u. cond (test t) (got t u) (refused (Unexpected t.span))) f h)
       where
         cases : (the k s ≡ refused f) ⊎ ((t : Lexeme) × (v : Place) × (the k s ≡ got t v) × (cond (test t) (got t v) (refused (Unexpected t.span)) ≡ refused f)) → Halts none_of_all (λ (i : I). checked test (the k)) (Spells (The_checked test k)) s f
@@ -688,7 +688,7 @@ level_looks {A} {e} {T} {R} k body n word deeper = record { here = λ s. by n de
     begun : (t : Lexeme) → t.kind ≡ k → (cs : List Lexeme) × Spells (The k ▹ R) cs
     begun t kind = (t ∷ word.0, spells_drop (t ∷ []) word.0 (spells_one k (t ∷ []) (t, kind, refl)) word.1)
 
-    shut : (f : Stop) (s : Place) → (the k s ≡ refused f) ⊎ ((t : Lexeme) × (v : Place) × (the k s ≡ got t v) × (◌≡◌ {A = Read A} (refused (TooNested t.span)) (refused f))) → Halts (λ x. same x k) (level k body) (Spells (The k ▹ R)) s f
+    shut : (f : ParseStop) (s : Place) → (the k s ≡ refused f) ⊎ ((t : Lexeme) × (v : Place) × (the k s ≡ got t v) × (◌≡◌ {A = Read A} (refused (TooNested t.span)) (refused f))) → Halts (λ x. same x k) (level k body) (Spells (The k ▹ R)) s f
     shut f s (inl none) =
         first_stops (λ x. same x k) k (level k body) (Spells (The k ▹ R)) s f (begun (token k) refl) (λ m t ws other. level_missed k body m s.before t ws other) (λ t other. other) (missed k s f none)
     shut f s (inr (t, v, read, none)) =

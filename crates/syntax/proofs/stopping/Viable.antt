@@ -10,8 +10,8 @@ use Rattle.language.specs.Tree.{Statement, declare, assign, write, assign_all, c
 use Rattle.language.specs.Tree.{choice_of}
 use Rattle.language.specs.Rules.{Place, behind, Rule, The, ◌⋆◌, ◌▹◌, Many, Maybe, Round, Deeper}
 use Rattle.language.specs.Grammar.{first_of, node, does, or_zero, IsExpr, IsElse, a_block, an_if, IsStmtOver, a_declaration, an_assignment, a_write, many_assigned, a_call, a_foreach, a_wait, IsBlockOver, IsStmt, IsBlock, IsModule, string, IsPart, an_import, a_function, a_statement, IsScript}
-use Rattle.syntax.specs.declared.stop.Stop.{Stop}
-use Rattle.syntax.specs.declared.stop.Stop.TheVariants.{AtEnd, Unexpected, TooNested, Memory}
+use Rattle.syntax.specs.declared.stop.ParseStop.{ParseStop}
+use Rattle.syntax.specs.declared.stop.ParseStop.TheVariants.{AtEnd, Unexpected, TooNested, Memory}
 use Rattle.syntax.specs.Readers.{refused, got, Reader, ◌>>=◌, kind_of, kind_at, second_at, start, at_end, none_of, cond, choose, made, many_over, nested, deeper}
 use Rattle.syntax.specs.Reading.{read_declaration, read_assignment, read_write, read_many, read_calling, read_stmt, read_stmts, read_block, read_else, read_if, read_foreach, read_wait, read_named_stmt, read_command, is_module, read_module, read_import, read_function, at_function, read_part, read_script}
 use Rattle.syntax.proofs.combining.Combine.{tests_at, not_kind, kind_same, same_kind}
@@ -21,6 +21,7 @@ use Rattle.syntax.proofs.scripts.Scripts.{module_named, function_is, script_comp
 use Rattle.syntax.proofs.stopping.Prefixes.{before_of, Language, Opens, Refused, Comes, Halts, At, Looks, shift, wider, alike, bind_stops, bind_refused, falls, shorter, map_at, token, Spells, spells_to, spells_both, spells_drop, spells_keep, spells_made, spells_one, spells_nil, spells_cons, token_looks, made_looks, both_looks, drop_looks, keep_looks, none_of_all, last_both_looks, last_keep_looks, choose_at, choose_second_at, other_at, never_at, maybe_looks, many_here, The_checked, checked_looks, alike_looks, wider_looks, bracket_looks, kind_end, kind_mid}
 use Rattle.syntax.specs.Viable.{Viable, StopsFirst}
 use Rattle.syntax.proofs.stopping.Beginnings.{Below, name_looks, test_looks, index_looks, deep_expr, expr_looks, expr_word, decl_looks, names_looks, call_looks, right_looks, priority_looks, source_looks, parameters_looks, tests_second}
+use Rattle.std.proofs.lemmas.Bool.{or_from}
 
 -- WORDS BY THEIR FIRST TOKEN
 
@@ -56,7 +57,7 @@ headed_at {A} {I} {T} {r} {q} {L} k s here some starts one = record {
     full [] t h = absurd (cc)
     full (x ∷ xs) t h = absurd (cc)
 
-    cases : (f : Stop) → Halts T q L s f → Halts T q (Headed k L) s f
+    cases : (f : ParseStop) → Halts T q L s f → Halts T q (Headed k L) s f
     cases AtEnd h = more s.rest not_end [] (sym (append-nil s.rest)) h
     cases (Unexpected p) (xs, t, zs, rest, span, opens, blocks, fresh) = (xs, t, zs, rest, span, more xs (not_first xs t zs rest fresh) (t ∷ zs) rest opens, blocks, fresh)
     cases (TooNested p) (xs, t, zs, rest, span, opens) = (xs, t, zs, rest, span, more (xs ++ t ∷ []) (full xs t) zs (rest ∙ sym (append_assoc xs (t ∷ []) zs)) opens)
@@ -106,12 +107,8 @@ calling_looks n =
 abbrev pub Opening : TokenKind → Bool
 Opening x = same x Kind.OpenRound || same x Kind.If
 
-or_false : (b c : Bool) → b ≡ false → c ≡ false → (b || c) ≡ false
-or_false true c h g = h
-or_false false c h g = g
-
 not_opening : (T : TokenKind → Bool) (k : TokenKind) → T k ≡ true → T Kind.OpenRound ≡ false → T Kind.If ≡ false → Opening k ≡ false
-not_opening T k is one two = or_false (same k Kind.OpenRound) (same k Kind.If) (not_kind T k Kind.OpenRound is one) (not_kind T k Kind.If is two)
+not_opening T k is one two = or_from (same k Kind.OpenRound) (same k Kind.If) (not_kind T k Kind.OpenRound is one) (not_kind T k Kind.If is two)
 
 stmts_below : (n : ℕ) → ((d : ℕ) → n ≡ suc d → Looks true Opening (read_stmt d) read_stmt (Spells (IsStmt (suc n)))) → Below false read_stmts (λ d. Many (IsStmt d)) n
 unfolding read_stmts
@@ -244,7 +241,7 @@ command_looks n one = record { here = here; some = (declaration_looks n).some }
         choose_at (tests_at Kind.OpenRound) s (λ is. wider (λ cs h. h) (λ h. let bad : true ≡ false = sym is ∙ h in absurd (cc)) ((assigned_looks n).here s)) (λ no_round.
         choose_at (tests_at Kind.At) s (λ is. wider (λ cs h. h) (λ h. not_opening (λ k. same k Kind.At) (kind_at s) is refl refl) ((calling_looks n).here s)) (λ other.
         choose_at (tests_at Kind.Name) s (λ is. wider (λ cs h. h) (λ h. not_opening (λ k. same k Kind.Name) (kind_at s) is refl refl) (named_stmt_here n s is)) (λ other.
-        never_at s (declaration_looks n).some (or_false (same (kind_at s) Kind.OpenRound) (same (kind_at s) Kind.If) no_round no_if))))))))
+        never_at s (declaration_looks n).some (or_from (same (kind_at s) Kind.OpenRound) (same (kind_at s) Kind.If) no_round no_if))))))))
 
 pub stmt_looks : (n : ℕ) → Looks true Opening (read_stmt n) read_stmt (Spells (IsStmt (suc (suc n))))
 unfolding IsStmt
@@ -333,7 +330,7 @@ parts_none i (suc m) acc v left none =
     let p = bind_refused (read_part i v) (λ a u. many_over more_left (read_part i) m (acc ++ a ∷ []) u) none in
     (p.0, ap (λ b. cond b (read_part i v >>= λ a u. many_over more_left (read_part i) m (acc ++ a ∷ []) u) (got acc v)) left ∙ p.1)
 
-parts_halt : (n m : ℕ) (acc : List Part) (s : Place) (f : Stop) → length s.rest < m → many_over more_left (read_part n) m acc s ≡ refused f
+parts_halt : (n m : ℕ) (acc : List Part) (s : Place) (f : ParseStop) → length s.rest < m → many_over more_left (read_part n) m acc s ≡ refused f
     → Halts none_of_all (λ (j : ℕ × (ℕ × List Part)). many_over more_left (read_part j.0) j.1.0 j.1.1) (Spells (Many (IsPart (suc (suc n))))) s f
 unfolding many_over
 parts_halt n zero acc s f fuel h = absurd (omega arith)
@@ -374,11 +371,11 @@ opens_viable : (ts : List Lexeme) (n : ℕ) → Opens (Spells (Many (IsPart n)))
 opens_viable ts n (us, word) = let p = no_more (ts ++ us) n word in (n, us, p.0, p.1)
 
 -- where reading stops, the text stops being one with which a script goes on
-pub stops_first : (depth : ℕ) (ts : List Lexeme) (stop : Stop) → read_script depth (start ts) ≡ refused stop → StopsFirst ts stop
+pub stops_first : (depth : ℕ) (ts : List Lexeme) (stop : ParseStop) → read_script depth (start ts) ≡ refused stop → StopsFirst ts stop
 unfolding read_script at_end
 stops_first depth ts stop h = by stop (parts_halt depth (suc (length ts)) [] (start ts) stop (omega arith) h)
   where
-    by : (f : Stop) → Halts none_of_all (λ (j : ℕ × (ℕ × List Part)). many_over more_left (read_part j.0) j.1.0 j.1.1) (Spells (Many (IsPart (suc (suc depth))))) (start ts) f → StopsFirst ts f
+    by : (f : ParseStop) → Halts none_of_all (λ (j : ℕ × (ℕ × List Part)). many_over more_left (read_part j.0) j.1.0 j.1.1) (Spells (Many (IsPart (suc (suc depth))))) (start ts) f → StopsFirst ts f
     by AtEnd opens = opens_viable ts (suc (suc depth)) opens
     by (Unexpected p) (xs, t, zs, rest, span, opens, blocks, fresh) = (xs, t, zs, rest, span, opens_viable xs (suc (suc depth)) opens, none)
       where

@@ -1,7 +1,7 @@
 -- Steps of the check of expressions, as the code takes them.
 use Rattle.std.proofs.Common.{rules, ◌≡◌, ℕ, ◌+◌, ◌<◌, ◌≤◌, List, [], ◌∷◌, map, drop, length, get_or, refl, sym, ap, ap₂, ◌∙◌, arith}
-use Rattle.std.specs.Prelude.{Option, Some, None, zero, suc}
-use Rattle.std.proofs.lemmas.List.{drop_more, drop_all}
+use Rattle.std.specs.Prelude.{Option, Some, None, suc}
+use Rattle.std.proofs.lemmas.List.{drop_more, drop_all, get_or_default}
 use Rattle.lexer.specs.declared.token.Span.{Span}
 use Rattle.types.specs.declared.fault.TypeFault.{TypeFault}
 use Rattle.types.specs.declared.fault.TypeFault.TheVariants.{Mismatch, WrongCount}
@@ -51,15 +51,10 @@ single_list f (z ∷ []) ys x same one is =
     ap (λ y. and_expression (f y) no_expressions) (sym here)
 single_list f (z ∷ y ∷ zs) ys x same one is = absurd (omega arith)
 
-get_or_any : {X : Type 0} (xs : List X) (i : ℕ) (d e : X) → i < length xs → get_or xs i d ≡ get_or xs i e
-get_or_any [] i d e below = absurd (omega arith)
-get_or_any (x ∷ xs) zero d e below = refl
-get_or_any (x ∷ xs) (suc i) d e below = let fewer : i < length xs = omega arith in get_or_any xs i d e fewer
-
 -- one that is there, and those behind it
 pub some_at : {X : Type 0} (xs : List X) (i : ℕ) → i < length xs → (x : X) × (drop i xs ≡ x ∷ drop (i + 1) xs) × (x ≡ get_or xs i x)
 some_at [] i below = absurd (omega arith)
-some_at (x ∷ xs) i below = (get_or (x ∷ xs) i x, drop_more (x ∷ xs) i x below, get_or_any (x ∷ xs) i x (get_or (x ∷ xs) i x) below)
+some_at (x ∷ xs) i below = (get_or (x ∷ xs) i x, drop_more (x ∷ xs) i x below, get_or_default (x ∷ xs) i x (get_or (x ∷ xs) i x) below)
 
 -- CHAINS
 

@@ -17,14 +17,15 @@ use Rattle.types.specs.Outcomes.{Outcome, refused, got, ◌>>=◌}
 use Rattle.types.specs.Names.{seen, free, added}
 use Rattle.types.specs.Scripts.{parameters}
 use Rattle.types.specs.Statements.{stated, in_order}
-use Rattle.types.proofs.lists.Rest.{rest_more, rest_none}
+use Rattle.types.proofs.lists.Rest.{rest_more}
+use Rattle.std.proofs.lemmas.List.{at_drop_all}
 
 -- STATEMENTS
 
 pub order_done : {X : Type 0} (fs : List Signature) (g : Around) (s : List Settled) (f : X → Statement) (xs : List X) (i : ℕ) → length xs ≤ i
     → in_order fs g (statements_of (map f (drop i xs))) s ≡ got (tt {0}) s
 unfolding in_order
-order_done fs g s f xs i past = rest_none (λ (ys : List _). in_order fs g (statements_of (map f ys)) s) xs i past
+order_done fs g s f xs i past = at_drop_all (λ (ys : List _). in_order fs g (statements_of (map f ys)) s) xs i past
 
 order_now : {X : Type 0} (fs : List Signature) (g : Around) (s : List Settled) (f : X → Statement) (xs : List X) (i : ℕ) (x : X) → i < length xs → x ≡ get_or xs i x
     → in_order fs g (statements_of (map f (drop i xs))) s ≡ (stated fs g (f x) s >>= λ h. in_order fs h (statements_of (map f (drop (i + 1) xs))))
@@ -52,7 +53,7 @@ view-If e b (Some d) = search (rules, statement_lemmas)
 
 pub parameters_done : {X : Type 0} (owned : ℕ → Owned) (g : Around) (n : ℕ) (s : List Settled) (f : X → Declaration) (xs : List X) (i : ℕ) → length xs ≤ i
     → parameters owned g n (map f (drop i xs)) s ≡ got g s
-parameters_done owned g n s f xs i past = rest_none (λ (ys : List _). parameters owned g n (map f ys) s) xs i past
+parameters_done owned g n s f xs i past = at_drop_all (λ (ys : List _). parameters owned g n (map f ys) s) xs i past
 
 free_some : (w : Word) (o : Option Seen) (s : List Settled) → IsSome o → free w o s ≡ refused (Declared w.span)
 free_some w None s some = absurd (cc)

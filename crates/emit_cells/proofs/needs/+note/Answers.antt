@@ -3,7 +3,7 @@ use Rattle.std.proofs.lemmas.Grind.{common_steps}
 use Rattle.task_code.specs.Code.{Need}
 use Rattle.flow.specs.View.{expr_view, exprs_view}
 use Rattle.code_rules.specs.CodeNames.{wanted, wanted_all}
-use Rattle.emit_cells.specs.Wanted.{Notes}
+use Rattle.emit_cells.specs.PlainNeeds.{Notes}
 use Rattle.emit_cells.proofs.Keys.{notes_both}
 use Rattle.emit_cells.proofs.Walks.{wanted_more, room_at}
 use Rattle.emit_cells.proofs.needs.+note.Goals as goal

@@ -2,7 +2,7 @@ use Rattle.std.proofs.Common.{take}
 use Rattle.flow.specs.View.{exprs_view}
 use Rattle.code_rules.specs.CodeNames.{wanted_all}
 use Rattle.code_rules.specs.Room.{ExprsRoom}
-use Rattle.emit_cells.specs.Wanted.{Notes}
+use Rattle.emit_cells.specs.PlainNeeds.{Notes}
 use Rattle.emit_cells.proofs.needs.+note.Given as goal
 
 abbrev pub invariant-note_all-loop-expr : goal.invariant-note_all-loop-expr

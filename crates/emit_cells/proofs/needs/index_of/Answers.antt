@@ -1,6 +1,6 @@
 use Rattle.std.proofs.Common.{ap, ◌∙◌, map}
 use Rattle.code_rules.specs.CodeNames.{place_in}
-use Rattle.emit_cells.specs.Wanted.{need_of, need_named}
+use Rattle.emit_cells.specs.PlainNeeds.{need_of, need_named}
 use Rattle.emit_cells.proofs.Keys.{some_place, none_place, need_is_named}
 use Rattle.emit_cells.proofs.needs.index_of.Goals as goal
 

@@ -1,6 +1,6 @@
 use Rattle.std.proofs.Common.{◌≡◌, map, take}
 use Rattle.task_code.specs.View as code_view
-use Rattle.emit_cells.specs.Wanted.{need_of}
+use Rattle.emit_cells.specs.PlainNeeds.{need_of}
 use Rattle.emit_cells.proofs.needs.listed.Given as goal
 
 abbrev pub invariant-loop-number : goal.invariant-loop-number

@@ -3,7 +3,7 @@ use Rattle.std.proofs.lemmas.Grind.{common_steps}
 use Rattle.std.proofs.lemmas.List.{map-append}
 use Rattle.task_code.specs.View as code_view
 use Rattle.flow.specs.View.{expr_view}
-use Rattle.emit_cells.specs.Wanted.{need_of}
+use Rattle.emit_cells.specs.PlainNeeds.{need_of}
 use Rattle.emit_cells.proofs.Walks.{over_more, over_all, room_at}
 use Rattle.emit_cells.proofs.over.+placed.Goals as goal
 

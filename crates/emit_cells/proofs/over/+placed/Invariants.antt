@@ -3,7 +3,7 @@ use Rattle.task_code.specs.View as code_view
 use Rattle.flow.specs.View.{expr_view, exprs_view}
 use Rattle.code_rules.specs.CodeNames.{over}
 use Rattle.code_rules.specs.Room.{ExprsRoom}
-use Rattle.emit_cells.specs.Wanted.{need_of, IsReady}
+use Rattle.emit_cells.specs.PlainNeeds.{need_of, IsReady}
 use Rattle.emit_cells.proofs.over.+placed.Given as goal
 
 abbrev pub invariant-all_placed-loop-expr : goal.invariant-all_placed-loop-expr

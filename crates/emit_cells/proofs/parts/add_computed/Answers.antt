@@ -3,7 +3,7 @@ use Rattle.flow.specs.View.{expr_view}
 use Rattle.task_code.specs.Code as pure
 use Rattle.task_code.specs.View as code_view
 use Rattle.code_rules.specs.CodeNames.{each_once, over, wanted}
-use Rattle.emit_cells.specs.Wanted.{Noted}
+use Rattle.emit_cells.specs.PlainNeeds.{Noted}
 use Rattle.emit_cells.proofs.Keys.{noted_none}
 use Rattle.emit_cells.specs.Made.{made}
 use Rattle.emit_cells.proofs.Ready.{ready}

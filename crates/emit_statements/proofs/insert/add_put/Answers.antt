@@ -5,7 +5,7 @@ use Rattle.task_code.specs.Code.{Need, Put}
 use Rattle.task_code.specs.View as code_view
 use Rattle.code_rules.specs.CodeNames.{name_as, over, wanted}
 use Rattle.code_rules.specs.IsCodeOf.{seen_as}
-use Rattle.emit_cells.specs.Wanted.{Noted, need_of}
+use Rattle.emit_cells.specs.PlainNeeds.{Noted, need_of}
 use Rattle.emit_cells.proofs.Keys.{noted_none}
 use Rattle.emit_cells.proofs.Ready.{ready_many}
 use Rattle.emit_statements.proofs.Outers.{few_as}

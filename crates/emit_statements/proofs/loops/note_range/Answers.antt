@@ -3,7 +3,7 @@ use Rattle.std.specs.Prelude.{option_map}
 use Rattle.flow.specs.View.{outer_view}
 use Rattle.code_rules.specs.CodeNames.{wanted}
 use Rattle.code_rules.specs.IsCodeOf.{seen_as}
-use Rattle.emit_cells.specs.Wanted.{Notes}
+use Rattle.emit_cells.specs.PlainNeeds.{Notes}
 use Rattle.emit_statements.specs.Seen.{seen_last}
 use Rattle.emit_statements.specs.Blocks.{seen_step}
 use Rattle.emit_statements.proofs.Bounds.{notes_three}

@@ -4,7 +4,7 @@ use Rattle.flow.specs.View.{outer_view}
 use Rattle.task_code.specs.View as code_view
 use Rattle.code_rules.specs.CodeNames.{over}
 use Rattle.code_rules.specs.IsCodeOf.{seen_as}
-use Rattle.emit_cells.specs.Wanted.{need_of}
+use Rattle.emit_cells.specs.PlainNeeds.{need_of}
 use Rattle.emit_statements.specs.Seen.{seen_last}
 use Rattle.emit_statements.specs.Blocks.{seen_step}
 use Rattle.emit_statements.proofs.Bounds.{ranged_is}

@@ -2,7 +2,7 @@ use Rattle.std.proofs.Common.{map}
 use Rattle.std.proofs.lemmas.Result.{IfOk-weaker}
 use Rattle.flow.specs.View.{outer_view}
 use Rattle.task_code.specs.View as code_view
-use Rattle.emit_cells.specs.Wanted.{need_of}
+use Rattle.emit_cells.specs.PlainNeeds.{need_of}
 use Rattle.emit_statements.proofs.Owns.{filled_done}
 use Rattle.emit_statements.proofs.own.act_of.Goals as goal
 

@@ -3,7 +3,7 @@ use Rattle.flow.specs.View.{outer_view}
 use Rattle.task_code.specs.View as code_view
 use Rattle.code_rules.specs.CodeNames.{wanted}
 use Rattle.code_rules.specs.IsCodeOf.{seen_as}
-use Rattle.emit_cells.specs.Wanted.{Noted}
+use Rattle.emit_cells.specs.PlainNeeds.{Noted}
 use Rattle.emit_cells.proofs.Keys.{noted_none}
 use Rattle.emit_cells.proofs.Ready.{ready}
 use Rattle.emit_statements.proofs.Owns.{few_seen, outer_room, own_added}

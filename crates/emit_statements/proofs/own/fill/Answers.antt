@@ -3,7 +3,7 @@ use Rattle.std.proofs.lemmas.Result.{IfOk-weaker}
 use Rattle.flow.specs.View.{form_view, name_view}
 use Rattle.code_rules.specs.IsCodeOf.{fill_act, own_form}
 use Rattle.code_rules.specs.Room.{FormRoom}
-use Rattle.emit_cells.specs.Wanted.{need_of}
+use Rattle.emit_cells.specs.PlainNeeds.{need_of}
 use Rattle.emit_statements.proofs.own.fill.Goals as goal
 
 pub returns-in-Compute : goal.returns-in-Compute

@@ -6,7 +6,7 @@ use Rattle.flow.specs.View.{outer_view}
 use Rattle.code_rules.specs.CodeNames.{wanted}
 use Rattle.code_rules.specs.IsCodeOf.{seen_as}
 use Rattle.code_rules.specs.Room.{StepRoom}
-use Rattle.emit_cells.specs.Wanted.{Notes}
+use Rattle.emit_cells.specs.PlainNeeds.{Notes}
 use Rattle.emit_cells.proofs.Keys.{notes_none}
 use Rattle.emit_statements.specs.Blocks.{seen_step}
 use Rattle.emit_statements.proofs.steps.note_step.Goals as goal

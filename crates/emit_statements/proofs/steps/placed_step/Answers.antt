@@ -7,7 +7,7 @@ use Rattle.task_code.specs.View as code_view
 use Rattle.code_rules.specs.CodeNames.{over}
 use Rattle.code_rules.specs.IsCodeOf.{seen_as}
 use Rattle.code_rules.specs.Room.{StepRoom}
-use Rattle.emit_cells.specs.Wanted.{need_of, IsReady}
+use Rattle.emit_cells.specs.PlainNeeds.{need_of, IsReady}
 use Rattle.emit_statements.specs.Blocks.{seen_step}
 use Rattle.emit_statements.proofs.steps.placed_step.Goals as goal
 

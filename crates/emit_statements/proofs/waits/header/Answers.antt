@@ -5,7 +5,7 @@ use Rattle.flow.specs.View.{awaited_view}
 use Rattle.flow.specs.declared.name.Name.{Name}
 use Rattle.task_code.specs.View as code_view
 use Rattle.code_rules.specs.Room.{AwaitedRoom}
-use Rattle.emit_cells.specs.Wanted.{need_named}
+use Rattle.emit_cells.specs.PlainNeeds.{need_named}
 use Rattle.emit_cells.proofs.Keys.{need_is_named}
 use Rattle.emit_statements.proofs.Merged.{blank_name, each_at, each_mapped, listed_waits, there_at, waited}
 use Rattle.emit_statements.proofs.waits.header.Goals as goal

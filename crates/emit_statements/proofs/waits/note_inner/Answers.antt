@@ -4,7 +4,7 @@ use Rattle.std.proofs.lemmas.List.{take_all}
 use Rattle.flow.specs.View.{awaited_view}
 use Rattle.flow.specs.declared.statement.Header.{Header}
 use Rattle.code_rules.specs.Room.{AwaitedRoom, Each}
-use Rattle.emit_cells.specs.Wanted.{Notes}
+use Rattle.emit_cells.specs.PlainNeeds.{Notes}
 use Rattle.emit_cells.proofs.Keys.{notes_none}
 use Rattle.emit_statements.specs.Blocks.{inner_headers}
 use Rattle.emit_statements.proofs.Merged.{each_at, inner_noted, needs_in}

@@ -1,6 +1,6 @@
 use Rattle.std.proofs.Common.{take}
 use Rattle.std.specs.List.{flat_map}
-use Rattle.emit_cells.specs.Wanted.{Notes}
+use Rattle.emit_cells.specs.PlainNeeds.{Notes}
 use Rattle.emit_statements.specs.Blocks.{InnerRoom, inner_headers}
 use Rattle.emit_statements.proofs.waits.note_inner.Given as goal
 

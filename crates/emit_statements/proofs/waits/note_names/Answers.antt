@@ -4,7 +4,7 @@ use Rattle.std.proofs.lemmas.List.{take_all}
 use Rattle.flow.specs.View.{awaited_view}
 use Rattle.task_code.specs.View as code_view
 use Rattle.code_rules.specs.Room.{AwaitedRoom}
-use Rattle.emit_cells.specs.Wanted.{Notes, need_named}
+use Rattle.emit_cells.specs.PlainNeeds.{Notes, need_named}
 use Rattle.emit_cells.proofs.Keys.{notes_none}
 use Rattle.flow.specs.declared.name.Name.{Name}
 use Rattle.emit_statements.proofs.Merged.{blank_name, each_at, each_mapped, noted_more, there_at, waited}

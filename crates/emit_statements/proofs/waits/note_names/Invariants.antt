@@ -2,7 +2,7 @@ use Rattle.std.proofs.Common.{map, take}
 use Rattle.flow.specs.View.{awaited_view}
 use Rattle.code_rules.specs.CodeNames.{awaited_need}
 use Rattle.code_rules.specs.Room.{AwaitedRoom, Each}
-use Rattle.emit_cells.specs.Wanted.{Notes}
+use Rattle.emit_cells.specs.PlainNeeds.{Notes}
 use Rattle.emit_statements.proofs.waits.note_names.Given as goal
 
 abbrev pub invariant-loop-name : goal.invariant-loop-name

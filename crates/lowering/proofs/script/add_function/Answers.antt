@@ -11,7 +11,11 @@ use Rattle.language_accepted.specs.Types.{body_declarations}
 use Rattle.flow.specs.Shapes.{functions_declared, kinds_of_function}
 use Rattle.flow.specs.View.{function_view}
 use Rattle.lowering.specs.Shapes.{flagged, function_declarations, kinds_of_signature}
+use Rattle.std.proofs.lemmas.Grind.{flat_map-append}
+use Rattle.flow_listed.specs.Listed.{function_shown, functions_shown}
+use Rattle.lowering.specs.Listed.{composite_shown}
 use Rattle.lowering.proofs.Declaring.{one_more_function}
+use Rattle.lowering.proofs.Showing.{one_shown}
 use Rattle.lowering.specs.View.{function_core}
 use Rattle.lowering.proofs.script.add_function.Goals as goal
 
@@ -46,3 +50,13 @@ returns-in_ok-push-in-Function-clause-kinds g c =
     ∙ map-append (kinds_of_function {A = A}) c.args.found.now.items (c.in_ok-function-in-Function.field-0 ∷ [])
     ∙ ap (λ (k : List Bool × List Bool). before ++ k ∷ []) (c.in_ok-function-in-Function.ensures.kinds ∙ ap (λ (f : Composite' A). kinds_of_signature (signature_of (composite_of f))) c.deref.ensures)
     ∙ ap (λ (p : Part). before ++ map kinds_of_signature (signatures (p ∷ []))) (sym (ap part_of c.in-Function.is))
+
+pub returns-in_ok-push-in-Function-clause-shown : goal.returns-in_ok-push-in-Function-clause-shown
+returns-in_ok-push-in-Function-clause-shown g c =
+    let A = g.row.A.Denot in
+    one_shown (composite_of c.in-Function.one.value) (part_of c.args.item.now) (functions_shown {A = A} c.args.found.now.items)
+    _ (function_shown {A = A} c.in_ok-function-in-Function.field-0)
+    (ap (functions_shown {A = A}) c.in_ok-push-in-Function.ensures.items
+    ∙ flat_map-append (function_shown {A = A}) c.args.found.now.items (c.in_ok-function-in-Function.field-0 ∷ []))
+    (c.in_ok-function-in-Function.ensures.shown ∙ ap (λ (f : Composite' A). composite_shown (composite_of f)) c.deref.ensures)
+    (ap part_of c.in-Function.is)

@@ -8,7 +8,10 @@ use Rattle.language.specs.Scopes.{signatures}
 use Rattle.flow.specs.Shapes.{functions_declared, kinds_of_function}
 use Rattle.flow.specs.View.{function_view}
 use Rattle.lowering.specs.Shapes.{flagged, function_declarations, kinds_of_signature}
+use Rattle.flow_listed.specs.Listed.{functions_shown}
+use Rattle.lowering.specs.Listed.{composites_shown}
 use Rattle.lowering.proofs.Declaring.{function_next, kinds_next}
+use Rattle.lowering.proofs.Showing.{shown_next}
 use Rattle.lowering.proofs.Statements.{function_first}
 use Rattle.lowering.proofs.Walks.{walked_more, walked_all}
 use Rattle.lowering.proofs.script.add_functions.Goals as goal
@@ -29,6 +32,10 @@ loop-item-preserved g c =
           (map kinds_of_function c.args.found.now.items ++ map kinds_of_signature (signatures (map (part_of {A = A}) c.args.items.now.items)))
           (map kinds_of_function c.loop-item.found.items) (map kinds_of_function c.add_function.new.found.items) c.args.items.now.items c.loop-item.item-index c.item-item.result
           c.loop-item.invariant.2 (grind (arith, common_steps)) (grind (arith, common_steps)) c.in_ok-add_function.ensures.kinds,
+      walked_more (part_of {A = A}) (λ (p : Part). composites_shown (p ∷ [])) composites_shown shown_next
+          (functions_shown c.args.found.now.items ++ composites_shown (map (part_of {A = A}) c.args.items.now.items))
+          (functions_shown c.loop-item.found.items) (functions_shown c.add_function.new.found.items) c.args.items.now.items c.loop-item.item-index c.item-item.result
+          c.loop-item.invariant.3 (grind (arith, common_steps)) (grind (arith, common_steps)) c.in_ok-add_function.ensures.shown,
     )
 
 pub returns-clause-core : goal.returns-clause-core
@@ -52,3 +59,10 @@ returns-clause-kinds g c =
     walked_all (part_of {A = A}) (λ (ps : Tree). map kinds_of_signature (signatures ps)) refl
     (map kinds_of_function c.args.found.now.items ++ map kinds_of_signature (signatures (map (part_of {A = A}) c.args.items.now.items)))
     (map kinds_of_function c.loop-item.found.items) c.args.items.now.items c.loop-item.item-index c.loop-item.invariant.2 (grind (arith, common_steps))
+
+pub returns-clause-shown : goal.returns-clause-shown
+returns-clause-shown g c =
+    let A = g.row.A.Denot in
+    walked_all (part_of {A = A}) composites_shown refl
+    (functions_shown c.args.found.now.items ++ composites_shown (map (part_of {A = A}) c.args.items.now.items))
+    (functions_shown c.loop-item.found.items) c.args.items.now.items c.loop-item.item-index c.loop-item.invariant.3 (grind (arith, common_steps))

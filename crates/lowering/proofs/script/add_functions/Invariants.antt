@@ -5,6 +5,8 @@ use Rattle.types.specs.Typed.{table_of}
 use Rattle.flow.specs.View.{function_view}
 use Rattle.flow.specs.Shapes.{functions_declared, kinds_of_function}
 use Rattle.language.specs.Scopes.{signatures}
+use Rattle.flow_listed.specs.Listed.{functions_shown}
+use Rattle.lowering.specs.Listed.{composites_shown}
 use Rattle.lowering.specs.Shapes.{flagged, function_declarations, kinds_of_signature}
 use Rattle.lowering.proofs.script.add_functions.Given as goal
 
@@ -16,3 +18,5 @@ invariant-loop-item g l =
     ≡ functions_declared l.found.items ++ flagged (function_declarations (map part_of (drop l.item-index l.items.items))))
     × (map kinds_of_function l.fn.found.items ++ map kinds_of_signature (signatures (map part_of l.items.items))
     ≡ map kinds_of_function l.found.items ++ map kinds_of_signature (signatures (map part_of (drop l.item-index l.items.items))))
+    × (functions_shown l.fn.found.items ++ composites_shown (map part_of l.items.items)
+    ≡ functions_shown l.found.items ++ composites_shown (map part_of (drop l.item-index l.items.items)))

@@ -6,7 +6,9 @@ use Rattle.types.specs.Typed.{table_of}
 use Rattle.flow.specs.View.{statements_view}
 use Rattle.lowering.specs.Shapes.{declared_by, flagged, own_declarations}
 use Rattle.lowering.specs.View.{own_statements}
+use Rattle.lowering.specs.Listed.{listed_by, own_listed}
 use Rattle.lowering.proofs.Declaring.{own_next}
+use Rattle.lowering.proofs.Showing as shows
 use Rattle.lowering.proofs.Statements.{part_first}
 use Rattle.lowering.proofs.Walks.{walked_more, walked_all}
 use Rattle.lowering.proofs.script.add_statements.Goals as goal
@@ -22,6 +24,10 @@ loop-item-preserved g c =
           (declared_by c.args.found.now.items ++ flagged (own_declarations (map (part_of {A = g.row.A.Denot}) c.args.items.now.items)))
           (declared_by c.loop-item.found.items) (declared_by c.add_statement.new.found.items) c.args.items.now.items c.loop-item.item-index c.item-item.result
           c.loop-item.invariant.1 (grind (arith, common_steps)) (grind (arith, common_steps)) c.in_ok-add_statement.ensures.declared,
+      walked_more (part_of {A = g.row.A.Denot}) (λ (p : Part). own_listed (p ∷ [])) own_listed shows.own_next
+          (listed_by c.args.found.now.items ++ own_listed (map (part_of {A = g.row.A.Denot}) c.args.items.now.items))
+          (listed_by c.loop-item.found.items) (listed_by c.add_statement.new.found.items) c.args.items.now.items c.loop-item.item-index c.item-item.result
+          c.loop-item.invariant.2 (grind (arith, common_steps)) (grind (arith, common_steps)) c.in_ok-add_statement.ensures.listed,
     )
 
 pub returns-clause-core : goal.returns-clause-core
@@ -36,3 +42,9 @@ returns-clause-declared g c =
     walked_all (part_of {A = g.row.A.Denot}) (λ (ps : Tree). flagged (own_declarations ps)) refl
     (declared_by c.args.found.now.items ++ flagged (own_declarations (map (part_of {A = g.row.A.Denot}) c.args.items.now.items)))
     (declared_by c.loop-item.found.items) c.args.items.now.items c.loop-item.item-index c.loop-item.invariant.1 (grind (arith, common_steps))
+
+pub returns-clause-listed : goal.returns-clause-listed
+returns-clause-listed g c =
+    walked_all (part_of {A = g.row.A.Denot}) own_listed refl
+    (listed_by c.args.found.now.items ++ own_listed (map (part_of {A = g.row.A.Denot}) c.args.items.now.items))
+    (listed_by c.loop-item.found.items) c.args.items.now.items c.loop-item.item-index c.loop-item.invariant.2 (grind (arith, common_steps))

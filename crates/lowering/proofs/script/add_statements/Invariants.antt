@@ -3,6 +3,7 @@ use Rattle.syntax_trees.specs.View.{part_of}
 use Rattle.types.specs.Typed.{table_of}
 use Rattle.flow.specs.View.{statements_view}
 use Rattle.lowering.specs.Shapes.{declared_by, flagged, own_declarations}
+use Rattle.lowering.specs.Listed.{listed_by, own_listed}
 use Rattle.lowering.specs.View.{own_statements}
 use Rattle.lowering.proofs.script.add_statements.Given as goal
 
@@ -12,3 +13,5 @@ invariant-loop-item g l =
     ≡ statements_view l.found.items ++ own_statements (table_of l.typed) (map part_of (drop l.item-index l.items.items)))
     × (declared_by l.fn.found.items ++ flagged (own_declarations (map part_of l.items.items))
     ≡ declared_by l.found.items ++ flagged (own_declarations (map part_of (drop l.item-index l.items.items))))
+    × (listed_by l.fn.found.items ++ own_listed (map part_of l.items.items)
+    ≡ listed_by l.found.items ++ own_listed (map part_of (drop l.item-index l.items.items)))

@@ -1,4 +1,8 @@
-use Rattle.std.proofs.Common.{ap₂, length, Bool, List}
+use Rattle.std.proofs.Common.{◌≡◌, ap₂, arith, length, map, Bool, List}
+use Rattle.std.proofs.lemmas.Grind.{common_steps}
+use Rattle.flow_listed.specs.Listed.{block_listed}
+use Rattle.lowering.specs.Listed.{body_listed}
+use Rattle.lowering.proofs.Showing.{same_function_shown}
 use Rattle.language.specs.Resolved.{block_of}
 use Rattle.syntax_trees.specs.View.{declarations_view, body_view}
 use Rattle.types.specs.Typed.{table_of}
@@ -25,3 +29,12 @@ returns-clause-kinds g c =
     ap₂ (λ (xs ys : List Bool). (xs, ys))
     (same_shapes {A = A} c.in_ok-inputs.inputs.items (declarations_view {A = A} c.args.function.now.inputs) c.in_ok-inputs.ensures)
     (same_shapes {A = A} c.in_ok-outputs.outputs.items (declarations_view {A = A} c.args.function.now.outputs) c.in_ok-outputs.ensures)
+
+pub returns-clause-shown : goal.returns-clause-shown
+returns-clause-shown g c =
+    let A = g.row.A.Denot in
+    let named : c.in_ok-name.name.items ≡ c.args.function.now.name.text.items = grind (arith, common_steps) in
+    same_function_shown c.args.function.now.name.span.from c.in_ok-name.name.items c.args.function.now.name.text.items
+    (map (declared {A = A}) c.in_ok-inputs.inputs.items) (map variable_of (declarations_view {A = A} c.args.function.now.inputs))
+    (map (declared {A = A}) c.in_ok-outputs.outputs.items) (map variable_of (declarations_view {A = A} c.args.function.now.outputs))
+    (block_listed c.in_ok-body.body) (body_listed (body_view {A = A} c.args.function.now.body)) named c.in_ok-inputs.ensures c.in_ok-outputs.ensures c.in_ok-body.ensures.listed

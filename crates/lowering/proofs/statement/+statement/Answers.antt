@@ -1,4 +1,4 @@
-use Rattle.std.proofs.Common.{rules, to_z, of_z, w32, ℤ, ◌≡◌, ◌++◌, ◌≤◌, [], List, map, option_map, refl, ap, ap₂, sym, ◌∙◌, arith}
+use Rattle.std.proofs.Common.{rules, to_z, of_z, w32, ℤ, ◌≡◌, ◌++◌, ◌∷◌, ◌≤◌, [], List, map, option_map, refl, ap, ap₂, sym, ◌∙◌, arith}
 use Rattle.std.specs.Prelude.{Box}
 use Rattle.std.proofs.lemmas.Grind.{common_steps}
 use Rattle.std.proofs.lemmas.Result.{on_ok_weaker, IfOk-weaker}
@@ -26,6 +26,12 @@ use Rattle.language_accepted.specs.Types.{statement_declarations, body_declarati
 use Rattle.flow.specs.Shapes.{block_declared}
 use Rattle.lowering.specs.Shapes.{among, declared_by, flagged}
 use Rattle.lowering.proofs.Declaring.{flagged_append, statement_next}
+use Rattle.flow_listed.specs.Listed as shows
+use Rattle.flow_listed.specs.Listed.{Listed, block_listed, looping, other, waiting, whole}
+use Rattle.language.specs.declared.tree.Shape.{Shape}
+use Rattle.lowering.specs.Listed.{all_listed, body_listed, command_listed, listed, listed_by}
+use Rattle.lowering.specs.View.{as_declared}
+use Rattle.lowering.proofs.Showing.{listed_next, lists_form}
 use Rattle.lowering.proofs.Walks.{walked_more, walked_all}
 use Rattle.lowering.proofs.statement.+statement.Goals as goal
 
@@ -51,6 +57,10 @@ each-loop-stmt-preserved g t c =
           (declared_by c.args.found.now.items ++ flagged (among (map (statement_view {A = g.row.A.Denot}) c.args.statements.now.items)))
           (declared_by c.loop-stmt.found.items) (declared_by c.statement.new.found.items) c.args.statements.now.items c.loop-stmt.stmt-index c.stmt-item.result
           c.loop-stmt.invariant.1 (grind (arith, common_steps)) (grind (arith, common_steps)) c.in_ok-statement.ensures.declared,
+      walked_more (statement_view {A = g.row.A.Denot}) listed all_listed listed_next
+          (listed_by c.args.found.now.items ++ all_listed (map (statement_view {A = g.row.A.Denot}) c.args.statements.now.items))
+          (listed_by c.loop-stmt.found.items) (listed_by c.statement.new.found.items) c.args.statements.now.items c.loop-stmt.stmt-index c.stmt-item.result
+          c.loop-stmt.invariant.2 (grind (arith, common_steps)) (grind (arith, common_steps)) c.in_ok-statement.ensures.listed,
     )
 
 pub each-returns-clause-core : goal.each-returns-clause-core
@@ -298,3 +308,115 @@ boxed_block-returns-clause-declared g t c =
     (λ x is. is ∙ c.in_ok-each.ensures.declared
     ∙ ap (λ (xs : List (Added A)). declared_by xs ++ flagged (among (map (statement_view {A = A}) b.statements.items))) c.new-statements.ensures.items
     ∙ ap (λ (x : trees.Body). flagged (body_declarations x)) (sym (view-Block A c.args.body.now))) c.boxed_at.ensures.declared
+
+pub command-returns-in-Assign-clause-listed : goal.command-returns-in-Assign-clause-listed
+command-returns-in-Assign-clause-listed g t c =
+    let A = g.row.A.Denot in
+    on_ok_weaker c.add_made.result
+    (λ adds. lists_form c.assignment.result (command_view {A = A} c.args.kind.now) (trees.assign (word_of {A = A} c.in-Assign.name) (right_of {A = A} c.in-Assign.right))
+    (listed_by c.args.found.now.items) (listed_by c.add_made.new.found.items) (other [])
+    (ap command_view c.in-Assign.is ∙ view_assign c.in-Assign.name c.in-Assign.right) c.assignment.ensures.listed refl adds)
+    c.add_made.ensures.listed
+
+pub command-returns-in-Write-clause-listed : goal.command-returns-in-Write-clause-listed
+command-returns-in-Write-clause-listed g t c =
+    let A = g.row.A.Denot in
+    on_ok_weaker c.add_made-in-Write.result
+    (λ adds. lists_form c.insert.result (command_view {A = A} c.args.kind.now)
+    (trees.write (word_of {A = A} c.in-Write.name) (expression_view {A = A} c.in-Write.index.value) (expression_view {A = A} c.in-Write.value.value))
+    (listed_by c.args.found.now.items) (listed_by c.add_made-in-Write.new.found.items) (other [])
+    (ap command_view c.in-Write.is ∙ view_write c.in-Write.name c.in-Write.index c.in-Write.value) c.insert.ensures.listed refl adds)
+    c.add_made-in-Write.ensures.listed
+
+pub command-returns-in-AssignAll-clause-listed : goal.command-returns-in-AssignAll-clause-listed
+command-returns-in-AssignAll-clause-listed g t c =
+    let A = g.row.A.Denot in
+    on_ok_weaker c.add_made-in-AssignAll.result
+    (λ adds. lists_form c.several.result (command_view {A = A} c.args.kind.now) (trees.assign_all (words_view {A = A} c.in-AssignAll.names) (calling_of {A = A} c.in-AssignAll.call.value))
+    (listed_by c.args.found.now.items) (listed_by c.add_made-in-AssignAll.new.found.items) (other [])
+    (ap command_view c.in-AssignAll.is ∙ view_assign_all c.in-AssignAll.names c.in-AssignAll.call) c.several.ensures.listed refl adds)
+    c.add_made-in-AssignAll.ensures.listed
+
+pub command-returns-in-Call-clause-listed : goal.command-returns-in-Call-clause-listed
+command-returns-in-Call-clause-listed g t c =
+    let A = g.row.A.Denot in
+    on_ok_weaker c.add_made-in-Call.result
+    (λ adds. lists_form c.statement_call-action.result (command_view {A = A} c.args.kind.now) (trees.calls c.in-Call.priority (calling_of {A = A} c.in-Call.call.value))
+    (listed_by c.args.found.now.items) (listed_by c.add_made-in-Call.new.found.items) (other [])
+    (ap command_view c.in-Call.is ∙ view_calls c.in-Call.priority c.in-Call.call) c.statement_call-action.ensures.listed refl adds)
+    c.add_made-in-Call.ensures.listed
+
+pub command-returns-in-None-clause-listed : goal.command-returns-in-None-clause-listed
+command-returns-in-None-clause-listed g t c =
+    let A = g.row.A.Denot in
+    let e = expression_view {A = A} c.in-If.test.value in
+    let b = body_view {A = A} c.in-If.then.value in
+    on_ok_weaker c.add_made-in-None.result
+    (λ adds. lists_form c.choice.result (command_view {A = A} c.args.kind.now) (trees.choice e b)
+    (listed_by c.args.found.now.items) (listed_by c.add_made-in-None.new.found.items) _
+    (ap command_view c.in-If.is ∙ view_if c.in-If.test c.in-If.then c.in-If.other ∙ ap (λ o. choice_of e b (option_map (λ it. body_view {A = A} it.value) o)) c.in-None.is) c.choice.ensures.listed
+    (ap (λ (l : Listed). other (whole l) ∷ []) (c.in_ok-then-in-If.ensures.listed ∙ ap (λ x. body_listed (body_view {A = A} x)) c.deref-in-If.ensures)) adds)
+    c.add_made-in-None.ensures.listed
+
+pub command-returns-in_ok-other-in-Some-clause-listed : goal.command-returns-in_ok-other-in-Some-clause-listed
+command-returns-in_ok-other-in-Some-clause-listed g t c =
+    let A = g.row.A.Denot in
+    let e = expression_view {A = A} c.in-If.test.value in
+    let b = body_view {A = A} c.in-If.then.value in
+    let o = body_view {A = A} c.in-Some.other.value in
+    on_ok_weaker c.add_made-in-Some.result
+    (λ adds. lists_form c.choice_else-action.result (command_view {A = A} c.args.kind.now) (trees.choice_else e b o)
+    (listed_by c.args.found.now.items) (listed_by c.add_made-in-Some.new.found.items) _
+    (ap command_view c.in-If.is ∙ view_if c.in-If.test c.in-If.then c.in-If.other ∙ ap (λ x. choice_of e b (option_map (λ it. body_view {A = A} it.value) x)) c.in-Some.is) c.choice_else-action.ensures.listed
+    (ap₂ (λ (x y : Listed). other (whole x ++ whole y) ∷ [])
+    (c.in_ok-then-in-If.ensures.listed ∙ ap (λ x. body_listed (body_view {A = A} x)) c.deref-in-If.ensures)
+    (c.in_ok-other-in-Some.ensures.listed ∙ ap (λ x. body_listed (body_view {A = A} x)) c.deref-in-Some.ensures)) adds)
+    c.add_made-in-Some.ensures.listed
+
+pub command-returns-in_ok-body-in-Foreach-clause-listed : goal.command-returns-in_ok-body-in-Foreach-clause-listed
+command-returns-in_ok-body-in-Foreach-clause-listed g t c =
+    let A = g.row.A.Denot in
+    on_ok_weaker c.add_made-in-Foreach.result
+    (λ adds. lists_form c.repeated.result (command_view {A = A} c.args.kind.now)
+    (trees.loop (word_of {A = A} c.in-Foreach.header.value.value) (option_map (word_of {A = A}) c.in-Foreach.header.value.key) (over_of {A = A} c.in-Foreach.header.value.source) (body_view {A = A} c.in-Foreach.body.value))
+    (listed_by c.args.found.now.items) (listed_by c.add_made-in-Foreach.new.found.items) _
+    (ap command_view c.in-Foreach.is ∙ view-Foreach c.in-Foreach.header c.in-Foreach.body) c.repeated.ensures.listed
+    (ap₂ (λ (h : Header A) (l : Listed). looping (as_declared Shape.Scalar (word_of {A = A} h.value)) (option_map (as_declared Shape.Scalar) (option_map (word_of {A = A}) h.key)) l ∷ []) c.deref-in-Foreach-2.ensures (c.in_ok-body-in-Foreach.ensures.listed ∙ ap (λ x. body_listed (body_view {A = A} x)) c.deref-in-Foreach.ensures)) adds)
+    c.add_made-in-Foreach.ensures.listed
+
+pub command-returns-in_ok-body-in-Wait-clause-listed : goal.command-returns-in_ok-body-in-Wait-clause-listed
+command-returns-in_ok-body-in-Wait-clause-listed g t c =
+    let A = g.row.A.Denot in
+    on_ok_weaker c.add_made-in-Wait.result
+    (λ adds. lists_form c.waiting.result (command_view {A = A} c.args.kind.now) (trees.waits (words_view {A = A} c.in-Wait.names) (body_view {A = A} c.in-Wait.body.value))
+    (listed_by c.args.found.now.items) (listed_by c.add_made-in-Wait.new.found.items) _
+    (ap command_view c.in-Wait.is ∙ view-Wait c.in-Wait.names c.in-Wait.body) c.waiting.ensures.listed
+    (ap (λ (l : Listed). waiting l ∷ []) (c.in_ok-body-in-Wait.ensures.listed ∙ ap (λ x. body_listed (body_view {A = A} x)) c.deref-in-Wait.ensures)) adds)
+    c.add_made-in-Wait.ensures.listed
+
+pub command-returns-in-Declare-clause-listed : goal.command-returns-in-Declare-clause-listed
+command-returns-in-Declare-clause-listed g t c =
+    on_ok_weaker c.declaration.result
+    (λ adds. adds ∙ ap (λ (k : Command). listed_by c.args.found.now.items ++ command_listed k) (sym (ap command_view c.in-Declare.is ∙ view_declaration c.in-Declare.decl c.in-Declare.right)))
+    c.declaration.ensures.listed
+
+pub statement-returns-clause-listed : goal.statement-returns-clause-listed
+statement-returns-clause-listed g t c =
+    on_ok_weaker c.command.result (λ adds. adds ∙ ap (λ (x : Statement). listed_by c.args.found.now.items ++ listed x) (sym (view_stmt g.row.A.Denot c.args.stmt.now))) c.command.ensures.listed
+
+pub each-returns-clause-listed : goal.each-returns-clause-listed
+each-returns-clause-listed g t c =
+    walked_all (statement_view {A = g.row.A.Denot}) all_listed refl
+    (listed_by c.args.found.now.items ++ all_listed (map (statement_view {A = g.row.A.Denot}) c.args.statements.now.items))
+    (listed_by c.loop-stmt.found.items) c.args.statements.now.items c.loop-stmt.stmt-index c.loop-stmt.invariant.2 (grind (arith, common_steps))
+
+pub boxed_block-returns-clause-listed : goal.boxed_block-returns-clause-listed
+boxed_block-returns-clause-listed g t c =
+    let A = g.row.A.Denot in
+    let b = out-Block A c.args.body.now in
+    let told : Box (Made A) A → Type 0 = λ x. block_listed x.value ≡ shows.block_of b.from (listed_by c.each.new.found.items) in
+    let wanted : Box (Made A) A → Type 0 = λ x. block_listed x.value ≡ body_listed (body_view {A = A} c.args.body.now) in
+    IfOk-weaker c.boxed_at.result told wanted
+    (λ x is. is ∙ ap (shows.block_of b.from) (c.in_ok-each.ensures.listed
+    ∙ ap (λ (xs : List (Added A)). listed_by xs ++ all_listed (map (statement_view {A = A}) b.statements.items)) c.new-statements.ensures.items)
+    ∙ ap body_listed (sym (view-Block A c.args.body.now))) c.boxed_at.ensures.listed

@@ -5,6 +5,7 @@ use Rattle.language.specs.Numbered.{statement_size, command_size, body_size}
 use Rattle.types.specs.Typed.{table_of}
 use Rattle.flow.specs.View.{statements_view}
 use Rattle.lowering.specs.Shapes.{among, declared_by, flagged}
+use Rattle.lowering.specs.Listed.{all_listed, listed_by}
 use Rattle.lowering.specs.View.{statements_among}
 use Rattle.lowering.proofs.statement.+statement.Given as goal
 
@@ -26,3 +27,5 @@ invariant-each-loop-stmt g l =
     ≡ statements_view l.found.items ++ statements_among (table_of l.typed) (map statement_view (drop l.stmt-index l.statements.items)))
     × (declared_by l.fn.found.items ++ flagged (among (map statement_view l.statements.items))
     ≡ declared_by l.found.items ++ flagged (among (map statement_view (drop l.stmt-index l.statements.items))))
+    × (listed_by l.fn.found.items ++ all_listed (map statement_view l.statements.items)
+    ≡ listed_by l.found.items ++ all_listed (map statement_view (drop l.stmt-index l.statements.items)))

@@ -1,4 +1,7 @@
-use Rattle.std.proofs.Common.{rules, ◌++◌, ap, ◌∙◌}
+use Rattle.std.proofs.Common.{rules, [], ◌∷◌, ◌++◌, ap, ◌∙◌}
+use Rattle.std.proofs.lemmas.List.{map-append}
+use Rattle.flow_listed.specs.Listed.{Listed, statement_listed}
+use Rattle.lowering.specs.Listed.{listed_by}
 use Rattle.flow.specs.declared.statement.Statement.{the_lemmas}
 use Rattle.lowering.specs.Shapes.{declared_by}
 use Rattle.lowering.proofs.Declaring.{one_more}
@@ -9,3 +12,9 @@ returns-clause-declared g c =
     ap declared_by c.in_ok-push.ensures.items
     ∙ one_more c.args.found.now.items _
     ∙ ap (λ ds. declared_by c.args.found.now.items ++ ds) (search (rules, the_lemmas))
+
+pub returns-clause-listed : goal.returns-clause-listed
+returns-clause-listed g c =
+    ap listed_by c.in_ok-push.ensures.items
+    ∙ map-append statement_listed c.args.found.now.items _
+    ∙ ap (λ (l : Listed). listed_by c.args.found.now.items ++ l ∷ []) (search (rules, the_lemmas))

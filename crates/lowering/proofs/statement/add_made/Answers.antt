@@ -6,6 +6,8 @@ use Rattle.flow.specs.declared.statement.Action.{Action}
 use Rattle.flow.specs.View.{action_view, statements_view}
 use Rattle.flow.specs.Shapes.{action_declared}
 use Rattle.lowering.specs.Shapes.{declared_by}
+use Rattle.flow_listed.specs.Listed.{action_listed}
+use Rattle.lowering.specs.Listed.{listed_by}
 use Rattle.lowering.proofs.statement.add_made.Goals as goal
 
 pub returns-in-Ok-clause-core : goal.returns-in-Ok-clause-core
@@ -21,3 +23,10 @@ returns-in-Ok-clause-declared g c =
     on_ok_weaker c.add.result
     (λ adds. subst (λ r. IsOkAnd r (λ (x : Action A). declared_by c.add.new.found.items ≡ declared_by c.args.found.now.items ++ action_declared x)) (sym c.in-Ok.is) adds)
     c.add.ensures.declared
+
+pub returns-in-Ok-clause-listed : goal.returns-in-Ok-clause-listed
+returns-in-Ok-clause-listed g c =
+    let A = g.row.A.Denot in
+    on_ok_weaker c.add.result
+    (λ adds. subst (λ r. IsOkAnd r (λ (x : Action A). listed_by c.add.new.found.items ≡ listed_by c.args.found.now.items ++ action_listed x ∷ [])) (sym c.in-Ok.is) adds)
+    c.add.ensures.listed

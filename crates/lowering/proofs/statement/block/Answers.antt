@@ -9,6 +9,8 @@ use Rattle.flow.specs.View.{statements_view}
 use Rattle.lowering.proofs.Statements.{block_found}
 use Rattle.language_accepted.specs.Types.{body_declarations}
 use Rattle.lowering.specs.Shapes.{among, declared_by, flagged}
+use Rattle.flow_listed.specs.Listed as shows
+use Rattle.lowering.specs.Listed.{all_listed, body_listed, listed_by}
 use Rattle.lowering.proofs.statement.block.Goals as goal
 
 pub returns-clause-core : goal.returns-clause-core
@@ -27,3 +29,12 @@ returns-clause-declared g c =
     ∙ c.in_ok-each.ensures.declared
     ∙ ap (λ (xs : List (Added A)). declared_by xs ++ flagged (among (map (statement_view {A = A}) b.statements.items))) c.new-statements.ensures.items
     ∙ ap (λ (x : trees.Body). flagged (body_declarations x)) (sym (view-Block A c.args.body.now))
+
+pub returns-clause-listed : goal.returns-clause-listed
+returns-clause-listed g c =
+    let A = g.row.A.Denot in
+    let b = out-Block A c.args.body.now in
+    c.block_at.ensures.listed
+    ∙ ap (shows.block_of b.from)
+    (c.in_ok-each.ensures.listed ∙ ap (λ (xs : List (Added A)). listed_by xs ++ all_listed (map (statement_view {A = A}) b.statements.items)) c.new-statements.ensures.items)
+    ∙ ap body_listed (sym (view-Block A c.args.body.now))

@@ -1,4 +1,4 @@
-use Rattle.std.proofs.Common.{option_map, ap, ◌∙◌}
+use Rattle.std.proofs.Common.{[], ◌∷◌, option_map, ap, ◌∙◌}
 use Rattle.std.proofs.lemmas.Result.{on_ok_weaker}
 use Rattle.language.specs.Core as core
 use Rattle.syntax_trees.specs.View.{declaration_of, right_of}
@@ -6,6 +6,10 @@ use Rattle.types.specs.Typed.{table_of}
 use Rattle.flow.specs.declared.statement.Action.{Declare}
 use Rattle.flow.specs.View.{action_view, name_view, statements_view}
 use Rattle.lowering.proofs.Loops.{view_declare}
+use Rattle.flow_listed.specs.Listed.{action_listed, declares, other}
+use Rattle.lowering.specs.Listed.{listed_by}
+use Rattle.lowering.specs.View.{Declared}
+use Rattle.lowering.proofs.Showing.{declare_shown, declares_alone, declares_both}
 use Rattle.lowering.proofs.Statements.{declared_with}
 use Rattle.lowering.proofs.statement.declaration.Goals as goal
 
@@ -20,3 +24,21 @@ returns-in_ok-action-in-Some-clause-core g c =
     (ap (option_map (right_of {A = A})) c.in-Some.is) c.in_ok-add.ensures.core (view_declare c.in_ok-variable.variable ∙ ap core.declare c.in_ok-variable.ensures.node)
     adds c.in_ok-action-in-Some.ensures.core c.own_name.ensures.name c.own_name.ensures.shape)
     c.add-in-Some.ensures.core
+
+pub returns-in-None-clause-listed : goal.returns-in-None-clause-listed
+returns-in-None-clause-listed g c =
+    let A = g.row.A.Denot in
+    declares_alone (declaration_of {A = A} c.args.decl.now) (option_map (right_of {A = A}) c.args.right.now) (listed_by c.args.found.now.items) (listed_by c.add.new.found.items)
+    (action_listed (Declare c.in_ok-variable.variable)) (ap (option_map (right_of {A = A})) c.in-None.is) c.in_ok-add.ensures.listed
+    (declare_shown c.in_ok-variable.variable ∙ ap (λ (d : Declared). other (declares d ∷ [])) c.in_ok-variable.ensures.variable)
+
+pub returns-in_ok-action-in-Some-clause-listed : goal.returns-in_ok-action-in-Some-clause-listed
+returns-in_ok-action-in-Some-clause-listed g c =
+    let A = g.row.A.Denot in
+    on_ok_weaker c.add-in-Some.result
+    (λ adds. declares_both (declaration_of {A = A} c.args.decl.now) (right_of {A = A} c.in-Some.right) (option_map (right_of {A = A}) c.args.right.now)
+    (listed_by c.args.found.now.items) (listed_by c.add.new.found.items) (listed_by c.add-in-Some.new.found.items)
+    (action_listed (Declare c.in_ok-variable.variable)) (action_listed c.in_ok-action-in-Some.action)
+    (ap (option_map (right_of {A = A})) c.in-Some.is) c.in_ok-add.ensures.listed
+    (declare_shown c.in_ok-variable.variable ∙ ap (λ (d : Declared). other (declares d ∷ [])) c.in_ok-variable.ensures.variable) adds c.in_ok-action-in-Some.ensures.listed)
+    c.add-in-Some.ensures.listed

@@ -6,6 +6,8 @@ use Rattle.types.specs.Typed.{table_of}
 use Rattle.flow.specs.View.{block_view}
 use Rattle.lowering.proofs.Loops.{each_found, range_found}
 use Rattle.lowering.proofs.Declaring.{each_declared, range_declared}
+use Rattle.lowering.proofs.Showing.{each_shown, range_shown, same_loop}
+use Rattle.flow_listed.specs.Listed.{block_listed}
 use Rattle.lowering.proofs.statement.repeated.Goals as goal
 
 pub returns-in_ok-range-in-Range-clause-core : goal.returns-in_ok-range-in-Range-clause-core
@@ -35,3 +37,13 @@ returns-in-Array-clause-core g c =
 
 pub returns-in-Array-clause-declared : goal.returns-in-Array-clause-declared
 returns-in-Array-clause-declared g c = each_declared c.refer.result c.in_ok-value.value c.in_ok-key.key c.args.body
+
+pub returns-in_ok-range-in-Range-clause-listed : goal.returns-in_ok-range-in-Range-clause-listed
+returns-in_ok-range-in-Range-clause-listed g c =
+    range_shown c.in_ok-range-in-Range.range c.in_ok-value.value c.in_ok-key.key c.args.body
+    ∙ same_loop _ _ _ _ (block_listed c.args.body.value) c.in_ok-value.ensures.variable c.in_ok-key.ensures.variable
+
+pub returns-in-Array-clause-listed : goal.returns-in-Array-clause-listed
+returns-in-Array-clause-listed g c =
+    each_shown c.refer.result c.in_ok-value.value c.in_ok-key.key c.args.body
+    ∙ same_loop _ _ _ _ (block_listed c.args.body.value) c.in_ok-value.ensures.variable c.in_ok-key.ensures.variable

@@ -1,12 +1,11 @@
-use Rattle.std.proofs.Common.{rules, arith, ◌≡◌, ◌<◌, true, false, length, get_or, sym, ◌∙◌, subst}
+use Rattle.std.proofs.Common.{rules, arith, ◌≡◌, ◌<◌, length, get_or, sym, subst}
 use Rattle.std.proofs.lemmas.Grind.{common_steps}
 use Rattle.flow.specs.View.{core_of}
 use Rattle.meaning_round.specs.declared.state.Array.{Array}
-use Rattle.meaning_openings.specs.Closing.{IsEnded, StaysSo}
+use Rattle.meaning_openings.specs.Closing.{IsTried}
 use Rattle.meaning_round.specs.Made.{candidate_of}
 use Rattle.meaning_openings.proofs.LookedAt.{one_more_looked_at}
 use Rattle.meaning_openings.proofs.closing.close_arrays.Goals as goal
-use Rattle.meaning_openings.proofs.closing.close_arrays.Goals.{then-branch, else-branch}
 
 pub loop-array-preserved : goal.loop-array-preserved
 loop-array-preserved g c =
@@ -16,12 +15,6 @@ loop-array-preserved g c =
     let m = c.close_one.new.learned in
     let within : c.loop-array.array-index < length c.args.arrays.now = grind (arith, common_steps) in
     let item : get_or c.args.arrays.now c.loop-array.array-index c.array-item.result ≡ c.array-item.result = search rules in
-    let neither : c.if-branch.is_new ≡ false → (c.loop-array.is_new ≡ false) × (c.in_ok-close_one.field-0 ≡ false) = elim c.if-branch.branch [
-      | then-branch w ↦ λ e. (let z : true ≡ false = sym w.is_new-is ∙ e in absurd (cc (z)))
-      | else-branch w ↦ λ e. (sym w.is_new-is ∙ e, w.if-branch.false)
-    ] in
-    one_more_looked_at {A = A} s c.args.arrays.now c.loop-array.array-index c.array-item.result within c.args.learned.now l m c.loop-array.is_new c.in_ok-close_one.field-0 c.if-branch.is_new
+    one_more_looked_at {A = A} s c.args.arrays.now c.loop-array.array-index c.array-item.result within c.args.learned.now l m c.loop-array.closed.items c.close_one.new.closed.items
     c.loop-array.invariant c.close_one.ensures.facts c.close_one.ensures.instances
-    (subst (λ (z : Array A). StaysSo s (candidate_of {A = A} z) l m) (sym item) c.in_ok-close_one.ensures.so)
-    (subst (λ (z : Array A). c.in_ok-close_one.field-0 ≡ false → (m ≡ l) × IsEnded s l (candidate_of {A = A} z)) (sym item) c.in_ok-close_one.ensures.ended)
-    neither
+    (subst (λ (z : Array A). IsTried s (candidate_of {A = A} z) l m c.loop-array.closed.items c.close_one.new.closed.items) (sym item) c.in_ok-close_one.ensures.tried)

@@ -37,4 +37,4 @@ returns-in-None-clause-so g c =
 
 pub returns-in-None-clause-more : goal.returns-in-None-clause-more
 returns-in-None-clause-more g c =
-    on_ok_weaker c.keep_waiting.result (λ h. stay_more {A = g.row.A.Denot} c.args.state.now c.keep_waiting.new.state c.keep_waiting.ensures.learned c.keep_waiting.ensures.tasks c.keep_waiting.ensures.telling) c.keep_waiting.ensures.waiting
+    on_ok_weaker c.keep_waiting.result (λ h. stay_more {A = g.row.A.Denot} c.args.state.now c.keep_waiting.new.state c.keep_waiting.ensures.learned c.keep_waiting.ensures.tasks c.keep_waiting.ensures.tellers) c.keep_waiting.ensures.waiting

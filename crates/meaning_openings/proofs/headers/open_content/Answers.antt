@@ -17,4 +17,4 @@ returns-in_ok-add_block-clause-so g c =
 
 pub returns-else-have_come-clause-more : goal.returns-else-have_come-clause-more
 returns-else-have_come-clause-more g c =
-    on_ok_weaker c.keep_waiting.result (λ h. stay_more {A = g.row.A.Denot} c.args.state.now c.keep_waiting.new.state c.keep_waiting.ensures.learned c.keep_waiting.ensures.tasks c.keep_waiting.ensures.telling) c.keep_waiting.ensures.waiting
+    on_ok_weaker c.keep_waiting.result (λ h. stay_more {A = g.row.A.Denot} c.args.state.now c.keep_waiting.new.state c.keep_waiting.ensures.learned c.keep_waiting.ensures.tasks c.keep_waiting.ensures.tellers) c.keep_waiting.ensures.waiting

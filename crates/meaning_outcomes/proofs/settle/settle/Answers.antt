@@ -8,12 +8,12 @@ returns-then-not-branch-clause-so g c =
     let A = g.row.A.Denot in
     let closing : IsClosing {A = g.row.A.Denot} c.open_all.new.state c.close_some.new.state = record {
       tasks = c.close_some.ensures.tasks;
-      telling = c.close_some.ensures.telling;
       waiting = c.close_some.ensures.waiting;
       arrays = c.close_some.ensures.arrays;
       passed = c.close_some.ensures.passed;
       facts = c.close_some.ensures.facts;
       instances = c.close_some.ensures.instances;
+      heard = c.in_ok-close_some.ensures.heard;
     } in
     let none : c.in_ok-close_some.field-0 ≡ false = search rules in
     let ends = c.in_ok-close_some.ensures.ended none in
@@ -26,12 +26,12 @@ loop-preserved g c =
     let A = g.row.A.Denot in
     let closing : IsClosing {A = g.row.A.Denot} c.open_all.new.state c.close_some.new.state = record {
       tasks = c.close_some.ensures.tasks;
-      telling = c.close_some.ensures.telling;
       waiting = c.close_some.ensures.waiting;
       arrays = c.close_some.ensures.arrays;
       passed = c.close_some.ensures.passed;
       facts = c.close_some.ensures.facts;
       instances = c.close_some.ensures.instances;
+      heard = c.in_ok-close_some.ensures.heard;
     } in
     record {
       so = turn_between {A = A} (core_of {A = A} c.args.state.now.flow.now) (core_of {A = A} c.loop.state.flow.now) (core_of {A = A} c.open_all.new.state.flow.now)

@@ -11,6 +11,7 @@ loop-next-preserved c =
     record {
       within = S.within I.within;
       kept = λ i r t. S.kept i r (I.kept i r t);
+      plain = λ P. S.plain (I.plain P);
       sound = λ own L. S.sound own (I.sound own L);
       closed = S.closed I.within I.closed;
       bound = omega arith;

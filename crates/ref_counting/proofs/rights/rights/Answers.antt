@@ -11,4 +11,5 @@ pub returns : goal.returns
 returns c =
     rights_found c.args.code.now c.args.right c.in_ok-leads.leads.keys c.pass_all.new.leads.keys c.in_ok-leads.ensures
     c.in_ok-pass_all.ensures.kept (c.in_ok-pass_all.ensures.sound (own_of c.args.right)) c.in_ok-pass_all.ensures.within c.in_ok-pass_all.ensures.closed
-    c.in_ok-found.found (subst (λ n. LaysOut n c.pass_all.new.leads.keys c.in_ok-found.found) c.entry_count.ensures c.in_ok-found.ensures)
+    c.in_ok-pass_all.ensures.plain c.in_ok-found.ensures.distinct
+    c.in_ok-found.found (subst (λ n. LaysOut n c.pass_all.new.leads.keys c.in_ok-found.found) c.entry_count.ensures c.in_ok-found.ensures.laid)

@@ -8,9 +8,10 @@ use Rattle.swt_trace.specs.Replay.{IsFirstNoStep, ReplaysTo}
 use Rattle.swt_trace.specs.Report.{ending_of}
 use Rattle.swt_trace.specs.Trace.{IsTrace}
 use Rattle.swt_trace.proofs.Again.{its_trace, not_refused, not_wrong, read_refused, same_again}
-use Rattle.swt_trace.proofs.Faults.{end_alone, end_no_step, no_other, of_fault, of_report}
+use Rattle.swt_trace.proofs.Faults.{end_alone, end_no_step, no_other, of_fault}
 use Rattle.swt_trace.proofs.Replays.{replayed, wrong_end}
 use Rattle.swt_trace.proofs.replay.replay.Goals as goal
+use Rattle.std.proofs.lemmas.Result.{IfOk-weaker}
 
 pub report_behind-requires-clause-trace : goal.report_behind-requires-clause-trace
 report_behind-requires-clause-trace c =
@@ -53,7 +54,7 @@ returns-clause-report c =
     let r = c.in_ok-report.report in
     let reports : Reports c.args.code.now (length told.events.items) r =
     subst (λ (es : List Event). Reports c.args.code.now (length es) r) c.as_slice.ensures.value (subst (λ (C : Code). Reports C (length c.as_slice.result.now) r) code c.in_ok-report.ensures.reports) in
-    of_report c.ended_as.result _ (ReplaysTo c.args.code.now c.args.trace.now)
+    IfOk-weaker c.ended_as.result _ (ReplaysTo c.args.code.now c.args.trace.now)
     (λ s h. replayed c.args.code.now c.args.trace.now told.events.items told.ending r s c.in_ok-told.ensures.ok (c.in_ok-report.ensures.history ∙ c.as_slice.ensures.value) reports h.0 h.1) c.ended_as.ensures.ok
 
 pub returns-clause-bad : goal.returns-clause-bad
@@ -76,7 +77,7 @@ returns-clause-wrong c =
 
 pub returns-clause-again : goal.returns-clause-again
 returns-clause-again c = λ r t.
-    of_report c.ended_as.result _ _ (λ s h. same_again c.args.code.now c.args.trace.now r t c.entry_count-whole.ensures.whole s h) (returns-clause-report c)
+    IfOk-weaker c.ended_as.result _ _ (λ s h. same_again c.args.code.now c.args.trace.now r t c.entry_count-whole.ensures.whole s h) (returns-clause-report c)
 
 pub returns-clause-only_memory : goal.returns-clause-only_memory
 returns-clause-only_memory c = λ r t.

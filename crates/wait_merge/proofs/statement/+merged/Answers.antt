@@ -1,10 +1,11 @@
-use Rattle.std.proofs.Common.{rules, IsTrue, map, ap, sym, ◌∙◌, arith, subst}
+use Rattle.std.proofs.Common.{rules, IsTrue, ◌++◌, map, option_map, ap, ap₂, sym, ◌∙◌, arith, subst}
 use Rattle.std.proofs.lemmas.Grind.{common_steps}
 use Rattle.std.proofs.lemmas.List.{take_all}
 use Rattle.flow.specs.View.{block_view, statement_view}
 use Rattle.flow.specs.Shapes.{action_declared, block_declared, statement_declared}
 use Rattle.wait_merge.specs.Merged.{all_merged, statement_seen}
-use Rattle.wait_merge.proofs.Actions.{both_declared, view_changed, declared_changed, seen_changed, when_core, choose_core, range_core, each_core, when_declared, choose_declared, range_declared, each_declared, when_merged, choose_merged, range_merged, each_merged}
+use Rattle.flow_listed.specs.Listed.{Listed, action_listed, block_listed, content, declared, looping, other, statement_listed, whole}
+use Rattle.wait_merge.proofs.Actions.{listed_changed, when_listed, choose_listed, range_listed, each_listed, wait_listed, same_waiting, both_declared, view_changed, declared_changed, seen_changed, when_core, choose_core, range_core, each_core, when_declared, choose_declared, range_declared, each_declared, when_merged, choose_merged, range_merged, each_merged}
 use Rattle.wait_merge.proofs.Lists.{both_true, kept_at, merged_more}
 use Rattle.wait_merge.proofs.statement.+merged.Goals as goal
 
@@ -74,7 +75,8 @@ each-loop-i-preserved g t c =
       search rules,
       kept_at (statement_view {A = A}) xs c.args.statements.now.items i x _ c.loop-i.invariant.1 here (view_changed A x c.action.new.action c.in_ok-action.ensures.core),
       kept_at (statement_declared {A = A}) xs c.args.statements.now.items i x _ c.loop-i.invariant.2 here (declared_changed A x c.action.new.action c.in_ok-action.ensures.declared),
-      merged_more (statement_seen {A = A}) xs i _ c.loop-i.invariant.3 (grind (arith, common_steps)) (seen_changed A x c.action.new.action ∙ c.in_ok-action.ensures.merged),
+      kept_at (statement_listed {A = A}) xs c.args.statements.now.items i x _ c.loop-i.invariant.3 here (listed_changed A x c.action.new.action c.in_ok-action.ensures.listed),
+      merged_more (statement_seen {A = A}) xs i _ c.loop-i.invariant.4 (grind (arith, common_steps)) (seen_changed A x c.action.new.action ∙ c.in_ok-action.ensures.merged),
     )
 
 pub each-returns-clause-core : goal.each-returns-clause-core
@@ -85,4 +87,36 @@ each-returns-clause-declared g t c = c.loop-i.invariant.2
 
 pub each-returns-clause-merged : goal.each-returns-clause-merged
 each-returns-clause-merged g t c =
-    subst (λ zs. IsTrue (all_merged (map (statement_seen {A = g.row.A.Denot}) zs))) (take_all c.loop-i.i c.loop-i.statements.items (grind (arith, common_steps))) c.loop-i.invariant.3
+    subst (λ zs. IsTrue (all_merged (map (statement_seen {A = g.row.A.Denot}) zs))) (take_all c.loop-i.i c.loop-i.statements.items (grind (arith, common_steps))) c.loop-i.invariant.4
+
+pub action-returns-in_ok-block-in-When-clause-listed : goal.action-returns-in_ok-block-in-When-clause-listed
+action-returns-in_ok-block-in-When-clause-listed g t c =
+    when_listed c.in-When.condition _ ∙ ap (λ (l : Listed). other (whole l)) (c.in_ok-block-in-When.ensures.listed ∙ ap block_listed c.deref_mut.ensures.value) ∙ sym (ap action_listed c.in-When.is ∙ when_listed c.in-When.condition c.in-When.then)
+
+pub action-returns-in_ok-block-in-Range-clause-listed : goal.action-returns-in_ok-block-in-Range-clause-listed
+action-returns-in_ok-block-in-Range-clause-listed g t c =
+    range_listed c.in-Range.range c.in-Range.value c.in-Range.turn _
+    ∙ ap (looping (declared c.in-Range.value) (option_map declared c.in-Range.turn)) (c.in_ok-block-in-Range.ensures.listed ∙ ap block_listed c.deref_mut-in-Range.ensures.value)
+    ∙ sym (ap action_listed c.in-Range.is ∙ range_listed c.in-Range.range c.in-Range.value c.in-Range.turn c.in-Range.body)
+
+pub action-returns-in_ok-block-in-Each-clause-listed : goal.action-returns-in_ok-block-in-Each-clause-listed
+action-returns-in_ok-block-in-Each-clause-listed g t c =
+    each_listed c.in-Each.array c.in-Each.value c.in-Each.key _
+    ∙ ap (looping (declared c.in-Each.value) (option_map declared c.in-Each.key)) (c.in_ok-block-in-Each.ensures.listed ∙ ap block_listed c.deref_mut-in-Each.ensures.value)
+    ∙ sym (ap action_listed c.in-Each.is ∙ each_listed c.in-Each.array c.in-Each.value c.in-Each.key c.in-Each.body)
+
+pub action-returns-in_ok-block-in-Choose-2-clause-listed : goal.action-returns-in_ok-block-in-Choose-2-clause-listed
+action-returns-in_ok-block-in-Choose-2-clause-listed g t c =
+    choose_listed c.in-Choose.condition _ _
+    ∙ ap₂ (λ (x y : Listed). other (whole x ++ whole y)) (c.in_ok-block-in-Choose.ensures.listed ∙ ap block_listed c.deref_mut-in-Choose.ensures.value) (c.in_ok-block-in-Choose-2.ensures.listed ∙ ap block_listed c.deref_mut-in-Choose-2.ensures.value)
+    ∙ sym (ap action_listed c.in-Choose.is ∙ choose_listed c.in-Choose.condition c.in-Choose.then c.in-Choose.other)
+
+pub action-returns-in_ok-absorb-in-Wait-clause-listed : goal.action-returns-in_ok-absorb-in-Wait-clause-listed
+action-returns-in_ok-absorb-in-Wait-clause-listed g t c =
+    wait_listed c.in-Wait.names _ _
+    ∙ same_waiting (block_listed c.absorb.new.content.value) (block_listed c.in-Wait.content.value)
+    (c.in_ok-absorb-in-Wait.ensures.listed ∙ ap content (c.in_ok-block-in-Wait.ensures.listed ∙ ap block_listed c.deref_mut-in-Wait.ensures.value))
+    ∙ sym (ap action_listed c.in-Wait.is ∙ wait_listed c.in-Wait.names c.in-Wait.inner c.in-Wait.content)
+
+pub each-returns-clause-listed : goal.each-returns-clause-listed
+each-returns-clause-listed g t c = c.loop-i.invariant.3

@@ -3,7 +3,8 @@ use Rattle.flow.specs.declared.statement.Header.{Header}
 use Rattle.flow.specs.View.{action_view, block_view, waits_around}
 use Rattle.language.specs.Core as core
 use Rattle.wait_merge.specs.Merged.{Seen}
-use Rattle.wait_merge.proofs.Actions.{around_more, seen_statement, view_statement, view_waits}
+use Rattle.flow_listed.specs.Listed.{Listed, action_listed}
+use Rattle.wait_merge.proofs.Actions.{listed_statement, wait_listed, around_more, seen_statement, view_statement, view_waits}
 use Rattle.wait_merge.proofs.Forms.{not_wait}
 use Rattle.wait_merge.proofs.statement.take_in.Goals as goal
 
@@ -18,6 +19,11 @@ returns-in-Wait-clause-core g c =
     ∙ around_more hs (h ∷ []) (waits_around c.in-Wait.behind.items b)
     ∙ ap (λ (a : core.Action). waits_around hs (core.stmts (core.stmt h.at h.node a) core.no_stmts)) (sym (ap action_view c.in-Wait.is ∙ view_waits c.in-Wait.names c.in-Wait.behind c.in-Wait.innermost))
     ∙ ap (λ (s : core.Stmt). waits_around hs (core.stmts s core.no_stmts)) (sym (view_statement A c.args.only))
+
+pub returns-in-Wait-clause-listed : goal.returns-in-Wait-clause-listed
+returns-in-Wait-clause-listed g c =
+    let A = g.row.A.Denot in
+    sym (ap (λ (l : Listed). l.shown) (listed_statement A c.args.only ∙ ap action_listed c.in-Wait.is ∙ wait_listed c.in-Wait.names c.in-Wait.behind c.in-Wait.innermost))
 
 pub returns : goal.returns
 returns g c =

@@ -1,12 +1,11 @@
-use Rattle.std.proofs.Common.{◌≡◌, ◌≤◌, ◌+◌, All, vec_len, vec_capacity}
+use Rattle.std.proofs.Common.{◌≡◌, ◌+◌, All, vec_len}
 use Rattle.pool.specs.Seats.{view, seat_pool}
 use Rattle.pool.specs.Views.{beginner}
 use Rattle.workers.proofs.run.hands_of.Given as goal
 
 abbrev pub invariant-loop-seat : goal.invariant-loop-seat
 invariant-loop-seat g l = record {
-  count : vec_len l.hands + vec_len l.seats ≡ vec_len l.fn.seats;
-  room : vec_len l.hands + vec_len l.seats ≤ vec_capacity l.hands;
+  count : l.worker + vec_len l.seats ≡ vec_len l.fn.seats;
   parts : (l.events.parts ≡ vec_len l.seats) × (l.news.parts ≡ vec_len l.seats);
   amounts : (l.events.amount ≡ 0) × (l.news.amount ≡ 0);
   each : All (λ s. (seat_pool s ≡ g.J.Job.pool) × (view s ≡ beginner 1)) l.seats.items;

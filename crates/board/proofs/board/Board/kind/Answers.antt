@@ -1,6 +1,5 @@
 use Rattle.std.proofs.Common.{rules, ap, sym, ◌∙◌, map}
-use Rattle.task_code.specs.View.{event_view, kind_view}
-use Rattle.board_program.specs.Tables.{queue_kind}
+use Rattle.task_code.specs.View.{event_view}
 use Rattle.board_instances.specs.View.{mark_view, row_view}
 use Rattle.board_history.specs.Ending.{job_kind}
 use Rattle.board_history.specs.Fields.{Job}
@@ -19,5 +18,5 @@ pub returns-in_default-mark : goal.returns-in_default-mark
 returns-in_default-mark c =
     record {
       none = tt;
-      some = rw (← c.self.view_is) (some_item c.self.inside.program c.self.invariant.whole (map event_view c.self.inside.history.items) c.self.inside.core c.self.invariant.stand c.args.item (row_view c.in-Some.found) (search rules) (λ over. live_mark c.mark.result c.in_default-mark.not-Over (c.mark.ensures ∙ over)) (kind_view c.code_kind.result) (c.code_kind.ensures ∙ c.order_of-kind.ensures.kind ∙ ap (λ (j : Job). queue_kind (job_kind c.self.inside.program j)) c.job.ensures));
+      some = rw (← c.self.view_is) (some_item c.self.inside.program c.self.invariant.whole (map event_view c.self.inside.history.items) c.self.inside.core c.self.invariant.stand c.args.item (row_view c.in-Some.found) (search rules) (λ over. live_mark c.mark.result c.in_default-mark.not-Over (c.mark.ensures ∙ over)) _ (c.order_of-kind.ensures.kind ∙ ap (λ (j : Job). job_kind c.self.inside.program j) c.job.ensures));
     }

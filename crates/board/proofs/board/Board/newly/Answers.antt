@@ -1,9 +1,8 @@
 use Rattle.std.proofs.Common.{rules, ap, ◌≡◌, Some, ◌∙◌, map}
 use Rattle.std.specs.Prelude.{slice_get}
-use Rattle.board_program.specs.Tables.{queue_kind}
 use Rattle.board_history.specs.Ending.{job_kind}
 use Rattle.board_history.specs.Fields.{Job, row_of}
-use Rattle.task_code.specs.View.{event_view, kind_view}
+use Rattle.task_code.specs.View.{event_view}
 use Rattle.board_instances.specs.View.{row_view, rows_view}
 use Rattle.board.proofs.Own.{numbered}
 use Rattle.board.proofs.Showing.{no_row_there, row_live, some_ranked}
@@ -24,5 +23,5 @@ returns-clause-some c =
     rw (← c.self.view_is) (
       got,
       some_ranked c.self.inside.program c.self.invariant.whole (map event_view c.self.inside.history.items) c.self.inside.core c.self.invariant.stand c.in-Some.number (row_view c.in-Some-item_of.item) there
-          (row_live c.self.inside c.self.invariant c.args.place c.in-Some.number got (row_view c.in-Some-item_of.item) there) (kind_view c.code_kind.result) (c.code_kind.ensures ∙ c.order_of-kind.ensures.kind ∙ ap (λ (j : Job). queue_kind (job_kind c.self.inside.program j)) c.job.ensures) _ (search rules),
+          (row_live c.self.inside c.self.invariant c.args.place c.in-Some.number got (row_view c.in-Some-item_of.item) there) _ (c.order_of-kind.ensures.kind ∙ ap (λ (j : Job). job_kind c.self.inside.program j) c.job.ensures) _ (search rules),
     )

@@ -10,6 +10,7 @@ use Rattle.board_effects.proofs.Loops.{chunk_deep, chunk_opens}
 use Rattle.board_effects.proofs.Values.{ok_map}
 use Rattle.board_effects.proofs.effect.Ended.counts.Goals as goal
 use Rattle.board_effects.proofs.effect.Ended.counts.Goals.{else-first-end-via-then-first-end+else-is_too_deep, else-first-end-via-else-first-end}
+use Rattle.values.specs.Limits.{chunk_size}
 
 pub returns-then-is_too_deep : goal.returns-then-is_too_deep
 returns-then-is_too_deep c = λ w l.
@@ -30,7 +31,7 @@ returns c = λ w l.
     (chunk_opens c.args.self w c.args.body l (range_turns low step 0 count) count first end begins ends (range_length low step 0 count) c.push_range.new.list.items
     (λ some there. subst (λ m. AddsTurns (code_of c.args.self) (frames_of c.args.self) c.args.self.view.at c.args.body m (chunk c.args.self.chunk (range_turns low step 0 count)) [] c.push_range.new.list.items) (mark_is c.args.self w)
     (turns_are (code_of c.args.self) (frames_of c.args.self) c.args.self.view.at c.args.body c.args.self.table.now.mark (range_turns low step first (min end count - first)) (chunk c.args.self.chunk (range_turns low step 0 count)) [] c.push_range.new.list.items
-    (ap (λ n. range_turns low step n (min end count - n)) begins ∙ ap (λ n. range_turns low step (min (c.args.self.chunk * 64) count) (min n count - min (c.args.self.chunk * 64) count)) ends ∙ range_chunk low step c.args.self.chunk count)
+    (ap (λ n. range_turns low step n (min end count - n)) begins ∙ ap (λ n. range_turns low step (min (c.args.self.chunk * chunk_size) count) (min n count - min (c.args.self.chunk * chunk_size) count)) ends ∙ range_chunk low step c.args.self.chunk count)
     (subst (λ old. AddsTurns (code_of c.args.self) (frames_of c.args.self) c.args.self.view.at c.args.body c.args.self.table.now.mark (range_turns low step first (min end count - first)) old c.push_range.new.list.items) c.in_ok-list.ensures.items (c.in_ok-push_range.ensures.added some there))))
     (λ e. c.in_ok-push_range.ensures.none e ∙ c.in_ok-list.ensures.items)
     (λ h. elim c.else-first-end.branch [

@@ -3,7 +3,7 @@ use Rattle.std.proofs.lemmas.Result.{on_ok_weaker}
 use Rattle.flow.specs.View.{name_view}
 use Rattle.task_code.specs.Code.{Need}
 use Rattle.task_code.specs.View as code_view
-use Rattle.emit_cells.specs.Wanted.{Noted, need_named}
+use Rattle.emit_cells.specs.PlainNeeds.{Noted, need_named}
 use Rattle.emit_cells.proofs.Keys.{closed_named, noted_none}
 use Rattle.emit_statements.proofs.Entries.{each_added}
 use Rattle.emit_statements.proofs.writer.Writer.add_each.Goals as goal

@@ -3,7 +3,7 @@ use Rattle.std.proofs.lemmas.Result.{on_ok_weaker}
 use Rattle.std.specs.Prelude.{option_map}
 use Rattle.flow.specs.View.{outer_view}
 use Rattle.task_code.specs.View as code_view
-use Rattle.emit_cells.specs.Wanted.{Noted}
+use Rattle.emit_cells.specs.PlainNeeds.{Noted}
 use Rattle.emit_cells.proofs.Keys.{noted_none}
 use Rattle.emit_statements.proofs.Entries.{range_added}
 use Rattle.emit_statements.proofs.writer.Writer.add_range.Goals as goal

@@ -1,7 +1,7 @@
 use Rattle.std.proofs.Common.{[], map, subst, sym}
 use Rattle.std.proofs.lemmas.Result.{on_ok_weaker}
 use Rattle.task_code.specs.View as code_view
-use Rattle.emit_cells.specs.Wanted.{Noted}
+use Rattle.emit_cells.specs.PlainNeeds.{Noted}
 use Rattle.emit_cells.proofs.Keys.{noted_none}
 use Rattle.emit_statements.proofs.Merged.{inner_room, wait_added, waited}
 use Rattle.emit_statements.proofs.writer.Writer.add_wait.Goals as goal

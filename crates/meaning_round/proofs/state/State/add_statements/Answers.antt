@@ -1,9 +1,9 @@
-use Rattle.std.proofs.Common.{rules, arith, ◌≡◌, ◌<◌, ◌≤◌, ◌+◌, ◌++◌, ◌∷◌, [], length, get_or, take, sym, ap, ◌∙◌}
+use Rattle.std.proofs.Common.{rules, arith, ◌≡◌, ◌<◌, ◌≤◌, ◌++◌, ◌∷◌, [], length, get_or, take, sym, ap, ◌∙◌}
 use Rattle.std.proofs.lemmas.List.{take_all}
 use Rattle.flow.specs.declared.statement.Block.{out-Block}
 use Rattle.flow.specs.declared.statement.Statement.{Statement}
 use Rattle.flow.specs.View.{block_view, statement_view}
-use Rattle.meaning_round.specs.Made.{arrays_of, declares_here, tasks_of, telling_of}
+use Rattle.meaning_round.specs.Made.{arrays_of, declares_here, tasks_of}
 use Rattle.meaning_invariants.specs.Active.{Active, Candidate}
 use Rattle.meaning_invariants.specs.Listed.{all_active}
 use Rattle.meaning_round.proofs.Made.{declares_joins, active_joins, made_all, made_step}
@@ -21,9 +21,7 @@ loop-statement-preserved g c =
       tasks = made_step A Active (λ z. all_active i z) (active_joins i) ss c.loop-statement.statement-index c.statement-item.result
           (tasks_of {A = A} c.args.self.now) (tasks_of {A = A} c.loop-statement.self) (tasks_of {A = A} c.add_statement.new.self) within c.loop-statement.invariant.tasks
           (c.in_ok-add_statement.ensures.tasks ∙ ap (λ (z : Statement A). tasks_of {A = A} c.loop-statement.self ++ all_active i (statement_view {A = A} z ∷ [])) (sym item));
-      telling = made_step A Active (λ z. all_active i z) (active_joins i) ss c.loop-statement.statement-index c.statement-item.result
-          (telling_of {A = A} c.args.self.now) (telling_of {A = A} c.loop-statement.self) (telling_of {A = A} c.add_statement.new.self) within c.loop-statement.invariant.telling
-          (c.in_ok-add_statement.ensures.telling ∙ ap (λ (z : Statement A). telling_of {A = A} c.loop-statement.self ++ all_active i (statement_view {A = A} z ∷ [])) (sym item));
+      tellers = c.add_statement.ensures.tellers ∙ c.loop-statement.invariant.tellers;
       arrays = made_step A Candidate (λ z. declares_here i b z) (declares_joins i b) ss c.loop-statement.statement-index c.statement-item.result
           (arrays_of {A = A} c.args.self.now) (arrays_of {A = A} c.loop-statement.self) (arrays_of {A = A} c.add_statement.new.self) within c.loop-statement.invariant.arrays
           (c.in_ok-add_statement.ensures.arrays ∙ ap (λ (z : Statement A). arrays_of {A = A} c.loop-statement.self ++ declares_here i b (statement_view {A = A} z ∷ [])) (sym item));
@@ -42,8 +40,7 @@ returns g c =
     let full = take_all c.loop-statement.statement-index ss past in
     record {
       tasks = made_all A Active (λ z. all_active i z) c.args.block.now (take c.loop-statement.statement-index ss) (tasks_of {A = A} c.args.self.now) (tasks_of {A = A} c.loop-statement.self) full c.loop-statement.invariant.tasks;
-      telling = made_all A Active (λ z. all_active i z) c.args.block.now (take c.loop-statement.statement-index ss)
-          (telling_of {A = A} c.args.self.now) (telling_of {A = A} c.loop-statement.self) full c.loop-statement.invariant.telling;
+      tellers = c.loop-statement.invariant.tellers;
       arrays = made_all A Candidate (λ z. declares_here i (block_view {A = A} c.args.block.now) z) c.args.block.now (take c.loop-statement.statement-index ss)
           (arrays_of {A = A} c.args.self.now) (arrays_of {A = A} c.loop-statement.self) full c.loop-statement.invariant.arrays;
       learned = c.loop-statement.invariant.learned;

@@ -1,5 +1,6 @@
 use Rattle.std.proofs.Common.{rules, arith, ap, ◌∙◌, refl, ◌+◌}
 use Rattle.board.specs.Board.{Accepts}
+use Rattle.board.proofs.Staying.{work_later}
 use Rattle.dataflow.specs.Machine.{End}
 use Rattle.workers.proofs.Listing.{either_way}
 use Rattle.workers.proofs.Threads.{ended, counted_more, no_back_more}
@@ -25,7 +26,7 @@ invariant_of-self-2 g c =
       fits = omega (arith, c.if-self-ge-MOST.false, c.count_fresh-count.ensures.few);
       runs = ended C g.J.Job.engines g.J.Job.workers c.args.worker c.args.finished.item c.self.inside.told (c.self.inside.told + c.count_fresh-count.result) old new k.code k.runs a c.requires.theirs (ap (λ n. c.self.inside.told + n) c.count_fresh-count.ensures.count);
       no_back = λ going. no_back_more old new (End c.args.worker c.args.finished.item) a refl (k.no_back going);
-      items = λ work h. c.work_stays.ensures.stays old new c.history-before.ensures.whole c.history-before.ensures.replays (End c.args.worker c.args.finished.item) a work (k.items work h);
+      items = λ work h. work_later old new c.history-before.ensures.whole c.history-before.ensures.replays (End c.args.worker c.args.finished.item) a work (k.items work h);
     }
 
 pub returns-clause-ok : goal.returns-clause-ok

@@ -1,5 +1,6 @@
 use Rattle.std.proofs.Common.{rules, arith, ap, ◌∙◌, ◌+◌}
 use Rattle.board.specs.Board.{Accepts}
+use Rattle.board.proofs.Staying.{work_later}
 use Rattle.dataflow.specs.Machine.{Back}
 use Rattle.workers.proofs.Threads.{returned, counted_more}
 use Rattle.workers.proofs.desk.Desk.give_back.Goals as goal
@@ -24,7 +25,7 @@ invariant_of-self-2 g c =
       fits = omega (arith, c.if-self-ge-MOST.false, c.count_fresh-count.ensures.few);
       runs = returned C g.J.Job.engines g.J.Job.workers c.args.worker c.args.item c.self.inside.told (c.self.inside.told + c.count_fresh-count.result) old new k.code k.runs a c.requires.theirs (ap (λ n. c.self.inside.told + n) c.count_fresh-count.ensures.count);
       no_back = search rules;
-      items = λ work h. c.work_stays.ensures.stays old new c.history-before.ensures.whole c.history-before.ensures.replays (Back c.args.worker c.args.item) a work (k.items work h);
+      items = λ work h. work_later old new c.history-before.ensures.whole c.history-before.ensures.replays (Back c.args.worker c.args.item) a work (k.items work h);
     }
 
 pub returns-clause-ok : goal.returns-clause-ok

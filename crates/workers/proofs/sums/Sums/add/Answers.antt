@@ -4,7 +4,6 @@ use Rattle.pool.specs.declared.rule.SeatView.{SeatView}
 use Rattle.pool.specs.Seats.{view, seat_pool}
 use Rattle.pool.specs.Views.{total}
 use Rattle.pool.proofs.Gathered.{total_popped}
-use Rattle.task_code.specs.View.{kind_view}
 use Rattle.workers.proofs.Added.{sum_more, all_more}
 use Rattle.workers.proofs.Tallied.{sum_set, theirs}
 use Rattle.workers.proofs.sums.Sums.add.Goals as goal
@@ -33,7 +32,7 @@ pub invariant_of-self-2-clause-tallied : goal.invariant_of-self-2-clause-tallied
 invariant_of-self-2-clause-tallied g c =
     let ts = c.args.self.now.tallies in
     let hand = c.args.ended.hand in
-    let place = theirs g.J.Job.engines g.J.Job.workers hand.worker (kind_view hand.kind) hand.place in
+    let place = theirs g.J.Job.engines g.J.Job.workers hand.worker hand.kind hand.place in
     let within : hand.worker < length ts = omega (arith, place, c.check.ensures.few, c.args.self.now.sized) in
     omega (arith, sum_set ts hand.worker hand.tally within, c.args.self.now.tallied, hand.tallied, c.merge.ensures.amount, c.check.ensures.amounts.0)
 

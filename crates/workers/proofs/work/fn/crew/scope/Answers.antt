@@ -3,16 +3,15 @@ use mir.Syntax.{named}
 use denote.RattleType.{RattleType}
 use denote.Ref.{ShrRef}
 use denote.Param.{param}
-use denote.Param.Send.{AllSend, IsSend, IsSync, sendable, shr_send}
+use denote.Param.Send.{AllSend, IsSend, IsSync, shr_send}
 use Rattle.std.proofs.Crossing.{crosses}
 use Rattle.std.specs.contracts.sync.Mutex as mutex
 use Rattle.pool.proofs.pool.Pool.TheSendSync as pools
 use Rattle.pool.specs.contracts.pool.Pool as pool
-use Rattle.workers.proofs.bells.Bells.TheSendSync as bells_sync
-use Rattle.workers.proofs.Crosses.{closure_send, ended_send, floor_send}
-use Rattle.workers.specs.contracts.bells.Bells as bells
+use Rattle.workers.proofs.bell.Bell.TheSendSync as bell_sync
+use Rattle.workers.proofs.Crosses.{closure_send, floor_send}
+use Rattle.workers.specs.contracts.bell.Bell as bell
 use Rattle.workers.specs.contracts.floor.Floor as floor
-use Rattle.workers.specs.contracts.hand.Ended as ended
 use Rattle.workers.proofs.work.fn.crew.scope.Goals as goal
 
 -- its parts in place of a search: a search does not take apart what the closure captures
@@ -29,25 +28,20 @@ spawn-requires-send-F g c κs within =
     let p : IsSend P = floor_send J E N g.J.Job g.E.Ledger g.N.Ledger in
     let F = mutex.the_row P in
     let f : IsSync F = search (p, crosses) in
-    let H = ended.the_row J E N g.J.Job g.E.Ledger g.N.Ledger in
-    let h : IsSend H = ended_send J E N g.J.Job g.E.Ledger g.N.Ledger in
-    let Ts : List RattleType = ShrRef (named 5) κs.1.1.1.1.1.0 R ∷ ShrRef (named 6) κs.1.1.1.1.1.1.0 F ∷ ShrRef (named 7) κs.1.1.1.1.1.1.1.0 bells.the_row
-    ∷ ShrRef (named 8) κs.1.1.1.1.1.1.1.1.0 pool.the_row ∷ ShrRef (named 9) κs.1.1.1.1.1.1.1.1.1.0 G ∷ H ∷ [] in
+    let Ts : List RattleType = ShrRef (named 5) κs.1.1.1.1.1.0 R ∷ ShrRef (named 6) κs.1.1.1.1.1.1.0 F ∷ ShrRef (named 7) κs.1.1.1.1.1.1.1.0 bell.the_row
+    ∷ ShrRef (named 8) κs.1.1.1.1.1.1.1.1.0 pool.the_row ∷ ShrRef (named 9) κs.1.1.1.1.1.1.1.1.1.0 G ∷ [] in
     let all : AllSend Ts = (
       shr_send (named 5) κs.1.1.1.1.1.0 R r,
       (
         shr_send (named 6) κs.1.1.1.1.1.1.0 F f,
         (
-          shr_send (named 7) κs.1.1.1.1.1.1.1.0 bells.the_row bells_sync.the_sync,
+          shr_send (named 7) κs.1.1.1.1.1.1.1.0 bell.the_row bell_sync.the_sync,
           (
             shr_send (named 8) κs.1.1.1.1.1.1.1.1.0 pool.the_row pools.the_sync,
-            (shr_send (named 9) κs.1.1.1.1.1.1.1.1.1.0 G a, (h, tt)),
+            (shr_send (named 9) κs.1.1.1.1.1.1.1.1.1.0 G a, tt),
           ),
         ),
       ),
     ) in
     let z = closure_send Ts all in
     record { owned = z.owned; leaving = z.leaving }
-
-pub spawn-requires-send-T : goal.spawn-requires-send-T
-spawn-requires-send-T g c κs within = search (ended_send, crosses, sendable) depth 60 fits 4000

@@ -1,0 +1,8 @@
+use Rattle.std.proofs.Common.{ap, ◌∙◌}
+use Rattle.flow_listed.specs.Listed.{block_listed}
+use Rattle.lowering.proofs.statement.boxed_at.Goals as goal
+
+pub returns-clause-listed : goal.returns-clause-listed
+returns-clause-listed g c =
+    let A = g.row.A.Denot in
+    ap (block_listed {A = A}) c.in_ok-new.ensures.ok ∙ c.block_at.ensures.listed

@@ -1,0 +1,115 @@
+-- What a live statement that told nothing has read of what is known, and what can come of that.
+use Rattle.std.specs.Prelude.{◌≡◌, ℕ, true, List, [], ◌∷◌, ◌++◌, map, Option, Some, None}
+use Rattle.values.specs.declared.key.Key.{Key}
+use Rattle.values.specs.declared.map.Element.{Element}
+use Rattle.values.specs.declared.value.Value.{Value}
+use Rattle.values.specs.declared.value.Value.TheVariants.{One, Many}
+use Rattle.values.specs.Keys.{mark_of, value_key}
+use Rattle.language.specs.Core.{Cell, Name, Expr, Exprs, literal, name, whole, operator, none, also, Form, compute, read, Outer, Action, fill, insert, each}
+use Rattle.language.specs.Parts.{outer_parts, parts, part_cells}
+use Rattle.meaning_facts.specs.declared.facts.Place.{Place}
+use Rattle.meaning_facts.specs.declared.learned.Learned.{Learned}
+use Rattle.meaning_facts.specs.Sighted.{closed_at}
+use Rattle.meaning_facts.specs.Store.{value_at, writes_at, writes_under, spot}
+use Rattle.meaning_faults.specs.declared.site.LiveStatement.{LiveStatement}
+use Rattle.meaning_round.specs.declared.tellers.Event.{Event}
+
+-- EVENTS
+
+-- that a place has its value, or is closed
+abbrev pub at : Place → Event
+at p = record { place = p; mark = 0 }
+
+-- that a key of an array is written
+abbrev pub under : Place → Key → Event
+under a k = record { place = a; mark = mark_of k }
+
+-- nothing has come at an event
+pub record IsSame (l m : Learned) (e : Event) : Type 0 where
+  pub value : e.mark ≡ 0 → value_at m.facts e.place ≡ value_at l.facts e.place
+  pub closed : e.mark ≡ 0 → closed_at m e.place ≡ closed_at l e.place
+  pub elements : e.mark ≡ 0 → closed_at l e.place ≡ true → writes_at m.facts e.place ≡ writes_at l.facts e.place
+  pub writes : (k : Key) → mark_of k ≡ e.mark → writes_under (writes_at m.facts e.place) k ≡ writes_under (writes_at l.facts e.place) k
+
+-- CELLS
+
+abbrev pub here : ℕ → ℕ → Place
+here i n = record { instance = i; node = n }
+
+abbrev pub lies : Learned → ℕ → Name → Place
+lies l i x = spot l.instances.all.items i x
+
+-- a value that is not known
+abbrev pub unknown : Option Value → Place → List Event
+unknown (Some v) p = []
+unknown None p = at p ∷ []
+
+abbrev mutual
+  pub expr_reads : Learned → ℕ → Expr → List Event
+  expr_reads l i (literal v) = []
+  expr_reads l i (name x) = unknown (value_at l.facts (lies l i x)) (lies l i x)
+  expr_reads l i (whole a) = at (lies l i a) ∷ []
+  expr_reads l i (operator o es) = exprs_reads l i es
+
+  pub exprs_reads : Learned → ℕ → Exprs → List Event
+  exprs_reads l i none = []
+  exprs_reads l i (also e es) = expr_reads l i e ++ exprs_reads l i es
+
+-- what is written under a key, and whether the array is closed
+abbrev pub key_reads : Place → Option Key → List Event
+key_reads a (Some k) = under a k ∷ at a ∷ []
+key_reads a None = []
+
+-- of an element that, where its index is known, and else the index
+abbrev pub element_reads : Place → Place → Option Value → List Event
+element_reads a i (Some v) = key_reads a (value_key v)
+element_reads a i None = at i ∷ []
+
+abbrev pub form_reads : Learned → ℕ → Form → List Event
+form_reads l i (compute e) = expr_reads l i e
+form_reads l i (read a n) = element_reads (lies l i a) (here i n) (value_at l.facts (here i n))
+
+-- a cell that has its value reads nothing more
+abbrev pub unless_known : Option Value → Place → List Event → List Event
+unless_known (Some v) p es = []
+unless_known None p es = at p ∷ es
+
+abbrev pub cell_reads : Learned → LiveStatement → Cell → List Event
+cell_reads l t c = unless_known (value_at l.facts (here t.instance c.node)) (here t.instance c.node) (form_reads l t.instance c.form)
+
+abbrev pub cells_reads : Learned → LiveStatement → List Cell → List Event
+cells_reads l t [] = []
+cells_reads l t (c ∷ cs) = cell_reads l t c ++ cells_reads l t cs
+
+-- outermost cells, each behind those inside it
+abbrev pub outers_reads : Learned → LiveStatement → List Outer → List Event
+outers_reads l t os = cells_reads l t (part_cells (outer_parts os))
+
+-- STATEMENTS
+
+abbrev pub elements_reads : Place → List Element → List Event
+elements_reads a es = map (λ e. under a e.key) es
+
+-- the other writes of the keys of the elements that an array is filled with
+abbrev pub filled_reads : Place → Option Value → List Event
+filled_reads a (Some (Many es)) = elements_reads a es
+filled_reads a (Some (One v)) = []
+filled_reads a None = []
+
+-- the other writes of a key
+abbrev pub put_reads : Place → Option Key → List Event
+put_reads a (Some k) = under a k ∷ []
+put_reads a None = []
+
+abbrev pub inserted_reads : Place → Option Value → List Event
+inserted_reads a (Some v) = put_reads a (value_key v)
+inserted_reads a None = []
+
+abbrev pub own_reads : Learned → LiveStatement → Action → List Event
+own_reads l t (fill a e) = filled_reads (lies l t.instance a) (value_at l.facts (here t.instance e.cell.node))
+own_reads l t (insert a i e) = inserted_reads (lies l t.instance a) (value_at l.facts (here t.instance i.cell.node))
+own_reads l t (each a x n b) = at (lies l t.instance a) ∷ []
+own_reads l t _ = []
+
+abbrev pub site_reads : Learned → LiveStatement → Action → List Event
+site_reads l t a = cells_reads l t (part_cells (parts a)) ++ own_reads l t a
