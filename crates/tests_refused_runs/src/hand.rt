@@ -31,16 +31,18 @@ struct Views {
     is_going: bool,
 }
 
-fn views(board: &Board) -> Views {
-    Views {
-        events: board.history().len(),
-        lines: board.lines().len(),
-        stored: board.stored(),
-        newly: board.newly_len(),
-        control: board.next(Kind::Control),
-        leaf: board.next(Kind::Leaf),
-        is_quiet: board.is_quiet(),
-        is_going: board.is_going(),
+impl Views {
+    fn of(board: &Board) -> Views {
+        Views {
+            events: board.history().len(),
+            lines: board.lines().len(),
+            stored: board.stored(),
+            newly: board.newly_len(),
+            control: board.next(Kind::Control),
+            leaf: board.next(Kind::Leaf),
+            is_quiet: board.is_quiet(),
+            is_going: board.is_going(),
+        }
     }
 }
 
@@ -89,12 +91,12 @@ fn try_item(rt: &HostRuntime, board: &mut Board, item: u64) -> io::Result<()> {
 fn done_on(rt: &HostRuntime, board: &mut Board, worker: u8, item: u64) -> io::Result<bool>
     requires { IsWorker worker }
 {
-    let before = views(board);
+    let before = Views::of(board);
     match board.begin(worker, item) {
         Ok(work) => ended_on(rt, board, worker, work),
         Err(refusal) => {
             note(rt, "begin")?;
-            if refusal != Refusal::Memory || views(board) != before {
+            if refusal != Refusal::Memory || Views::of(board) != before {
                 wrong(rt, "a refused begin")?;
             }
             Ok(false)
@@ -109,12 +111,15 @@ fn ended_on(rt: &HostRuntime, board: &mut Board, worker: u8, work: Work) -> io::
     let item = work.item();
     match work.compute() {
         Ok(done) => {
-            let before = views(board);
+            let before = Views::of(board);
             match board.end(worker, done) {
                 Ok(()) => Ok(true),
                 Err((done, refusal)) => {
                     note(rt, "end")?;
-                    if refusal != Refusal::Memory || done.item() != item || views(board) != before {
+                    if refusal != Refusal::Memory
+                        || done.item() != item
+                        || Views::of(board) != before
+                    {
                         wrong(rt, "a refused end")?;
                     }
                     given_back(rt, board, worker, item)
