@@ -285,7 +285,6 @@ fn known_of<A: Allocator + Clone>(
 }
 
 /// The flow of the fold of a script, with its rights. A refused call has let go of the flow that it was handed.
-#[tactic(auto, using(crate::proofs::Folds::flow_of_fold))]
 fn counted<A: Allocator + Clone>(
     rt: &HostRuntime,
     machine: Global,
