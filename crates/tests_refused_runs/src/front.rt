@@ -59,7 +59,6 @@ pub fn try_compile<A: Allocator + Clone>(
 }
 
 /// Makes each call on a tree.
-#[tactic(auto, using(crate::proofs::Folds::is_fold))]
 fn try_script<A: Allocator + Clone>(
     rt: &HostRuntime,
     machine: Global,
