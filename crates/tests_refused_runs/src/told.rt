@@ -1,6 +1,6 @@
 //! What is said of the calls.
 
-use host::host::Stream;
+use host::Stream;
 use host_system::stream::Standard;
 use std::io;
 use swt_library::scripts::Code;
