@@ -11,6 +11,10 @@ const FIBONACCI: &[u8] =
 const SQUARES: &[u8] =
     b"(int B[]) g(int m) { foreach i in [0:m-1] { B[i] = i*i; } } int C[]; C = g(4); printf(\"%i %i\", size(C), C[3]);";
 
+// With it alone `merge` and `compute` ask for memory: one wait lies in another, and the text is longer than what is kept in place.
+const WAITS: &[u8] =
+    b"int x = 1; int y = 2; string s = \"<more than sixteen bytes>\"; string t = s + s; wait (x) { wait (y) { printf(\"%s\", t); } }";
+
 /// The script of a name, where there is one.
 pub fn script_of(name: &str) -> Option<&'static [u8]> {
     match name {
@@ -18,6 +22,7 @@ pub fn script_of(name: &str) -> Option<&'static [u8]> {
         "each_element_from_the_one_before" => Some(ELEMENTS),
         "fibonacci_numbers" => Some(FIBONACCI),
         "array_output_of_a_function" => Some(SQUARES),
+        "texts_in_waits" => Some(WAITS),
         _ => None,
     }
 }
