@@ -34,11 +34,16 @@ impl Ended<'_, '_, '_> {
 
     /// Whether it ended so that there is something to be said.
     fn is_told(self) -> bool {
-        !self.is(Status::Done) && !self.is(Status::Memory)
+        self.is_checked() || !self.is(Status::Done) && !self.is(Status::Memory)
+    }
+
+    /// Whether its files were checked, and all are accepted.
+    fn is_checked(self) -> bool {
+        self.is(Status::Done) && matches!(self.line, Line::Check { .. })
     }
 }
 
-/// Says on standard error what is to be said of a command that ended so: of refusals, of blocked statements, of faults, of a limit, and of
+/// Says on standard error what is to be said of a command that ended so: of refusals, of what is odd in a script, of blocked statements, of faults, of a limit, and of
 /// what could not be done, with the reason why a call on a file failed, where one did. Where memory was refused for it, that is said, once,
 /// and the status stays.
 pub fn explain_ending(kept: &mut Kept<'_>, ended: Ended<'_, '_, '_>, reason: Option<&Error>) {
@@ -54,8 +59,8 @@ fn say_ending(
     ended: Ended<'_, '_, '_>,
     reason: Option<&Error>,
 ) -> Result<(), AllocError> {
-    if ended.is(Status::Refused) {
-        kept.tell_refusal();
+    if ended.is(Status::Refused) || ended.is_checked() {
+        kept.tell_checked();
     } else if !kept.tells_json() {
         let mut text = Vec::new(rt.alloc());
         add_end(rt.alloc(), kept, ended, reason, &mut text)?;
