@@ -12,7 +12,7 @@ use task_code::code::Code;
 #[derive(Drop)]
 pub struct Drawing<'a, A: Allocator> {
     pub code: &'a Code,
-    pub found: &'a Found,
+    pub found: &'a Found<'a>,
     pub functions: &'a Vec<Function<A>, A>,
     pub places: &'a Vec<usize>,
     pub givers: &'a Givers,

@@ -131,9 +131,9 @@ fn add_each<A: Allocator>(
 /// Adds the variables that a body makes and that have names.
 fn add_variables<A: Allocator>(page: &mut Page, drawing: &Drawing<'_, A>, variables: &[Variable]) {
     for variable in variables {
-        match drawing.found.names.get(&variable.node) {
+        match drawing.found.name(variable.node) {
             None => {}
-            Some(name) => add_variable(page, variable.node, name.as_slice()),
+            Some(name) => add_variable(page, variable.node, name),
         }
     }
 }
@@ -262,7 +262,7 @@ fn add_point<A: Allocator>(page: &mut Page, scope: &Scope<'_, A>, place: usize, 
 fn has_name<A: Allocator>(scope: &Scope<'_, A>, name: &Name) -> bool {
     match name.owned {
         Owned::Parameter(_, _) => true,
-        Owned::Local(variable) => scope.found.names.get(&variable.node).is_some(),
+        Owned::Local(variable) => scope.found.name(variable.node).is_some(),
     }
 }
 

@@ -11,7 +11,7 @@ use task_code::entry::{Entry, Name, Need, Owned};
 /// values; with the entry's own number in its body, from 1 on.
 #[derive(Drop)]
 pub struct Scope<'a, A: Allocator> {
-    pub found: &'a Found,
+    pub found: &'a Found<'a>,
     pub functions: &'a Vec<Function<A>, A>,
     pub givers: &'a Givers,
     pub function: u32,
@@ -77,8 +77,8 @@ fn add_parameter_of<A: Allocator>(page: &mut Page, function: &Function<A>, place
 
 /// Adds the name of a variable, or `#` with the number of the entry that gives the value.
 fn add_local<A: Allocator>(page: &mut Page, scope: &Scope<'_, A>, node: u32) {
-    match scope.found.names.get(&node) {
-        Some(name) => page.add(name.as_slice()),
+    match scope.found.name(node) {
+        Some(name) => page.add(name),
         None => page.add_counted(b"#", scope.givers.of(node)),
     }
 }
