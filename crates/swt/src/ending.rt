@@ -143,12 +143,31 @@ fn add_ending(
             if ended.is(Status::Limit) {
                 explain_limit(alloc, kept, ended, text)
             } else if ended.is(Status::Fault) {
-                explain_fault(alloc, name, script, ended.tail.line()?, text)
+                let events = events_of(kept, ended);
+                explain_fault(alloc, name, script, events, ended.tail.line()?, text)
             } else {
-                explain_blocked(alloc, name, script, ended.all, text)
+                explain_blocked(alloc, name, script, events_of(kept, ended), ended.all, text)
             }
         }
     }
+}
+
+/// About how many events a run had, by what was noted of it or by the lines of the trace that is the second file: not more than these.
+fn events_of(kept: &Kept<'_>, ended: Ended<'_, '_, '_>) -> usize {
+    match kept.second() {
+        Some(trace) => lines_in(trace),
+        None => ended.teller.events(),
+    }
+}
+
+fn lines_in(text: &[u8]) -> usize {
+    let mut count: usize = 0;
+    for byte in text {
+        if *byte == b'\n' {
+            count = count.saturating_add(1);
+        }
+    }
+    count
 }
 
 /// Adds what was left to be done where a run met its limit, or behind the end of the trace that is the second file.

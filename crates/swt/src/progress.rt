@@ -18,7 +18,9 @@ pub struct Teller<'a> {
     told: AtomicU64,
     /// How many events the run may have.
     limit: usize,
-    /// How many items can begin behind these, and how many run.
+    /// More than half of the events that were noted.
+    events: AtomicU64,
+    /// How many items can begin behind the limit, and how many run.
     ready: AtomicU64,
     running: AtomicU64,
 }
@@ -32,9 +34,15 @@ impl Teller<'_> {
             start,
             told: AtomicU64::new(0),
             limit: limit as usize,
+            events: AtomicU64::new(0),
             ready: AtomicU64::new(0),
             running: AtomicU64::new(0),
         }
+    }
+
+    /// About how many events the run had: not more, and more than half.
+    pub fn events(&self) -> usize {
+        self.events.load(Ordering::SeqCst) as usize
     }
 
     /// What was left to be done at the limit, where the run met it.
@@ -68,6 +76,11 @@ impl Gate for Teller<'_> {
     }
 
     fn note(&self, progress: Progress) {
+        let events = progress.events as u64;
+        // It is written as often as it doubles: all threads read it.
+        if events / 2 >= self.events.load(Ordering::SeqCst) {
+            self.events.store(events, Ordering::SeqCst);
+        }
         // Behind the last event that is allowed all notes are the same.
         if progress.events >= self.limit {
             self.ready.store(progress.ready, Ordering::SeqCst);

@@ -7,7 +7,7 @@ use Rattle.language.specs.Table.{Table}
 use Rattle.language.specs.Tree.{Tree}
 use Rattle.language.specs.Typing.{WellTyped}
 use Rattle.meaning_round.specs.Going.{IsBetween}
-use Rattle.meaning.proofs.rounds.Given as goal
+use Rattle.meaning.proofs.rounds_within.Given as goal
 
 abbrev pub invariant-loop-round : goal.invariant-loop-round
 invariant-loop-round g l = record {

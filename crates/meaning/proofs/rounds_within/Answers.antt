@@ -9,8 +9,9 @@ use Rattle.meaning_invariants.proofs.Offsets.{offsets_apart}
 use Rattle.meaning_round.specs.Going.{IsBetween}
 use Rattle.meaning_round.specs.Made.{tasks_of, telling_of}
 use Rattle.meaning_round.proofs.Listed.{none_of_few, not_both}
+use Rattle.meaning_openings.proofs.Larger.{answer_passes, memory_is_small}
 use Rattle.meaning_outcomes.proofs.Knowing.{empty_so, finished_so, is_known, next_between, not_empty, same_stuck, starts_between, unfinished_so, IsAsking, IsLearning}
-use Rattle.meaning.proofs.rounds.Goals as goal
+use Rattle.meaning.proofs.rounds_within.Goals as goal
 
 pub loop-round-init : goal.loop-round-init
 loop-round-init g c =
@@ -108,3 +109,51 @@ returns g c =
           );
       within = let rounds = made.rounds in (omega (arith, rounds), λ f. rounds);
     }
+
+pub returns-in_err-settle-clause-large : goal.returns-in_err-settle-clause-large
+returns-in_err-settle-clause-large g c =
+    let A = g.row.A.Denot in
+    let n = c.loop-round.round in
+    let below : n ≤ c.args.limit = search rules in
+    answer_passes c.in_err-settle.field-0.0 c.from_residual-in_err-settle.result c.from_residual-in_err-settle.ensures.1
+    (λ q bytes t tree r w single e. (
+    let s = core t tree in
+    let same : s ≡ core_of {A = A} c.loop-round.state.flow.now = sym e ∙ ap (core_of {A = A}) (sym c.loop-round.invariant.flow) in (
+      n,
+      below,
+      c.in_err-settle.ensures.large q s n same (accepted_formed bytes t tree r w single) single (offsets_apart t tree (read_placed bytes tree r))
+          (c.loop-round.invariant.between bytes t tree r w single e),
+    )
+    ))
+
+pub returns-in_err-settle-2-clause-large : goal.returns-in_err-settle-2-clause-large
+returns-in_err-settle-2-clause-large g c =
+    let A = g.row.A.Denot in
+    let n = c.args.limit in
+    let ended : c.loop-round.round ≡ n = search rules in
+    let within : n ≤ n = omega arith in
+    answer_passes c.in_err-settle-2.field-0.0 c.from_residual-in_err-settle-2.result c.from_residual-in_err-settle-2.ensures.1
+    (λ q bytes t tree r w single e. (
+    let s = core t tree in
+    let same : s ≡ core_of {A = A} c.loop-round.state.flow.now = sym e ∙ ap (core_of {A = A}) (sym c.loop-round.invariant.flow) in
+    let between = subst (λ (z : ℕ). IsBetween {A = A} s z c.loop-round.state) ended (c.loop-round.invariant.between bytes t tree r w single e) in
+    (n, within, c.in_err-settle-2.ensures.large q s n same (accepted_formed bytes t tree r w single) single (offsets_apart t tree (read_placed bytes tree r)) between)
+    ))
+
+pub returns-in_err-state-clause-large : goal.returns-in_err-state-clause-large
+returns-in_err-state-clause-large g c = memory_is_small c.from_residual.result c.from_residual.ensures.1
+
+pub returns-in_err-news-clause-large : goal.returns-in_err-news-clause-large
+returns-in_err-news-clause-large g c = memory_is_small c.from_residual-in_err-news.result c.from_residual-in_err-news.ensures.1
+
+pub returns-in_err-known-clause-large : goal.returns-in_err-known-clause-large
+returns-in_err-known-clause-large g c = memory_is_small c.from_residual-in_err-known.result c.from_residual-in_err-known.ensures.1
+
+pub returns-in_err-learn-clause-large : goal.returns-in_err-learn-clause-large
+returns-in_err-learn-clause-large g c = memory_is_small c.from_residual-in_err-learn.result c.from_residual-in_err-learn.ensures.1
+
+pub returns-in_err-last-clause-large : goal.returns-in_err-last-clause-large
+returns-in_err-last-clause-large g c = memory_is_small c.from_residual-in_err-last.result c.from_residual-in_err-last.ensures.1
+
+pub returns-in_err-knowledge-clause-large : goal.returns-in_err-knowledge-clause-large
+returns-in_err-knowledge-clause-large g c = memory_is_small c.from_residual-in_err-knowledge.result c.from_residual-in_err-knowledge.ensures.1
