@@ -4,6 +4,7 @@ use crate::faults::is_known;
 use crate::printed::Printed;
 use flow::script::Flow;
 use meaning::rounds_within;
+use meaning::watch::Unwatched;
 use meaning_openings::fault::MeaningFault;
 use meaning_openings::room::Room;
 use meaning_outcomes::knowledge::Knowledge;
@@ -70,7 +71,7 @@ fn known_with<A: Allocator>(
 ) -> Result<Knowledge, MeaningFault> {
     let mut limit = FIRST_ROUNDS;
     for _ in 0..MOST_TRIES {
-        let known = rounds_within(room, flow, limit)?;
+        let known = rounds_within(room, &Unwatched, flow, limit)?;
         if is_enough(room.alloc, &known, printed)? {
             return Ok(known);
         }

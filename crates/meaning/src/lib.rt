@@ -13,6 +13,9 @@ ghost use Rattle.meaning_openings.specs.declared.fault.MeaningFault.TheVariants.
 ghost use Rattle.meaning_openings.specs.Larger.{IsLarger};
 ghost use Rattle.meaning_outcomes.specs.Known.{IsKnowledgeOf};
 
+pub mod watch;
+
+use crate::watch::{Rounds, Unwatched, Watch};
 use flow::script::Flow;
 use meaning_openings::fault::MeaningFault;
 use meaning_openings::room::Room;
@@ -39,21 +42,22 @@ pub fn rounds<A: Allocator>(
         alloc,
         most: usize::MAX,
     };
-    match rounds_within(room, flow, limit) {
+    match rounds_within(room, &Unwatched, flow, limit) {
         Ok(known) => Ok(known),
         // No list is longer than that, so memory was refused.
         Err(_) => Err(AllocError),
     }
 }
 
-/// The same, where at no time more turns of loops are live than there is room for, and no more statements.
+/// The same, watched, and where at no time more turns of loops are live than there is room for, and no more statements.
 ///
 /// # Errors
 ///
 /// `MeaningFault::TooLarge` where after one of these rounds more turns or more statements are live, and `MeaningFault::Memory` where
 /// memory that was asked for was refused.
-pub fn rounds_within<A: Allocator>(
+pub fn rounds_within<A: Allocator, W: Watch>(
     room: Room,
+    watch: &W,
     flow: &Flow<A>,
     limit: u32,
 ) -> Result<Knowledge, MeaningFault>
@@ -66,6 +70,10 @@ pub fn rounds_within<A: Allocator>(
     let alloc = room.alloc;
     let mut state = State::new(alloc, flow)?;
     for round in 0..limit {
+        watch.learn(Rounds {
+            done: round,
+            live: state.tasks.len(),
+        });
         settle(&mut state, room)?;
         let news = state.news(alloc)?;
         if news.is_empty() {
