@@ -4,6 +4,7 @@ use crate::doing::{flow_of, known_of};
 use explain_inputs::blocking::{Waiting, inputs_blocking};
 use flow::script::Flow;
 use flow_index::table::Sites;
+use meaning::watch::{Rounds, Unwatched, Watch};
 use meaning::{rounds, rounds_within};
 use meaning_openings::fault::MeaningFault;
 use meaning_openings::room::Room;
@@ -13,6 +14,7 @@ use meaning_round::state::State;
 use paths::{Fault, Statement};
 use std::alloc::Global;
 use std::process::Abort;
+use std::sync::atomic::{AtomicU64, Ordering};
 use values::key::Key;
 
 /// A script whose first assignment waits for its second.
@@ -170,7 +172,7 @@ fn end_within(
     most: usize,
 ) -> Result<bool, MeaningFault> {
     let flow = flow_of(rt, alloc, script);
-    match rounds_within(Room { alloc, most }, &flow, 50) {
+    match rounds_within(Room { alloc, most }, &Unwatched, &flow, 50) {
         Ok(known) => Ok(known.finished()),
         Err(fault) => Err(fault),
     }
@@ -212,4 +214,38 @@ fn what_has_no_end_soon_is_too_large(rt: HostRuntime) {
             Err(MeaningFault::TooLarge),
         );
     }
+}
+
+/// Keeps how far the rounds were when it was told last.
+struct Noted {
+    done: AtomicU64,
+    live: AtomicU64,
+}
+
+impl Watch for Noted {
+    fn learn(&self, rounds: Rounds) {
+        self.done.store(u64::from(rounds.done), Ordering::SeqCst);
+        self.live.store(rounds.live as u64, Ordering::SeqCst);
+    }
+}
+
+#[test]
+fn who_watches_learns_how_far_the_rounds_are(rt: HostRuntime) {
+    let noted = Noted {
+        done: AtomicU64::new(0),
+        live: AtomicU64::new(0),
+    };
+    let flow = flow_of(&rt, rt.alloc(), SWAPPED);
+    let room = Room {
+        alloc: rt.alloc(),
+        most: usize::MAX,
+    };
+    let known = rounds_within(room, &noted, &flow, 10).expect(&rt, "memory");
+    let known = boxed(&rt, rt.alloc(), known);
+    is_equal(
+        &rt,
+        noted.done.load(Ordering::SeqCst),
+        u64::from(known.rounds),
+    );
+    holds(&rt, noted.live.load(Ordering::SeqCst) > 0);
 }
