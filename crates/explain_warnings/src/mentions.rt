@@ -63,7 +63,8 @@ fn declaration<A: Allocator>(
     right: &Option<Right<A>>,
     mentions: &mut Vec<Mention>,
 ) -> Result<(), AllocError>
-    ensures { OnOk result (mentions.new.items ≡ mentions.old.items ++ specs.command_mentions (trees.declare (declaration_of decl.now) (option_map right_of right.now))) }
+    ensures { OnOk result (mentions.new.items
+        ≡ mentions.old.items ++ specs.command_mentions (trees.declare (declaration_of decl.now) (option_map right_of right.now))) }
 {
     add_declared(&decl.name, mentions)?;
     read_initial(right, mentions)

@@ -109,8 +109,8 @@ fn function<A: Allocator>(
     function: &Function<A>,
     found: &mut Vec<Warning>,
 ) -> Result<(), AllocError>
-    ensures { OnOk result (found.new.items
-        ≡ found.old.items ++ specs.function_warnings (table_of typed.now) (is_marked uses.now.read.now) (is_marked uses.now.written.now) (composite_of function.now)) }
+    ensures { OnOk result (found.new.items ≡ found.old.items
+        ++ specs.function_warnings (table_of typed.now) (is_marked uses.now.read.now) (is_marked uses.now.written.now) (composite_of function.now)) }
 {
     let mut mentions = Vec::new(alloc);
     block(&function.body, &mut mentions)?;

@@ -43,9 +43,9 @@ impl Ended<'_, '_, '_> {
     }
 }
 
-/// Says on standard error what is to be said of a command that ended so: of refusals, of what is odd in a script, of blocked statements, of faults, of a limit, and of
-/// what could not be done, with the reason why a call on a file failed, where one did. Where memory was refused for it, that is said, once,
-/// and the status stays.
+/// Says on standard error what is to be said of a command that ended so: of refusals, of what is odd in a script, of blocked statements, of
+/// faults, of a limit, and of what could not be done, with the reason why a call on a file failed, where one did. Where memory was refused
+/// for it, that is said, once, and the status stays.
 pub fn explain_ending(kept: &mut Kept<'_>, ended: Ended<'_, '_, '_>, reason: Option<&Error>) {
     let rt = kept.runtime();
     if ended.is_told() && say_ending(rt, kept, ended, reason).is_err() {
