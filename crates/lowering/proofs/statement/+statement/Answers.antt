@@ -523,10 +523,10 @@ command-returns-in_ok-other-in-Some-clause-cells g t c =
     (λ adds. form_stands c.choice_else-action.result (command_view {A = A} c.args.kind.now) (trees.choice_else e b o)
     (flat_map statement_anchors c.args.found.now.items) (flat_map statement_anchors c.add_made-in-Some.new.found.items) _
     (ap command_view c.in-If.is ∙ view_if c.in-If.test c.in-If.then c.in-If.other ∙ ap (λ x. choice_of e b (option_map (λ it. body_view {A = A} it.value) x)) c.in-Some.is) c.choice_else-action.ensures.cells
-    (among_each _ _ _ _ (among_equal (ap (λ (x : Expr A). expression_nodes (expression_view x)) c.deref-in-Some-2.ensures))
     (among_each _ _ _ _
-    (among_then c.in_ok-then-in-If.ensures.cells (among_equal (ap (λ (x : Block A). body_nodes (body_view x)) c.deref-in-If.ensures)))
-    (among_then c.in_ok-other-in-Some.ensures.cells (among_equal (ap (λ (x : Block A). body_nodes (body_view x)) c.deref-in-Some.ensures))))) adds)
+    (among_each _ _ _ _ (among_equal (ap (λ (x : Expr A). expression_nodes (expression_view x)) c.deref-in-Some-2.ensures))
+    (among_then c.in_ok-then-in-If.ensures.cells (among_equal (ap (λ (x : Block A). body_nodes (body_view x)) c.deref-in-If.ensures))))
+    (among_then c.in_ok-other-in-Some.ensures.cells (among_equal (ap (λ (x : Block A). body_nodes (body_view x)) c.deref-in-Some.ensures)))) adds)
     c.add_made-in-Some.ensures.cells
 
 pub command-returns-in_ok-body-in-Foreach-clause-cells : goal.command-returns-in_ok-body-in-Foreach-clause-cells
