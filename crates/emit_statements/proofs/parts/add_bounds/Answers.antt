@@ -19,4 +19,4 @@ returns-clause-added g c all passed room_low room_high room_step inside =
     (added_outer high steps first second last (c.in_ok-add_outer-2.ensures.added all passed room_high (inside_first all high steps rest)) (c.in_ok-add_step.ensures.added all passed room_step (inside_rest all high steps rest)))
 
 pub returns-clause-marks : goal.returns-clause-marks
-returns-clause-marks g c = grows_both _ _ c.in_ok-add_outer.ensures.marks (grows_both _ _ c.in_ok-add_outer-2.ensures.marks c.in_ok-add_step.ensures.marks)
+returns-clause-marks g c = grows_both _ _ (grows_both _ _ c.in_ok-add_outer.ensures.marks c.in_ok-add_outer-2.ensures.marks) c.in_ok-add_step.ensures.marks

@@ -203,7 +203,7 @@ when-returns-clause-marks g t c =
 pub choose-returns-clause-marks : goal.choose-returns-clause-marks
 choose-returns-clause-marks g t c =
     on_ok_weaker c.add_body-2.result
-    (λ made. grows_still (grows_both _ _ c.in_ok-condition_parts.ensures.marks (grows_both _ _ c.in_ok-inside.ensures.marks c.in_ok-outside.ensures.marks)) c.in_ok-number.ensures.marks) c.add_body-2.ensures
+    (λ made. grows_still (grows_both _ _ (grows_both _ _ c.in_ok-condition_parts.ensures.marks c.in_ok-inside.ensures.marks) c.in_ok-outside.ensures.marks) c.in_ok-number.ensures.marks) c.add_body-2.ensures
 
 pub range-returns-clause-marks : goal.range-returns-clause-marks
 range-returns-clause-marks g t c =
