@@ -166,10 +166,10 @@ larger_by_turns s n state most more good =
 -- a loop over instances counts them
 counted_one : (b : Bool) (m : ℕ) (js : List ℕ) → length (cond b js (m ∷ js)) ≡ cond b 0 1 + length js
 counted_one true m js = refl
-counted_one false m js = refl
+counted_one false m js = let e : suc (length js) ≡ 1 + length js = omega arith in e
 
 counted_at : (m : ℕ) (ns : List Instance) (i : ℕ) (d : Instance) → i < length ns
-    → length (turns_from m (drop i ns)) ≡ cond (nat_eq (length (get_or ns i d).given.variables.items) 0) 0 1 + length (turns_from (suc m) (drop (i + 1) ns))
+    → length (turns_from m (drop i ns)) ≡ cond (nat_eq (length (get_or ns i d).given.variables.items) 0) 0 1 + length (turns_from (suc m) (drop (suc i) ns))
 counted_at m [] i d l = absurd (omega (arith, l))
 counted_at m (x ∷ xs) zero d l = counted_one (nat_eq (length x.given.variables.items) 0) m (turns_from (suc m) xs)
 counted_at m (x ∷ xs) (suc i) d l = counted_at m xs i d (omega (arith, l))
@@ -178,8 +178,8 @@ pub counted_next : (ns : List Instance) (i : ℕ) (x : Instance) → i < length 
     → length (turns_from i (drop i ns)) ≡ cond (nat_eq (length x.given.variables.items) 0) 0 1 + length (turns_from (i + 1) (drop (i + 1) ns))
 counted_next ns i x l e =
     let one : suc i ≡ i + 1 = omega arith in
-    subst (λ (m : ℕ). length (turns_from i (drop i ns)) ≡ cond (nat_eq (length x.given.variables.items) 0) 0 1 + length (turns_from m (drop (i + 1) ns))) one
-    (subst (λ (y : Instance). length (turns_from i (drop i ns)) ≡ cond (nat_eq (length y.given.variables.items) 0) 0 1 + length (turns_from (suc i) (drop (i + 1) ns))) (sym e)
+    subst (λ (k : ℕ). length (turns_from i (drop i ns)) ≡ cond (nat_eq (length x.given.variables.items) 0) 0 1 + length (turns_from k (drop k ns))) one
+    (subst (λ (y : Instance). length (turns_from i (drop i ns)) ≡ cond (nat_eq (length y.given.variables.items) 0) 0 1 + length (turns_from (suc i) (drop (suc i) ns))) (sym e)
     (counted_at i ns i x l))
 
 pub counted_all : (m : ℕ) (ns : List Instance) (i : ℕ) → length ns ≤ i → length (turns_from m (drop i ns)) ≡ 0
@@ -202,7 +202,7 @@ spot_parts p q h =
 
 any_of : (b r : Bool) → (b ≡ true) ⊎ (r ≡ true) → (b || r) ≡ true
 any_of true r h = refl
-any_of false r (inl e) = clash refl e
+any_of false r (inl e) = clash e refl
 any_of false r (inr e) = e
 
 pub key_contained : (ps : List Spot) (p : Spot) → p ∈ ps → list_any (same_place p) ps ≡ true
@@ -265,14 +265,14 @@ module _ {A : Type 0} (s : Core) (n : ℕ) (state : State A) (most : ℕ) (good 
 
 -- WHERE A CALL ENDS
 
-is_large : MeaningFault → Bool
+abbrev is_large : MeaningFault → Bool
 is_large Memory = false
 is_large TooLarge = true
 
 -- want of memory is no answer on what is live
-pub memory_is_small : {T X : Type 0} (r : Result T MeaningFault) → IsErrAnd r (λ f. f ≡ Memory) → IfErr r (λ f. f ≡ TooLarge → X)
-memory_is_small (Ok x) h = tt
-memory_is_small (Err f) h = λ e. clash (ap is_large e) (ap is_large h)
+pub memory_is_small : {T : Type 0} (X : Type 0) (r : Result T MeaningFault) → IsErrAnd r (λ f. f ≡ Memory) → IfErr r (λ f. f ≡ TooLarge → X)
+memory_is_small X (Ok x) h = tt
+memory_is_small X (Err f) h = λ e. clash (ap is_large e) (ap is_large h)
 
 -- an answer is passed on
 pub answer_passes : {T X : Type 0} (g : MeaningFault) (r : Result T MeaningFault) → IsErrAnd r (λ f. f ≡ g) → (g ≡ TooLarge → X) → IfErr r (λ f. f ≡ TooLarge → X)

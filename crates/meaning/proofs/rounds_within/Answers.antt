@@ -141,19 +141,19 @@ returns-in_err-settle-2-clause-large g c =
     ))
 
 pub returns-in_err-state-clause-large : goal.returns-in_err-state-clause-large
-returns-in_err-state-clause-large g c = memory_is_small c.from_residual.result c.from_residual.ensures.1
+returns-in_err-state-clause-large g c = memory_is_small _ c.from_residual.result c.from_residual.ensures.1
 
 pub returns-in_err-news-clause-large : goal.returns-in_err-news-clause-large
-returns-in_err-news-clause-large g c = memory_is_small c.from_residual-in_err-news.result c.from_residual-in_err-news.ensures.1
+returns-in_err-news-clause-large g c = memory_is_small _ c.from_residual-in_err-news.result c.from_residual-in_err-news.ensures.1
 
 pub returns-in_err-known-clause-large : goal.returns-in_err-known-clause-large
-returns-in_err-known-clause-large g c = memory_is_small c.from_residual-in_err-known.result c.from_residual-in_err-known.ensures.1
+returns-in_err-known-clause-large g c = memory_is_small _ c.from_residual-in_err-known.result c.from_residual-in_err-known.ensures.1
 
 pub returns-in_err-learn-clause-large : goal.returns-in_err-learn-clause-large
-returns-in_err-learn-clause-large g c = memory_is_small c.from_residual-in_err-learn.result c.from_residual-in_err-learn.ensures.1
+returns-in_err-learn-clause-large g c = memory_is_small _ c.from_residual-in_err-learn.result c.from_residual-in_err-learn.ensures.1
 
 pub returns-in_err-last-clause-large : goal.returns-in_err-last-clause-large
-returns-in_err-last-clause-large g c = memory_is_small c.from_residual-in_err-last.result c.from_residual-in_err-last.ensures.1
+returns-in_err-last-clause-large g c = memory_is_small _ c.from_residual-in_err-last.result c.from_residual-in_err-last.ensures.1
 
 pub returns-in_err-knowledge-clause-large : goal.returns-in_err-knowledge-clause-large
-returns-in_err-knowledge-clause-large g c = memory_is_small c.from_residual-in_err-knowledge.result c.from_residual-in_err-knowledge.ensures.1
+returns-in_err-knowledge-clause-large g c = memory_is_small _ c.from_residual-in_err-knowledge.result c.from_residual-in_err-knowledge.ensures.1

@@ -69,11 +69,11 @@ returns-clause-so g c =
     (ap (λ (z : List (Bor (Call A))). calls_listed {A = A} z) full ∙ listed) (c.loop-call.invariant.so s n e w good live))
 
 pub returns-in_err-calls-clause-large : goal.returns-in_err-calls-clause-large
-returns-in_err-calls-clause-large g c = memory_is_small c.from_residual.result c.from_residual.ensures.1
+returns-in_err-calls-clause-large g c = memory_is_small _ c.from_residual.result c.from_residual.ensures.1
 
 pub returns-in_err-hold-clause-large : goal.returns-in_err-hold-clause-large
 returns-in_err-hold-clause-large g c = answer_passes c.in_err-hold.field-0.0 c.from_residual-in_err-hold.result c.from_residual-in_err-hold.ensures.1
     (λ e s n same w good live. c.in_err-hold.ensures e s n (c.loop-call.invariant.so s n same w good live).step.so)
 
 pub returns-in_err-open_call-clause-large : goal.returns-in_err-open_call-clause-large
-returns-in_err-open_call-clause-large g c = memory_is_small c.from_residual-in_err-open_call.result c.from_residual-in_err-open_call.ensures.1
+returns-in_err-open_call-clause-large g c = memory_is_small _ c.from_residual-in_err-open_call.result c.from_residual-in_err-open_call.ensures.1

@@ -34,22 +34,22 @@ returns-in-Some-clause-large g c =
     IfErr-weaker c.open_choice.result _ _ (λ fault h e s n w offsets good there same header.
     h e s n w offsets good site.node (subst (λ (z : core.Action). active site.instance (stmt site.at site.node z) ∈ tasks_of {A = A} c.args.state.now) same there) chosen) c.open_choice.ensures.large
 
-pub returns-in_err-choice_of-clause-large : goal.returns-in_err-choice_of-clause-large
-returns-in_err-choice_of-clause-large g c = memory_is_small c.from_residual.result c.from_residual.ensures.1
+pub returns-in_err-choice-clause-large : goal.returns-in_err-choice-clause-large
+returns-in_err-choice-clause-large g c = memory_is_small _ c.from_residual.result c.from_residual.ensures.1
 
-pub returns-in_err-keep_waiting-clause-large : goal.returns-in_err-keep_waiting-clause-large
-returns-in_err-keep_waiting-clause-large g c = memory_is_small c.from_residual-in_err-keep_waiting.result c.from_residual-in_err-keep_waiting.ensures.1
+pub returns-in_err-keep_waiting-in-None-clause-large : goal.returns-in_err-keep_waiting-in-None-clause-large
+returns-in_err-keep_waiting-in-None-clause-large g c = memory_is_small _ c.from_residual-in_err-keep_waiting-in-None.result c.from_residual-in_err-keep_waiting-in-None.ensures.1
 
-pub returns-in_ok-keep_waiting-clause-so : goal.returns-in_ok-keep_waiting-clause-so
-returns-in_ok-keep_waiting-clause-so g c =
+pub returns-in_ok-keep_waiting-in-None-clause-so : goal.returns-in_ok-keep_waiting-in-None-clause-so
+returns-in_ok-keep_waiting-in-None-clause-so g c =
     let A = g.row.A.Denot in
     let old = c.args.state.now in
     let a = active_of {A = A} c.args.task in
     let lacks : chosen_in (sight_of c.args.state.now.learned c.args.task.site.instance) (action_view {A = g.row.A.Denot} c.args.action.now) ≡ None = search rules in
     λ s n w offsets good there e header.
-    kept_waiting {A = A} s n old c.keep_waiting.new.state a c.keep_waiting.ensures.learned c.keep_waiting.ensures.tasks c.keep_waiting.ensures.arrays c.in_ok-keep_waiting.ensures.waiting good
+    kept_waiting {A = A} s n old c.keep_waiting.new.state a c.keep_waiting.ensures.learned c.keep_waiting.ensures.tasks c.keep_waiting.ensures.arrays c.in_ok-keep_waiting-in-None.ensures.waiting good
     (no_choice_by old.learned a (action_view {A = A} c.args.action.now) e header lacks)
 
-pub returns-in_ok-keep_waiting-clause-more : goal.returns-in_ok-keep_waiting-clause-more
-returns-in_ok-keep_waiting-clause-more g c =
+pub returns-in_ok-keep_waiting-in-None-clause-more : goal.returns-in_ok-keep_waiting-in-None-clause-more
+returns-in_ok-keep_waiting-in-None-clause-more g c =
     stay_more {A = g.row.A.Denot} c.args.state.now c.keep_waiting.new.state c.keep_waiting.ensures.learned c.keep_waiting.ensures.tasks c.keep_waiting.ensures.tellers

@@ -33,11 +33,11 @@ returns-in-Branches-clause-large g c =
     let e : choices (action_view {A = g.row.A.Denot} c.in-Branches.action.now) ≡ inside (deed_view {A = g.row.A.Denot} c.args.task.deed) = ap (inside_view {A = g.row.A.Denot}) (sym c.in-Branches.is) ∙ c.inside_of.ensures in
     IfErr-weaker c.open_branches.result _ _ (λ fault h f s n w offsets good there. h f s n w offsets good there (choices_same x y e) (choices_branch x y e)) c.open_branches.ensures.large
 
-pub returns-in_ok-open_content-clause-so : goal.returns-in_ok-open_content-clause-so
-returns-in_ok-open_content-clause-so g c =
+pub returns-in_ok-open_content-in-Waits-clause-so : goal.returns-in_ok-open_content-in-Waits-clause-so
+returns-in_ok-open_content-in-Waits-clause-so g c =
     let A = g.row.A.Denot in
     let e : awaited (map awaited_view c.in-Waits.names.now) (content_view {A = g.row.A.Denot} c.in-Waits.content) ≡ inside (deed_view {A = g.row.A.Denot} c.args.task.deed) = ap (inside_view {A = g.row.A.Denot}) (sym c.in-Waits.is) ∙ c.inside_of.ensures in
-    λ s n w offsets good there. c.in_ok-open_content.ensures.so s n good there (awaited_same (deed_view {A = A} c.args.task.deed) (map awaited_view c.in-Waits.names.now) (content_view {A = A} c.in-Waits.content) e)
+    λ s n w offsets good there. c.in_ok-open_content-in-Waits.ensures.so s n good there (awaited_same (deed_view {A = A} c.args.task.deed) (map awaited_view c.in-Waits.names.now) (content_view {A = A} c.in-Waits.content) e)
 
-pub returns-in_err-open_content-clause-large : goal.returns-in_err-open_content-clause-large
-returns-in_err-open_content-clause-large g c = memory_is_small c.from_residual.result c.from_residual.ensures.1
+pub returns-in_err-open_content-in-Waits-clause-large : goal.returns-in_err-open_content-in-Waits-clause-large
+returns-in_err-open_content-in-Waits-clause-large g c = memory_is_small _ c.from_residual.result c.from_residual.ensures.1

@@ -10,7 +10,7 @@ use Rattle.meaning_openings.proofs.room.has_more_statements.Goals as goal
 
 pub loop-task-init : goal.loop-task-init
 loop-task-init g c = λ p h. (
-    let empty : contains same_place c.new.result p ≡ false = search rules in
+    let empty : contains same_place c.new-places.result p ≡ false = search rules in
     let lost : false ≡ true = sym empty ∙ h in
     absurd (cc (lost))
     )
@@ -26,11 +26,12 @@ loop-task-preserved g c =
     c.loop-task.invariant
 
 pub returns : goal.returns
-returns g c =
+returns g c = λ e. (
     let many : c.args.room.most < length c.loop-task.places.keys = grind (arith, common_steps) in
-    λ e. record {
+    record {
       places = c.loop-task.places.keys;
       distinct = c.len.ensures.unique;
       own = λ p m. c.loop-task.invariant p (key_contained c.loop-task.places.keys p m);
       many = many;
     }
+    )

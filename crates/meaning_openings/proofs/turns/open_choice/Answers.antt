@@ -44,4 +44,4 @@ returns-in_err-hold-clause-large g c = answer_passes c.in_err-hold.field-0.0 c.f
     (λ e s n w offsets good node there chosen. c.in_err-hold.ensures e s n (c.loop-i.invariant.so s n w offsets good node there chosen).step.so)
 
 pub returns-in_err-open_turn-clause-large : goal.returns-in_err-open_turn-clause-large
-returns-in_err-open_turn-clause-large g c = memory_is_small c.from_residual-in_err-open_turn.result c.from_residual-in_err-open_turn.ensures.1
+returns-in_err-open_turn-clause-large g c = memory_is_small _ c.from_residual-in_err-open_turn.result c.from_residual-in_err-open_turn.ensures.1

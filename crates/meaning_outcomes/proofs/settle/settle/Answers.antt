@@ -51,4 +51,4 @@ returns-in_err-open_all-clause-large g c =
     ))
 
 pub returns-in_err-close_some-clause-large : goal.returns-in_err-close_some-clause-large
-returns-in_err-close_some-clause-large g c = memory_is_small c.from_residual-in_err-close_some.result c.from_residual-in_err-close_some.ensures.1
+returns-in_err-close_some-clause-large g c = memory_is_small _ c.from_residual-in_err-close_some.result c.from_residual-in_err-close_some.ensures.1
