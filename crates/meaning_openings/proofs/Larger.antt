@@ -165,7 +165,7 @@ larger_by_turns s n state most more good =
 
 -- a loop over instances counts them
 counted_one : (b : Bool) (m : ℕ) (js : List ℕ) → length (cond b js (m ∷ js)) ≡ cond b 0 1 + length js
-counted_one true m js = refl
+counted_one true m js = let e : length js ≡ 0 + length js = omega arith in e
 counted_one false m js = let e : suc (length js) ≡ 1 + length js = omega arith in e
 
 counted_at : (m : ℕ) (ns : List Instance) (i : ℕ) (d : Instance) → i < length ns
