@@ -1,15 +1,13 @@
 -- Where a program counts more turns or statements than so many, more blocks or statements are live.
-use Rattle.std.specs.Prelude.{◌≡◌, ◌⊎◌, ℕ, zero, suc, ◌+◌, ◌<◌, ◌≤◌, Bool, true, false, cond, nat_eq, ◌&&◌, ◌||◌, List, [], ◌∷◌, length, map, drop, Option, Some, None, if◌then◌else◌, refl, Ok, Err, IfErr, IsErrAnd, Result}
+use Rattle.std.specs.Prelude.{◌≡◌, ◌⊎◌, ℕ, zero, suc, ◌+◌, ◌<◌, ◌≤◌, Bool, true, false, cond, nat_eq, ◌||◌, List, [], ◌∷◌, length, map, drop, Some, None, if◌then◌else◌, refl, Ok, Err, IfErr, IsErrAnd, Result}
 use Rattle.std.proofs.Common.{inl, inr, sym, ap, ◌∙◌, subst, arith, get_or}
 use Rattle.std.proofs.lemmas.Bool.{and_parts, eqb-true}
-use Rattle.std.specs.HashSet.{HashSet, contains}
 use Rattle.std.specs.List.{AllByRecursion, IsDistinct, list_any}
 use Rattle.values.specs.declared.key.Key.{Key}
-use Rattle.values.specs.declared.value.Scalar.{Scalar}
 use Rattle.language.specs.Core.{Block, Core, Stmt}
 use Rattle.language.specs.Facts.{Knowledge}
 use Rattle.language.specs.Meaning.{in_block, opened, Known, Live, LiveStmt}
-use Rattle.language.specs.Members.{◌∈◌, first, later}
+use Rattle.language.specs.Members.{◌∈◌}
 use Rattle.language.specs.Parts.{stmt_node}
 use Rattle.language.specs.Places.{Path, Place, most_steps}
 use Rattle.language.proofs.Members.{split_in}

@@ -1,5 +1,5 @@
 -- What is live of a script is more than is allowed.
-use Rattle.std.specs.Prelude.{◌≡◌, ◌⊎◌, ℕ, suc, ◌<◌, ◌≤◌, not, cond, nat_eq, List, [], ◌∷◌, length}
+use Rattle.std.specs.Prelude.{◌≡◌, ◌⊎◌, ℕ, suc, ◌<◌, ◌≤◌, cond, nat_eq, List, [], ◌∷◌, length}
 use Rattle.std.specs.List.{IsDistinct}
 use Rattle.language.specs.Core.{Block, Core, Stmt}
 use Rattle.language.specs.Meaning.{Known, Live, LiveStmt}
