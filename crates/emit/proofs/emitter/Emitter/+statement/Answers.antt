@@ -214,3 +214,6 @@ each-returns-clause-marks g t c = on_ok_weaker c.add_body.result (λ made. grows
 
 pub wait-returns-clause-marks : goal.wait-returns-clause-marks
 wait-returns-clause-marks g t c = on_ok_weaker c.add_body.result (λ made. grows_still c.in_ok-inside.ensures.marks c.in_ok-number.ensures.marks) c.add_body.ensures
+
+pub action-returns-in-Declare-clause-marks : goal.action-returns-in-Declare-clause-marks
+action-returns-in-Declare-clause-marks g t c = on_ok_weaker c.declare.result (λ same. grows_none _ _) c.declare.ensures.entries

@@ -4,8 +4,14 @@ use Rattle.flow.specs.Shapes.{kinds_of_function}
 use Rattle.flow_listed.specs.Cells.{function_anchors}
 use Rattle.flow_listed.proofs.Growing.{among_all, grows_again, grows_among, grows_none}
 use Rattle.emit.specs.Emits.{laying_of, roots_of}
-use Rattle.emit.proofs.Scripts.{functions-end, functions-step}
+use Rattle.emit.proofs.Scripts.{functions-end, functions-start, functions-step}
 use Rattle.emit.proofs.emitter.Emitter.each_function.Goals as goal
+
+pub loop-function-init : goal.loop-function-init
+loop-function-init g c =
+    let A = g.row.A.Denot in
+    let functions = c.args.functions.now.items in
+    (functions-start {A = A} (map (kinds_of_function {A = A}) functions) (roots_of functions) functions (laying_of c.args.self.now) c.args.found.now.items, grows_none _ _)
 
 pub loop-function-preserved : goal.loop-function-preserved
 loop-function-preserved g c =
