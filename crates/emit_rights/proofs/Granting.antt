@@ -1,5 +1,5 @@
 -- Entries that were given the rights that they lead to have them, and no others.
-use Rattle.std.proofs.Common.{◌≡◌, sym, ap, ◌∙◌, subst, refl, ℕ, ◌<◌, List, [], ◌++◌, map, length}
+use Rattle.std.proofs.Common.{◌≡◌, sym, ap, ◌∙◌, subst, refl, ℕ, ◌<◌, List, [], ◌∷◌, ◌++◌, map, length}
 use Rattle.std.proofs.lemmas.List.{length-map}
 use Rattle.dataflow.specs.System.{Distinct, In}
 use Rattle.task_code.specs.Code.{Code, Entry, Name, blank_entry, entry, nth, targets}
@@ -69,7 +69,7 @@ grants bs cs es fs gs hs is laid D reads writes new bodies entries none read wri
 }
 
 module _ (C D : Code) (reads writes : List Lead) (g : IsGranted C D reads writes) where
-  none : List Entry
+  abbrev none : List Entry
   none = map bare C.entries
 
   pub granted_same : map bare D.entries ≡ map bare C.entries
