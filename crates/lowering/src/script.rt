@@ -84,7 +84,6 @@ fn add_statements<A: Allocator + Clone>(
 }
 
 /// Adds a part that is a statement.
-#[tactic(auto, using(flow_listed::proofs::Growing::grows_none))]
 fn add_statement<A: Allocator + Clone>(
     alloc: &A,
     typed: &Typed,
@@ -129,7 +128,6 @@ fn add_functions<A: Allocator + Clone>(
 }
 
 /// Adds a part that is a function.
-#[tactic(auto, using(flow_listed::proofs::Growing::grows_none))]
 fn add_function<A: Allocator + Clone>(
     alloc: &A,
     typed: &Typed,

@@ -148,8 +148,8 @@ pub kind_form-returns-in_ok-operation-in-Chain-clause-cells : goal.kind_form-ret
 kind_form-returns-in_ok-operation-in-Chain-clause-cells g t c =
     on_ok_weaker c.operation_on.result (λ grown. grows_as (ap form_nodes (ap form_view c.in-Chain.is ∙ view-Chain c.in-Chain.operators c.in-Chain.exprs)) grown) c.operation_on.ensures.cells
 
-pub inner_cell-returns-in_ok-found-clause-cells : goal.inner_cell-returns-in_ok-found-clause-cells
-inner_cell-returns-in_ok-found-clause-cells g t c =
+pub inner_cell-returns-clause-cells : goal.inner_cell-returns-clause-cells
+inner_cell-returns-clause-cells g t c =
     on_ok_weaker c.add_cell.result (λ grown. grows_again c.in_ok-found.ensures.cells (grows_among grown (node_among g.row.A.Denot c.args.expr.now))) c.add_cell.ensures.cells
 
 pub operand-returns-in_ok-add_cell-in-Read-clause-cells : goal.operand-returns-in_ok-add_cell-in-Read-clause-cells
@@ -165,3 +165,9 @@ inputs-returns-clause-cells g t c = c.loop-expr.invariant.1
 pub called-returns-in_ok-push-in-Function-clause-cells : goal.called-returns-in_ok-push-in-Function-clause-cells
 called-returns-in_ok-push-in-Function-clause-cells g t c =
     grows_still c.in_ok-call-in-Function.ensures.cells (call_stands c.call_of.new.parts.items c.push.new.self.items c.in_ok-call-in-Function.call c.in_ok-push-in-Function.ensures.items)
+
+pub argument-returns-in-Some-clause-cells : goal.argument-returns-in-Some-clause-cells
+argument-returns-in-Some-clause-cells g t c = stays c.args.parts.now.items _
+
+pub built_in-returns-in_ok-array-in-Size-clause-cells : goal.built_in-returns-in_ok-array-in-Size-clause-cells
+built_in-returns-in_ok-array-in-Size-clause-cells g t c = stays c.args.parts.now.items _
