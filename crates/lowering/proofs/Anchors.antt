@@ -1,14 +1,11 @@
 -- Where the cells that are found stand: where nodes of the tree do.
-use Rattle.std.proofs.Common.{rules, arith, ◌≡◌, ◌<◌, ℕ, zero, suc, List, [], ◌∷◌, ◌++◌, Result, Ok, Err, map, length, get_or, refl, sym, ap, subst, ◌∙◌}
-use Rattle.std.specs.Prelude.{Box, IfOk, IsOkAnd}
+use Rattle.std.proofs.Common.{arith, ◌≡◌, ◌<◌, ℕ, zero, suc, List, [], ◌∷◌, ◌++◌, Result, Ok, Err, map, length, get_or, refl, sym, ap, subst, ◌∙◌}
+use Rattle.std.specs.Prelude.{IfOk, IsOkAnd}
 use Rattle.std.specs.List.{flat_map}
 use Rattle.std.proofs.lemmas.List.{append-nil}
 use Rattle.std.proofs.lemmas.List.Concat.{flat_map-append}
 use Rattle.syntax_trees.specs.declared.tree.Expr.{Expr, out-Expr}
-use Rattle.syntax_trees.specs.declared.tree.Name.{Name}
-use Rattle.syntax_trees.specs.declared.tree.ExprKind.{Element, the_lemmas}
-use Rattle.syntax_trees.specs.View.{word_of, expression_view, form_view}
-use Rattle.language.specs.Tree as T
+use Rattle.syntax_trees.specs.View.{expression_view, form_view}
 use Rattle.language.specs.Tree.{Expression, Command, Statement, statements_of, Body, body, Part as Part', import, function, single, Tree}
 use Rattle.flow.specs.declared.cell.Call.{Call}
 use Rattle.flow.specs.declared.cell.Cell.{Cell}
@@ -20,9 +17,6 @@ use Rattle.flow_listed.specs.Cells.{Anchor, AreAmong, AnchorsGrow, action_anchor
 use Rattle.flow_listed.proofs.Growing.{among_left, among_right, among_then, among_both, grows_among, grows_as, grows_by, grows_none, grows_same}
 use Rattle.lowering.specs.Nodes.{PartsStand, StatementsStand, all_nodes, body_nodes, command_nodes, expression_nodes, form_nodes, function_nodes, nodes_among, own_nodes, statement_nodes}
 use Rattle.lowering.proofs.Views.{view_expr}
-
-pub view_element : {A : Type 0} (n : Box (Name A) A) (b : Box (Expr A) A) → form_view (Element n b) ≡ T.element (word_of n.value) (expression_view b.value)
-view_element n b = search (rules, the_lemmas)
 
 -- PARTS
 

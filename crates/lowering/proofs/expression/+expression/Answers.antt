@@ -1,4 +1,4 @@
-use Rattle.std.proofs.Common.{arith, ◌+◌, ◌++◌, IfOk, map, ap, ap₂, sym, subst, ◌∙◌}
+use Rattle.std.proofs.Common.{arith, ◌+◌, ◌++◌, IfOk, map, refl, ap, ap₂, sym, subst, ◌∙◌}
 use Rattle.std.proofs.lemmas.Grind.{common_steps}
 use Rattle.std.proofs.lemmas.Result.{IfOk-weaker, on_ok_weaker}
 use Rattle.syntax_trees.specs.View.{word_of, expression_view, form_view}
@@ -15,10 +15,10 @@ use Rattle.flow.specs.View as seen
 use Rattle.flow.specs.View.{expr_view, exprs_view, names_view}
 use Rattle.lowering.specs.View.{Leaves}
 use Rattle.lowering.proofs.Operands.{before, from_on, operands_more, operands_all, arguments_more, arguments_all}
-use Rattle.syntax_trees.proofs.Views.{view-Call, view-Chain, view-Prefixed}
+use Rattle.syntax_trees.proofs.Views.{view-Call, view-Chain, view-Element, view-Prefixed}
 use Rattle.flow_listed.proofs.Growing.{grows_again, grows_among, grows_as, grows_still}
-use Rattle.lowering.specs.Nodes.{expression_nodes, form_nodes}
-use Rattle.lowering.proofs.Anchors.{call_stands, form_among, node_among, nodes_at, view_element}
+use Rattle.lowering.specs.Nodes.{all_nodes, expression_nodes, form_nodes}
+use Rattle.lowering.proofs.Anchors.{call_stands, form_among, node_among, nodes_at, stays}
 use Rattle.lowering.proofs.Views.{view_operation, prefixed_found}
 use Rattle.lowering.proofs.expression.+expression.Goals as goal
 
@@ -34,6 +34,15 @@ called-returns-in-BuiltIn-clause-leaves g t c =
     let wanted : Form A → Type 0 = λ x. Leaves c.args.parts.now.items c.built_in.new.parts.items (seen.form_view x) (rules.call_form tb w (table.built_in (builtin_name c.in-BuiltIn.builtin)) es (rules.arguments_of tb es) (rules.operands_of tb es)) in
     subst P (sym (ap callee_name c.in-BuiltIn.is) ∙ c.callee.ensures)
     (IfOk-weaker c.built_in.result told wanted (λ x is. is w (rules.arguments_of tb es)) c.built_in.ensures.leaves)
+
+pub inputs-loop-expr-init : goal.inputs-loop-expr-init
+inputs-loop-expr-init g t c =
+    let A = g.row.A.Denot in
+    let tb = table_of c.args.typed.now in
+    let xs = c.args.exprs.now.items in (
+      (refl, ap (λ ys. names_view ys ++ (rules.arguments_of tb (from_on (expression_view {A = A}) xs 0)).1) c.new-found.ensures.items),
+      stays c.args.parts.now.items (all_nodes (map (expression_view {A = A}) xs)),
+    )
 
 pub inputs-loop-expr-preserved : goal.inputs-loop-expr-preserved
 inputs-loop-expr-preserved g t c =
@@ -84,6 +93,15 @@ kind_form-returns-in_ok-operation-in-Chain-clause-leaves g t c =
     subst P (sym (ap form_view c.in-Chain.is ∙ view-Chain c.in-Chain.operators c.in-Chain.exprs))
     (subst Q (c.in_ok-operation-in-Chain.ensures ∙ ap rules.chain_operation c.as_slice-in-Chain.ensures.value) c.operation_on.ensures.leaves)
 
+pub operands-loop-i-init : goal.operands-loop-i-init
+operands-loop-i-init g t c =
+    let A = g.row.A.Denot in
+    let tb = table_of c.args.typed.now in
+    let xs = c.args.exprs.now.items in (
+      (refl, ap (λ ys. before (map (expr_view {A = A}) ys) (rules.operands_of tb (from_on (expression_view {A = A}) xs c.args.from)).1) c.new-found.ensures.items),
+      stays c.args.parts.now.items (all_nodes (map (expression_view {A = A}) xs)),
+    )
+
 pub operands-loop-i-preserved : goal.operands-loop-i-preserved
 operands-loop-i-preserved g t c =
     let A = g.row.A.Denot in
@@ -113,7 +131,7 @@ form-returns-clause-cells g t c = on_ok_weaker c.kind_form.result (λ grown. gro
 pub kind_form-returns-in_ok-inner_cell-in-Element-clause-cells : goal.kind_form-returns-in_ok-inner_cell-in-Element-clause-cells
 kind_form-returns-in_ok-inner_cell-in-Element-clause-cells g t c =
     let A = g.row.A.Denot in
-    grows_as (ap form_nodes (ap form_view c.in-Element.is ∙ view_element c.in-Element.name c.in-Element.index) ∙ ap (λ e. expression_nodes (expression_view {A = A} e)) (sym c.deref.ensures))
+    grows_as (ap form_nodes (ap form_view c.in-Element.is ∙ view-Element c.in-Element.name c.in-Element.index) ∙ ap (λ e. expression_nodes (expression_view {A = A} e)) (sym c.deref.ensures))
     c.in_ok-inner_cell-in-Element.ensures.cells
 
 pub kind_form-returns-in-Call-clause-cells : goal.kind_form-returns-in-Call-clause-cells
@@ -130,8 +148,8 @@ pub kind_form-returns-in_ok-operation-in-Chain-clause-cells : goal.kind_form-ret
 kind_form-returns-in_ok-operation-in-Chain-clause-cells g t c =
     on_ok_weaker c.operation_on.result (λ grown. grows_as (ap form_nodes (ap form_view c.in-Chain.is ∙ view-Chain c.in-Chain.operators c.in-Chain.exprs)) grown) c.operation_on.ensures.cells
 
-pub inner_cell-returns-in_ok-found-clause-cells : goal.inner_cell-returns-in_ok-found-clause-cells
-inner_cell-returns-in_ok-found-clause-cells g t c =
+pub inner_cell-returns-clause-cells : goal.inner_cell-returns-clause-cells
+inner_cell-returns-clause-cells g t c =
     on_ok_weaker c.add_cell.result (λ grown. grows_again c.in_ok-found.ensures.cells (grows_among grown (node_among g.row.A.Denot c.args.expr.now))) c.add_cell.ensures.cells
 
 pub operand-returns-in_ok-add_cell-in-Read-clause-cells : goal.operand-returns-in_ok-add_cell-in-Read-clause-cells
@@ -147,3 +165,9 @@ inputs-returns-clause-cells g t c = c.loop-expr.invariant.1
 pub called-returns-in_ok-push-in-Function-clause-cells : goal.called-returns-in_ok-push-in-Function-clause-cells
 called-returns-in_ok-push-in-Function-clause-cells g t c =
     grows_still c.in_ok-call-in-Function.ensures.cells (call_stands c.call_of.new.parts.items c.push.new.self.items c.in_ok-call-in-Function.call c.in_ok-push-in-Function.ensures.items)
+
+pub argument-returns-in-Some-clause-cells : goal.argument-returns-in-Some-clause-cells
+argument-returns-in-Some-clause-cells g t c = stays c.args.parts.now.items _
+
+pub built_in-returns-in_ok-array-in-Size-clause-cells : goal.built_in-returns-in_ok-array-in-Size-clause-cells
+built_in-returns-in_ok-array-in-Size-clause-cells g t c = stays c.args.parts.now.items _
