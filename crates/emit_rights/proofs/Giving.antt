@@ -35,7 +35,9 @@ bare_here (y ∷ ys) (suc n) e x h is = ap (λ zs. entry_view y ∷ zs) (bare_he
 -- ENTRIES WITHOUT RIGHTS
 
 pub bare_next : (es : List Entry) (n : ℕ) → bare_at (bare_below es n) n ≡ bare_below es (n + 1)
-bare_next es n = let next : suc n ≡ n + 1 = omega arith in subst (λ m. bare_at (bare_below es n) n ≡ bare_below es m) next (by es n)
+bare_next es n =
+    let next : suc n ≡ n + 1 = omega arith in
+    subst (λ (m : ℕ). bare_at (bare_below es n) n ≡ bare_below es m) next (by es n)
   where
     by : (xs : List Entry) (k : ℕ) → bare_at (bare_below xs k) k ≡ bare_below xs (suc k)
     by [] zero = refl

@@ -15,7 +15,7 @@ use Rattle.task_code.specs.declared.code.Body.{Body as LaidBody}
 use Rattle.task_code.specs.View.{body_view, entry_view}
 use Rattle.emit_rights.specs.Granted.{EmittedAs, given_all, laid_code}
 use Rattle.emit_rights.proofs.Bare.{leads_too, nth_same}
-use Rattle.emit_rights.proofs.Giving.{all_given, all_length, all_reads_kept, all_same, all_writes_kept, rights_of}
+use Rattle.emit_rights.proofs.Giving.{all_given, all_length, all_reads_kept, all_same, all_writes_kept}
 
 needs_bare : (e : Entry) → needs_of (bare e) ≡ needs_of e
 needs_bare e = refl
