@@ -5,7 +5,6 @@ use Rattle.syntax_trees.specs.View.{word_of, expression_view, form_view}
 use Rattle.language.specs.Tree as pure
 use Rattle.language.specs.Tree.{expressions_of}
 use Rattle.language.specs.Core as core
-use Rattle.language.specs.Core.{none, also}
 use Rattle.language.specs.Resolved as rules
 use Rattle.language.specs.Table as table
 use Rattle.values.specs.Operators.{Operation}

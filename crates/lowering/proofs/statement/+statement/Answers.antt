@@ -35,7 +35,7 @@ use Rattle.lowering.proofs.Showing.{listed_next, lists_form}
 use Rattle.std.specs.List.{flat_map}
 use Rattle.syntax_trees.specs.declared.tree.Expr.{Expr}
 use Rattle.syntax_trees.specs.declared.tree.Block.{Block}
-use Rattle.flow_listed.specs.Cells.{Anchor, AreAmong, block_anchors, statement_anchors}
+use Rattle.flow_listed.specs.Cells.{AreAmong, block_anchors, statement_anchors}
 use Rattle.flow_listed.proofs.Growing.{among_as, among_each, among_equal, among_self, among_then, grows_again, grows_among, grows_as, grows_none}
 use Rattle.lowering.specs.Nodes.{body_nodes, calling_nodes, command_nodes, expression_nodes, over_nodes, statement_nodes}
 use Rattle.lowering.proofs.Anchors.{block_stands, form_stands, statement_at}
