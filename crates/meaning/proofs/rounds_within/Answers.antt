@@ -1,4 +1,4 @@
-use Rattle.std.proofs.Common.{◌≡◌, ◌<◌, ◌+◌, ℕ, suc, [], sym, ap, ◌∙◌, subst, rules, arith}
+use Rattle.std.proofs.Common.{◌≡◌, ◌<◌, ◌≤◌, ◌+◌, ℕ, suc, [], sym, ap, ◌∙◌, subst, rules, arith}
 use Rattle.std.specs.Prelude.{nat_eq}
 use Rattle.language.specs.Core.{Core}
 use Rattle.language.specs.Resolved.{core}
@@ -36,15 +36,15 @@ loop-round-preserved g c =
       waiting = c.news.ensures.waiting;
       passed = c.news.ensures.passed;
     } in
-    let learns : IsLearning {A = g.row.A.Denot} c.news.new.self c.learn.new.self c.in_ok-news.news.items = record {
+    let learns : IsLearning {A = g.row.A.Denot} c.news.new.self c.learn-in-loop-round.new.self c.in_ok-news.news.items = record {
       facts = c.in_ok-learn.ensures.facts;
       heard = c.in_ok-learn.ensures.heard;
-      instances = c.learn.ensures.instances;
-      closed = c.learn.ensures.closed;
-      tasks = c.learn.ensures.tasks;
-      arrays = c.learn.ensures.arrays;
-      waiting = c.learn.ensures.waiting;
-      passed = c.learn.ensures.passed;
+      instances = c.learn-in-loop-round.ensures.instances;
+      closed = c.learn-in-loop-round.ensures.closed;
+      tasks = c.learn-in-loop-round.ensures.tasks;
+      arrays = c.learn-in-loop-round.ensures.arrays;
+      waiting = c.learn-in-loop-round.ensures.waiting;
+      passed = c.learn-in-loop-round.ensures.passed;
     } in
     record {
       between = λ bytes t tree r w single e. (
@@ -52,11 +52,11 @@ loop-round-preserved g c =
           let same : s ≡ core_of {A = A} c.loop-round.state.flow.now = sym e ∙ ap (core_of {A = A}) (sym c.loop-round.invariant.flow) in
           let settled = c.in_ok-settle.ensures.so s n same (accepted_formed bytes t tree r w single) single (offsets_apart t tree (read_placed bytes tree r)) (c.loop-round.invariant.between bytes t tree r w single e) in
           let one : suc n ≡ n + 1 = omega arith in
-          subst (λ (z : ℕ). IsBetween {A = A} s z c.learn.new.self) one
-          (next_between bytes t tree r w single {A = A} n c.settle.new.state c.news.new.self c.learn.new.self c.in_ok-news.news.items settled.0 settled.1 known.inside (known.round bytes t tree r w single n settled.1)
+          subst (λ (z : ℕ). IsBetween {A = A} s z c.learn-in-loop-round.new.self) one
+          (next_between bytes t tree r w single {A = A} n c.settle.new.state c.news.new.self c.learn-in-loop-round.new.self c.in_ok-news.news.items settled.0 settled.1 known.inside (known.round bytes t tree r w single n settled.1)
           asks learns)
           );
-      flow = c.learn.ensures.flow ∙ c.news.ensures.flow ∙ c.settle.ensures.flow ∙ c.loop-round.invariant.flow;
+      flow = c.learn-in-loop-round.ensures.flow ∙ c.news.ensures.flow ∙ c.settle.ensures.flow ∙ c.loop-round.invariant.flow;
     }
 
 pub returns-then-is_empty : goal.returns-then-is_empty
@@ -81,6 +81,7 @@ returns-then-is_empty g c =
           (λ f. finished_so bytes t tree r w single n l ls telling settled.1 settled.0.stands.good.holds c.in_ok-news.news.items round empty) (λ f. absurd (not_both (sym made.finished ∙ f)))
           );
       within = let rounds = made.rounds in (omega (arith, rounds, below), λ f. absurd (not_both (sym made.finished ∙ f)));
+      large = tt;
     }
 
 pub returns : goal.returns
@@ -108,22 +109,22 @@ returns g c =
           (λ f. unfinished_so bytes t tree r w single n l ls telling settled.1 settled.0.stands.good.holds news round c.in_ok-last.ensures.told (not_empty news k.finished test f))
           );
       within = let rounds = made.rounds in (omega (arith, rounds), λ f. rounds);
+      large = tt;
     }
 
 pub returns-in_err-settle-clause-large : goal.returns-in_err-settle-clause-large
 returns-in_err-settle-clause-large g c =
     let A = g.row.A.Denot in
     let n = c.loop-round.round in
-    let below : n ≤ c.args.limit = search rules in
+    let less : n < c.args.limit = search rules in
+    let below : n ≤ c.args.limit = omega (arith, less) in
     answer_passes c.in_err-settle.field-0.0 c.from_residual-in_err-settle.result c.from_residual-in_err-settle.ensures.1
     (λ q bytes t tree r w single e. (
     let s = core t tree in
-    let same : s ≡ core_of {A = A} c.loop-round.state.flow.now = sym e ∙ ap (core_of {A = A}) (sym c.loop-round.invariant.flow) in (
-      n,
-      below,
-      c.in_err-settle.ensures.large q s n same (accepted_formed bytes t tree r w single) single (offsets_apart t tree (read_placed bytes tree r))
-          (c.loop-round.invariant.between bytes t tree r w single e),
-    )
+    let same : s ≡ core_of {A = A} c.loop-round.state.flow.now = sym e ∙ ap (core_of {A = A}) (sym c.loop-round.invariant.flow) in
+    let large = c.in_err-settle.ensures.large q s n same (accepted_formed bytes t tree r w single) single (offsets_apart t tree (read_placed bytes tree r))
+    (c.loop-round.invariant.between bytes t tree r w single e) in
+    (n, (below, large))
     ))
 
 pub returns-in_err-settle-2-clause-large : goal.returns-in_err-settle-2-clause-large
@@ -137,7 +138,8 @@ returns-in_err-settle-2-clause-large g c =
     let s = core t tree in
     let same : s ≡ core_of {A = A} c.loop-round.state.flow.now = sym e ∙ ap (core_of {A = A}) (sym c.loop-round.invariant.flow) in
     let between = subst (λ (z : ℕ). IsBetween {A = A} s z c.loop-round.state) ended (c.loop-round.invariant.between bytes t tree r w single e) in
-    (n, within, c.in_err-settle-2.ensures.large q s n same (accepted_formed bytes t tree r w single) single (offsets_apart t tree (read_placed bytes tree r)) between)
+    let large = c.in_err-settle-2.ensures.large q s n same (accepted_formed bytes t tree r w single) single (offsets_apart t tree (read_placed bytes tree r)) between in
+    (n, (within, large))
     ))
 
 pub returns-in_err-state-clause-large : goal.returns-in_err-state-clause-large
