@@ -1,5 +1,5 @@
 -- Which variables are used, by what a script's names refer to.
-use Rattle.std.specs.Prelude.{ℕ, Bool, false, List, [], ◌∷◌, Option, Some, None, nat_eq, slice_get, ◌||◌, if◌then◌else◌}
+use Rattle.std.specs.Prelude.{ℕ, Bool, true, false, List, [], ◌∷◌, Option, Some, None, nat_eq, slice_get, ◌||◌, if◌then◌else◌}
 use denote.Enum.Bare.{sameb}
 use Rattle.language.specs.Core.{Owned, local, input, output}
 use Rattle.language.specs.Table.{Table}

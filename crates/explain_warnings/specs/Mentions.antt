@@ -1,7 +1,7 @@
 -- Where the statements of a script name its variables, and the ranges that are empty, in the order of the text.
 use Rattle.std.specs.Prelude.{ℕ, ℤ, Bool, true, false, List, [], ◌∷◌, ◌++◌, map, Option, Some, None, if◌then◌else◌, nat_eq, int_lt, ◌&&◌}
 use Rattle.std.specs.Prelude.{pos}
-use Rattle.language.specs.Tree.{Word, Expression, expression, Form, number, text, truth, variable, element, call, prefixed, chain, Expressions, no_expressions, and_expression, expressions_of, RightSide, value, list, Calling, Over, array, range, Statement, statement, Command, declare, assign, write, assign_all, calls, choice, choice_else, loop, waits, Body, body, Statements, no_statements, and_statement, Part, Tree, import, function, single}
+use Rattle.language.specs.Tree.{Word, Node, Declaration, Expression, expression, Form, number, text, truth, variable, element, call, prefixed, chain, Expressions, no_expressions, and_expression, expressions_of, RightSide, value, list, Calling, Over, array, range, Statement, statement, Command, declare, assign, write, assign_all, calls, choice, choice_else, loop, waits, Body, body, Statements, no_statements, and_statement, Part, Tree, import, function, single}
 use Rattle.explain_warnings.specs.declared.mention.Kind.{Kind}
 use Rattle.explain_warnings.specs.declared.mention.Kind.TheVariants.{Declared, Read, Written, EmptyRange}
 use Rattle.explain_warnings.specs.declared.mention.Mention.{Mention}
