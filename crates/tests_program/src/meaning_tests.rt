@@ -217,6 +217,7 @@ fn what_has_no_end_soon_is_too_large(rt: HostRuntime) {
 }
 
 /// Keeps how far the rounds were when it was told last.
+#[derive(Drop)]
 struct Noted {
     done: AtomicU64,
     live: AtomicU64,
