@@ -8,7 +8,7 @@ _swt() {
     "") words="check mean code run replay help explain --version --fresh --plain --unproved" ;;
     help) words="check mean code run replay" ;;
     check) words="--explain --explain=all --json" ;;
-    mean) words="--rounds --explain --explain=all" ;;
+    mean) words="--rounds --explain --explain=all --progress" ;;
     code) words="--dot --explain --explain=all" ;;
     run) words="--engines --workers --steps --trace --explain --explain=all --progress" ;;
     replay) words="--explain --explain=all" ;;

@@ -19,4 +19,4 @@ complete -c swt -n '__fish_seen_subcommand_from run' -l trace -r -d 'writes what
 complete -c swt -n '__fish_seen_subcommand_from check mean code run replay' -l explain -d 'says on standard error what each refusal, fault and blocked statement means'
 complete -c swt -n '__fish_seen_subcommand_from check mean code run replay' -a --explain=all -d 'the same, and tells each blocked statement, in the order of the lines printed'
 complete -c swt -n '__fish_seen_subcommand_from check' -l json -d 'says on standard error what each refusal means, as lines of JSON'
-complete -c swt -n '__fish_seen_subcommand_from run' -l progress -d 'says once a second on standard error how far the run is'
+complete -c swt -n '__fish_seen_subcommand_from mean run' -l progress -d 'says once a second on standard error how far a run or a meaning is'

@@ -15,7 +15,7 @@ pub struct Seat {
 /// # Errors
 ///
 /// Want of memory alone.
-pub fn in_order(alloc: Global, found: &Found) -> Result<Vec<Seat>, AllocError> {
+pub fn in_order(alloc: Global, found: &Found<'_>) -> Result<Vec<Seat>, AllocError> {
     let mut seats = Vec::new(alloc);
     add_seats(&mut seats, found)?;
     seats.sort_by(|a, b| a.from.cmp(&b.from))?;
@@ -23,7 +23,7 @@ pub fn in_order(alloc: Global, found: &Found) -> Result<Vec<Seat>, AllocError> {
 }
 
 /// Adds each body.
-fn add_seats(seats: &mut Vec<Seat>, found: &Found) -> Result<(), AllocError> {
+fn add_seats(seats: &mut Vec<Seat>, found: &Found<'_>) -> Result<(), AllocError> {
     for number in 0..found.count() {
         let body = if number <= u32::MAX as usize {
             number as u32

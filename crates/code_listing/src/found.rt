@@ -2,7 +2,6 @@
 
 use flow::script::{Flow, Function};
 use flow::statement::{Action, Block, Statement, Variable};
-use indexmap::IndexMap;
 use std::alloc::{AllocError, Allocator, Global};
 
 /// What a body is.
@@ -24,10 +23,11 @@ pub struct Stand {
     pub function: u32,
 }
 
-/// What was found in a script: the names of its variables by their nodes, and its blocks. The script's own block and its
-/// functions' come first, then inner ones, each behind those inside it.
-pub struct Found {
-    pub names: IndexMap<u32, Vec<u8>>,
+/// What was found in a script: the names of its variables, and its blocks. The script's own block and its functions' come first,
+/// then inner ones, each behind those inside it.
+pub struct Found<'a> {
+    /// The name of the variable of each node, up to the last that has one. Where it is empty there is none.
+    names: Vec<&'a [u8]>,
     pub roots: Vec<Stand>,
     pub inner: Vec<Stand>,
     /// Whether memory was refused for a part of this.
@@ -35,7 +35,7 @@ pub struct Found {
 }
 
 // Written out, so that who owns one lets it go by one call.
-impl Drop for Found {
+impl<'a> Drop for Found<'a> {
     fn drop(self) {
         let Found {
             names: _,
@@ -46,7 +46,7 @@ impl Drop for Found {
     }
 }
 
-impl Found {
+impl<'a> Found<'a> {
     /// Adds the script's own block or a function's.
     fn add_root(&mut self, from: usize, what: What, function: u32) {
         let stand = Stand {
@@ -68,6 +68,14 @@ impl Found {
         };
         if self.inner.push(stand).is_err() {
             self.lacks = true;
+        }
+    }
+
+    /// The name of the variable of a node, where it has one.
+    pub fn name(&self, node: u32) -> Option<&'a [u8]> {
+        match self.names.get(node as usize) {
+            Some(name) if !name.is_empty() => Some(*name),
+            _ => None,
         }
     }
 
@@ -94,14 +102,14 @@ impl Found {
 /// # Errors
 ///
 /// Want of memory alone.
-pub fn find<A: Allocator>(alloc: Global, flow: &Flow<A>) -> Result<Found, AllocError> {
+pub fn find<'a, A: Allocator>(alloc: Global, flow: &'a Flow<A>) -> Result<Found<'a>, AllocError> {
     let mut found = Found {
-        names: IndexMap::new(alloc),
+        names: Vec::new(alloc),
         roots: Vec::new(alloc),
         inner: Vec::new(alloc),
         lacks: false,
     };
-    find_script(alloc, &mut found, flow);
+    find_script(&mut found, flow);
     if found.lacks {
         return Err(AllocError);
     }
@@ -109,76 +117,73 @@ pub fn find<A: Allocator>(alloc: Global, flow: &Flow<A>) -> Result<Found, AllocE
 }
 
 /// Finds what a script shows.
-fn find_script<A: Allocator>(alloc: Global, found: &mut Found, flow: &Flow<A>) {
+fn find_script<'a, A: Allocator>(found: &mut Found<'a>, flow: &'a Flow<A>) {
     found.add_root(0, What::Script, 0);
-    find_block(alloc, found, 0, &flow.body);
-    find_functions(alloc, found, &flow.functions);
+    find_block(found, 0, &flow.body);
+    find_functions(found, &flow.functions);
 }
 
 /// Finds what functions show.
-fn find_functions<A: Allocator>(alloc: Global, found: &mut Found, functions: &Vec<Function<A>, A>) {
+fn find_functions<'a, A: Allocator>(found: &mut Found<'a>, functions: &'a Vec<Function<A>, A>) {
     let mut number = 0;
     for function in functions {
         if number < u32::MAX {
             number += 1;
         }
         found.add_root(function.body.from, What::Function, number);
-        find_block(alloc, found, number, &function.body);
+        find_block(found, number, &function.body);
     }
 }
 
 /// Finds what the statements of a block show.
 #[cycle(statement)]
-fn find_block<A: Allocator>(alloc: Global, found: &mut Found, function: u32, block: &Block<A>) {
-    find_statements(alloc, found, function, &block.statements);
+fn find_block<'a, A: Allocator>(found: &mut Found<'a>, function: u32, block: &'a Block<A>) {
+    find_statements(found, function, &block.statements);
 }
 
 /// Finds what statements show.
 #[cycle(statement)]
-fn find_statements<A: Allocator>(
-    alloc: Global,
-    found: &mut Found,
+fn find_statements<'a, A: Allocator>(
+    found: &mut Found<'a>,
     function: u32,
-    statements: &Vec<Statement<A>, A>,
+    statements: &'a Vec<Statement<A>, A>,
 ) {
     for one in statements {
-        find_statement(alloc, found, function, one);
+        find_statement(found, function, one);
     }
 }
 
 /// Finds what a statement shows.
 #[cycle(statement)]
-fn find_statement<A: Allocator>(
-    alloc: Global,
-    found: &mut Found,
+fn find_statement<'a, A: Allocator>(
+    found: &mut Found<'a>,
     function: u32,
-    statement: &Statement<A>,
+    statement: &'a Statement<A>,
 ) {
-    find_action(alloc, found, function, &statement.action);
+    find_action(found, function, &statement.action);
 }
 
 /// Finds what a block shows that a statement opens.
 #[cycle(statement)]
-fn find_opened<A: Allocator>(
-    alloc: Global,
-    found: &mut Found,
+fn find_opened<'a, A: Allocator>(
+    found: &mut Found<'a>,
     function: u32,
     what: What,
-    block: &Block<A>,
+    block: &'a Block<A>,
 ) {
-    find_block(alloc, found, function, block);
+    find_block(found, function, block);
     found.add_inner(block.from, what, function);
 }
 
 /// Finds what the statement of an action shows.
 #[cycle(statement)]
-fn find_action<A: Allocator>(alloc: Global, found: &mut Found, function: u32, action: &Action<A>) {
+fn find_action<'a, A: Allocator>(found: &mut Found<'a>, function: u32, action: &'a Action<A>) {
     match action {
-        Action::Declare(variable) => name(alloc, found, variable),
-        Action::When { then, .. } => find_opened(alloc, found, function, What::Then, then),
+        Action::Declare(variable) => name(found, variable),
+        Action::When { then, .. } => find_opened(found, function, What::Then, then),
         Action::Choose { then, other, .. } => {
-            find_block(alloc, found, function, then);
-            find_block(alloc, found, function, other);
+            find_block(found, function, then);
+            find_block(found, function, other);
             found.add_inner(then.from, What::Then, function);
             found.add_inner(other.from, What::Else, function);
         }
@@ -187,49 +192,49 @@ fn find_action<A: Allocator>(alloc: Global, found: &mut Found, function: u32, ac
             turn,
             body,
             ..
-        } => find_loop(alloc, found, function, value, turn, body),
+        } => find_loop(found, function, value, turn, body),
         Action::Each {
             value,
             key,
             body,
             ..
-        } => find_loop(alloc, found, function, value, key, body),
-        Action::Wait { content, .. } => find_opened(alloc, found, function, What::Wait, content),
+        } => find_loop(found, function, value, key, body),
+        Action::Wait { content, .. } => find_opened(found, function, What::Wait, content),
         _ => {}
     }
 }
 
 /// Finds what a loop shows.
 #[cycle(statement)]
-fn find_loop<A: Allocator>(
-    alloc: Global,
-    found: &mut Found,
+fn find_loop<'a, A: Allocator>(
+    found: &mut Found<'a>,
     function: u32,
-    value: &Variable<A>,
-    turn: &Option<Variable<A>>,
-    body: &Block<A>,
+    value: &'a Variable<A>,
+    turn: &'a Option<Variable<A>>,
+    body: &'a Block<A>,
 ) {
-    name(alloc, found, value);
+    name(found, value);
     if let Some(variable) = turn {
-        name(alloc, found, variable);
+        name(found, variable);
     }
-    find_opened(alloc, found, function, What::Loop, body);
+    find_opened(found, function, What::Loop, body);
 }
 
 /// Notes the name of a variable.
-fn name<A: Allocator>(alloc: Global, found: &mut Found, variable: &Variable<A>) {
-    if add_name(alloc, &mut found.names, variable).is_err() {
+fn name<'a, A: Allocator>(found: &mut Found<'a>, variable: &'a Variable<A>) {
+    if add_name(&mut found.names, variable.node, variable.name.as_slice()).is_err() {
         found.lacks = true;
     }
 }
 
-/// The same, among these names.
-fn add_name<A: Allocator>(
-    alloc: Global,
-    names: &mut IndexMap<u32, Vec<u8>>,
-    variable: &Variable<A>,
-) -> Result<(), AllocError> {
-    let text = Vec::from_slice(alloc, variable.name.as_slice())?;
-    let _before = names.insert(variable.node, text)?;
+/// Puts a name at the place of its node.
+fn add_name<'a>(names: &mut Vec<&'a [u8]>, node: u32, name: &'a [u8]) -> Result<(), AllocError> {
+    let place = node as usize;
+    for _lacking in names.len()..place + 1 {
+        names.push(&[])?;
+    }
+    if let Some(kept) = names.get_mut(place) {
+        *kept = name;
+    }
     Ok(())
 }

@@ -44,7 +44,7 @@ pub fn graph<A: Allocator>(
 }
 
 /// Adds the bodies, between the first line and the last.
-fn add_bodies<A: Allocator>(page: &mut Page, drawing: &Drawing<'_, A>, seats: &Vec<Seat>) {
+fn add_bodies<A: Allocator>(page: &mut Page, drawing: &Drawing<'_, '_, A>, seats: &Vec<Seat>) {
     page.add(b"digraph code {\n  node [shape=box];\n");
     for place in 0..seats.len() {
         add_body(page, drawing, seats[place].body, place);
@@ -53,7 +53,7 @@ fn add_bodies<A: Allocator>(page: &mut Page, drawing: &Drawing<'_, A>, seats: &V
 }
 
 /// Adds a body and the edges of its entries.
-fn add_body<A: Allocator>(page: &mut Page, drawing: &Drawing<'_, A>, body: u32, place: usize) {
+fn add_body<A: Allocator>(page: &mut Page, drawing: &Drawing<'_, '_, A>, body: u32, place: usize) {
     let Some(stand) = drawing.found.stand(body) else {
         return;
     };
@@ -73,7 +73,12 @@ fn add_body<A: Allocator>(page: &mut Page, drawing: &Drawing<'_, A>, body: u32, 
 }
 
 /// Adds the variables and boxes of a body, and its end.
-fn add_content<A: Allocator>(page: &mut Page, drawing: &Drawing<'_, A>, body: &Body, place: usize) {
+fn add_content<A: Allocator>(
+    page: &mut Page,
+    drawing: &Drawing<'_, '_, A>,
+    body: &Body,
+    place: usize,
+) {
     add_variables(page, drawing, body.makes.as_slice());
     add_boxes(page, drawing, body.entries.as_slice(), place);
     page.add(b"  }\n");
@@ -82,7 +87,7 @@ fn add_content<A: Allocator>(page: &mut Page, drawing: &Drawing<'_, A>, body: &B
 /// Adds the first lines of a body: its title, and the point of its opening.
 fn add_opening<A: Allocator>(
     page: &mut Page,
-    drawing: &Drawing<'_, A>,
+    drawing: &Drawing<'_, '_, A>,
     stand: Stand,
     place: usize,
 ) {
@@ -94,7 +99,7 @@ fn add_opening<A: Allocator>(
 }
 
 /// Adds the inputs and outputs of a function to its body.
-fn add_parameters<A: Allocator>(page: &mut Page, drawing: &Drawing<'_, A>, stand: Stand) {
+fn add_parameters<A: Allocator>(page: &mut Page, drawing: &Drawing<'_, '_, A>, stand: Stand) {
     if stand.what != What::Function || stand.function == 0 {
         return;
     }
@@ -129,11 +134,15 @@ fn add_each<A: Allocator>(
 }
 
 /// Adds the variables that a body makes and that have names.
-fn add_variables<A: Allocator>(page: &mut Page, drawing: &Drawing<'_, A>, variables: &[Variable]) {
+fn add_variables<A: Allocator>(
+    page: &mut Page,
+    drawing: &Drawing<'_, '_, A>,
+    variables: &[Variable],
+) {
     for variable in variables {
-        match drawing.found.names.get(&variable.node) {
+        match drawing.found.name(variable.node) {
             None => {}
-            Some(name) => add_variable(page, variable.node, name.as_slice()),
+            Some(name) => add_variable(page, variable.node, name),
         }
     }
 }
@@ -154,7 +163,7 @@ fn add_ellipse(page: &mut Page, name: &[u8]) {
 /// Adds the boxes of entries.
 fn add_boxes<A: Allocator>(
     page: &mut Page,
-    drawing: &Drawing<'_, A>,
+    drawing: &Drawing<'_, '_, A>,
     entries: &[u32],
     place: usize,
 ) {
@@ -190,7 +199,7 @@ fn add_parameter(page: &mut Page, function: u32, place: usize) {
 /// Adds the edges of the entries of a body.
 fn add_edges<A: Allocator>(
     page: &mut Page,
-    drawing: &Drawing<'_, A>,
+    drawing: &Drawing<'_, '_, A>,
     function: u32,
     entries: &[u32],
     place: usize,
@@ -209,14 +218,14 @@ fn add_edges<A: Allocator>(
 }
 
 /// Adds an edge from each thing that an entry waits for.
-fn add_needs<A: Allocator>(page: &mut Page, scope: &Scope<'_, A>, place: usize, entry: &Entry) {
+fn add_needs<A: Allocator>(page: &mut Page, scope: &Scope<'_, '_, A>, place: usize, entry: &Entry) {
     for need in &entry.needs {
         add_edge(page, scope, place, need);
     }
 }
 
 /// Adds the edges from what is waited for.
-fn add_edge<A: Allocator>(page: &mut Page, scope: &Scope<'_, A>, place: usize, need: &Need) {
+fn add_edge<A: Allocator>(page: &mut Page, scope: &Scope<'_, '_, A>, place: usize, need: &Need) {
     match need {
         Need::Stored(scalar) => add_need(page, scope, place, scalar, b""),
         Need::Closed(array) => add_need(page, scope, place, array, b" [label=\"[]\"]"),
@@ -231,7 +240,7 @@ fn add_edge<A: Allocator>(page: &mut Page, scope: &Scope<'_, A>, place: usize, n
 /// Adds the edge from what a name stands for.
 fn add_need<A: Allocator>(
     page: &mut Page,
-    scope: &Scope<'_, A>,
+    scope: &Scope<'_, '_, A>,
     place: usize,
     name: &Name,
     label: &[u8],
@@ -245,7 +254,7 @@ fn add_need<A: Allocator>(
 }
 
 /// Adds the point of what a name stands for: a variable, or the entry that gives the value.
-fn add_point<A: Allocator>(page: &mut Page, scope: &Scope<'_, A>, place: usize, name: &Name) {
+fn add_point<A: Allocator>(page: &mut Page, scope: &Scope<'_, '_, A>, place: usize, name: &Name) {
     match name.owned {
         Owned::Parameter(at, _) => add_parameter(page, scope.function, at),
         Owned::Local(variable) => {
@@ -259,15 +268,15 @@ fn add_point<A: Allocator>(page: &mut Page, scope: &Scope<'_, A>, place: usize, 
 }
 
 /// Whether what a name stands for has a name in the script.
-fn has_name<A: Allocator>(scope: &Scope<'_, A>, name: &Name) -> bool {
+fn has_name<A: Allocator>(scope: &Scope<'_, '_, A>, name: &Name) -> bool {
     match name.owned {
         Owned::Parameter(_, _) => true,
-        Owned::Local(variable) => scope.found.names.get(&variable.node).is_some(),
+        Owned::Local(variable) => scope.found.name(variable.node).is_some(),
     }
 }
 
 /// Adds an edge to each variable that an entry stores.
-fn add_stores<A: Allocator>(page: &mut Page, scope: &Scope<'_, A>, place: usize, act: &Act) {
+fn add_stores<A: Allocator>(page: &mut Page, scope: &Scope<'_, '_, A>, place: usize, act: &Act) {
     match act {
         Act::Set(name, _) | Act::Fill(name, _) | Act::Copy(name) | Act::Put(name, _, _) => {
             add_store(page, scope, place, name);
@@ -280,7 +289,7 @@ fn add_stores<A: Allocator>(page: &mut Page, scope: &Scope<'_, A>, place: usize,
 /// Adds an edge to each output of a call.
 fn add_outputs<A: Allocator>(
     page: &mut Page,
-    scope: &Scope<'_, A>,
+    scope: &Scope<'_, '_, A>,
     place: usize,
     outputs: &Vec<Name>,
 ) {
@@ -290,7 +299,7 @@ fn add_outputs<A: Allocator>(
 }
 
 /// Adds the edge to a variable, where it has a name.
-fn add_store<A: Allocator>(page: &mut Page, scope: &Scope<'_, A>, place: usize, name: &Name) {
+fn add_store<A: Allocator>(page: &mut Page, scope: &Scope<'_, '_, A>, place: usize, name: &Name) {
     if !has_name(scope, name) {
         return;
     }

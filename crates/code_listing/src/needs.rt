@@ -10,8 +10,8 @@ use task_code::entry::{Entry, Name, Need, Owned};
 /// Where the names of an entry are looked up: in the script, in the function of this number, and among the entries that give
 /// values; with the entry's own number in its body, from 1 on.
 #[derive(Drop)]
-pub struct Scope<'a, A: Allocator> {
-    pub found: &'a Found,
+pub struct Scope<'a, 's, A: Allocator> {
+    pub found: &'a Found<'s>,
     pub functions: &'a Vec<Function<A>, A>,
     pub givers: &'a Givers,
     pub function: u32,
@@ -19,14 +19,14 @@ pub struct Scope<'a, A: Allocator> {
 }
 
 /// Adds what an entry waits for, each behind a space.
-pub fn needs<A: Allocator>(page: &mut Page, scope: &Scope<'_, A>, entry: &Entry) {
+pub fn needs<A: Allocator>(page: &mut Page, scope: &Scope<'_, '_, A>, entry: &Entry) {
     for need in &entry.needs {
         add_need(page, scope, need);
     }
 }
 
 /// Adds what is waited for.
-fn add_need<A: Allocator>(page: &mut Page, scope: &Scope<'_, A>, need: &Need) {
+fn add_need<A: Allocator>(page: &mut Page, scope: &Scope<'_, '_, A>, need: &Need) {
     match need {
         Need::Stored(scalar) => add_name(page, scope, scalar),
         Need::Closed(array) => add_array(page, scope, array, b"[]"),
@@ -39,13 +39,13 @@ fn add_need<A: Allocator>(page: &mut Page, scope: &Scope<'_, A>, need: &Need) {
 }
 
 /// Adds the name of an array behind a space, and what of the array is waited for.
-fn add_array<A: Allocator>(page: &mut Page, scope: &Scope<'_, A>, array: &Name, part: &[u8]) {
+fn add_array<A: Allocator>(page: &mut Page, scope: &Scope<'_, '_, A>, array: &Name, part: &[u8]) {
     add_name(page, scope, array);
     page.add(part);
 }
 
 /// Adds a name behind a space.
-fn add_name<A: Allocator>(page: &mut Page, scope: &Scope<'_, A>, name: &Name) {
+fn add_name<A: Allocator>(page: &mut Page, scope: &Scope<'_, '_, A>, name: &Name) {
     page.add(b" ");
     match name.owned {
         Owned::Parameter(place, _) => add_parameter(page, scope, place),
@@ -54,7 +54,7 @@ fn add_name<A: Allocator>(page: &mut Page, scope: &Scope<'_, A>, name: &Name) {
 }
 
 /// Adds the name of an input or output.
-fn add_parameter<A: Allocator>(page: &mut Page, scope: &Scope<'_, A>, place: usize) {
+fn add_parameter<A: Allocator>(page: &mut Page, scope: &Scope<'_, '_, A>, place: usize) {
     if scope.function == 0 {
         return;
     }
@@ -76,9 +76,9 @@ fn add_parameter_of<A: Allocator>(page: &mut Page, function: &Function<A>, place
 }
 
 /// Adds the name of a variable, or `#` with the number of the entry that gives the value.
-fn add_local<A: Allocator>(page: &mut Page, scope: &Scope<'_, A>, node: u32) {
-    match scope.found.names.get(&node) {
-        Some(name) => page.add(name.as_slice()),
+fn add_local<A: Allocator>(page: &mut Page, scope: &Scope<'_, '_, A>, node: u32) {
+    match scope.found.name(node) {
+        Some(name) => page.add(name),
         None => page.add_counted(b"#", scope.givers.of(node)),
     }
 }

@@ -40,7 +40,7 @@ pub fn listing<A: Allocator>(
 }
 
 /// Adds a body and its entries.
-fn add_body<A: Allocator>(page: &mut Page, drawing: &Drawing<'_, A>, body: u32, place: usize) {
+fn add_body<A: Allocator>(page: &mut Page, drawing: &Drawing<'_, '_, A>, body: u32, place: usize) {
     let Some(stand) = drawing.found.stand(body) else {
         return;
     };
@@ -84,7 +84,7 @@ fn what_text(what: What) -> &'static str {
 /// Adds the entries of a body.
 fn add_entries<A: Allocator>(
     page: &mut Page,
-    drawing: &Drawing<'_, A>,
+    drawing: &Drawing<'_, '_, A>,
     function: u32,
     entries: &[u32],
 ) {
@@ -102,7 +102,7 @@ fn add_entries<A: Allocator>(
 /// Adds an entry's line.
 fn add_entry<A: Allocator>(
     page: &mut Page,
-    scope: &Scope<'_, A>,
+    scope: &Scope<'_, '_, A>,
     places: &Vec<usize>,
     entry: &Entry,
 ) {

@@ -15,6 +15,7 @@ use emit::emit;
 use flow::script::Flow;
 use lowering::lower;
 use std::alloc::{AllocError, Allocator, Global};
+use std::mem;
 use task_code::code::Code;
 use wait_merge::merge;
 
@@ -135,6 +136,27 @@ pub fn compile<A: Allocator + Clone>(
     Ok(compiled.code)
 }
 
+/// A text made of a script's code, with what it was made of.
+#[derive(Drop)]
+pub struct CodeText<A: Allocator> {
+    text: Vec<u8>,
+    compiled: Compiled<A>,
+}
+
+impl<A: Allocator> CodeText<A> {
+    /// The text.
+    pub fn text(&self) -> &[u8] {
+        self.text.as_slice()
+    }
+
+    /// The text alone. What it was made of is not let go part by part, and stays in memory as long as the process does: for whoever ends soon.
+    pub fn into_text(self) -> Vec<u8> {
+        let CodeText { text, compiled } = self;
+        mem::forget(compiled);
+        text
+    }
+}
+
 /// The listing of a script's code.
 ///
 /// # Errors
@@ -144,13 +166,13 @@ pub fn listed<A: Allocator + Clone>(
     machine: Global,
     alloc: A,
     src: &[u8],
-) -> Result<Vec<u8>, CompileFault>
+) -> Result<CodeText<A>, CompileFault>
     ensures script { IsOk result → IsScript src.now }
     ensures unfit { IfErr result (λ fault. IsUnfit src.now fault) }
 {
     let compiled = with_flow(machine, alloc, src)?;
     match listing(machine, &compiled.flow, &compiled.code) {
-        Ok(text) => Ok(text),
+        Ok(text) => Ok(CodeText { text, compiled }),
         Err(_) => Err(CompileFault::Memory),
     }
 }
@@ -164,13 +186,13 @@ pub fn drawn<A: Allocator + Clone>(
     machine: Global,
     alloc: A,
     src: &[u8],
-) -> Result<Vec<u8>, CompileFault>
+) -> Result<CodeText<A>, CompileFault>
     ensures script { IsOk result → IsScript src.now }
     ensures unfit { IfErr result (λ fault. IsUnfit src.now fault) }
 {
     let compiled = with_flow(machine, alloc, src)?;
     match graph(machine, &compiled.flow, &compiled.code) {
-        Ok(text) => Ok(text),
+        Ok(text) => Ok(CodeText { text, compiled }),
         Err(_) => Err(CompileFault::Memory),
     }
 }

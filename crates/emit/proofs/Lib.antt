@@ -1,6 +1,7 @@
 pub mod Fitting
 pub mod Emitting
 pub mod Views
+pub mod Marking
 pub mod Opening
 pub mod Branching
 pub mod Looping

@@ -90,6 +90,9 @@ module _ {A : Type 0} (fs : List Kinds) (roots : ℕ) where
   pub record FunctionsOn (all rest : List (Found A)) (s t : Laying) (old mid : List Opened) : Type 0 where
     pub walks : (u : Laying) (new : List Opened) → EmitsOthers rest t u mid new → EmitsOthers all s u old new
 
+  pub functions-start : (all : List (Found A)) (s : Laying) (old : List Opened) → FunctionsOn all all s s old old
+  functions-start all s old = record { walks = λ u new rest. rest }
+
   pub functions-step : (all gs : List (Found A)) (i : ℕ) (f : Found A) (s t u : Laying) (old mid new : List Opened) → i < length gs → f ≡ get_or gs i f → FunctionsOn all (drop i gs) s t old mid
       → (IsTrue (block_seen f.body).merged → EmitsFirst fs roots (function_view f) (block_declared f.body) t u mid new) → FunctionsOn all (drop (i + 1) gs) s u old new
   functions-step all gs i f s t u old mid new below is before here =

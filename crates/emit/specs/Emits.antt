@@ -18,6 +18,8 @@ use Rattle.code_rules.specs.IsCodeOf.{Layout}
 use Rattle.code_rules.specs.Laying.{IndexesStand, Kinds, Laying, LaysBlock, LaysFunctions, LaysStmt, Suits, next_body}
 use Rattle.code_rules.specs.Emitted.{CallsOnce, CellsOnce, ReadsStand, size_of, stmts_size}
 use Rattle.code_rules.specs.Room.{BlockRoom, CoreRoom, StmtRoom, Each, FunctionRoom}
+use Rattle.flow_listed.specs.Cells.{Anchor}
+use Rattle.emit_cells.specs.Marks.{MarksGrow}
 use Rattle.emit_statements.specs.Into.{laying}
 use Rattle.emit_statements.specs.declared.filling.Filling.{Filling}
 use Rattle.emit_statements.specs.declared.own.StatementAt.{StatementAt}
@@ -116,6 +118,10 @@ state_of e = state_with e e.writer.filling
 
 abbrev pub laying_of : Emitter → Laying
 laying_of e = laying e.writer.entries.items (map body_view e.bodies.items)
+
+-- the entries of cells that are laid are marked as these cells stand
+abbrev pub AddsMarks : Emitter → Emitter → List Anchor → Type 0
+AddsMarks s t cells = MarksGrow s.writer.entries.items t.writer.entries.items cells
 
 -- how many bodies are the script's and its functions'
 abbrev pub roots_of : {X : Type 0} → List X → ℕ

@@ -1,14 +1,17 @@
 //! Scripts.
 ghost use Rattle.std.specs.Prelude.{◌≡◌, ◌≤◌, map, IfOk, OnOk};
+ghost use Rattle.std.specs.List.{flat_map};
 ghost use Rattle.flow.specs.Shapes.{declared_of, kinds_of};
 ghost use Rattle.flow.specs.View.{core_of};
-ghost use Rattle.task_code.specs.View.{body_view, opener_view};
+ghost use Rattle.flow_listed.specs.Cells.{AreAmong, block_anchors, anchors_of, function_anchors};
+ghost use Rattle.task_code.specs.View.{body_view, entry_view, opener_view};
 ghost use Rattle.code_rules.specs.Emitted.{CallsOnce, CellsOnce, IsEmitted, ReadsStand, size_of};
 ghost use Rattle.code_rules.specs.Laying.{LaysScript};
 ghost use Rattle.code_rules.specs.Room.{CoreRoom};
+ghost use Rattle.emit_cells.specs.Marks.{marks_of};
 ghost use Rattle.emit_rights.specs.Granted.{laid_code};
 ghost use Rattle.wait_merge.specs.Merged.{IsMerged};
-ghost use Rattle.emit.specs.Emits.{CanBeEmitted, EmitsAll, EmitsFunction, EmitsRoot};
+ghost use Rattle.emit.specs.Emits.{AddsMarks, CanBeEmitted, EmitsAll, EmitsFunction, EmitsRoot};
 
 use crate::body::{body, empty};
 use crate::emitter::Emitter;
@@ -29,7 +32,8 @@ impl Emitter {
         block: &Block<A>,
         opener: Opener,
     ) -> Result<Body, AllocError>
-        ensures { IfOk result (λ made. EmitsRoot functions.now.items inputs block.now (opener_view opener) self.old self.new (body_view made)) }
+        ensures laid { IfOk result (λ made. EmitsRoot functions.now.items inputs block.now (opener_view opener) self.old self.new (body_view made)) }
+        ensures marks { OnOk result (AddsMarks self.old self.new (block_anchors block.now)) }
     {
         let nothing = empty(self.writer.alloc);
         let filling = self.block(functions, inputs, nothing, block)?;
@@ -43,7 +47,8 @@ impl Emitter {
         function: &Function<A>,
         found: &mut Vec<Body>,
     ) -> Result<(), AllocError>
-        ensures { OnOk result (EmitsFunction functions.now.items function.now self.old self.new found.old.items found.new.items) }
+        ensures laid { OnOk result (EmitsFunction functions.now.items function.now self.old self.new found.old.items found.new.items) }
+        ensures marks { OnOk result (AddsMarks self.old self.new (function_anchors function.now)) }
     {
         let inputs = function.inputs.len();
         let made = self.root(functions, inputs, &function.body, Opener::ByCalls)?;
@@ -57,7 +62,8 @@ impl Emitter {
         functions: &Vec<Function<A>, A>,
         found: &mut Vec<Body>,
     ) -> Result<(), AllocError>
-        ensures { OnOk result (EmitsAll functions.now.items self.old self.new found.old.items found.new.items) }
+        ensures laid { OnOk result (EmitsAll functions.now.items self.old self.new found.old.items found.new.items) }
+        ensures marks { OnOk result (AddsMarks self.old self.new (flat_map function_anchors functions.now.items)) }
     {
         for function in functions {
             self.function(functions, function, found)?;
@@ -75,8 +81,9 @@ struct Laid {
 
 /// Lays a script: its own block, then its functions; inner blocks stand behind them.
 fn lay_script<A: Allocator>(alloc: Global, flow: &Flow<A>) -> Result<Laid, AllocError>
-    ensures { IfOk result (λ laid. CanBeEmitted (core_of flow.now) → IsMerged flow.now
+    ensures laid { IfOk result (λ laid. CanBeEmitted (core_of flow.now) → IsMerged flow.now
         → LaysScript (core_of flow.now) (kinds_of flow.now) (declared_of flow.now) (laid_code laid.bodies.items laid.entries.items)) }
+    ensures marks { IfOk result (λ laid. AreAmong (marks_of (map entry_view laid.entries.items)) (anchors_of flow.now)) }
 {
     let mut emitter = Emitter::new(alloc);
     let mut found = Vec::new(alloc);
@@ -103,7 +110,8 @@ pub fn emit<A: Allocator>(alloc: Global, flow: &Flow<A>) -> Result<Draft, AllocE
     requires reads { ReadsStand (core_of flow.now) }
     requires room { CoreRoom (core_of flow.now) }
     requires size { size_of (core_of flow.now) ≤ 4194304 }
-    ensures { IfOk result (λ code. IsEmitted (core_of flow.now) (kinds_of flow.now) (declared_of flow.now) code) }
+    ensures emitted { IfOk result (λ code. IsEmitted (core_of flow.now) (kinds_of flow.now) (declared_of flow.now) code) }
+    ensures marks { IfOk result (λ code. AreAmong (marks_of code.entries) (anchors_of flow.now)) }
 {
     let laid = lay_script(alloc, flow)?;
     granted(alloc, laid.bodies, laid.entries)

@@ -1,14 +1,16 @@
 //! Statements and blocks.
 ghost use Rattle.std.specs.Prelude.{◌≡◌, ◌&&◌, ◌∷◌, ◌++◌, [], map, not, option_map, IfOk, OnOk};
 ghost use Rattle.language.specs.Core as core;
+ghost use Rattle.std.specs.List.{flat_map};
 ghost use Rattle.flow.specs.Shapes.{action_declared, block_declared, is_array};
 ghost use Rattle.flow.specs.View.{action_view, awaited_view, block_view, call_view, name_view, outer_view, parts_view, waits_around};
+ghost use Rattle.flow_listed.specs.Cells.{action_anchors, block_anchors, outer_anchors, parts_anchors, range_anchors, statement_anchors};
 ghost use Rattle.task_code.specs.View.{variable_view};
 ghost use Rattle.code_rules.specs.IsCodeOf.{own_priority};
 ghost use Rattle.emit_statements.specs.Blocks.{range_action};
 ghost use Rattle.emit_statements.specs.Doing.{action_of};
 ghost use Rattle.wait_merge.specs.Merged.{action_seen, block_seen};
-ghost use Rattle.emit.specs.Emits.{EmitsAction, EmitsInner, EmitsMerged, EmitsOne, EmitsOwn, EmitsStatements, state_of, state_with};
+ghost use Rattle.emit.specs.Emits.{AddsMarks, EmitsAction, EmitsInner, EmitsMerged, EmitsOne, EmitsOwn, EmitsStatements, state_of, state_with};
 
 use crate::body::{add_body, empty};
 use crate::emitter::Emitter;
@@ -67,6 +69,7 @@ impl Emitter {
     ) -> Result<Filling, AllocError>
         ensures laid { IfOk result (λ inside. EmitsInner functions.now.items inputs block.now (state_with self.old filling) (state_with self.new inside)) }
         ensures around { OnOk result (self.new.writer.filling ≡ self.old.writer.filling) }
+        ensures marks { OnOk result (AddsMarks self.old self.new (block_anchors block.now)) }
     {
         let around = mem::replace(&mut self.writer.filling, filling);
         self.each_statement(functions, inputs, &block.statements)?;
@@ -81,7 +84,8 @@ impl Emitter {
         inputs: usize,
         statements: &Vec<Statement<A>, A>,
     ) -> Result<(), AllocError>
-        ensures { OnOk result (EmitsStatements functions.now.items inputs statements.now.items (state_of self.old) (state_of self.new)) }
+        ensures laid { OnOk result (EmitsStatements functions.now.items inputs statements.now.items (state_of self.old) (state_of self.new)) }
+        ensures marks { OnOk result (AddsMarks self.old self.new (flat_map statement_anchors statements.now.items)) }
     {
         for one in statements {
             self.statement(functions, inputs, one)?;
@@ -97,7 +101,8 @@ impl Emitter {
         inputs: usize,
         one: &Statement<A>,
     ) -> Result<(), AllocError>
-        ensures { OnOk result (EmitsOne functions.now.items inputs one.now (state_of self.old) (state_of self.new)) }
+        ensures laid { OnOk result (EmitsOne functions.now.items inputs one.now (state_of self.old) (state_of self.new)) }
+        ensures marks { OnOk result (AddsMarks self.old self.new (statement_anchors one.now)) }
     {
         let standing = Standing {
             at: one.at,
@@ -119,8 +124,9 @@ impl Emitter {
         statement: StatementAt,
         action: &Action<A>,
     ) -> Result<(), AllocError>
-        ensures { OnOk result (EmitsMerged functions.now.items statement (action_view action.now)
+        ensures laid { OnOk result (EmitsMerged functions.now.items statement (action_view action.now)
             (action_seen action.now).merged (action_declared action.now) self.old self.new) }
+        ensures marks { OnOk result (AddsMarks self.old self.new (action_anchors action.now)) }
     {
         match action {
             Action::Declare(variable) => declare(&mut self.writer.filling, variable),
@@ -192,8 +198,9 @@ impl Emitter {
         parts: &Vec<Part<A>, A>,
         call: &Call<A>,
     ) -> Result<(), AllocError>
-        ensures { OnOk result (EmitsOwn functions.now.items statement (core.call_alone statement.standing.priority
+        ensures laid { OnOk result (EmitsOwn functions.now.items statement (core.call_alone statement.standing.priority
             (parts_view parts.now.items) (call_view call.now)) self.old self.new) }
+        ensures marks { OnOk result (AddsMarks self.old self.new (parts_anchors parts.now.items)) }
     {
         self.writer
             .call_alone(functions, statement.standing, parts, call)
@@ -207,8 +214,9 @@ impl Emitter {
         done: Use,
         outer: &Outer<A>,
     ) -> Result<(), AllocError>
-        ensures { OnOk result (statement.standing.priority ≡ own_priority (action_of done statement.standing.priority (outer_view outer.now))
+        ensures laid { OnOk result (statement.standing.priority ≡ own_priority (action_of done statement.standing.priority (outer_view outer.now))
             → EmitsOwn functions.now.items statement (action_of done statement.standing.priority (outer_view outer.now)) self.old self.new) }
+        ensures marks { OnOk result (AddsMarks self.old self.new (outer_anchors outer.now)) }
     {
         self.writer.own(functions, statement, done, outer)
     }
@@ -222,8 +230,9 @@ impl Emitter {
         index: &Outer<A>,
         right: &Outer<A>,
     ) -> Result<(), AllocError>
-        ensures { OnOk result (EmitsAction functions.now.items statement (core.insert (name_view array) (outer_view index.now) (outer_view right.now)) []
+        ensures laid { OnOk result (EmitsAction functions.now.items statement (core.insert (name_view array) (outer_view index.now) (outer_view right.now)) []
             self.old self.new) }
+        ensures marks { OnOk result (AddsMarks self.old self.new (outer_anchors index.now ++ outer_anchors right.now)) }
     {
         self.writer
             .insert(functions, statement, array, index, right)
@@ -240,8 +249,9 @@ impl Emitter {
         condition: &Outer<A>,
         then: &Block<A>,
     ) -> Result<(), AllocError>
-        ensures { OnOk result (EmitsMerged functions.now.items statement (core.when (outer_view condition.now) (block_view then.now))
+        ensures laid { OnOk result (EmitsMerged functions.now.items statement (core.when (outer_view condition.now) (block_view then.now))
             (block_seen then.now).merged (block_declared then.now) self.old self.new) }
+        ensures marks { OnOk result (AddsMarks self.old self.new (outer_anchors condition.now ++ block_anchors then.now)) }
     {
         let alloc = self.writer.alloc;
         let standing = statement.standing;
@@ -262,8 +272,9 @@ impl Emitter {
         then: &Block<A>,
         other: &Block<A>,
     ) -> Result<(), AllocError>
-        ensures { OnOk result (EmitsMerged functions.now.items statement (core.choose (outer_view condition.now) (block_view then.now) (block_view other.now))
+        ensures laid { OnOk result (EmitsMerged functions.now.items statement (core.choose (outer_view condition.now) (block_view then.now) (block_view other.now))
             ((block_seen then.now).merged && (block_seen other.now).merged) (block_declared then.now ++ block_declared other.now) self.old self.new) }
+        ensures marks { OnOk result (AddsMarks self.old self.new (outer_anchors condition.now ++ block_anchors then.now ++ block_anchors other.now)) }
     {
         let alloc = self.writer.alloc;
         let standing = statement.standing;
@@ -291,9 +302,10 @@ impl Emitter {
         turn: &Option<Variable<A>>,
         body: &Block<A>,
     ) -> Result<(), AllocError>
-        ensures { OnOk result (EmitsMerged functions.now.items statement (range_action range.now value.now.node
+        ensures laid { OnOk result (EmitsMerged functions.now.items statement (range_action range.now value.now.node
             (option_map (λ v. v.node) turn.now) (block_view body.now))
             (block_seen body.now).merged (block_declared body.now) self.old self.new) }
+        ensures marks { OnOk result (AddsMarks self.old self.new (range_anchors range.now ++ block_anchors body.now)) }
     {
         let alloc = self.writer.alloc;
         let standing = statement.standing;
@@ -316,9 +328,10 @@ impl Emitter {
         key: &Option<Variable<A>>,
         body: &Block<A>,
     ) -> Result<(), AllocError>
-        ensures { OnOk result (EmitsMerged functions.now.items statement (core.each (name_view array) value.now.node
+        ensures laid { OnOk result (EmitsMerged functions.now.items statement (core.each (name_view array) value.now.node
             (option_map (λ v. v.node) key.now) (block_view body.now))
             (block_seen body.now).merged (block_declared body.now) self.old self.new) }
+        ensures marks { OnOk result (AddsMarks self.old self.new (block_anchors body.now)) }
     {
         let alloc = self.writer.alloc;
         let variables = loop_filling(alloc, value, key)?;
@@ -340,9 +353,10 @@ impl Emitter {
         inner: &Vec<Header<A>, A>,
         content: &Block<A>,
     ) -> Result<(), AllocError>
-        ensures { OnOk result (EmitsMerged functions.now.items statement (core.wait (map awaited_view names.now.items)
+        ensures laid { OnOk result (EmitsMerged functions.now.items statement (core.wait (map awaited_view names.now.items)
             (waits_around inner.now.items (block_view content.now)))
             (not (block_seen content.now).wait && (block_seen content.now).merged) (block_declared content.now) self.old self.new) }
+        ensures marks { OnOk result (AddsMarks self.old self.new (block_anchors content.now)) }
     {
         let alloc = self.writer.alloc;
         let inside = self.block(functions, statement.standing.inputs, empty(alloc), content)?;

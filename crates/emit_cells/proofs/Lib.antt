@@ -10,3 +10,4 @@ pub mod Placed
 pub mod Lasts
 pub mod Selves
 pub mod Lays
+pub mod Marking

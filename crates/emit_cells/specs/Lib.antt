@@ -2,3 +2,4 @@ pub mod Before
 pub mod PlainNeeds
 pub mod Chunk
 pub mod Made
+pub mod Marks

@@ -5,6 +5,7 @@ ghost use Rattle.task_code.specs.View as code_view;
 ghost use Rattle.code_rules.specs.CodeNames.{each_once};
 ghost use Rattle.emit_cells.specs.PlainNeeds.{Noted};
 ghost use Rattle.emit_cells.specs.Made.{made};
+ghost use Rattle.emit_cells.specs.Marks.{MarksGrow, marked};
 
 use crate::needs::{PlainNeed, listed};
 use indexmap::IndexSet;
@@ -52,9 +53,10 @@ pub fn put(
     needs: &IndexSet<PlainNeed>,
     act: Act,
 ) -> Result<(), AllocError>
-    ensures { OnOk result ((ns : List PureNeed) → Noted ns needs.now.keys
+    ensures entry { OnOk result ((ns : List PureNeed) → Noted ns needs.now.keys
         → map code_view.entry_view entries.new.items
         ≡ map code_view.entry_view entries.old.items ++ made standing shown (each_once ns) (code_view.act_view act) ∷ []) }
+    ensures marks { OnOk result (MarksGrow entries.old.items entries.new.items (marked (code_view.act_view act) shown.node shown.mark)) }
 {
     let needs = listed(alloc, needs)?;
     entries.push(entry(alloc, standing, shown, needs, act))?;

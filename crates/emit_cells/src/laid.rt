@@ -3,7 +3,9 @@ ghost use Rattle.std.specs.Prelude.{List, OnOk};
 ghost use Rattle.language.specs.Core as core;
 ghost use Rattle.flow.specs.View.{parts_view};
 ghost use Rattle.code_rules.specs.Room.{PartRoom, Each};
+ghost use Rattle.flow_listed.specs.Cells.{parts_anchors};
 ghost use Rattle.emit_cells.specs.Chunk.{AddedFor, Inside, IsPassed};
+ghost use Rattle.emit_cells.specs.Marks.{MarksGrow};
 
 use crate::entries::Standing;
 use crate::parts::{add_call, add_cell};
@@ -23,9 +25,10 @@ pub fn add_parts<A: Allocator>(
     passed: &IndexMap<u32, Argument>,
     parts: &Vec<Part<A>, A>,
 ) -> Result<(), AllocError>
-    ensures { OnOk result ((all : List core.Part) → IsPassed standing.inputs all passed.now → Each (PartRoom standing.inputs) (parts_view parts.now.items)
+    ensures added { OnOk result ((all : List core.Part) → IsPassed standing.inputs all passed.now → Each (PartRoom standing.inputs) (parts_view parts.now.items)
         → Inside all (parts_view parts.now.items)
         → AddedFor functions.now.items standing all (parts_view parts.now.items) entries.old.items entries.new.items) }
+    ensures marks { OnOk result (MarksGrow entries.old.items entries.new.items (parts_anchors parts.now.items)) }
 {
     for at in 0..parts.len() {
         match &parts[at] {

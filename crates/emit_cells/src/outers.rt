@@ -3,7 +3,9 @@ ghost use Rattle.std.specs.Prelude.{◌∷◌, [], List, OnOk};
 ghost use Rattle.language.specs.Core as core;
 ghost use Rattle.flow.specs.View.{cell_view, outer_view};
 ghost use Rattle.code_rules.specs.Room.{OuterRoom};
+ghost use Rattle.flow_listed.specs.Cells.{anchor_of, outer_anchors};
 ghost use Rattle.emit_cells.specs.Chunk.{AddedFor, Inside, IsPassed, Passes, parts_inside};
+ghost use Rattle.emit_cells.specs.Marks.{MarksGrow};
 
 use crate::cells::{pass_cell, pass_parts};
 use crate::entries::Standing;
@@ -40,9 +42,10 @@ fn add_last<A: Allocator>(
     passed: &IndexMap<u32, Argument>,
     outer: &Outer<A>,
 ) -> Result<(), AllocError>
-    ensures { OnOk result ((all : List core.Part) → IsPassed standing.inputs all passed.now → OuterRoom standing.inputs (outer_view outer.now)
+    ensures added { OnOk result ((all : List core.Part) → IsPassed standing.inputs all passed.now → OuterRoom standing.inputs (outer_view outer.now)
         → Inside all (parts_inside outer.now)
         → AddedFor functions.now.items standing all (core.inner (cell_view outer.now.cell) ∷ []) entries.old.items entries.new.items) }
+    ensures marks { OnOk result (MarksGrow entries.old.items entries.new.items (anchor_of outer.now.cell ∷ [])) }
 {
     let plain = is_outer_plain(outer);
     if plain {
@@ -61,9 +64,10 @@ pub fn add_outer<A: Allocator>(
     passed: &IndexMap<u32, Argument>,
     outer: &Outer<A>,
 ) -> Result<(), AllocError>
-    ensures { OnOk result ((all : List core.Part) → IsPassed standing.inputs all passed.now → OuterRoom standing.inputs (outer_view outer.now)
+    ensures added { OnOk result ((all : List core.Part) → IsPassed standing.inputs all passed.now → OuterRoom standing.inputs (outer_view outer.now)
         → Inside all (parts_inside outer.now)
         → AddedFor functions.now.items standing all (parts_inside outer.now) entries.old.items entries.new.items) }
+    ensures marks { OnOk result (MarksGrow entries.old.items entries.new.items (outer_anchors outer.now)) }
 {
     add_parts(alloc, entries, functions, standing, passed, &outer.parts)?;
     add_last(alloc, entries, functions, standing, passed, outer)?;

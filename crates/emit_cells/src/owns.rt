@@ -7,7 +7,9 @@ ghost use Rattle.task_code.specs.View.{variable_view};
 ghost use Rattle.code_rules.specs.Laying.{Kinds, data_in};
 ghost use Rattle.code_rules.specs.Room.{OuterRoom};
 ghost use Rattle.emit_cells.specs.Before.{last_of};
+ghost use Rattle.flow_listed.specs.Cells.{anchor_of, outer_anchors};
 ghost use Rattle.emit_cells.specs.Chunk.{Added, AddedFor, Inside, IsPassed, parts_inside};
+ghost use Rattle.emit_cells.specs.Marks.{MarksGrow};
 
 use crate::data::{add_data, add_scalar};
 use crate::entries::Standing;
@@ -28,10 +30,11 @@ fn add_element<A: Allocator>(
     passed: &IndexMap<u32, Argument>,
     outer: &Outer<A>,
 ) -> Result<(), AllocError>
-    ensures { OnOk result ((fs : List Kinds) (all : List core.Part) → IsPassed standing.inputs all passed.now
+    ensures added { OnOk result ((fs : List Kinds) (all : List core.Part) → IsPassed standing.inputs all passed.now
         → OuterRoom standing.inputs (outer_view outer.now) → Inside all (own_outer (outer_view outer.now))
         → Added fs standing.inputs all standing.at standing.priority (own_cell (cell_view outer.now.cell) (form_view outer.now.cell.form))
         entries.old.items entries.new.items) }
+    ensures marks { OnOk result (MarksGrow entries.old.items entries.new.items (anchor_of outer.now.cell ∷ [])) }
 {
     match &outer.cell.form {
         Form::Compute(_) => Ok(()),
@@ -49,9 +52,10 @@ pub fn add_own_outer<A: Allocator>(
     passed: &IndexMap<u32, Argument>,
     outer: &Outer<A>,
 ) -> Result<(), AllocError>
-    ensures { OnOk result ((all : List core.Part) → IsPassed standing.inputs all passed.now → OuterRoom standing.inputs (outer_view outer.now)
+    ensures added { OnOk result ((all : List core.Part) → IsPassed standing.inputs all passed.now → OuterRoom standing.inputs (outer_view outer.now)
         → Inside all (own_outer (outer_view outer.now))
         → AddedFor functions.now.items standing all (own_outer (outer_view outer.now)) entries.old.items entries.new.items) }
+    ensures marks { OnOk result (MarksGrow entries.old.items entries.new.items (outer_anchors outer.now)) }
 {
     add_parts(alloc, entries, functions, standing, passed, &outer.parts)?;
     add_element(alloc, entries, standing, passed, outer)?;

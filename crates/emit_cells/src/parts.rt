@@ -10,6 +10,8 @@ ghost use Rattle.code_rules.specs.Laying.{Kinds};
 ghost use Rattle.code_rules.specs.Room.{FormRoom, NameRoom, PartRoom, Each};
 ghost use Rattle.emit_cells.specs.Chunk.{Added, AddedFor, Calls, InputsPass, IsPassed, NamePasses, OutputsPass, Told, name_at};
 ghost use Rattle.emit_cells.specs.Made.{made, made_cell};
+ghost use Rattle.emit_cells.specs.Marks.{IsUnmarked, MarksGrow};
+ghost use Rattle.flow_listed.specs.Cells.{anchor_of};
 
 use crate::cells::{element, handed};
 use crate::entries::{Shown, Standing, entry, put};
@@ -36,8 +38,9 @@ fn add_computed<A: Allocator>(
     shown: Shown,
     expr: &Expr<A>,
 ) -> Result<(), AllocError>
-    ensures { OnOk result (FormRoom standing.inputs (core.compute (expr_view expr.now))
+    ensures entry { OnOk result (FormRoom standing.inputs (core.compute (expr_view expr.now))
         → map code_view.entry_view entries.new.items ≡ map code_view.entry_view entries.old.items ++ made_cell standing shown (expr_view expr.now) ∷ []) }
+    ensures marks { OnOk result (MarksGrow entries.old.items entries.new.items (record { node = shown.node; at = shown.mark } ∷ [])) }
 {
     let mut needs = IndexSet::new(alloc);
     note(&mut needs, standing.inputs, expr)?;
@@ -71,9 +74,10 @@ pub fn add_cell<A: Allocator>(
     passed: &IndexMap<u32, Argument>,
     cell: &Cell<A>,
 ) -> Result<(), AllocError>
-    ensures { OnOk result ((fs : List Kinds) (all : List core.Part) → IsPassed standing.inputs all passed.now
+    ensures added { OnOk result ((fs : List Kinds) (all : List core.Part) → IsPassed standing.inputs all passed.now
         → FormRoom standing.inputs (form_view cell.now.form) → core.inner (cell_view cell.now) ∈ all → Told all cell.now.node false
         → Added fs standing.inputs all standing.at standing.priority (core.inner (cell_view cell.now) ∷ []) entries.old.items entries.new.items) }
+    ensures marks { OnOk result (MarksGrow entries.old.items entries.new.items (anchor_of cell.now ∷ [])) }
 {
     let shown = Shown {
         node: cell.node,
@@ -254,8 +258,9 @@ fn call_act<A: Allocator>(
     passed: &IndexMap<u32, Argument>,
     call: &Call<A>,
 ) -> Result<Act, AllocError>
-    ensures { IfOk result (λ act. (all : List core.Part) → IsPassed inputs all passed.now → PartRoom inputs (core.calls (call_view call.now))
+    ensures calls { IfOk result (λ act. (all : List core.Part) → IsPassed inputs all passed.now → PartRoom inputs (core.calls (call_view call.now))
         → Calls (map kinds_of_function functions.now.items) inputs all (call_view call.now) (code_view.act_view act)) }
+    ensures unmarked { IfOk result (λ act. IsUnmarked (code_view.act_view act)) }
 {
     let body = next(call.function);
     let found = call_inputs(alloc, functions, inputs, passed, call)?;
@@ -292,9 +297,10 @@ pub fn add_call<A: Allocator>(
     passed: &IndexMap<u32, Argument>,
     call: &Call<A>,
 ) -> Result<(), AllocError>
-    ensures { OnOk result ((all : List core.Part) → IsPassed standing.inputs all passed.now → PartRoom standing.inputs (core.calls (call_view call.now))
+    ensures added { OnOk result ((all : List core.Part) → IsPassed standing.inputs all passed.now → PartRoom standing.inputs (core.calls (call_view call.now))
         → core.calls (call_view call.now) ∈ all
         → AddedFor functions.now.items standing all (core.calls (call_view call.now) ∷ []) entries.old.items entries.new.items) }
+    ensures marks { OnOk result (MarksGrow entries.old.items entries.new.items []) }
 {
     let shown = Shown {
         node: 0,

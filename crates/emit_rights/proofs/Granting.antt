@@ -1,85 +1,31 @@
--- Entries with the rights of their numbers have the rights that they lead to.
-use Rattle.std.proofs.Common.{◌≡◌, refl, sym, ap, ◌∙◌, subst, ℕ, zero, suc, List, [], ◌∷◌, ◌++◌, map, length}
-use Rattle.std.proofs.lemmas.List.{append_assoc, append-nil, map-append, length-map}
+-- Entries that were given the rights that they lead to have them, and no others.
+use Rattle.std.proofs.Common.{◌≡◌, sym, ap, ◌∙◌, subst, refl, ℕ, ◌<◌, List, [], ◌∷◌, ◌++◌, map, length}
+use Rattle.std.proofs.lemmas.List.{length-map}
 use Rattle.dataflow.specs.System.{Distinct, In}
-use Rattle.task_code.specs.Code.{Entry, Body, Code, Name, blank_entry, nth, entry, targets}
+use Rattle.task_code.specs.Code.{Code, Entry, Name, blank_entry, entry, nth, targets}
 use Rattle.task_code.specs.Exact.{needs_of}
-use Rattle.task_code.specs.declared.entry.Name.{Name as Used}
-use Rattle.task_code.specs.declared.entry.Entry.{Entry as LaidEntry}
-use Rattle.task_code.specs.declared.code.Body.{Body as LaidBody}
-use Rattle.task_code.specs.View.{name_view, entry_view, body_view}
+use Rattle.ref_counting.specs.declared.lead.Lead.{Lead}
+use Rattle.ref_counting.specs.declared.uses.Right.TheVariants.{Read, Write}
+use Rattle.ref_counting.specs.Leads.{names_of}
 use Rattle.ref_counting.specs.Rights.{AreRights}
-use Rattle.ref_counting.specs.Rows.{row}
 use Rattle.code_rules.specs.Emitted.{HasRights}
 use Rattle.code_rules.specs.Laying.{bare}
-use Rattle.emit_rights.specs.Granted.{HasRow, EachAt, AddsGranted, GrantedUpTo, EmittedAs, laid_code}
-use Rattle.emit_rights.specs.Outline.{outlined, outline_of}
-use Rattle.emit_rights.proofs.Outlines.{targets_same, needs_same, leads_in, leads_out}
+use Rattle.task_code.specs.declared.entry.Entry.{Entry as LaidEntry}
+use Rattle.task_code.specs.declared.code.Body.{Body as LaidBody}
+use Rattle.task_code.specs.View.{body_view, entry_view}
+use Rattle.emit_rights.specs.Granted.{EmittedAs, given_all, laid_code}
+use Rattle.emit_rights.proofs.Bare.{leads_too, nth_same}
+use Rattle.emit_rights.proofs.Giving.{all_given, all_length, all_reads_kept, all_same, all_writes_kept}
 
--- one more member of a list
-each_more : (P : ℕ → Entry → Type 0) (es : List Entry) (e : Entry) → EachAt P es → P (length es) e → EachAt P (es ++ e ∷ [])
-each_more P [] e h p = (p, tt)
-each_more P (x ∷ xs) e h p = (h.0, each_more (λ i. P (suc i)) xs e h.1 p)
+needs_bare : (e : Entry) → needs_of (bare e) ≡ needs_of e
+needs_bare e = refl
 
-pub granted_more : (reads writes : List (List Used)) (done left later all : List Entry) (e : Entry) (old new : Code)
-    → old.entries ≡ done → left ≡ e ∷ later → GrantedUpTo reads writes done left all → AddsGranted reads writes e old new → GrantedUpTo reads writes new.entries later all
-granted_more reads writes done left later all e old new is next h a = record {
-  same =
-      ap (λ es. map bare es ++ map bare later) (a.entries ∙ ap (λ es. es ++ a.granted ∷ []) is)
-      ∙ ap (λ es. es ++ map bare later) (map-append bare done (a.granted ∷ []))
-      ∙ append_assoc (map bare done) (bare a.granted ∷ []) (map bare later)
-      ∙ ap (λ g. map bare done ++ g ∷ map bare later) a.same
-      ∙ ap (λ es. map bare done ++ map bare es) (sym next)
-      ∙ h.same;
-  each = subst (EachAt (HasRow reads writes)) (sym (a.entries ∙ ap (λ es. es ++ a.granted ∷ []) is)) (each_more (HasRow reads writes) done a.granted h.each (a.rights (length done) (ap length (sym is))));
-}
+targets_bare : (e : Entry) → targets (bare e) ≡ targets e
+targets_bare e = refl
 
--- the rights of each number, also past the last
-reads_at : (rows : List (List Used)) (es : List Entry) → length rows ≡ length es → EachAt (λ i e. e.reads ≡ map name_view (row rows i)) es → (i : ℕ) → (nth blank_entry es i).reads ≡ map name_view (row rows i)
-reads_at [] [] q h i = refl
-reads_at [] (e ∷ es) q h i = absurd (cc q)
-reads_at (r ∷ rs) [] q h i = absurd (cc q)
-reads_at (r ∷ rs) (e ∷ es) q h zero = h.0
-reads_at (r ∷ rs) (e ∷ es) q h (suc i) = reads_at rs es (cc q) h.1 i
-
-writes_at : (rows : List (List Used)) (es : List Entry) → length rows ≡ length es → EachAt (λ i e. e.writes ≡ map name_view (row rows i)) es → (i : ℕ) → (nth blank_entry es i).writes ≡ map name_view (row rows i)
-writes_at [] [] q h i = refl
-writes_at [] (e ∷ es) q h i = absurd (cc q)
-writes_at (r ∷ rs) [] q h i = absurd (cc q)
-writes_at (r ∷ rs) (e ∷ es) q h zero = h.0
-writes_at (r ∷ rs) (e ∷ es) q h (suc i) = writes_at rs es (cc q) h.1 i
-
-each_of : (P Q : ℕ → Entry → Type 0) → ((i : ℕ) (e : Entry) → P i e → Q i e) → (es : List Entry) → EachAt P es → EachAt Q es
-each_of P Q f [] h = tt
-each_of P Q f (e ∷ es) h = (f 0 e h.0, each_of (λ i. P (suc i)) (λ i. Q (suc i)) (λ i. f (suc i)) es h.1)
-
-outlined_bare : (es : List Entry) → map outlined (map bare es) ≡ map outlined es
-outlined_bare [] = refl
-outlined_bare (e ∷ es) = ap (λ xs. outlined e ∷ xs) (outlined_bare es)
-
-same_code : (es ds : List Entry) (bs cs : List Body) → es ≡ ds → bs ≡ cs → ◌≡◌ {A = Code} (record { entries = es; bodies = bs }) (record { entries = ds; bodies = cs })
-same_code es ds bs cs p q = ap (λ xs. record { entries = xs; bodies = bs }) p ∙ ap (λ ys. record { entries = ds; bodies = ys }) q
-
--- the code has the outline that the rights were worked out of
-same_outline : (C D : Code) → map bare D.entries ≡ map bare C.entries → D.bodies ≡ C.bodies → outline_of C ≡ outline_of D
-same_outline C D p q = same_code (map outlined C.entries) (map outlined D.entries) C.bodies D.bodies (sym (outlined_bare C.entries) ∙ ap (map outlined) (sym p) ∙ outlined_bare D.entries) (sym q)
-
-has_rights : (C D : Code) (reads writes : List (List Used)) → map bare D.entries ≡ map bare C.entries → D.bodies ≡ C.bodies
-    → AreRights (outline_of C) needs_of reads → AreRights (outline_of C) targets writes → EachAt (HasRow reads writes) D.entries → HasRights D
-has_rights C D reads writes p q hr hw each =
-    let same : outline_of C ≡ outline_of D = same_outline C D p q in
-    let kr : AreRights (outline_of D) needs_of reads = subst (λ (O : Code). AreRights O needs_of reads) same hr in
-    let kw : AreRights (outline_of D) targets writes = subst (λ (O : Code). AreRights O targets writes) same hw in
-    let rs : (i : ℕ) → (entry D i).reads ≡ map name_view (row reads i) = reads_at reads D.entries (kr.count ∙ length-map D.entries outlined) (each_of (HasRow reads writes) (λ i e. e.reads ≡ map name_view (row reads i)) (λ i e h. h.reads_are) D.entries each) in
-    let ws : (i : ℕ) → (entry D i).writes ≡ map name_view (row writes i) = writes_at writes D.entries (kw.count ∙ length-map D.entries outlined) (each_of (HasRow reads writes) (λ i e. e.writes ≡ map name_view (row writes i)) (λ i e h. h.writes_are) D.entries each) in
-    record {
-      reads = λ i r h. leads_in D needs_of needs_same i r (kr.sound i r (subst (λ (ns : List Name). In r ns) (rs i) h));
-      all_reads = λ i r h. subst (λ (ns : List Name). In r ns) (sym (rs i)) (kr.complete i r (leads_out D needs_of needs_same i r h));
-      writes = λ i r h. leads_in D targets targets_same i r (kw.sound i r (subst (λ (ns : List Name). In r ns) (ws i) h));
-      all_writes = λ i r h. subst (λ (ns : List Name). In r ns) (sym (ws i)) (kw.complete i r (leads_out D targets targets_same i r h));
-      reads_once = λ i. subst Distinct (sym (rs i)) (kr.once i);
-      writes_once = λ i. subst Distinct (sym (ws i)) (kw.once i);
-    }
+bare_bare : (es : List Entry) → map bare (map bare es) ≡ map bare es
+bare_bare [] = refl
+bare_bare (e ∷ es) = ap (λ xs. bare e ∷ xs) (bare_bare es)
 
 -- laying leaves rights free
 emitted_as : (C D : Code) → map bare D.entries ≡ map bare C.entries → D.bodies ≡ C.bodies → HasRights D → EmittedAs C D
@@ -101,32 +47,62 @@ emitted_as C D p q h c fs ds l = record {
   rights = h;
 }
 
--- the outlines of entries, with the bodies, are the outline of the code
-pub outline_is : (bs : List LaidBody) (es : List LaidEntry) (bodies outlines : Code) → bodies ≡ record { entries = []; bodies = map body_view bs }
-    → outlines ≡ record { entries = map outlined (map entry_view es); bodies = bodies.bodies } → outlines ≡ outline_of (laid_code bs es)
-outline_is bs es bodies outlines p q = q ∙ ap (λ (x : Code). record { entries = map outlined (map entry_view es); bodies = x.bodies }) p
-
--- what is known of the code when its entries have their rights
-pub record IsDone (C D : Code) (reads writes : List (List Used)) : Type 0 where
-  pub entries : map bare D.entries ≡ map bare C.entries
+-- the code whose entries were given these rights to read and to write
+pub record IsGranted (C D : Code) (reads writes : List Lead) : Type 0 where
   pub bodies : D.bodies ≡ C.bodies
-  pub reads_are : AreRights (outline_of C) needs_of reads
-  pub writes_are : AreRights (outline_of C) targets writes
-  pub each : EachAt (HasRow reads writes) D.entries
+  pub entries : D.entries ≡ given_all Write (given_all Read (map bare C.entries) reads) writes
+  pub reads_are : AreRights C needs_of reads
+  pub writes_are : AreRights C targets writes
 
-pub done_rights : (C D : Code) (reads writes : List (List Used)) → IsDone C D reads writes → HasRights D
-done_rights C D reads writes h = has_rights C D reads writes h.entries h.bodies h.reads_are h.writes_are h.each
-
-pub done_emitted : (C D : Code) (reads writes : List (List Used)) → IsDone C D reads writes → EmittedAs C D
-done_emitted C D reads writes h = emitted_as C D h.entries h.bodies (done_rights C D reads writes h)
-
-pub when_done : (bs : List LaidBody) (es : List LaidEntry) (bodies outlines D : Code) (reads writes : List (List Used)) → bodies ≡ record { entries = []; bodies = map body_view bs }
-    → outlines ≡ outline_of (laid_code bs es) → AreRights outlines needs_of reads → AreRights outlines targets writes
-    → GrantedUpTo reads writes D.entries [] (map entry_view es) → D.bodies ≡ bodies.bodies → IsDone (laid_code bs es) D reads writes
-when_done bs es bodies outlines D reads writes p is hr hw g q = record {
-  entries = sym (append-nil (map bare D.entries)) ∙ g.same;
-  bodies = q ∙ ap (λ (x : Code). x.bodies) p;
-  reads_are = subst (λ (x : Code). AreRights x needs_of reads) is hr;
-  writes_are = subst (λ (x : Code). AreRights x targets writes) is hw;
-  each = g.each;
+-- the steps of granting, from what is laid to what is granted
+pub grants : (bs cs : List LaidBody) (es fs gs hs is : List LaidEntry) (laid D : Code) (reads writes : List Lead) → laid ≡ laid_code bs es → map body_view cs ≡ laid.bodies → map entry_view fs ≡ laid.entries
+    → map entry_view gs ≡ map bare (map entry_view fs) → map entry_view hs ≡ given_all Read (map entry_view gs) reads → map entry_view is ≡ given_all Write (map entry_view hs) writes → D ≡ laid_code cs is
+    → AreRights laid needs_of reads → AreRights laid targets writes → IsGranted (laid_code bs es) D reads writes
+grants bs cs es fs gs hs is laid D reads writes new bodies entries none read written made r w = record {
+  bodies = ap (λ (x : Code). x.bodies) made ∙ bodies ∙ ap (λ (x : Code). x.bodies) new;
+  entries =
+      ap (λ (x : Code). x.entries) made
+      ∙ written
+      ∙ ap (λ (xs : List Entry). given_all Write xs writes) (read ∙ ap (λ (xs : List Entry). given_all Read xs reads) (none ∙ ap (map bare) (entries ∙ ap (λ (x : Code). x.entries) new)));
+  reads_are = subst (λ (x : Code). AreRights x needs_of reads) new r;
+  writes_are = subst (λ (x : Code). AreRights x targets writes) new w;
 }
+
+module _ (C D : Code) (reads writes : List Lead) (g : IsGranted C D reads writes) where
+  abbrev none : List Entry
+  none = map bare C.entries
+
+  pub granted_same : map bare D.entries ≡ map bare C.entries
+  granted_same = ap (map bare) g.entries ∙ all_same Write (given_all Read none reads) writes ∙ all_same Read none reads ∙ bare_bare C.entries
+
+  in_reads : (l : Lead) → In l reads → l.entry < length none
+  in_reads l t = subst (λ n. l.entry < n) (sym (length-map C.entries bare)) (g.reads_are.within l t)
+
+  in_writes : (l : Lead) → In l writes → l.entry < length (given_all Read none reads)
+  in_writes l t = subst (λ n. l.entry < n) (sym (all_length Read reads none ∙ length-map C.entries bare)) (g.writes_are.within l t)
+
+  has_reads : (i : ℕ) → (entry D i).reads ≡ names_of reads i
+  has_reads i =
+      ap (λ (es : List Entry). (nth blank_entry es i).reads) g.entries
+      ∙ all_reads_kept writes (given_all Read none reads) i
+      ∙ all_given Read reads none i in_reads
+      ∙ ap (λ (e : Entry). e.reads ++ names_of reads i) (nth_same C.entries i)
+
+  has_writes : (i : ℕ) → (entry D i).writes ≡ names_of writes i
+  has_writes i =
+      ap (λ (es : List Entry). (nth blank_entry es i).writes) g.entries
+      ∙ all_given Write writes (given_all Read none reads) i in_writes
+      ∙ ap (λ (ns : List Name). ns ++ names_of writes i) (all_writes_kept reads none i ∙ ap (λ (e : Entry). e.writes) (nth_same C.entries i))
+
+  pub granted_rights : HasRights D
+  granted_rights = record {
+    reads = λ i r h. leads_too C D (sym granted_same) (sym g.bodies) needs_of needs_bare i r (g.reads_are.sound i r (subst (λ (ns : List Name). In r ns) (has_reads i) h));
+    all_reads = λ i r h. subst (λ (ns : List Name). In r ns) (sym (has_reads i)) (g.reads_are.complete i r (leads_too D C granted_same g.bodies needs_of needs_bare i r h));
+    writes = λ i r h. leads_too C D (sym granted_same) (sym g.bodies) targets targets_bare i r (g.writes_are.sound i r (subst (λ (ns : List Name). In r ns) (has_writes i) h));
+    all_writes = λ i r h. subst (λ (ns : List Name). In r ns) (sym (has_writes i)) (g.writes_are.complete i r (leads_too D C granted_same g.bodies targets targets_bare i r h));
+    reads_once = λ i. subst Distinct (sym (has_reads i)) (g.reads_are.once i);
+    writes_once = λ i. subst Distinct (sym (has_writes i)) (g.writes_are.once i);
+  }
+
+  pub granted_emitted : EmittedAs C D
+  granted_emitted = emitted_as C D granted_same g.bodies granted_rights

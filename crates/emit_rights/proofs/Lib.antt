@@ -1,2 +1,3 @@
-pub mod Outlines
+pub mod Bare
+pub mod Giving
 pub mod Granting

@@ -1,11 +1,13 @@
--- Entries with the rights of their numbers, and the code that is laid before rights are put in.
-use Rattle.std.specs.Prelude.{◌≡◌, ℕ, suc, List, [], ◌∷◌, ◌++◌, map, length, Bool}
-use Rattle.task_code.specs.Code.{Entry, Code}
-use Rattle.task_code.specs.declared.entry.Name.{Name as Used}
+-- Entries as rights are given to them, and the code that is laid before.
+use Rattle.std.specs.Prelude.{◌≡◌, ℕ, zero, suc, ◌+◌, List, [], ◌∷◌, ◌++◌, map, take, Bool}
+use Rattle.task_code.specs.Code.{Entry, Code, Name}
 use Rattle.task_code.specs.declared.entry.Entry.{Entry as LaidEntry}
 use Rattle.task_code.specs.declared.code.Body.{Body as LaidBody}
-use Rattle.task_code.specs.View.{name_view, entry_view, body_view}
-use Rattle.ref_counting.specs.Rows.{row}
+use Rattle.task_code.specs.View.{entry_view, body_view}
+use Rattle.ref_counting.specs.declared.lead.Lead.{Lead}
+use Rattle.ref_counting.specs.declared.uses.Right.{Right}
+use Rattle.ref_counting.specs.declared.uses.Right.TheVariants.{Read, Write}
+use Rattle.ref_counting.specs.Leads.{name_of}
 use Rattle.language.specs.Core.{Core}
 use Rattle.code_rules.specs.Emitted.{IsEmitted}
 use Rattle.code_rules.specs.Laying.{bare, Kinds, LaysScript}
@@ -14,28 +16,36 @@ use Rattle.code_rules.specs.Laying.{bare, Kinds, LaysScript}
 abbrev pub laid_code : List LaidBody → List LaidEntry → Code
 laid_code bs es = record { entries = map entry_view es; bodies = map body_view bs }
 
--- an entry that has the rights of its number
-pub record HasRow (reads writes : List (List Used)) (i : ℕ) (e : Entry) : Type 0 where
-  pub reads_are : e.reads ≡ map name_view (row reads i)
-  pub writes_are : e.writes ≡ map name_view (row writes i)
+-- an entry with one more right
+abbrev pub with_right : Right → Entry → Name → Entry
+with_right Read e r = record e { reads = e.reads ++ r ∷ [] }
+with_right Write e r = record e { writes = e.writes ++ r ∷ [] }
 
--- each member of a list is such, at its number
-abbrev pub EachAt : (ℕ → Entry → Type 0) → List Entry → Type 0
-EachAt P [] = Unit {0}
-EachAt P (e ∷ es) = P 0 e × EachAt (λ i. P (suc i)) es
+-- the same entries, but the one of a number has one more right
+abbrev pub given : Right → List Entry → ℕ → Name → List Entry
+given d [] n r = []
+given d (e ∷ es) zero r = with_right d e r ∷ es
+given d (e ∷ es) (suc n) r = e ∷ given d es n r
 
--- one more entry, which is this one but for its rights
-pub record AddsGranted (reads writes : List (List Used)) (e : Entry) (old new : Code) : Type 0 where
-  pub granted : Entry
-  pub entries : new.entries ≡ old.entries ++ granted ∷ []
-  pub bodies : new.bodies ≡ old.bodies
-  pub same : bare granted ≡ bare e
-  pub rights : (i : ℕ) → i ≡ length old.entries → HasRow reads writes i granted
+-- the same entries with these rights, one after another
+abbrev pub given_all : Right → List Entry → List Lead → List Entry
+given_all d es [] = es
+given_all d es (l ∷ ls) = given_all d (given d es l.entry (name_of l)) ls
 
--- these entries have their rights, and those are left
-pub record GrantedUpTo (reads writes : List (List Used)) (done left all : List Entry) : Type 0 where
-  pub same : map bare done ++ map bare left ≡ map bare all
-  pub each : EachAt (HasRow reads writes) done
+-- the right of one more of these leads is given, behind so many
+abbrev pub GivesNext : Right → List Lead → ℕ → List Entry → List Entry → Type 0
+GivesNext d ls n old new = (es : List Entry) → old ≡ given_all d es (take n ls) → new ≡ given_all d es (take (n + 1) ls)
+
+-- the same entries, of which the one of a number has no right, or so many have none
+abbrev pub bare_at : List Entry → ℕ → List Entry
+bare_at [] n = []
+bare_at (e ∷ es) zero = bare e ∷ es
+bare_at (e ∷ es) (suc n) = e ∷ bare_at es n
+
+abbrev pub bare_below : List Entry → ℕ → List Entry
+bare_below es zero = es
+bare_below [] (suc n) = []
+bare_below (e ∷ es) (suc n) = bare e ∷ bare_below es n
 
 -- whatever core the code is laid for, this one is what is emitted for it
 abbrev pub EmittedAs : (laid emitted : Code) → Type 0

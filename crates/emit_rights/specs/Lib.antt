@@ -1,2 +1,1 @@
-pub mod Outline
 pub mod Granted

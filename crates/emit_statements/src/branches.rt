@@ -1,8 +1,9 @@
 //! Branches.
-ghost use Rattle.std.specs.Prelude.{◌≡◌, ℕ, None, Some, length, pos, IfOk, OnOk};
+ghost use Rattle.std.specs.Prelude.{◌≡◌, ℕ, [], None, Some, length, pos, IfOk, OnOk};
 ghost use Rattle.language.specs.Core as core;
 ghost use Rattle.flow.specs.View.{outer_view};
 ghost use Rattle.code_rules.specs.Room.{OuterRoom};
+ghost use Rattle.emit_cells.specs.Marks.{MarksGrow};
 ghost use Rattle.emit_statements.specs.Blocks.{Numbered, OwnAddedAs, branch_act};
 
 use crate::own::StatementAt;
@@ -35,6 +36,7 @@ impl Writer {
             → OwnAddedAs statement.standing.inputs statement.standing.at (core.choose (outer_view condition.now) b d)
             (λ l. branch_act l statement.standing.inputs (core.choose (outer_view condition.now) b d) (outer_view condition.now) then (Some m))
             self.old.entries.items self.new.entries.items) }
+        ensures marks { OnOk result (MarksGrow self.old.entries.items self.new.entries.items []) }
     {
         let inputs = statement.standing.inputs;
         let plain = is_outer_plain(condition);

@@ -9,7 +9,9 @@ ghost use Rattle.task_code.specs.Code as pure;
 ghost use Rattle.code_rules.specs.IsCodeOf.{Layout};
 ghost use Rattle.code_rules.specs.Laying.{IndexesStand, Suits};
 ghost use Rattle.code_rules.specs.Room.{ActionRoom, PartRoom, Each};
+ghost use Rattle.flow_listed.specs.Cells.{parts_anchors};
 ghost use Rattle.emit_cells.specs.Chunk.{AllAdded};
+ghost use Rattle.emit_cells.specs.Marks.{MarksGrow};
 ghost use Rattle.emit_statements.specs.Into.{LaysInto, call_of, laying};
 
 use crate::filling::add_numbers;
@@ -34,8 +36,9 @@ fn add_call_entries<A: Allocator>(
     parts: &Vec<Part<A>, A>,
     call: &Call<A>,
 ) -> Result<(), AllocError>
-    ensures { OnOk result (Each (PartRoom standing.inputs) (parts_view parts.now.items) → PartRoom standing.inputs (core.calls (call_view call.now))
+    ensures added { OnOk result (Each (PartRoom standing.inputs) (parts_view parts.now.items) → PartRoom standing.inputs (core.calls (call_view call.now))
         → AllAdded functions.now.items standing (parts_view parts.now.items ++ core.calls (call_view call.now) ∷ []) entries.old.items entries.new.items) }
+    ensures marks { OnOk result (MarksGrow entries.old.items entries.new.items (parts_anchors parts.now.items)) }
 {
     let mut passed = IndexMap::new(alloc);
     pass_parts(alloc, &mut passed, standing.inputs, parts)?;
@@ -62,6 +65,7 @@ impl Writer {
             → Suits l (call_of standing parts.now.items call.now)
             → IndexesStand (own_parts (call_of standing parts.now.items call.now))
             → length self.new.entries.items ≤ length self.old.entries.items + suc (length (all_parts (call_of standing parts.now.items call.now)))) }
+        ensures marks { OnOk result (MarksGrow self.old.entries.items self.new.entries.items (parts_anchors parts.now.items)) }
     {
         let from = self.entries.len();
         add_call_entries(

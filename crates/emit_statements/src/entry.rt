@@ -5,6 +5,7 @@ ghost use Rattle.task_code.specs.View as code_view;
 ghost use Rattle.code_rules.specs.CodeNames.{each_once};
 ghost use Rattle.emit_cells.specs.PlainNeeds.{Noted};
 ghost use Rattle.emit_cells.specs.Made.{made};
+ghost use Rattle.emit_cells.specs.Marks.{MarksGrow, marked};
 ghost use Rattle.emit_statements.specs.Blocks.{Numbered};
 
 use crate::own::StatementAt;
@@ -30,6 +31,8 @@ impl Writer {
             → map code_view.entry_view self.new.entries.items
             ≡ map code_view.entry_view self.old.entries.items
             ++ made statement.standing (record { node = statement.node; mark = statement.standing.at }) (each_once ns) (code_view.act_view act) ∷ []) }
+        ensures marks { OnOk result (MarksGrow self.old.entries.items self.new.entries.items
+            (marked (code_view.act_view act) statement.node statement.standing.at)) }
     {
         let number = small(self.entries.len());
         let shown = Shown {

@@ -6,7 +6,9 @@ ghost use Rattle.flow.specs.View.{name_view, outer_view};
 ghost use Rattle.task_code.specs.View as code_view;
 ghost use Rattle.code_rules.specs.Laying.{data_in};
 ghost use Rattle.code_rules.specs.Room.{OuterRoom};
+ghost use Rattle.flow_listed.specs.Cells.{outer_anchors};
 ghost use Rattle.emit_cells.specs.Chunk.{AllAdded};
+ghost use Rattle.emit_cells.specs.Marks.{MarksGrow};
 ghost use Rattle.emit_statements.specs.Into.{AddsFew, AddsOwn, LaysOwn};
 
 use crate::filling::add_numbers;
@@ -34,8 +36,9 @@ fn add_two_entries<A: Allocator>(
     one: &Outer<A>,
     two: &Outer<A>,
 ) -> Result<(), AllocError>
-    ensures { OnOk result (OuterRoom standing.inputs (outer_view one.now) → OuterRoom standing.inputs (outer_view two.now)
+    ensures added { OnOk result (OuterRoom standing.inputs (outer_view one.now) → OuterRoom standing.inputs (outer_view two.now)
         → AllAdded functions.now.items standing (outer_parts (outer_view one.now ∷ outer_view two.now ∷ [])) entries.old.items entries.new.items) }
+    ensures marks { OnOk result (MarksGrow entries.old.items entries.new.items (outer_anchors one.now ++ outer_anchors two.now)) }
 {
     let mut passed = IndexMap::new(alloc);
     pass_outer(alloc, &mut passed, standing.inputs, one)?;
@@ -68,8 +71,9 @@ fn add_put<A: Allocator>(
     index: &Outer<A>,
     right: &Outer<A>,
 ) -> Result<(), AllocError>
-    ensures { OnOk result (AddsOwn statement (core.insert (name_view array) (outer_view index.now) (outer_view right.now))
+    ensures own { OnOk result (AddsOwn statement (core.insert (name_view array) (outer_view index.now) (outer_view right.now))
         entries.old.items entries.new.items) }
+    ensures marks { OnOk result (MarksGrow entries.old.items entries.new.items []) }
 {
     let standing = statement.standing;
     let inputs = standing.inputs;
@@ -103,6 +107,7 @@ impl Writer {
             self.old.entries.items self.new.entries.items self.old.filling self.new.filling) }
         ensures few { OnOk result (AddsFew statement (core.insert (name_view array) (outer_view index.now) (outer_view right.now))
             self.old.entries.items self.new.entries.items) }
+        ensures marks { OnOk result (MarksGrow self.old.entries.items self.new.entries.items (outer_anchors index.now ++ outer_anchors right.now)) }
     {
         let from = self.entries.len();
         add_two_entries(

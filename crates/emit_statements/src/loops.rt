@@ -7,6 +7,7 @@ ghost use Rattle.task_code.specs.Code as pure;
 ghost use Rattle.task_code.specs.View as code_view;
 ghost use Rattle.code_rules.specs.CodeNames.{wanted};
 ghost use Rattle.code_rules.specs.Room.{NameRoom, OuterRoom, StepRoom};
+ghost use Rattle.emit_cells.specs.Marks.{IsUnmarked, MarksGrow};
 ghost use Rattle.emit_cells.specs.PlainNeeds.{need_of, IsReady, Notes};
 ghost use Rattle.emit_statements.specs.Blocks.{Numbered, OwnAddedAs, loop_with, range_action, range_loop_act, ranged, seen_range};
 
@@ -107,9 +108,10 @@ fn range_act<A: Allocator>(
     range: &Range<A>,
     turns: Loop,
 ) -> Result<Act, AllocError>
-    ensures { IfOk result (λ act. IsReady needs.now.keys → OuterRoom inputs (outer_view range.now.low) → OuterRoom inputs (outer_view range.now.high)
+    ensures does { IfOk result (λ act. IsReady needs.now.keys → OuterRoom inputs (outer_view range.now.low) → OuterRoom inputs (outer_view range.now.high)
         → StepRoom inputs (option_map outer_view range.now.step)
         → code_view.act_view act ≡ ranged inputs (code_view.loop_view turns) (map need_of needs.now.keys) (seen_range range.now)) }
+    ensures unmarked { IfOk result (λ act. IsUnmarked (code_view.act_view act)) }
 {
     let low = placed_seen(
         alloc,
@@ -144,6 +146,7 @@ impl Writer {
             → OwnAddedAs statement.standing.inputs statement.standing.at (range_action range.now x y b)
             (λ l. range_loop_act l statement.standing.inputs range.now (range_action range.now x y b) (code_view.loop_view turns))
             self.old.entries.items self.new.entries.items) }
+        ensures marks { OnOk result (MarksGrow self.old.entries.items self.new.entries.items []) }
     {
         let inputs = statement.standing.inputs;
         let mut needs = IndexSet::new(self.alloc);
@@ -168,6 +171,7 @@ impl Writer {
             → statement.standing.priority ≡ pos 0
             → OwnAddedAs statement.standing.inputs statement.standing.at (core.each (name_view array) x y b) (λ l. pure.Each (code_view.loop_view turns))
             self.old.entries.items self.new.entries.items) }
+        ensures marks { OnOk result (MarksGrow self.old.entries.items self.new.entries.items []) }
     {
         let mut needs = IndexSet::new(self.alloc);
         note_name(&mut needs, named(statement.standing.inputs, array, true))?;

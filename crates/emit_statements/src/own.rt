@@ -1,5 +1,5 @@
 //! Statements that work an outermost cell out themselves: assignments, lines and assertions.
-ghost use Rattle.std.specs.Prelude.{◌≡◌, ℤ, List, map, OnOk, IfOk};
+ghost use Rattle.std.specs.Prelude.{◌≡◌, ℤ, [], List, map, OnOk, IfOk};
 ghost use Rattle.language.specs.Core as core;
 ghost use Rattle.flow.specs.View.{cell_view, expr_view, form_view, name_view, outer_view};
 ghost use Rattle.language_laws.specs.TypedValues.{own_cell, own_outer};
@@ -7,7 +7,9 @@ ghost use Rattle.task_code.specs.View as code_view;
 ghost use Rattle.code_rules.specs.IsCodeOf.{Layout, fill_act, own_form, simple_act};
 ghost use Rattle.code_rules.specs.Room.{ActionRoom, FormRoom, NameRoom, OuterRoom};
 ghost use Rattle.emit_cells.specs.PlainNeeds.{need_of, IsReady};
+ghost use Rattle.flow_listed.specs.Cells.{outer_anchors};
 ghost use Rattle.emit_cells.specs.Chunk.{AllAdded, Inside, Passes};
+ghost use Rattle.emit_cells.specs.Marks.{IsUnmarked, MarksGrow};
 ghost use Rattle.emit_statements.specs.Doing.{action_of};
 ghost use Rattle.emit_statements.specs.Into.{AddsFew, AddsOwn, LaysOwn};
 
@@ -84,8 +86,9 @@ fn add_own_entries<A: Allocator>(
     standing: Standing,
     outer: &Outer<A>,
 ) -> Result<(), AllocError>
-    ensures { OnOk result (OuterRoom standing.inputs (outer_view outer.now)
+    ensures added { OnOk result (OuterRoom standing.inputs (outer_view outer.now)
         → AllAdded functions.now.items standing (own_outer (outer_view outer.now)) entries.old.items entries.new.items) }
+    ensures marks { OnOk result (MarksGrow entries.old.items entries.new.items (outer_anchors outer.now)) }
 {
     let mut passed = IndexMap::new(alloc);
     pass_own_outer(alloc, &mut passed, standing.inputs, outer)?;
@@ -101,9 +104,10 @@ fn filled<A: Allocator>(
     array: Name,
     expr: &Expr<A>,
 ) -> Result<Act, AllocError>
-    ensures { IfOk result (λ act. (l : Layout) → IsReady needs.now.keys → NameRoom inputs (name_view array)
+    ensures does { IfOk result (λ act. (l : Layout) → IsReady needs.now.keys → NameRoom inputs (name_view array)
         → FormRoom inputs (core.compute (expr_view expr.now))
         → code_view.act_view act ≡ fill_act l inputs (map need_of needs.now.keys) (name_view array) (expr_view expr.now)) }
+    ensures unmarked { IfOk result (λ act. IsUnmarked (code_view.act_view act)) }
 {
     match expr {
         Expr::Whole(_) => Ok(Act::Copy(named(inputs, array, true))),
@@ -125,9 +129,10 @@ fn fill<A: Allocator>(
     array: Name,
     outer: &Outer<A>,
 ) -> Result<Act, AllocError>
-    ensures { IfOk result (λ act. (l : Layout) → IsReady needs.now.keys → NameRoom inputs (name_view array) → FormRoom inputs (form_view outer.now.cell.form)
+    ensures does { IfOk result (λ act. (l : Layout) → IsReady needs.now.keys → NameRoom inputs (name_view array) → FormRoom inputs (form_view outer.now.cell.form)
         → code_view.act_view act ≡ fill_act l inputs (map need_of needs.now.keys) (name_view array)
         (own_form outer.now.cell.node (form_view outer.now.cell.form))) }
+    ensures unmarked { IfOk result (λ act. IsUnmarked (code_view.act_view act)) }
 {
     match &outer.cell.form {
         Form::Compute(expr) => filled(alloc, needs, inputs, array, expr),
@@ -143,8 +148,9 @@ fn act_of<A: Allocator>(
     done: Use,
     outer: &Outer<A>,
 ) -> Result<Act, AllocError>
-    ensures { IfOk result (λ act. (l : Layout) (p : ℤ) → IsReady needs.now.keys → ActionRoom inputs (action_of done p (outer_view outer.now))
+    ensures does { IfOk result (λ act. (l : Layout) (p : ℤ) → IsReady needs.now.keys → ActionRoom inputs (action_of done p (outer_view outer.now))
         → code_view.act_view act ≡ simple_act l inputs (map need_of needs.now.keys) (action_of done p (outer_view outer.now))) }
+    ensures unmarked { IfOk result (λ act. IsUnmarked (code_view.act_view act)) }
 {
     match done {
         Use::Set(target) => Ok(Act::Set(
@@ -165,7 +171,8 @@ fn add_own<A: Allocator>(
     done: Use,
     outer: &Outer<A>,
 ) -> Result<(), AllocError>
-    ensures { OnOk result (AddsOwn statement (action_of done statement.standing.priority (outer_view outer.now)) entries.old.items entries.new.items) }
+    ensures own { OnOk result (AddsOwn statement (action_of done statement.standing.priority (outer_view outer.now)) entries.old.items entries.new.items) }
+    ensures marks { OnOk result (MarksGrow entries.old.items entries.new.items []) }
 {
     let standing = statement.standing;
     let shown = Shown {
@@ -192,6 +199,7 @@ impl Writer {
             self.old.entries.items self.new.entries.items self.old.filling self.new.filling) }
         ensures few { OnOk result (AddsFew statement (action_of done statement.standing.priority (outer_view outer.now))
             self.old.entries.items self.new.entries.items) }
+        ensures marks { OnOk result (MarksGrow self.old.entries.items self.new.entries.items (outer_anchors outer.now)) }
     {
         let from = self.entries.len();
         add_own_entries(

@@ -8,7 +8,9 @@ ghost use Rattle.task_code.specs.View as code_view;
 ghost use Rattle.code_rules.specs.IsCodeOf.{Layout};
 ghost use Rattle.code_rules.specs.Laying.{data_in};
 ghost use Rattle.code_rules.specs.Room.{OuterRoom, StepRoom};
+ghost use Rattle.flow_listed.specs.Cells.{outer_anchors, range_anchors};
 ghost use Rattle.emit_cells.specs.Chunk.{AddedFor, AllAdded, Inside, IsPassed, Passes};
+ghost use Rattle.emit_cells.specs.Marks.{MarksGrow};
 ghost use Rattle.emit_statements.specs.Blocks.{FewParts, PartsLaid, range_outers};
 
 use crate::filling::add_numbers;
@@ -34,8 +36,9 @@ fn add_condition<A: Allocator>(
     standing: Standing,
     condition: &Outer<A>,
 ) -> Result<(), AllocError>
-    ensures { OnOk result (OuterRoom standing.inputs (outer_view condition.now)
+    ensures added { OnOk result (OuterRoom standing.inputs (outer_view condition.now)
         → AllAdded functions.now.items standing (outer_parts (outer_view condition.now ∷ [])) entries.old.items entries.new.items) }
+    ensures marks { OnOk result (MarksGrow entries.old.items entries.new.items (outer_anchors condition.now)) }
 {
     let mut passed = IndexMap::new(alloc);
     pass_outer(alloc, &mut passed, standing.inputs, condition)?;
@@ -56,6 +59,7 @@ impl Writer {
             self.old.entries.items self.new.entries.items self.old.filling self.new.filling) }
         ensures few { OnOk result ((l : Layout) → OuterRoom standing.inputs (outer_view condition.now)
             → FewParts l (outer_parts (outer_view condition.now ∷ [])) self.old.entries.items self.new.entries.items) }
+        ensures marks { OnOk result (MarksGrow self.old.entries.items self.new.entries.items (outer_anchors condition.now)) }
     {
         let from = self.entries.len();
         add_condition(
@@ -99,10 +103,11 @@ fn add_bounds<A: Allocator>(
     passed: &IndexMap<u32, Argument>,
     range: &Range<A>,
 ) -> Result<(), AllocError>
-    ensures { OnOk result ((all : List core.Part) → IsPassed standing.inputs all passed.now → OuterRoom standing.inputs (outer_view range.now.low)
+    ensures added { OnOk result ((all : List core.Part) → IsPassed standing.inputs all passed.now → OuterRoom standing.inputs (outer_view range.now.low)
         → OuterRoom standing.inputs (outer_view range.now.high)
         → StepRoom standing.inputs (option_map outer_view range.now.step) → Inside all (outer_parts (range_outers range.now))
         → AddedFor functions.now.items standing all (outer_parts (range_outers range.now)) entries.old.items entries.new.items) }
+    ensures marks { OnOk result (MarksGrow entries.old.items entries.new.items (range_anchors range.now)) }
 {
     add_outer(alloc, entries, functions, standing, passed, &range.low)?;
     add_outer(alloc, entries, functions, standing, passed, &range.high)?;
@@ -118,9 +123,10 @@ fn add_range_entries<A: Allocator>(
     standing: Standing,
     range: &Range<A>,
 ) -> Result<(), AllocError>
-    ensures { OnOk result (OuterRoom standing.inputs (outer_view range.now.low) → OuterRoom standing.inputs (outer_view range.now.high)
+    ensures added { OnOk result (OuterRoom standing.inputs (outer_view range.now.low) → OuterRoom standing.inputs (outer_view range.now.high)
         → StepRoom standing.inputs (option_map outer_view range.now.step)
         → AllAdded functions.now.items standing (outer_parts (range_outers range.now)) entries.old.items entries.new.items) }
+    ensures marks { OnOk result (MarksGrow entries.old.items entries.new.items (range_anchors range.now)) }
 {
     let mut passed = IndexMap::new(alloc);
     pass_range(alloc, &mut passed, standing.inputs, range)?;
@@ -158,6 +164,7 @@ impl Writer {
         ensures few { OnOk result ((l : Layout) → OuterRoom standing.inputs (outer_view range.now.low) → OuterRoom standing.inputs (outer_view range.now.high)
             → StepRoom standing.inputs (option_map outer_view range.now.step)
             → FewParts l (outer_parts (range_outers range.now)) self.old.entries.items self.new.entries.items) }
+        ensures marks { OnOk result (MarksGrow self.old.entries.items self.new.entries.items (range_anchors range.now)) }
     {
         let from = self.entries.len();
         add_range_entries(self.alloc, &mut self.entries, functions, standing, range)?;

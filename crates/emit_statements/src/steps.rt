@@ -7,7 +7,9 @@ ghost use Rattle.code_rules.specs.CodeNames.{over, wanted};
 ghost use Rattle.code_rules.specs.Laying.{data_in};
 ghost use Rattle.code_rules.specs.Room.{StepRoom};
 ghost use Rattle.emit_cells.specs.PlainNeeds.{need_of, IsReady, Notes};
+ghost use Rattle.flow_listed.specs.Cells.{step_anchors};
 ghost use Rattle.emit_cells.specs.Chunk.{AddedFor, Inside, IsPassed, Passes};
+ghost use Rattle.emit_cells.specs.Marks.{MarksGrow};
 ghost use Rattle.emit_statements.specs.Blocks.{seen_step, step_parts};
 
 use emit_cells::entries::Standing;
@@ -49,9 +51,10 @@ pub fn add_step<A: Allocator>(
     passed: &IndexMap<u32, Argument>,
     step: &Option<Outer<A>>,
 ) -> Result<(), AllocError>
-    ensures { OnOk result ((all : List core.Part) → IsPassed standing.inputs all passed.now → StepRoom standing.inputs (option_map outer_view step.now)
+    ensures added { OnOk result ((all : List core.Part) → IsPassed standing.inputs all passed.now → StepRoom standing.inputs (option_map outer_view step.now)
         → Inside all (step_parts step.now)
         → AddedFor functions.now.items standing all (step_parts step.now) entries.old.items entries.new.items) }
+    ensures marks { OnOk result (MarksGrow entries.old.items entries.new.items (step_anchors step.now)) }
 {
     match step {
         None => Ok(()),

@@ -1,11 +1,12 @@
 //! Waits, merged where nothing stands beside one inside another.
-ghost use Rattle.std.specs.Prelude.{◌≡◌, ◌∷◌, ◌++◌, length, map, pos, IfOk, OnOk};
+ghost use Rattle.std.specs.Prelude.{◌≡◌, ◌∷◌, ◌++◌, [], length, map, pos, IfOk, OnOk};
 ghost use Rattle.std.specs.List.{flat_map};
 ghost use Rattle.language.specs.Core as core;
 ghost use Rattle.flow.specs.View.{awaited_view, waits_around};
 ghost use Rattle.task_code.specs.View as code_view;
 ghost use Rattle.code_rules.specs.CodeNames.{awaited_need};
 ghost use Rattle.code_rules.specs.Room.{ActionRoom, AwaitedRoom, Each};
+ghost use Rattle.emit_cells.specs.Marks.{MarksGrow};
 ghost use Rattle.emit_cells.specs.PlainNeeds.{need_named, Notes};
 ghost use Rattle.emit_statements.specs.Blocks.{InnerRoom, Numbered, WaitAddedAs, header_of, inner_headers};
 
@@ -131,6 +132,7 @@ impl Writer {
             → WaitAddedAs statement.standing.inputs statement.standing.at statement.node
             (core.wait (map awaited_view names.now.items) (waits_around inner.now.items b)) b body
             self.old.entries.items self.new.entries.items) }
+        ensures marks { OnOk result (MarksGrow self.old.entries.items self.new.entries.items []) }
     {
         let inputs = statement.standing.inputs;
         let mut needs = IndexSet::new(self.alloc);

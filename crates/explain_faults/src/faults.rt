@@ -8,22 +8,11 @@ use explain_blocked::path::{say_path, say_steps};
 use explain_blocked::scene::Scene;
 use explain_inputs::blocking::instance_at;
 use explain_text::words::say;
-use flow::script::Flow;
-use meaning::rounds;
 use meaning_facts::facts::{FaultFact, Place};
 use meaning_outcomes::knowledge::Knowledge;
 use paths::{FaultKind, Step};
 use std::alloc::{AllocError, Allocator, Global};
 use std::collections::HashMap;
-
-/// How many rounds of a script are worked out at first to find the fault of a run.
-const FIRST_ROUNDS: u32 = 16;
-
-/// How often more of them are.
-const MOST_TRIES: usize = 100;
-
-/// Behind so many blocks the fault of a run is looked for no longer.
-const MOST_INSTANCES: usize = 200_000;
 
 /// Adds what is said of each fault that is known of a script, in the order in which they are told:
 /// `FILE:LINE:COLUMN: F3 NoElement: A has no element 3: it is closed and has the keys 0 to 2`, the line of the source with the place
@@ -66,32 +55,12 @@ pub fn add_printed_fault<'t, 'a, A: Allocator>(
     }
 }
 
-/// What is known of a script after as many rounds as make known the fault that a run has printed; fewer where the script is too large.
-///
-/// # Errors
-///
-/// `AllocError` where memory that was asked for was refused.
-pub fn known_for<A: Allocator>(
+/// Whether the fault that a run has printed is known.
+pub(crate) fn is_known(
     alloc: Global,
-    flow: &Flow<A>,
+    known: &Knowledge,
     printed: &Printed,
-) -> Result<Knowledge, AllocError> {
-    let mut limit = FIRST_ROUNDS;
-    let mut known = rounds(alloc, flow, limit)?;
-    for _ in 0..MOST_TRIES {
-        if is_enough(alloc, &known, printed)? {
-            break;
-        }
-        limit = limit.saturating_add(limit / 4);
-        known = rounds(alloc, flow, limit)?;
-    }
-    Ok(known)
-}
-
-fn is_enough(alloc: Global, known: &Knowledge, printed: &Printed) -> Result<bool, AllocError> {
-    if known.finished || known.learned.instances.all.len() > MOST_INSTANCES {
-        return Ok(true);
-    }
+) -> Result<bool, AllocError> {
     Ok(fact_of(alloc, known, printed)?.is_some())
 }
 

@@ -81,6 +81,16 @@ pub fn add_limit_of_rounds(
     say(out, " not done; --rounds N allows N rounds\n")
 }
 
+/// Adds that no more is said of a script, since its meaning is too large to be worked out.
+///
+/// # Errors
+///
+/// `AllocError` where memory that was asked for was refused.
+pub fn add_too_large(out: &mut Vec<u8>, file: &str) -> Result<(), AllocError> {
+    say(out, file)?;
+    say(out, ": not explained: too large\n")
+}
+
 /// Adds a number of things.
 fn say_some(out: &mut Vec<u8>, count: usize, one: &str, many: &str) -> Result<(), AllocError> {
     say_count(out, count)?;

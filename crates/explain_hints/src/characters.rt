@@ -196,6 +196,9 @@ fn on_sign(before: &[u8], byte: u8, rest: &[u8]) -> Option<&'static str> {
             "there is no ? and :, but an if that assigns the variable in both branches: if (x > 0) { y = 1; } else { y = 2; }",
         ),
         b'\'' | b'`' => Some("a string stands between \""),
+        b'&' if is_behind_type(before) => {
+            Some("there are no references: a variable goes by its name")
+        }
         b'&' => Some("and is &&"),
         b'|' => Some("or is ||"),
         b'^' => Some(
@@ -209,6 +212,15 @@ fn on_sign(before: &[u8], byte: u8, rest: &[u8]) -> Option<&'static str> {
         0..=31 | 127 => Some("this is a control character, which no editor shows: leave it out"),
         _ => None,
     }
+}
+
+/// Whether a text ends with the word `int`, `string` or `boolean`, and a blank at most.
+fn is_behind_type(text: &[u8]) -> bool {
+    let text = match text.strip_suffix(b" ") {
+        Some(before) => before,
+        None => text,
+    };
+    text.ends_with(b"int") || text.ends_with(b"string") || text.ends_with(b"boolean")
 }
 
 /// What is said of a point.

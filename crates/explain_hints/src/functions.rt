@@ -19,13 +19,18 @@ const OUTSIDE: &str = "a script reads no files, words or settings: what it is to
 
 const CHECKED: &str = "assert tells what has to hold: assert(x == 1, \"x is 1\");";
 
+const FILLED: &str = "a loop writes the elements: foreach i in [0:9] { A[i] = 0; }";
+
+const RANKED: &str =
+    "the place of an element is how many are less: count them in a function, and write B[place] = v;";
+
 const GROWN: &str = "an element is written by its key: A[i] = 3;";
 
 const ORDERED: &str =
     "all that can run runs at once, and what has to come after x stands in wait (x) { .. }";
 
 /// Functions that are not there, and what is there instead.
-static FUNCTIONS: [Row; 152] = [
+static FUNCTIONS: [Row; 158] = [
     Row {
         word: "trace",
         words: PRINTED,
@@ -499,6 +504,22 @@ static FUNCTIONS: [Row; 152] = [
         words: "an array is declared by int A[]; and has what is written to it",
     },
     Row {
+        word: "zeros",
+        words: FILLED,
+    },
+    Row {
+        word: "ones",
+        words: FILLED,
+    },
+    Row {
+        word: "linspace",
+        words: FILLED,
+    },
+    Row {
+        word: "arange",
+        words: FILLED,
+    },
+    Row {
         word: "list",
         words: "an array is declared by int A[]; and has what is written to it",
     },
@@ -540,6 +561,10 @@ static FUNCTIONS: [Row; 152] = [
     },
     Row {
         word: "readln",
+        words: OUTSIDE,
+    },
+    Row {
+        word: "readint",
         words: OUTSIDE,
     },
     Row {
@@ -588,7 +613,11 @@ static FUNCTIONS: [Row; 152] = [
     },
     Row {
         word: "sort",
-        words: "write it as a loop: foreach v, i in A { B[i] = v * 2; }",
+        words: RANKED,
+    },
+    Row {
+        word: "sorted",
+        words: RANKED,
     },
     Row {
         word: "reverse",

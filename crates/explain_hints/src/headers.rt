@@ -50,6 +50,14 @@ pub fn block(around: &Around<'_>) -> Option<Advice> {
             _ => {}
         }
     }
+    if around.first.kind == TokenKind::Foreach
+        && around.found.kind == TokenKind::Comma
+        && around.last.kind == TokenKind::CloseSquare
+    {
+        return Advice::here(
+            "a loop goes over one range: the next foreach stands in its block, foreach i in [0:9] { foreach j in [0:9] { .. } }",
+        );
+    }
     if around.first.kind == TokenKind::Foreach && is_source_end(around) {
         return Advice::here(
             "a { is missing: what a loop does is a block, foreach i in [0:9] { .. }",

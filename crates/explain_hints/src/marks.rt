@@ -84,7 +84,9 @@ fn mixed(around: &Around<'_>) -> Option<Advice> {
     if goes_on(around, TokenKind::Less) {
         return Advice::here("at most is <=");
     }
-    if around.last.kind == TokenKind::NotEqual {
+    if around.last.kind == TokenKind::NotEqual
+        || goes_on(around, TokenKind::Not) && around.opener.kind == TokenKind::OpenRound
+    {
         return Advice::here(UNEQUAL);
     }
     None
@@ -232,7 +234,7 @@ fn changed(around: &Around<'_>) -> Option<Advice> {
         );
     }
     let twice = (found == TokenKind::Plus || found == TokenKind::Minus) && goes_on(around, found);
-    if twice && around.found.span == around.first.span {
+    if twice && found == TokenKind::Minus && around.found.span == around.first.span {
         return Advice::here(
             "a comment begins with //, and a variable has one value: int j = i - 1;",
         );
@@ -268,6 +270,11 @@ fn compared(around: &Around<'_>) -> Option<Advice> {
         || is_type(around.first.kind) && around.second.span == around.last.span;
     let is_behind_element = around.last.kind == TokenKind::CloseSquare
         && around.closed.span == around.first.span;
+    if is_behind_name && around.found.kind == TokenKind::Less && is_type(around.next.kind) {
+        return Advice::here(
+            "an array is declared by int A[];, and one that is keyed by text by int A[string];",
+        );
+    }
     if is_behind_name || is_behind_element {
         return Advice::here(ASSIGNED);
     }

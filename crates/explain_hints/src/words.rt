@@ -527,7 +527,7 @@ static FIRST_WORDS: [Row; 121] = [
 ];
 
 /// Words that are types elsewhere, and none here.
-static TYPES: [Row; 65] = [
+static TYPES: [Row; 73] = [
     Row {
         word: "float",
         words: NUMBER,
@@ -682,6 +682,38 @@ static TYPES: [Row; 65] = [
     },
     Row {
         word: "int32",
+        words: "write int",
+    },
+    Row {
+        word: "int8_t",
+        words: "write int",
+    },
+    Row {
+        word: "int16_t",
+        words: "write int",
+    },
+    Row {
+        word: "int32_t",
+        words: "write int",
+    },
+    Row {
+        word: "int64_t",
+        words: "write int",
+    },
+    Row {
+        word: "uint8_t",
+        words: "write int",
+    },
+    Row {
+        word: "uint16_t",
+        words: "write int",
+    },
+    Row {
+        word: "uint32_t",
+        words: "write int",
+    },
+    Row {
+        word: "uint64_t",
         words: "write int",
     },
     Row {

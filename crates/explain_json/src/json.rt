@@ -1,9 +1,12 @@
-//! A refusal as a line of JSON.
+//! A refusal as a line of JSON, and warnings, a line each.
 
 use explain_refusals::refusal::{Refusal, refusal_of};
 use explain_refusals::told::{Hint, Note};
+use explain_text::lines::Lines;
 use explain_text::position::{Position, position_of};
 use explain_text::words::say_place;
+use explain_warnings::told::{hint_of, name_of, sentence, warnings_of};
+use explain_warnings::warning::Warning;
 use lexer::token::Span;
 use serde_json::{Value, json};
 use std::alloc::{AllocError, Global};
@@ -140,4 +143,65 @@ fn place_value(
         "end": end,
         "message": message
     })
+}
+
+/// The warnings of a text that is accepted as JSON objects, each on a line of its own: as a refusal, with the word `warning` in place of a
+/// rule's number.
+///
+/// # Errors
+///
+/// `AllocError` where memory that was asked for was refused.
+pub fn warning_lines(alloc: Global, file: &str, text: &[u8]) -> Result<Vec<u8>, AllocError> {
+    let warnings = warnings_of(alloc, text)?;
+    let lines = Lines::of(alloc, text)?;
+    let mut out = Vec::new(alloc);
+    for warning in &warnings {
+        let line = warning_line(alloc, file, &lines, *warning)?;
+        out.extend_from_slice(line.as_bytes())?;
+        out.push(b'\n')?;
+    }
+    Ok(out)
+}
+
+fn warning_line(
+    alloc: Global,
+    file: &str,
+    lines: &Lines<'_>,
+    warning: Warning,
+) -> Result<String, AllocError> {
+    let message = sentence(alloc, lines.text(), warning)?;
+    let message = string_of(alloc, message.as_slice())?;
+    let described = warning_value(alloc, file, lines, warning, message)?;
+    described.to_string(alloc)
+}
+
+/// A warning as JSON.
+fn warning_value(
+    alloc: Global,
+    file: &str,
+    lines: &Lines<'_>,
+    warning: Warning,
+    message: Value,
+) -> Result<Value, AllocError> {
+    let from = position_in(lines, warning.at.from);
+    let end = position_in(lines, warning.at.to);
+    let end = json!(in alloc; {"line": end.line as u64, "column": end.column as u64})?;
+    let name = name_of(warning.oddity);
+    let hint = hint_of(warning.oddity);
+    let related = Value::Array(Vec::new(alloc));
+    json!(in alloc; {
+        "file": file,
+        "line": from.line as u64,
+        "column": from.column as u64,
+        "end": end,
+        "code": "warning",
+        "name": name,
+        "message": message,
+        "hint": hint,
+        "related": related
+    })
+}
+
+fn position_in(lines: &Lines<'_>, at: usize) -> Position {
+    lines.position(at.min(lines.text().len()))
 }

@@ -9,3 +9,4 @@ pub mod Walks
 pub mod Wholes
 pub mod Declaring
 pub mod Showing
+pub mod Anchors

@@ -1,3 +1,4 @@
 pub mod View
 pub mod Shapes
 pub mod Listed
+pub mod Nodes

@@ -9,6 +9,7 @@ ghost use Rattle.syntax_trees.specs.View.{word_of, expression_view, form_view};
 ghost use Rattle.types.specs.Typed.{table_of, builtin_name};
 ghost use Rattle.flow.specs.View as seen;
 ghost use Rattle.flow.specs.View.{parts_view, names_view};
+ghost use Rattle.lowering.specs.Nodes.{PartsStand, all_nodes, expression_nodes, form_nodes};
 ghost use Rattle.lowering.specs.View.{Leaves, calling, array_named, variable_named};
 
 use crate::names::{here, refer};
@@ -28,19 +29,22 @@ pub fn form<A: Allocator + Clone>(
     parts: &mut Vec<Part<A>, A>,
     expr: &tree::Expr<A>,
 ) -> Result<Form<A>, AllocError>
-    ensures { IfOk result (λ f. Leaves parts.old.items parts.new.items (seen.form_view f) (rules.form_of (table_of typed.now) (expression_view expr.now))) }
+    ensures leaves { IfOk result (λ f. Leaves parts.old.items parts.new.items (seen.form_view f) (rules.form_of (table_of typed.now) (expression_view expr.now))) }
+    ensures cells { OnOk result (PartsStand parts.old.items parts.new.items (expression_nodes (expression_view expr.now))) }
 {
     kind_form(alloc, typed, parts, &expr.kind)
 }
 
 #[cycle(expression)]
+#[tactic(auto, using(crate::proofs::Anchors::stays))]
 fn kind_form<A: Allocator + Clone>(
     alloc: &A,
     typed: &Typed,
     parts: &mut Vec<Part<A>, A>,
     kind: &ExprKind<A>,
 ) -> Result<Form<A>, AllocError>
-    ensures { IfOk result (λ f. Leaves parts.old.items parts.new.items (seen.form_view f) (rules.form_in (table_of typed.now) (form_view kind.now))) }
+    ensures leaves { IfOk result (λ f. Leaves parts.old.items parts.new.items (seen.form_view f) (rules.form_in (table_of typed.now) (form_view kind.now))) }
+    ensures cells { OnOk result (PartsStand parts.old.items parts.new.items (form_nodes (form_view kind.now))) }
 {
     match kind {
         ExprKind::Number(n) => Ok(Form::Compute(Expr::Number(*n))),
@@ -78,8 +82,9 @@ fn inner_cell<A: Allocator + Clone>(
     parts: &mut Vec<Part<A>, A>,
     expr: &tree::Expr<A>,
 ) -> Result<(), AllocError>
-    ensures { OnOk result (let e = expression_view expr.now in parts_view parts.new.items
+    ensures leaves { OnOk result (let e = expression_view expr.now in parts_view parts.new.items
         ≡ parts_view parts.old.items ++ rules.as_cell (rules.number_of e) (rules.form_of (table_of typed.now) e)) }
+    ensures cells { OnOk result (PartsStand parts.old.items parts.new.items (expression_nodes (expression_view expr.now))) }
 {
     let found = form(alloc, typed, parts, expr)?;
     add_cell(parts, expr.number, expr.first.from, found)
@@ -92,7 +97,8 @@ fn add_cell<A: Allocator>(
     at: usize,
     form: Form<A>,
 ) -> Result<(), AllocError>
-    ensures { OnOk result (parts_view parts.new.items ≡ parts_view parts.old.items ++ core.inner (record { node = node; form = seen.form_view form }) ∷ []) }
+    ensures part { OnOk result (parts_view parts.new.items ≡ parts_view parts.old.items ++ core.inner (record { node = node; form = seen.form_view form }) ∷ []) }
+    ensures cells { OnOk result (PartsStand parts.old.items parts.new.items (record { node = node; at = at } ∷ [])) }
 {
     parts.push(Part::Inner(Cell { node, at, form }))?;
     Ok(())
@@ -106,8 +112,9 @@ fn operand<A: Allocator + Clone>(
     parts: &mut Vec<Part<A>, A>,
     expr: &tree::Expr<A>,
 ) -> Result<Expr<A>, AllocError>
-    ensures { IfOk result (λ one. let e = expression_view expr.now in Leaves parts.old.items parts.new.items (seen.expr_view one)
+    ensures leaves { IfOk result (λ one. let e = expression_view expr.now in Leaves parts.old.items parts.new.items (seen.expr_view one)
         (rules.as_operand (rules.number_of e) (rules.form_of (table_of typed.now) e))) }
+    ensures cells { OnOk result (PartsStand parts.old.items parts.new.items (expression_nodes (expression_view expr.now))) }
 {
     let found = form(alloc, typed, parts, expr)?;
     match found {
@@ -130,9 +137,10 @@ pub fn operation_on<A: Allocator + Clone>(
     exprs: &Vec<tree::Expr<A>, A>,
     from: usize,
 ) -> Result<Form<A>, AllocError>
-    ensures { IfOk result (λ f. Leaves parts.old.items parts.new.items (seen.form_view f)
+    ensures leaves { IfOk result (λ f. Leaves parts.old.items parts.new.items (seen.form_view f)
         (rules.computes (seen.operation_view operation)
         (rules.operands_of (table_of typed.now) (expressions_of (map expression_view (drop from exprs.now.items)))))) }
+    ensures cells { OnOk result (PartsStand parts.old.items parts.new.items (all_nodes (map expression_view exprs.now.items))) }
 {
     let found = operands(alloc, typed, parts, exprs, from)?;
     Ok(Form::Compute(Expr::Operation(operation, found)))
@@ -140,6 +148,7 @@ pub fn operation_on<A: Allocator + Clone>(
 
 /// The operands that the expressions from a place on are.
 #[cycle(expression)]
+#[tactic(auto, using(crate::proofs::Anchors::stays))]
 fn operands<A: Allocator + Clone>(
     alloc: &A,
     typed: &Typed,
@@ -147,8 +156,9 @@ fn operands<A: Allocator + Clone>(
     exprs: &Vec<tree::Expr<A>, A>,
     from: usize,
 ) -> Result<Vec<Expr<A>, A>, AllocError>
-    ensures { IfOk result (λ v. Leaves parts.old.items parts.new.items (seen.exprs_view v.items)
+    ensures leaves { IfOk result (λ v. Leaves parts.old.items parts.new.items (seen.exprs_view v.items)
         (rules.operands_of (table_of typed.now) (expressions_of (map expression_view (drop from exprs.now.items))))) }
+    ensures cells { OnOk result (PartsStand parts.old.items parts.new.items (all_nodes (map expression_view exprs.now.items))) }
 {
     let mut found = Vec::new(alloc.clone()?);
     for i in from..exprs.len() {
@@ -168,9 +178,10 @@ fn called<A: Allocator + Clone>(
     name: &tree::Name<A>,
     arguments: &Vec<tree::Expr<A>, A>,
 ) -> Result<Form<A>, AllocError>
-    ensures { IfOk result (λ f. let t = table_of typed.now in let es = expressions_of (map expression_view arguments.now.items) in
+    ensures leaves { IfOk result (λ f. let t = table_of typed.now in let es = expressions_of (map expression_view arguments.now.items) in
         Leaves parts.old.items parts.new.items (seen.form_view f)
         (rules.call_form t (word_of name.now) (t.callee_of name.now.number) es (rules.arguments_of t es) (rules.operands_of t es))) }
+    ensures cells { OnOk result (PartsStand parts.old.items parts.new.items (all_nodes (map expression_view arguments.now.items))) }
 {
     match typed.callee(name.number) {
         Callee::Function(function) => {
@@ -185,6 +196,7 @@ fn called<A: Allocator + Clone>(
 
 /// A call of a built-in function.
 #[cycle(expression)]
+#[tactic(auto, using(crate::proofs::Anchors::stays))]
 pub fn built_in<A: Allocator + Clone>(
     alloc: &A,
     typed: &Typed,
@@ -192,9 +204,10 @@ pub fn built_in<A: Allocator + Clone>(
     builtin: Builtin,
     arguments: &Vec<tree::Expr<A>, A>,
 ) -> Result<Form<A>, AllocError>
-    ensures { IfOk result (λ f. (w : pure.Word) (passed : rules.Arguments)
+    ensures leaves { IfOk result (λ f. (w : pure.Word) (passed : rules.Arguments)
         → let t = table_of typed.now in let es = expressions_of (map expression_view arguments.now.items) in
         Leaves parts.old.items parts.new.items (seen.form_view f) (rules.call_form t w (built_in (builtin_name builtin)) es passed (rules.operands_of t es))) }
+    ensures cells { OnOk result (PartsStand parts.old.items parts.new.items (all_nodes (map expression_view arguments.now.items))) }
 {
     match builtin {
         Builtin::Size => {
@@ -236,8 +249,9 @@ pub fn call_of<A: Allocator + Clone>(
     arguments: &Vec<tree::Expr<A>, A>,
     outputs: Vec<Name, A>,
 ) -> Result<Call<A>, AllocError>
-    ensures { IfOk result (λ c. let passed = rules.arguments_of (table_of typed.now) (expressions_of (map expression_view arguments.now.items)) in
+    ensures leaves { IfOk result (λ c. let passed = rules.arguments_of (table_of typed.now) (expressions_of (map expression_view arguments.now.items)) in
         Leaves parts.old.items parts.new.items (seen.call_view c) (calling passed (word_of name.now) function (names_view outputs.items))) }
+    ensures cells { OnOk result (PartsStand parts.old.items parts.new.items (all_nodes (map expression_view arguments.now.items))) }
 {
     let inputs = inputs(alloc, typed, parts, arguments)?;
     Ok(Call {
@@ -250,14 +264,16 @@ pub fn call_of<A: Allocator + Clone>(
 
 /// What the inputs of a call stand for.
 #[cycle(expression)]
+#[tactic(auto, using(crate::proofs::Anchors::stays))]
 fn inputs<A: Allocator + Clone>(
     alloc: &A,
     typed: &Typed,
     parts: &mut Vec<Part<A>, A>,
     exprs: &Vec<tree::Expr<A>, A>,
 ) -> Result<Vec<Name, A>, AllocError>
-    ensures { IfOk result (λ v. Leaves parts.old.items parts.new.items (names_view v.items)
+    ensures leaves { IfOk result (λ v. Leaves parts.old.items parts.new.items (names_view v.items)
         (rules.arguments_of (table_of typed.now) (expressions_of (map expression_view exprs.now.items)))) }
+    ensures cells { OnOk result (PartsStand parts.old.items parts.new.items (all_nodes (map expression_view exprs.now.items))) }
 {
     let mut found = Vec::new(alloc.clone()?);
     for expr in exprs {
@@ -268,14 +284,16 @@ fn inputs<A: Allocator + Clone>(
 
 /// An argument of a composite call.
 #[cycle(expression)]
+#[tactic(auto, using(crate::proofs::Anchors::stays))]
 fn argument<A: Allocator + Clone>(
     alloc: &A,
     typed: &Typed,
     parts: &mut Vec<Part<A>, A>,
     expr: &tree::Expr<A>,
 ) -> Result<Name, AllocError>
-    ensures { IfOk result (λ x. let t = table_of typed.now
+    ensures leaves { IfOk result (λ x. let t = table_of typed.now
         in let e = expression_view expr.now in Leaves parts.old.items parts.new.items (seen.name_view x) (rules.as_argument t e (rules.form_of t e))) }
+    ensures cells { OnOk result (PartsStand parts.old.items parts.new.items (expression_nodes (expression_view expr.now))) }
 {
     match array_named(typed, &expr.kind) {
         Some(array) => Ok(array),

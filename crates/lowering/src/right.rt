@@ -3,9 +3,11 @@ ghost use Rattle.std.specs.Prelude.{◌≡◌, ◌∷◌, [], IfOk, map, drop, p
 ghost use Rattle.language.specs.Core as core;
 ghost use Rattle.language.specs.Table as table;
 ghost use Rattle.language.specs.Tree.{expressions_of, value};
+ghost use Rattle.lowering.specs.Nodes.{all_nodes, calling_nodes, expression_nodes, right_nodes};
 ghost use Rattle.language.specs.Resolved as rules;
 ghost use Rattle.syntax_trees.specs.View.{word_of, words_view, expression_view, right_of, calling_of};
 ghost use Rattle.types.specs.Typed.{table_of, builtin_name};
+ghost use Rattle.flow_listed.specs.Cells.{AreAmong, action_anchors, outer_anchors};
 ghost use Rattle.flow_listed.specs.Listed.{action_listed, other};
 ghost use Rattle.flow.specs.Shapes.{action_declared};
 ghost use Rattle.flow.specs.View as seen;
@@ -28,7 +30,8 @@ pub fn outer<A: Allocator + Clone>(
     typed: &Typed,
     expr: &tree::Expr<A>,
 ) -> Result<Outer<A>, AllocError>
-    ensures { IfOk result (λ o. outer_view o ≡ rules.outer (table_of typed.now) (expression_view expr.now)) }
+    ensures outer { IfOk result (λ o. outer_view o ≡ rules.outer (table_of typed.now) (expression_view expr.now)) }
+    ensures cells { IfOk result (λ o. AreAmong (outer_anchors o) (expression_nodes (expression_view expr.now))) }
 {
     let mut parts = Vec::new(alloc.clone()?);
     let form = form(alloc, typed, &mut parts, expr)?;
@@ -46,7 +49,8 @@ pub fn boxed_outer<A: Allocator + Clone>(
     typed: &Typed,
     expr: &tree::Expr<A>,
 ) -> Result<Box<Outer<A>, A>, AllocError>
-    ensures { IfOk result (λ o. outer_view o.value ≡ rules.outer (table_of typed.now) (expression_view expr.now)) }
+    ensures outer { IfOk result (λ o. outer_view o.value ≡ rules.outer (table_of typed.now) (expression_view expr.now)) }
+    ensures cells { IfOk result (λ o. AreAmong (outer_anchors o.value) (expression_nodes (expression_view expr.now))) }
 {
     Ok(Box::new(alloc.clone()?, outer(alloc, typed, expr)?)?)
 }
@@ -67,9 +71,11 @@ fn outer_operation<A: Allocator + Clone>(
     exprs: &Vec<tree::Expr<A>, A>,
     from: usize,
 ) -> Result<Box<Outer<A>, A>, AllocError>
-    ensures { IfOk result (λ o. outer_view o.value ≡ rules.outer_of place.node
+    ensures outer { IfOk result (λ o. outer_view o.value ≡ rules.outer_of place.node
         (rules.computes (operation_view operation) (rules.operands_of (table_of typed.now)
         (expressions_of (map expression_view (drop from exprs.now.items)))))) }
+    ensures cells { IfOk result (λ o. AreAmong (outer_anchors o.value)
+        (record { node = place.node; at = place.at } ∷ all_nodes (map expression_view exprs.now.items))) }
 {
     let mut parts = Vec::new(alloc.clone()?);
     let form = operation_on(alloc, typed, &mut parts, operation, exprs, from)?;
@@ -93,6 +99,7 @@ pub fn assignment<A: Allocator + Clone>(
     ensures core { IfOk result (λ a. action_view a ≡ rules.right_of (table_of typed.now) (name_view target) target.shape (right_of right.now)) }
     ensures declared { IfOk result (λ a. action_declared a ≡ []) }
     ensures listed { IfOk result (λ a. action_listed a ≡ other []) }
+    ensures cells { IfOk result (λ a. AreAmong (action_anchors a) (right_nodes (right_of right.now))) }
 {
     match right {
         Right::Value(expr) => of_value(alloc, typed, target, expr),
@@ -119,6 +126,7 @@ fn of_value<A: Allocator + Clone>(
     ensures core { IfOk result (λ a. action_view a ≡ rules.right_of (table_of typed.now) (name_view target) target.shape (value (expression_view expr.now))) }
     ensures declared { IfOk result (λ a. action_declared a ≡ []) }
     ensures listed { IfOk result (λ a. action_listed a ≡ other []) }
+    ensures cells { IfOk result (λ a. AreAmong (action_anchors a) (expression_nodes (expression_view expr.now))) }
 {
     match &expr.kind {
         ExprKind::Call(name, arguments) => match typed.callee(name.number) {
@@ -152,6 +160,7 @@ fn assign<A: Allocator + Clone>(
     ensures core { IfOk result (λ a. action_view a ≡ core.assign (name_view target) (rules.outer (table_of typed.now) (expression_view expr.now))) }
     ensures declared { IfOk result (λ a. action_declared a ≡ []) }
     ensures listed { IfOk result (λ a. action_listed a ≡ other []) }
+    ensures cells { IfOk result (λ a. AreAmong (action_anchors a) (expression_nodes (expression_view expr.now))) }
 {
     Ok(Action::Assign {
         target,
@@ -170,6 +179,7 @@ fn filled<A: Allocator + Clone>(
     ensures core { IfOk result (λ a. action_view a ≡ core.fill (name_view array) (rules.outer_of node ([], core.compute (core.whole (name_view elements))))) }
     ensures declared { IfOk result (λ a. action_declared a ≡ []) }
     ensures listed { IfOk result (λ a. action_listed a ≡ other []) }
+    ensures cells { IfOk result (λ a. action_anchors a ≡ record { node = node; at = at } ∷ []) }
 {
     let right = boxed_whole(alloc, node, at, elements)?;
     Ok(Action::Fill { array, right })
@@ -182,7 +192,8 @@ fn boxed_whole<A: Allocator + Clone>(
     at: usize,
     elements: Name,
 ) -> Result<Box<Outer<A>, A>, AllocError>
-    ensures { IfOk result (λ o. outer_view o.value ≡ rules.outer_of node ([], core.compute (core.whole (name_view elements)))) }
+    ensures outer { IfOk result (λ o. outer_view o.value ≡ rules.outer_of node ([], core.compute (core.whole (name_view elements)))) }
+    ensures cells { IfOk result (λ o. outer_anchors o.value ≡ record { node = node; at = at } ∷ []) }
 {
     let cell = Cell {
         node,
@@ -209,6 +220,7 @@ fn call_alone<A: Allocator + Clone>(
         (rules.arguments_of (table_of typed.now) (expressions_of (map expression_view arguments.now.items))) (names_view outputs.items)) }
     ensures declared { IfOk result (λ a. action_declared a ≡ []) }
     ensures listed { IfOk result (λ a. action_listed a ≡ other []) }
+    ensures cells { IfOk result (λ a. AreAmong (action_anchors a) (all_nodes (map expression_view arguments.now.items))) }
 {
     let mut parts = Vec::new(alloc.clone()?);
     let call = call_of(alloc, typed, &mut parts, name, function, arguments, outputs)?;
@@ -230,6 +242,7 @@ pub fn statement_call<A: Allocator + Clone>(
         action_view a ≡ rules.call_action t priority c.node.number c.name (expressions_of c.arguments) (t.callee_of c.name.number)) }
     ensures declared { IfOk result (λ a. action_declared a ≡ []) }
     ensures listed { IfOk result (λ a. action_listed a ≡ other []) }
+    ensures cells { IfOk result (λ a. AreAmong (action_anchors a) (calling_nodes (calling_of call.now))) }
 {
     let place = Anchor {
         node: call.number,
@@ -273,6 +286,7 @@ pub fn several<A: Allocator + Clone>(
         (t.callee_of c.name.number)) }
     ensures declared { IfOk result (λ a. action_declared a ≡ []) }
     ensures listed { IfOk result (λ a. action_listed a ≡ other []) }
+    ensures cells { IfOk result (λ a. AreAmong (action_anchors a) (calling_nodes (calling_of call.now))) }
 {
     match typed.callee(call.name.number) {
         Callee::Function(function) => {
@@ -317,6 +331,7 @@ fn built_in_assigned<A: Allocator + Clone>(
         (rules.outer_of c.node.number (rules.call_form t c.name (table.built_in (builtin_name builtin)) es ([], []) (rules.operands_of t es)))) }
     ensures declared { IfOk result (λ a. action_declared a ≡ []) }
     ensures listed { IfOk result (λ a. action_listed a ≡ other []) }
+    ensures cells { IfOk result (λ a. AreAmong (action_anchors a) (calling_nodes (calling_of call.now))) }
 {
     let right = boxed_built_in(alloc, typed, builtin, call)?;
     Ok(Action::Assign { target, right })
@@ -329,9 +344,10 @@ fn boxed_built_in<A: Allocator + Clone>(
     builtin: Builtin,
     call: &Call<A>,
 ) -> Result<Box<Outer<A>, A>, AllocError>
-    ensures { IfOk result (λ o. let t = table_of typed.now in let c = calling_of call.now in let es = expressions_of c.arguments in
+    ensures outer { IfOk result (λ o. let t = table_of typed.now in let c = calling_of call.now in let es = expressions_of c.arguments in
         outer_view o.value ≡ rules.outer_of c.node.number
         (rules.call_form t c.name (table.built_in (builtin_name builtin)) es ([], []) (rules.operands_of t es))) }
+    ensures cells { IfOk result (λ o. AreAmong (outer_anchors o.value) (calling_nodes (calling_of call.now))) }
 {
     let mut parts = Vec::new(alloc.clone()?);
     let form = built_in(alloc, typed, &mut parts, builtin, &call.arguments)?;

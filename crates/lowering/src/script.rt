@@ -9,9 +9,12 @@ ghost use Rattle.lowering.specs.View.{own_statements, function_core};
 ghost use Rattle.flow.specs.Shapes.{block_declared, declared_of, functions_declared, kinds_of, kinds_of_function};
 ghost use Rattle.language.specs.Scopes.{signature_of, signatures};
 ghost use Rattle.language_accepted.specs.Types.{body_declarations};
+ghost use Rattle.std.specs.List.{flat_map};
+ghost use Rattle.flow_listed.specs.Cells.{AreAmong, AnchorsGrow, block_anchors, anchors_of, function_anchors};
 ghost use Rattle.flow_listed.specs.Listed as shows;
 ghost use Rattle.flow_listed.specs.Listed.{block_listed, function_shown, functions_shown, shown_of};
 ghost use Rattle.lowering.specs.Listed.{composite_shown, composites_shown, listed_by, own_listed, shown};
+ghost use Rattle.lowering.specs.Nodes.{StatementsStand, body_nodes, function_nodes, nodes_of, own_nodes};
 ghost use Rattle.lowering.specs.Shapes.{declared_by, flagged, function_declarations, kinds_of_signature, own_declarations};
 
 use crate::names::variables;
@@ -37,6 +40,7 @@ pub fn lower<A: Allocator + Clone>(
         ≡ flagged (own_declarations (tree_of script.now)) ++ flagged (function_declarations (tree_of script.now))) }
     ensures kinds { IfOk result (λ flow. kinds_of flow ≡ map kinds_of_signature (signatures (tree_of script.now))) }
     ensures shown { IfOk result (λ flow. shown_of flow ≡ shown (tree_of script.now)) }
+    ensures cells { IfOk result (λ flow. AreAmong (anchors_of flow) (nodes_of (tree_of script.now))) }
 {
     let body = own_block(&alloc, typed, &script.items)?;
     let mut functions = Vec::new(alloc.clone()?);
@@ -53,6 +57,7 @@ fn own_block<A: Allocator + Clone>(
     ensures core { IfOk result (λ b. block_view b ≡ rules.script_block (table_of typed.now) (map part_of items.now.items)) }
     ensures declared { IfOk result (λ b. block_declared b ≡ flagged (own_declarations (map part_of items.now.items))) }
     ensures listed { IfOk result (λ b. block_listed b ≡ shows.block_of 0 (own_listed (map part_of items.now.items))) }
+    ensures cells { IfOk result (λ b. AreAmong (block_anchors b) (own_nodes (map part_of items.now.items))) }
 {
     let mut statements = Vec::new(alloc.clone()?);
     add_statements(alloc, typed, items, &mut statements)?;
@@ -70,6 +75,7 @@ fn add_statements<A: Allocator + Clone>(
         ≡ statements_view found.old.items ++ own_statements (table_of typed.now) (map part_of items.now.items)) }
     ensures declared { OnOk result (declared_by found.new.items ≡ declared_by found.old.items ++ flagged (own_declarations (map part_of items.now.items))) }
     ensures listed { OnOk result (listed_by found.new.items ≡ listed_by found.old.items ++ own_listed (map part_of items.now.items)) }
+    ensures cells { OnOk result (StatementsStand found.old.items found.new.items (own_nodes (map part_of items.now.items))) }
 {
     for item in items {
         add_statement(alloc, typed, item, found)?;
@@ -88,6 +94,7 @@ fn add_statement<A: Allocator + Clone>(
         ≡ statements_view found.old.items ++ own_statements (table_of typed.now) (part_of item.now ∷ [])) }
     ensures declared { OnOk result (declared_by found.new.items ≡ declared_by found.old.items ++ flagged (own_declarations (part_of item.now ∷ []))) }
     ensures listed { OnOk result (listed_by found.new.items ≡ listed_by found.old.items ++ own_listed (part_of item.now ∷ [])) }
+    ensures cells { OnOk result (StatementsStand found.old.items found.new.items (own_nodes (part_of item.now ∷ []))) }
 {
     match item {
         Item::Import(_) | Item::Function(_) => Ok(()),
@@ -111,6 +118,8 @@ fn add_functions<A: Allocator + Clone>(
     ensures kinds { OnOk result (map kinds_of_function found.new.items
         ≡ map kinds_of_function found.old.items ++ map kinds_of_signature (signatures (map part_of items.now.items))) }
     ensures shown { OnOk result (functions_shown found.new.items ≡ functions_shown found.old.items ++ composites_shown (map part_of items.now.items)) }
+    ensures cells { OnOk result (AnchorsGrow (flat_map function_anchors found.old.items) (flat_map function_anchors found.new.items)
+        (function_nodes (map part_of items.now.items))) }
 {
     for item in items {
         add_function(alloc, typed, item, found)?;
@@ -132,6 +141,8 @@ fn add_function<A: Allocator + Clone>(
     ensures kinds { OnOk result (map kinds_of_function found.new.items
         ≡ map kinds_of_function found.old.items ++ map kinds_of_signature (signatures (part_of item.now ∷ []))) }
     ensures shown { OnOk result (functions_shown found.new.items ≡ functions_shown found.old.items ++ composites_shown (part_of item.now ∷ [])) }
+    ensures cells { OnOk result (AnchorsGrow (flat_map function_anchors found.old.items) (flat_map function_anchors found.new.items)
+        (function_nodes (part_of item.now ∷ []))) }
 {
     match item {
         Item::Import(_) | Item::Statement(_) => Ok(()),
@@ -152,6 +163,7 @@ fn function<A: Allocator + Clone>(
     ensures declared { IfOk result (λ f. block_declared f.body ≡ flagged (body_declarations (composite_of function.now).body)) }
     ensures kinds { IfOk result (λ f. kinds_of_function f ≡ kinds_of_signature (signature_of (composite_of function.now))) }
     ensures shown { IfOk result (λ f. function_shown f ≡ composite_shown (composite_of function.now)) }
+    ensures cells { IfOk result (λ f. AreAmong (function_anchors f) (body_nodes (composite_of function.now).body)) }
 {
     let name = Vec::from_slice(alloc.clone()?, function.name.text.as_slice())?;
     let inputs = variables(alloc, &function.inputs)?;

@@ -1,9 +1,10 @@
 //! Statements and the blocks inside them: what each does, behind the statements before it.
 ghost use Rattle.std.specs.Prelude.{◌≡◌, ℕ, ◌++◌, ◌∷◌, [], IfOk, IsOkAnd, OnOk, map, option_map};
+ghost use Rattle.std.specs.List.{flat_map};
 ghost use Rattle.language.specs.Core as core;
 ghost use Rattle.language.specs.Tree as trees;
 ghost use Rattle.language.specs.Resolved as rules;
-ghost use Rattle.syntax_trees.specs.View.{word_of, words_view, expression_view, declaration_of, right_of, over_of, statement_view, command_view, body_view};
+ghost use Rattle.syntax_trees.specs.View.{word_of, words_view, expression_view, declaration_of, right_of, over_of, range_of, statement_view, command_view, body_view};
 ghost use Rattle.types.specs.Typed.{table_of};
 ghost use Rattle.flow.specs.View as seen;
 ghost use Rattle.flow.specs.View.{action_view, block_view, name_view, outer_view, statements_view};
@@ -11,10 +12,12 @@ ghost use Rattle.lowering.specs.View.{statement_alone, command_alone, statements
 ghost use Rattle.flow.specs.Shapes.{action_declared, block_declared, is_array};
 ghost use Rattle.language_accepted.specs.Types.{statement_declarations, command_declarations, body_declarations};
 ghost use Rattle.lowering.specs.Shapes.{among, declared_by, flagged};
+ghost use Rattle.flow_listed.specs.Cells.{AreAmong, action_anchors, block_anchors, range_anchors, statement_anchors, step_anchors};
 ghost use Rattle.flow_listed.specs.Listed as shows;
 ghost use Rattle.flow_listed.specs.Listed.{action_listed, block_listed, declares, other, whole};
 ghost use Rattle.lowering.specs.View.{as_declared, variable_of};
 ghost use Rattle.lowering.specs.Listed.{all_listed, body_listed, command_listed, listed, listed_by};
+ghost use Rattle.lowering.specs.Nodes.{StatementsStand, body_nodes, command_nodes, expression_nodes, maybe_nodes, nodes_among, over_nodes, statement_nodes};
 
 use crate::names::{all, optional, refer, variable};
 use crate::right::{assignment, boxed_outer, outer, several, statement_call};
@@ -36,6 +39,7 @@ fn add<A: Allocator>(
     ensures core { OnOk result (statements_view found.new.items ≡ statements_view found.old.items ++ core.stmt at node (action_view action) ∷ []) }
     ensures declared { OnOk result (declared_by found.new.items ≡ declared_by found.old.items ++ action_declared action) }
     ensures listed { OnOk result (listed_by found.new.items ≡ listed_by found.old.items ++ action_listed action ∷ []) }
+    ensures cells { OnOk result (StatementsStand found.old.items found.new.items (action_anchors action)) }
 {
     found.push(Statement { at, node, action })?;
     Ok(())
@@ -52,6 +56,7 @@ fn add_made<A: Allocator>(
         ≡ statements_view found.old.items ++ core.stmt at node (action_view a) ∷ [])) }
     ensures declared { OnOk result (IsOkAnd action (λ a. declared_by found.new.items ≡ declared_by found.old.items ++ action_declared a)) }
     ensures listed { OnOk result (IsOkAnd action (λ a. listed_by found.new.items ≡ listed_by found.old.items ++ action_listed a ∷ [])) }
+    ensures cells { OnOk result (IsOkAnd action (λ a. StatementsStand found.old.items found.new.items (action_anchors a))) }
 {
     match action {
         Ok(action) => add(found, node, at, action),
@@ -89,6 +94,8 @@ fn declaration<A: Allocator + Clone>(
     ensures declared { OnOk result (declared_by found.new.items ≡ declared_by found.old.items ++ (decl.now.name.number, is_array decl.now.shape) ∷ []) }
     ensures listed { OnOk result (listed_by found.new.items
         ≡ listed_by found.old.items ++ command_listed (trees.declare (declaration_of decl.now) (option_map right_of right.now))) }
+    ensures cells { OnOk result (StatementsStand found.old.items found.new.items
+        (command_nodes (trees.declare (declaration_of decl.now) (option_map right_of right.now)))) }
 {
     let variable = variable(alloc, &decl.name, decl.shape)?;
     add(found, number, first.from, Action::Declare(variable))?;
@@ -115,6 +122,7 @@ fn insert<A: Allocator + Clone>(
         ≡ core.insert (rules.refers t (word_of name.now)) (rules.outer t (expression_view index.now)) (rules.outer t (expression_view value.now))) }
     ensures declared { IfOk result (λ a. action_declared a ≡ []) }
     ensures listed { IfOk result (λ a. action_listed a ≡ other []) }
+    ensures cells { IfOk result (λ a. AreAmong (action_anchors a) (expression_nodes (expression_view index.now) ++ expression_nodes (expression_view value.now))) }
 {
     let index = boxed_outer(alloc, typed, index)?;
     let right = boxed_outer(alloc, typed, value)?;
@@ -131,7 +139,8 @@ fn step<A: Allocator + Clone>(
     typed: &Typed,
     step: &Option<Expr<A>>,
 ) -> Result<Option<Outer<A>>, AllocError>
-    ensures { IfOk result (λ o. option_map outer_view o ≡ option_map (rules.outer (table_of typed.now)) (option_map expression_view step.now)) }
+    ensures outer { IfOk result (λ o. option_map outer_view o ≡ option_map (rules.outer (table_of typed.now)) (option_map expression_view step.now)) }
+    ensures cells { IfOk result (λ o. AreAmong (step_anchors o) (maybe_nodes expression_nodes (option_map expression_view step.now))) }
 {
     match step {
         None => Ok(None),
@@ -148,6 +157,7 @@ fn range<A: Allocator + Clone>(
     ensures low { IfOk result (λ r. outer_view r.low ≡ rules.outer (table_of typed.now) (expression_view range.now.low)) }
     ensures high { IfOk result (λ r. outer_view r.high ≡ rules.outer (table_of typed.now) (expression_view range.now.high)) }
     ensures step { IfOk result (λ r. option_map outer_view r.step ≡ option_map (rules.outer (table_of typed.now)) (option_map expression_view range.now.step)) }
+    ensures cells { IfOk result (λ r. AreAmong (range_anchors r) (over_nodes (range_of range.now))) }
 {
     let low = outer(alloc, typed, &range.low)?;
     let high = outer(alloc, typed, &range.high)?;
@@ -165,6 +175,7 @@ fn boxed_range<A: Allocator + Clone>(
     ensures high { IfOk result (λ r. outer_view r.value.high ≡ rules.outer (table_of typed.now) (expression_view over.now.high)) }
     ensures step { IfOk result (λ r. option_map outer_view r.value.step
         ≡ option_map (rules.outer (table_of typed.now)) (option_map expression_view over.now.step)) }
+    ensures cells { IfOk result (λ r. AreAmong (range_anchors r.value) (over_nodes (range_of over.now))) }
 {
     Ok(Box::new(alloc.clone()?, range(alloc, typed, over)?)?)
 }
@@ -181,6 +192,7 @@ fn choice<A: Allocator + Clone>(
     ensures core { IfOk result (λ a. action_view a ≡ core.when (rules.outer (table_of typed.now) (expression_view test.now)) (block_view then.value)) }
     ensures declared { IfOk result (λ a. action_declared a ≡ block_declared then.value) }
     ensures listed { IfOk result (λ a. action_listed a ≡ other (whole (block_listed then.value))) }
+    ensures cells { IfOk result (λ a. AreAmong (action_anchors a) (expression_nodes (expression_view test.now) ++ block_anchors then.value)) }
 {
     let condition = boxed_outer(alloc, typed, test)?;
     Ok(Action::When { condition, then })
@@ -198,6 +210,8 @@ fn choice_else<A: Allocator + Clone>(
         (block_view other.value)) }
     ensures declared { IfOk result (λ a. action_declared a ≡ block_declared then.value ++ block_declared other.value) }
     ensures listed { IfOk result (λ a. action_listed a ≡ shows.other (whole (block_listed then.value) ++ whole (block_listed other.value))) }
+    ensures cells { IfOk result (λ a. AreAmong (action_anchors a)
+        (expression_nodes (expression_view test.now) ++ block_anchors then.value ++ block_anchors other.value)) }
 {
     let condition = boxed_outer(alloc, typed, test)?;
     Ok(Action::Choose {
@@ -220,6 +234,7 @@ fn repeated<A: Allocator + Clone>(
     ensures listed { IfOk result (λ a. action_listed a
         ≡ shows.looping (as_declared Shape.Scalar (word_of header.now.value)) (option_map (as_declared Shape.Scalar) (option_map word_of header.now.key))
         (block_listed body.value)) }
+    ensures cells { IfOk result (λ a. AreAmong (action_anchors a) (over_nodes (over_of header.now.source) ++ block_anchors body.value)) }
 {
     let value = variable(alloc, &header.value, Shape::Scalar)?;
     let key = optional(alloc, &header.key)?;
@@ -252,6 +267,7 @@ fn waiting<A: Allocator + Clone>(
     ensures core { IfOk result (λ a. action_view a ≡ core.wait (map (rules.awaited (table_of typed.now)) (words_view names.now)) (block_view content.value)) }
     ensures declared { IfOk result (λ a. action_declared a ≡ block_declared content.value) }
     ensures listed { IfOk result (λ a. action_listed a ≡ shows.waiting (block_listed content.value)) }
+    ensures cells { IfOk result (λ a. action_anchors a ≡ block_anchors content.value) }
 {
     let names = all(alloc, typed, names)?;
     Ok(Action::Wait {
@@ -275,6 +291,7 @@ pub fn statement<A: Allocator + Clone>(
         ≡ statements_view found.old.items ++ statement_alone (table_of typed.now) (statement_view stmt.now)) }
     ensures declared { OnOk result (declared_by found.new.items ≡ declared_by found.old.items ++ flagged (statement_declarations (statement_view stmt.now))) }
     ensures listed { OnOk result (listed_by found.new.items ≡ listed_by found.old.items ++ listed (statement_view stmt.now)) }
+    ensures cells { OnOk result (StatementsStand found.old.items found.new.items (statement_nodes (statement_view stmt.now))) }
 {
     command(alloc, typed, stmt.number, stmt.first, &stmt.kind, found)
 }
@@ -293,6 +310,7 @@ fn command<A: Allocator + Clone>(
         ≡ statements_view found.old.items ++ command_alone (table_of typed.now) (record { number = number; first = first; to = to }) (command_view kind.now)) }
     ensures declared { OnOk result (declared_by found.new.items ≡ declared_by found.old.items ++ flagged (command_declarations (command_view kind.now))) }
     ensures listed { OnOk result (listed_by found.new.items ≡ listed_by found.old.items ++ command_listed (command_view kind.now)) }
+    ensures cells { OnOk result (StatementsStand found.old.items found.new.items (command_nodes (command_view kind.now))) }
 {
     let at = first.from;
     match kind {
@@ -345,6 +363,7 @@ fn boxed_block<A: Allocator + Clone>(
     ensures core { IfOk result (λ b. block_view b.value ≡ rules.block_of (table_of typed.now) (body_view body.now)) }
     ensures declared { IfOk result (λ b. block_declared b.value ≡ flagged (body_declarations (body_view body.now))) }
     ensures listed { IfOk result (λ b. block_listed b.value ≡ body_listed (body_view body.now)) }
+    ensures cells { IfOk result (λ b. AreAmong (block_anchors b.value) (body_nodes (body_view body.now))) }
 {
     let mut statements = Vec::new(alloc.clone()?);
     each(alloc, typed, &body.statements, &mut statements)?;
@@ -363,6 +382,7 @@ fn each<A: Allocator + Clone>(
         ≡ statements_view found.old.items ++ statements_among (table_of typed.now) (map statement_view statements.now.items)) }
     ensures declared { OnOk result (declared_by found.new.items ≡ declared_by found.old.items ++ flagged (among (map statement_view statements.now.items))) }
     ensures listed { OnOk result (listed_by found.new.items ≡ listed_by found.old.items ++ all_listed (map statement_view statements.now.items)) }
+    ensures cells { OnOk result (StatementsStand found.old.items found.new.items (nodes_among (map statement_view statements.now.items))) }
 {
     for stmt in statements {
         statement(alloc, typed, stmt, found)?;
@@ -379,6 +399,7 @@ pub fn block<A: Allocator + Clone>(
     ensures core { IfOk result (λ b. block_view b ≡ rules.block_of (table_of typed.now) (body_view body.now)) }
     ensures declared { IfOk result (λ b. block_declared b ≡ flagged (body_declarations (body_view body.now))) }
     ensures listed { IfOk result (λ b. block_listed b ≡ body_listed (body_view body.now)) }
+    ensures cells { IfOk result (λ b. AreAmong (block_anchors b) (body_nodes (body_view body.now))) }
 {
     let mut statements = Vec::new(alloc.clone()?);
     each(alloc, typed, &body.statements, &mut statements)?;
@@ -394,6 +415,7 @@ fn boxed_at<A: Allocator + Clone>(
     ensures core { IfOk result (λ b. block_view b.value ≡ seen.block_of (statements_view statements.items)) }
     ensures declared { IfOk result (λ b. block_declared b.value ≡ declared_by statements.items) }
     ensures listed { IfOk result (λ b. block_listed b.value ≡ shows.block_of from (listed_by statements.items)) }
+    ensures cells { IfOk result (λ b. block_anchors b.value ≡ flat_map statement_anchors statements.items) }
 {
     Ok(Box::new(alloc.clone()?, block_at(from, statements))?)
 }
@@ -403,6 +425,7 @@ pub fn block_at<A: Allocator>(from: usize, statements: Vec<Statement<A>, A>) -> 
     ensures core { block_view result ≡ seen.block_of (statements_view statements.items) }
     ensures declared { block_declared result ≡ declared_by statements.items }
     ensures listed { block_listed result ≡ shows.block_of from (listed_by statements.items) }
+    ensures cells { block_anchors result ≡ flat_map statement_anchors statements.items }
 {
     Block { from, statements }
 }

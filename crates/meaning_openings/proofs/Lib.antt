@@ -8,3 +8,4 @@ pub mod Calling
 pub mod Passing
 pub mod Taking
 pub mod Loops
+pub mod Larger

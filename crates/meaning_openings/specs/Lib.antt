@@ -1,3 +1,4 @@
 pub mod Closing
 pub mod Insides
+pub mod Larger
 pub mod Opening

@@ -1,6 +1,6 @@
 //! The bodies of the functions that live statements call (Swift/T Guide, on composite functions).
 
-ghost use Rattle.std.specs.Prelude.{◌≡◌, ◌<◌, ℕ, pos, length, Some, slice_get, OnOk};
+ghost use Rattle.std.specs.Prelude.{◌≡◌, ◌<◌, ℕ, pos, length, Some, slice_get, IfErr, OnOk};
 ghost use Rattle.values.specs.declared.key.Key.{Key as StepKey};
 ghost use Rattle.flow.specs.View.{call_view, core_of};
 ghost use Rattle.language.specs.Core.{Core, Function, Stmt};
@@ -13,9 +13,13 @@ ghost use Rattle.meaning_invariants.specs.Active.{active, HasBlock};
 ghost use Rattle.meaning_invariants.specs.Opened.{AreCalled};
 ghost use Rattle.meaning_round.specs.Made.{tasks_of, waiting_of};
 ghost use Rattle.meaning_round.specs.Standing.{active_of};
+ghost use Rattle.meaning_openings.specs.declared.fault.MeaningFault.TheVariants.{TooLarge};
+ghost use Rattle.meaning_openings.specs.Larger.{IsLarger};
 ghost use Rattle.meaning_openings.specs.Opening.{IsGood, IsMore, IsStep};
 
 use crate::children::enter;
+use crate::fault::MeaningFault;
+use crate::room::Room;
 use flow::cell::Call;
 use meaning_cells::parts::calls_of;
 use meaning_facts::instances::Given;
@@ -27,12 +31,14 @@ use values::key::Key;
 /// Makes the bodies of a statement's calls live.
 pub(crate) fn open_calls<'a, A: Allocator>(
     state: &mut State<'a, A>,
-    alloc: Global,
+    room: Room,
     task: &Task<'a, A>,
-) -> Result<(), AllocError>
+) -> Result<(), MeaningFault>
     ensures so { OnOk result ((s : Core) (n : ℕ) → s ≡ core_of state.old.flow.now → WellFormed s → IsGood s n state.old
         → active_of task.now ∈ tasks_of state.old
         → IsStep s n state.old state.new × AreCalled s state.new.learned (tasks_of state.new) (active_of task.now)) }
+    ensures large { IfErr result (λ fault. fault ≡ TooLarge → (s : Core) (n : ℕ) → s ≡ core_of state.old.flow.now → WellFormed s → IsGood s n state.old
+        → active_of task.now ∈ tasks_of state.old → IsLarger s n room.most) }
     ensures more { OnOk result (IsMore state.old state.new) }
     ensures flow { state.new.flow.now ≡ state.old.flow.now }
     ensures passed { state.new.passed ≡ state.old.passed }
@@ -41,9 +47,10 @@ pub(crate) fn open_calls<'a, A: Allocator>(
     let Deed::Does(action) = &task.deed else {
         return Ok(());
     };
-    let calls = calls_of(alloc, *action)?;
+    let calls = calls_of(room.alloc, *action)?;
     for call in &calls {
-        open_call(state, alloc, task.site.instance, *call)?;
+        room.hold(state)?;
+        open_call(state, room.alloc, task.site.instance, *call)?;
     }
     Ok(())
 }

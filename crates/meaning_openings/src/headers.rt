@@ -1,6 +1,6 @@
 //! What a live statement opens as a header, or that it waits for its choice (Swift/T Guide, on conditionals, loops and `wait`).
 
-ghost use Rattle.std.specs.Prelude.{◌≡◌, ◌++◌, ◌∷◌, [], ℕ, map, OnOk};
+ghost use Rattle.std.specs.Prelude.{◌≡◌, ◌++◌, ◌∷◌, [], ℕ, map, IfErr, OnOk};
 ghost use Rattle.flow.specs.View.{action_view, awaited_view, core_of};
 ghost use Rattle.language.specs.Core.{wait, Core};
 ghost use Rattle.language.specs.Members.{◌∈◌};
@@ -9,15 +9,19 @@ ghost use Rattle.language.specs.WellFormed.{WellFormed};
 ghost use Rattle.meaning_invariants.specs.Opened.{OffsetsApart};
 ghost use Rattle.meaning_round.specs.Made.{arrays_of, tasks_of, waiting_of};
 ghost use Rattle.meaning_round.specs.Standing.{active_of, content_view, deed_view};
+ghost use Rattle.meaning_openings.specs.declared.fault.MeaningFault.TheVariants.{TooLarge};
+ghost use Rattle.meaning_openings.specs.Larger.{IsLarger};
 ghost use Rattle.meaning_openings.specs.Opening.{IsGood, IsLookedAt, IsMore, IsStep};
 ghost use Rattle.meaning_openings.specs.Insides.{inside, inside_view};
 
+use crate::fault::MeaningFault;
+use crate::room::Room;
 use crate::turns::open_choice;
 use flow::name::Name;
 use flow::statement::Action;
 use meaning_cells::choices::{choice_of, have_come};
 use meaning_round::state::{Content, Deed, State, Task};
-use std::alloc::{AllocError, Allocator, Global};
+use std::alloc::{AllocError, Allocator};
 
 /// What stands inside of a statement.
 #[derive(Drop)]
@@ -77,40 +81,51 @@ fn inside_by<A: Allocator>(action: &Action<A>) -> Inside<'_, A>
 /// Makes the blocks live that a header opens, or keeps it among those that wait for their choice.
 pub(crate) fn open_header<'a, A: Allocator>(
     state: &mut State<'a, A>,
-    alloc: Global,
+    room: Room,
     task: Task<'a, A>,
-) -> Result<(), AllocError>
+) -> Result<(), MeaningFault>
     ensures so { OnOk result ((s : Core) (n : ℕ) → WellFormed s → OffsetsApart s → IsGood s n state.old → active_of task.entry ∈ tasks_of state.old
         → IsStep s n state.old state.new × IsLookedAt s n state.old (active_of task.entry) state.new) }
+    ensures large { IfErr result (λ fault. fault ≡ TooLarge → (s : Core) (n : ℕ) → WellFormed s → OffsetsApart s → IsGood s n state.old
+        → active_of task.entry ∈ tasks_of state.old → IsLarger s n room.most) }
     ensures more { OnOk result (IsMore state.old state.new) }
     ensures flow { state.new.flow.now ≡ state.old.flow.now }
     ensures passed { state.new.passed ≡ state.old.passed }
 {
     match inside_of(&task.deed) {
         Inside::Nothing => Ok(()),
-        Inside::Branches(action) => open_branches(state, alloc, task, action),
-        Inside::Waits(names, content) => open_content(state, task, names, content),
+        Inside::Branches(action) => open_branches(state, room, task, action),
+        Inside::Waits(names, content) => {
+            open_content(state, task, names, content)?;
+            Ok(())
+        }
     }
 }
 
 /// Makes the blocks live that a header opens by its choice, where that is known.
 fn open_branches<'a, A: Allocator>(
     state: &mut State<'a, A>,
-    alloc: Global,
+    room: Room,
     task: Task<'a, A>,
     action: &'a Action<A>,
-) -> Result<(), AllocError>
+) -> Result<(), MeaningFault>
     ensures so { OnOk result ((s : Core) (n : ℕ) → WellFormed s → OffsetsApart s → IsGood s n state.old → active_of task.entry ∈ tasks_of state.old
         → deed_view task.entry.deed ≡ action_view action.entry.now → Branches (action_view action.entry.now)
         → IsStep s n state.old state.new × IsLookedAt s n state.old (active_of task.entry) state.new) }
+    ensures large { IfErr result (λ fault. fault ≡ TooLarge → (s : Core) (n : ℕ) → WellFormed s → OffsetsApart s → IsGood s n state.old
+        → active_of task.entry ∈ tasks_of state.old → deed_view task.entry.deed ≡ action_view action.entry.now → Branches (action_view action.entry.now)
+        → IsLarger s n room.most) }
     ensures more { OnOk result (IsMore state.old state.new) }
     ensures flow { state.new.flow.now ≡ state.old.flow.now }
     ensures passed { state.new.passed ≡ state.old.passed }
 {
     let site = task.site;
-    match choice_of(&state.learned, alloc, site.instance, action)? {
-        Some(choice) => open_choice(state, alloc, site.instance, site.at, action, &choice),
-        None => keep_waiting(state, task),
+    match choice_of(&state.learned, room.alloc, site.instance, action)? {
+        Some(choice) => open_choice(state, room, site.instance, site.at, action, &choice),
+        None => {
+            keep_waiting(state, task)?;
+            Ok(())
+        }
     }
 }
 

@@ -4,6 +4,8 @@
 mod called;
 mod children;
 pub mod closing;
+pub mod fault;
 mod headers;
 pub mod opening;
+pub mod room;
 mod turns;

@@ -1,6 +1,6 @@
 //! Makes all live that live statements open (Swift/T Guide, on conditionals, loops and composite functions).
 
-ghost use Rattle.std.specs.Prelude.{◌≡◌, [], ℕ, take, length, OnOk};
+ghost use Rattle.std.specs.Prelude.{◌≡◌, [], ℕ, take, length, IfErr, OnOk};
 ghost use Rattle.flow.specs.View.{core_of};
 ghost use Rattle.language.specs.Core.{Core};
 ghost use Rattle.language.specs.Meaning.{Known};
@@ -9,52 +9,63 @@ ghost use Rattle.language.specs.WellFormed.{WellFormed};
 ghost use Rattle.meaning_invariants.specs.Active.{Active};
 ghost use Rattle.meaning_invariants.specs.Opened.{ArePassed, IsUnready, OffsetsApart};
 ghost use Rattle.meaning_round.specs.Made.{tasks_of, waiting_of};
+ghost use Rattle.meaning_openings.specs.declared.fault.MeaningFault.TheVariants.{TooLarge};
+ghost use Rattle.meaning_openings.specs.Larger.{IsLarger};
 ghost use Rattle.meaning_openings.specs.Opening.{AreWoken, IsGood, IsMore, IsStep};
 
 use crate::called::open_calls;
+use crate::fault::MeaningFault;
 use crate::headers::open_header;
+use crate::room::Room;
 use meaning_round::state::State;
-use std::alloc::{AllocError, Allocator, Global};
+use std::alloc::Allocator;
 use std::mem::replace;
 
 /// Makes all blocks live that live statements open, by what is known and closed: the bodies of calls, and what headers open. Behind
 /// it each live statement was passed, and of no header that waits the choice is known.
-pub fn open_all<'a, A: Allocator>(state: &mut State<'a, A>, alloc: Global) -> Result<(), AllocError>
+pub fn open_all<'a, A: Allocator>(state: &mut State<'a, A>, room: Room) -> Result<(), MeaningFault>
     ensures so { OnOk result ((s : Core) (n : ℕ) → s ≡ core_of state.old.flow.now → WellFormed s → OffsetsApart s → IsGood s n state.old
         → ArePassed s (Known s n) state.old.learned (tasks_of state.old) (take state.old.passed (tasks_of state.old)) (waiting_of state.old)
         → ((a : Active) → a ∈ waiting_of state.old → a ∈ tasks_of state.old)
         → IsStep s n state.old state.new × ArePassed s (Known s n) state.new.learned (tasks_of state.new) (tasks_of state.new) (waiting_of state.new)
         × ((a : Active) → a ∈ waiting_of state.new → a ∈ tasks_of state.new) × ((a : Active) → a ∈ waiting_of state.new → IsUnready state.new.learned a)) }
+    ensures large { IfErr result (λ fault. fault ≡ TooLarge → (s : Core) (n : ℕ) → s ≡ core_of state.old.flow.now → WellFormed s → OffsetsApart s
+        → IsGood s n state.old → ArePassed s (Known s n) state.old.learned (tasks_of state.old) (take state.old.passed (tasks_of state.old))
+        (waiting_of state.old) → ((a : Active) → a ∈ waiting_of state.old → a ∈ tasks_of state.old) → IsLarger s n room.most) }
     ensures more { OnOk result (IsMore state.old state.new) }
     ensures passed { OnOk result (state.new.passed ≡ length (tasks_of state.new)) }
     ensures flow { state.new.flow.now ≡ state.old.flow.now }
 {
     let passed = state.passed.min(state.tasks.len());
-    open_waiting(state, alloc)?;
+    open_waiting(state, room)?;
     for i in passed..usize::MAX {
         let Some(task) = state.tasks.get(i) else {
             state.passed = state.tasks.len();
             return Ok(());
         };
         let task = task.again();
-        open_calls(state, alloc, &task)?;
-        open_header(state, alloc, task)?;
+        room.hold(state)?;
+        open_calls(state, room, &task)?;
+        open_header(state, room, task)?;
     }
-    Err(AllocError)
+    Err(MeaningFault::Memory)
 }
 
 /// Makes the blocks live of the headers that waited for their choice and have it now.
-fn open_waiting<'a, A: Allocator>(state: &mut State<'a, A>, alloc: Global) -> Result<(), AllocError>
+fn open_waiting<'a, A: Allocator>(state: &mut State<'a, A>, room: Room) -> Result<(), MeaningFault>
     ensures so { OnOk result ((s : Core) (n : ℕ) → WellFormed s → OffsetsApart s → IsGood s n state.old
         → ((a : Active) → a ∈ waiting_of state.old → a ∈ tasks_of state.old)
         → AreWoken s n state.old state.new []) }
+    ensures large { IfErr result (λ fault. fault ≡ TooLarge → (s : Core) (n : ℕ) → WellFormed s → OffsetsApart s → IsGood s n state.old
+        → ((a : Active) → a ∈ waiting_of state.old → a ∈ tasks_of state.old) → IsLarger s n room.most) }
     ensures more { OnOk result (IsMore state.old state.new) }
     ensures flow { state.new.flow.now ≡ state.old.flow.now }
     ensures passed { state.new.passed ≡ state.old.passed }
 {
-    let waiting = replace(&mut state.waiting, Vec::new(alloc));
+    let waiting = replace(&mut state.waiting, Vec::new(room.alloc));
     for task in waiting {
-        open_header(state, alloc, task)?;
+        room.hold(state)?;
+        open_header(state, room, task)?;
     }
     Ok(())
 }

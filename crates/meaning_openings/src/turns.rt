@@ -1,6 +1,6 @@
 //! The blocks that a header opens by its choice, one for each turn (Swift/T Guide, on conditionals and loops).
 
-ghost use Rattle.std.specs.Prelude.{◌≡◌, ◌<◌, ◌∷◌, ℕ, length, Some, IfOk, OnOk, option_map};
+ghost use Rattle.std.specs.Prelude.{◌≡◌, ◌<◌, ◌∷◌, ℕ, length, Some, IfErr, IfOk, OnOk, option_map};
 ghost use Rattle.flow.specs.View.{action_view, block_view};
 ghost use Rattle.language.specs.Core.{Block as CoreBlock, Core, stmt};
 ghost use Rattle.language.specs.Members.{◌∈◌};
@@ -13,9 +13,13 @@ ghost use Rattle.meaning_invariants.specs.Active.{active, HasBlock};
 ghost use Rattle.meaning_invariants.specs.Turns.{key_variable, turn_variables};
 ghost use Rattle.meaning_invariants.specs.Opened.{OffsetsApart};
 ghost use Rattle.meaning_round.specs.Made.{tasks_of, waiting_of};
+ghost use Rattle.meaning_openings.specs.declared.fault.MeaningFault.TheVariants.{TooLarge};
+ghost use Rattle.meaning_openings.specs.Larger.{IsLarger};
 ghost use Rattle.meaning_openings.specs.Opening.{AreTurned, IsGood, IsMore, IsStep};
 
 use crate::children::enter;
+use crate::fault::MeaningFault;
+use crate::room::Room;
 use flow::statement::{Action, Block, Variable as Declared};
 use meaning_cells::choices::{Choice, block_of};
 use meaning_facts::instances::{Given, Variable};
@@ -28,16 +32,19 @@ use values::value::Scalar;
 /// Makes the blocks live that a header opens by its choice.
 pub(crate) fn open_choice<'a, A: Allocator>(
     state: &mut State<'a, A>,
-    alloc: Global,
+    room: Room,
     instance: usize,
     at: usize,
     action: &'a Action<A>,
     choice: &Choice,
-) -> Result<(), AllocError>
+) -> Result<(), MeaningFault>
     ensures so { OnOk result ((s : Core) (n : ℕ) → WellFormed s → OffsetsApart s → IsGood s n state.old → (node : ℕ)
         → active instance (stmt at node (action_view action.entry.now)) ∈ tasks_of state.old
         → chosen_in (sight_of state.old.learned instance) (action_view action.entry.now) ≡ Some (choice_view choice.now)
         → AreTurned s n state.old state.new instance at (action_view action.entry.now) (choice_view choice.now) (count_in (choice_view choice.now))) }
+    ensures large { IfErr result (λ fault. fault ≡ TooLarge → (s : Core) (n : ℕ) → WellFormed s → OffsetsApart s → IsGood s n state.old → (node : ℕ)
+        → active instance (stmt at node (action_view action.entry.now)) ∈ tasks_of state.old
+        → chosen_in (sight_of state.old.learned instance) (action_view action.entry.now) ≡ Some (choice_view choice.now) → IsLarger s n room.most) }
     ensures more { OnOk result (IsMore state.old state.new) }
     ensures flow { state.new.flow.now ≡ state.old.flow.now }
     ensures passed { state.new.passed ≡ state.old.passed }
@@ -50,7 +57,8 @@ pub(crate) fn open_choice<'a, A: Allocator>(
         return Ok(());
     };
     for i in 0..choice.count() {
-        open_turn(state, alloc, instance, at, action, choice, i, block)?;
+        room.hold(state)?;
+        open_turn(state, room.alloc, instance, at, action, choice, i, block)?;
     }
     Ok(())
 }

@@ -14,7 +14,7 @@ use Rattle.ref_counting.specs.Passing.{Answers, Sees}
 use Rattle.ref_counting.specs.Rights.{Adds, ByHomes, ByOpening, ByOpenings, Passes}
 use Rattle.ref_counting.specs.Rows.{row}
 use Rattle.ref_counting.specs.Uses.{OfThis, UsesBelow}
-use Rattle.ref_counting.proofs.Noting.{below_or_at}
+use Rattle.ref_counting.proofs.Noting.{below_or_at, opener_there}
 use Rattle.ref_counting.proofs.Growing.{grows_not, grows_on, still_has}
 
 pub adds_nothing : (P : ℕ → Name → Type 0) (a : List Lead) → ((i : ℕ) (r : Name) → P i r → ⊥) → Adds P a a
@@ -81,23 +81,14 @@ body_there C j b t = by C.bodies b t
     by (x ∷ xs) zero t = omega arith
     by (x ∷ xs) (suc k) t = let l : k < length xs = by xs k t in omega arith
 
--- an entry past the last opens nothing
-pub entry_there : (C : Code) (w : Way) (i b : ℕ) → In {X = Way × ℕ} (w, b) (ways (entry C i).act) → i < length C.entries
-entry_there C w i b t = by C.entries i t
-  where
-    by : (es : List Entry) (k : ℕ) → In {X = Way × ℕ} (w, b) (ways (nth blank_entry es k).act) → k < length es
-    by [] k t = absurd t
-    by (x ∷ xs) zero t = omega arith
-    by (x ∷ xs) (suc k) t = let l : k < length xs = by xs k t in omega arith
-
 -- PASSING ON
 
 module _ (C : Code) (hs : List (List ℕ)) (os : List (List Opening)) (H : AreHomes C hs) (O : AreOpenings C os) where
   pub passes_home : (j : ℕ) (q : Name) → j < length C.entries → (i : ℕ) (r : Name) → Passes C j q i r → ByHomes C os q (row hs j) i r
   passes_home j q h i r p =
       let l : p.block < length C.bodies = body_there C j p.block p.stands in
-      let n : Noted i p.way (row os p.block) = O.all i p.block p.way (entry_there C p.way i p.block p.opens) l p.opens in
-      (p.block, H.all j p.block l h p.stands, (n.opening, n.there, (sym n.of, subst (λ k. Sees C k (way_of n.opening.way) p.block q r) (sym n.of) (subst (λ w. Sees C i w p.block q r) (sym n.by) p.sees))))
+      let n : Noted i p.way (row os p.block) = O.all i p.block p.way (opener_there C p.way i p.block p.opens) l p.opens in
+      (p.block, H.all j p.block l (record { opener = i; way = p.way; opens = p.opens }) h p.stands, (n.opening, n.there, (sym n.of, subst (λ k. Sees C k (way_of n.opening.way) p.block q r) (sym n.of) (subst (λ w. Sees C i w p.block q r) (sym n.by) p.sees))))
 
   pub home_passes : (j : ℕ) (q : Name) (i : ℕ) (r : Name) → ByHomes C os q (row hs j) i r → Passes C j q i r
   home_passes j q i r t =
@@ -111,7 +102,7 @@ pub passed_led : (C : Code) (own : Entry → List Name) (j : ℕ) (q : Name) (i 
 passed_led C own j q i r l p = through i j p.block p.way r q p.opens p.stands l p.sees.outer p.sees.seen
 
 pub passed_within : (C : Code) (j : ℕ) (q : Name) (i : ℕ) (r : Name) → Passes C j q i r → i < length C.entries
-passed_within C j q i r p = entry_there C p.way i p.block p.opens
+passed_within C j q i r p = opener_there C p.way i p.block p.opens
 
 -- NAMES OF ONE ENTRY
 

@@ -4,6 +4,7 @@ use Rattle.std.specs.List.{flat_map}
 use Rattle.std.proofs.lemmas.List.{map_push}
 use Rattle.std.proofs.Math.Seq.{take-suc}
 use Rattle.dataflow.specs.System.{In}
+use Rattle.dataflow.proofs.Lists.{in_split}
 use Rattle.task_code.specs.Code.{Code, Entry, Name}
 use Rattle.ref_counting.specs.declared.lead.Lead.{Lead}
 use Rattle.ref_counting.specs.declared.openings.Opening.{Opening}
@@ -17,6 +18,13 @@ use Rattle.ref_counting.proofs.Growing.{still_has, still_plain, old_or_new}
 -- one more of a list's beginning
 pub take_next : {X : Type 0} (xs : List X) (i : ℕ) (d : X) → i < length xs → take i xs ++ get_or xs i d ∷ [] ≡ take (i + 1) xs
 take_next xs i d h = let next : i + 1 ≡ suc i = omega arith in sym (ap (λ n. take n xs) next ∙ take-suc xs i d h)
+
+-- what holds of a list's beginning and of the next member
+pub all_next : {X : Type 0} (P : X → Type 0) (xs : List X) (i : ℕ) (d : X) → i < length xs → ((x : X) → In x (take i xs) → P x) → P (get_or xs i d) → (x : X) → In x (take (i + 1) xs) → P x
+all_next P xs i d h before here x t = elim (in_split x (take i xs) (get_or xs i d ∷ []) (subst (λ ys. In x ys) (sym (take_next xs i d h)) t)) [
+  | inl u ↦ before x u
+  | inr u ↦ elim u [ inl e ↦ subst P (sym e) here | inr f ↦ absurd f ]
+]
 
 pub map_next : {X Y : Type 0} (f : X → Y) (xs : List X) (i : ℕ) (d : X) → i < length xs → map f (take i xs) ++ f (get_or xs i d) ∷ [] ≡ map f (take (i + 1) xs)
 map_next f xs i d h = sym (map_push f (take i xs) (get_or xs i d)) ∙ ap (map f) (take_next xs i d h)

@@ -1,3 +1,4 @@
+pub mod Numbers
 pub mod Keys
 pub mod Growing
 pub mod Filling
@@ -6,4 +7,4 @@ pub mod Making
 pub mod Handing
 pub mod Adding
 pub mod Closing
-pub mod Laying
+pub mod Naming

@@ -1,5 +1,5 @@
 -- What bodies declare, as it is noted.
-use Rattle.std.proofs.Common.{◌≡◌, ◌⊎◌, inl, inr, ℕ, ◌<◌, ◌+◌, Bool, true, false, ◌&&◌, List, [], ◌∷◌, ◌++◌, refl, sym, ap, subst, arith}
+use Rattle.std.proofs.Common.{◌≡◌, ◌⊎◌, inl, inr, ℕ, ◌<◌, ◌+◌, Bool, true, false, ◌&&◌, List, [], ◌∷◌, ◌++◌, length, refl, sym, ap, subst, arith}
 use Rattle.std.specs.List.{list_any}
 use Rattle.std.proofs.Math.Bool.{beq}
 use Rattle.std.proofs.Math.Dec.{eqb}
@@ -7,12 +7,19 @@ use Rattle.std.proofs.lemmas.Bool.{eqb-true}
 use Rattle.indexmap.specs.IndexSet.{insert_key}
 use Rattle.dataflow.specs.System.{In}
 use Rattle.dataflow.proofs.Lists.{in_left, in_right, in_split}
-use Rattle.task_code.specs.Code.{Code, Variable, body}
+use Rattle.task_code.specs.Code.{Code, InPlace, Variable, body}
 use Rattle.task_code.proofs.Equal.{true_and, both_true}
 use Rattle.ref_counting.specs.declared.makes.Made.{Made}
-use Rattle.ref_counting.specs.Makes.{MadeUpTo, NotesMade, made_by, variable_of}
+use Rattle.ref_counting.specs.Makes.{IsWaited, MadeUpTo, NotesMade, NotesWaited, made_by, variable_of}
 use Rattle.ref_counting.proofs.Keys.{same_flag, any_in, in_any, put_there, put_kept, put_only}
-use Rattle.ref_counting.proofs.Noting.{below_or_at}
+use Rattle.ref_counting.specs.declared.openings.Opening.{Opening}
+use Rattle.ref_counting.specs.declared.openings.Way.{Way}
+use Rattle.ref_counting.specs.declared.openings.Way.TheVariants as Is
+use Rattle.ref_counting.specs.contracts.openings.Way as ways_told
+use denote.Enum.Bare.{sameb}
+use Rattle.ref_counting.specs.Openings.{AreOpenings, way_of}
+use Rattle.ref_counting.specs.Rows.{row}
+use Rattle.ref_counting.proofs.Noting.{below_or_at, opened_noted}
 
 abbrev pub same_made : Made → Made → Bool
 same_made a b = eqb a.body b.body && (eqb a.node b.node && beq a.array b.array)
@@ -60,15 +67,35 @@ one_more b v vs x y f = record { kept = λ m t. put_kept same_made made_is y (ma
       | inr u ↦ elim u [ inl e ↦ subst (λ z. In (made_by b z) (insert_key same_made y (made_by b v))) (sym e) (put_there same_made made_is y (made_by b v)) | inr q ↦ absurd q ]
     ]
 
+-- another way is not that of a `wait`
+pub not_in_place : (w : Way) → sameb ways_told.the_type w Is.InPlace ≡ false → way_of w ≡ InPlace → ⊥
+not_in_place Is.InPlace e h = absurd (cc)
+not_in_place Is.Through e h = absurd (cc)
+not_in_place Is.Calling e h = absurd (cc)
+
 module _ (C : Code) where
   pub none_made : MadeUpTo C 0 []
   none_made = record { only = λ m t. absurd t; all = λ b v h. absurd (omega arith) }
 
-  pub more_made : (n : ℕ) (x y : List Made) → MadeUpTo C n x → NotesMade n (body C n).makes x y → MadeUpTo C (n + 1) y
+  pub more_made : (n : ℕ) (x y : List Made) → MadeUpTo C n x → NotesWaited C n x y → MadeUpTo C (n + 1) y
   more_made n x y before new = record { only = only; all = all }
     where
       only : (m : Made) → In m y → In (variable_of m) (body C m.body).makes
       only m t = elim (new.only m t) [ inl u ↦ before.only m u | inr q ↦ subst (λ k. In (variable_of m) (body C k).makes) (sym q.0) q.1 ]
 
-      all : (b : ℕ) (v : Variable) → b < n + 1 → In v (body C b).makes → In (made_by b v) y
-      all b v h t = elim (below_or_at b n h) [ inl u ↦ new.kept (made_by b v) (before.all b v u t) | inr e ↦ subst (λ k. In (made_by k v) y) (sym e) (new.all v (subst (λ k. In v (body C k).makes) e t)) ]
+      all : (b : ℕ) (v : Variable) → b < n + 1 → IsWaited C b → In v (body C b).makes → In (made_by b v) y
+      all b v h w t = elim (below_or_at b n h) [
+        | inl u ↦ new.kept (made_by b v) (before.all b v u w t)
+        | inr e ↦ subst (λ k. In (made_by k v) y) (sym e) (new.all (subst (IsWaited C) e w) v (subst (λ k. In v (body C k).makes) e t))
+      ]
+
+  -- what a body declares that no `wait` opens is not noted, what others declare is
+  pub notes_unwaited : (os : List (List Opening)) (b : ℕ) (ms : List Made) → AreOpenings C os → b < length C.bodies → ((o : Opening) → In o (row os b) → way_of o.way ≡ InPlace → ⊥) → NotesWaited C b ms ms
+  notes_unwaited os b ms O h none = record {
+    kept = λ m t. t;
+    only = λ m t. inl t;
+    all = λ w. absurd (let n = opened_noted C os b O h (record { opener = w.opener; way = InPlace; opens = w.opens }) in none n.opening n.there n.by);
+  }
+
+  pub notes_waited : (b : ℕ) (x y : List Made) → NotesMade b (body C b).makes x y → NotesWaited C b x y
+  notes_waited b x y n = record { kept = n.kept; only = n.only; all = λ w. n.all }

@@ -1,12 +1,12 @@
 -- Openings and homes as they are noted.
-use Rattle.std.proofs.Common.{◌≡◌, ◌⊎◌, inl, inr, ℕ, ◌<◌, ◌+◌, List, [], ◌∷◌, ◌++◌, length, refl, sym, ap, subst, ◌∙◌, arith, Bool, true, false, nat_lt}
+use Rattle.std.proofs.Common.{◌≡◌, ◌⊎◌, inl, inr, ℕ, zero, suc, ◌<◌, ◌+◌, List, [], ◌∷◌, ◌++◌, length, refl, sym, ap, subst, ◌∙◌, arith, Bool, true, false, nat_lt}
 use Rattle.dataflow.specs.System.{In}
 use Rattle.dataflow.proofs.Lists.{in_left, in_right, in_split}
 use Rattle.task_code.specs.Code as pure
-use Rattle.task_code.specs.Code.{Code, body, entry, ways}
+use Rattle.task_code.specs.Code.{Code, blank_entry, body, entry, nth, ways}
 use Rattle.ref_counting.specs.declared.openings.Opening.{Opening}
 use Rattle.ref_counting.specs.declared.openings.Way.{Way}
-use Rattle.ref_counting.specs.Openings.{Noted, NotesAll, NotesHomes, OpeningsUpTo, HomesUpTo, way_of}
+use Rattle.ref_counting.specs.Openings.{AreOpenings, IsOpened, Noted, NotesAll, NotesHomes, NotesOpened, OpeningsUpTo, HomesUpTo, way_of}
 use Rattle.ref_counting.specs.Rows.{row, Fills, put_in}
 use Rattle.ref_counting.proofs.Filling.{fills_not, put_fills, put_there}
 
@@ -79,20 +79,40 @@ module _ (C : Code) where
   pub no_homes : (hs : List (List ℕ)) → length hs ≡ length C.entries → ((k : ℕ) → row hs k ≡ []) → HomesUpTo C 0 hs
   no_homes hs count empty = record { count = count; only = λ j b t. absurd (subst (In b) (empty j) t); all = λ j b h. absurd (omega arith) }
 
-  pub more_homes : (n : ℕ) (a b : List (List ℕ)) → HomesUpTo C n a → NotesHomes n (body C n).entries a b → HomesUpTo C (n + 1) b
+  pub more_homes : (n : ℕ) (a b : List (List ℕ)) → HomesUpTo C n a → NotesOpened C n a b → HomesUpTo C (n + 1) b
   more_homes n a b before new = record { count = new.fills.count ∙ before.count; only = only; all = all }
     where
       only : (j c : ℕ) → In c (row b j) → In j (body C c).entries
       only j c t = elim (new.fills.only j c t) [ inl u ↦ before.only j c u | inr q ↦ subst (λ m. In j (body C m).entries) (sym q.0) q.1 ]
 
-      all : (j c : ℕ) → c < n + 1 → j < length C.entries → In j (body C c).entries → In c (row b j)
-      all j c h l t = elim (split) [ inl u ↦ new.fills.kept j c (before.all j c u l t) | inr e ↦ here e ]
+      all : (j c : ℕ) → c < n + 1 → IsOpened C c → j < length C.entries → In j (body C c).entries → In c (row b j)
+      all j c h o l t = elim (split) [ inl u ↦ new.fills.kept j c (before.all j c u o l t) | inr e ↦ here e ]
         where
           split : (c < n) ⊎ (c ≡ n)
           split = below_or_at c n h
 
           here : c ≡ n → In c (row b j)
-          here e = subst (λ m. In m (row b j)) (sym e) (new.all j (subst (λ m. In j (body C m).entries) e t) (subst (λ m. j < m) (sym before.count) l))
+          here e = subst (λ m. In m (row b j)) (sym e) (new.all (subst (IsOpened C) e o) j (subst (λ m. In j (body C m).entries) e t) (subst (λ m. j < m) (sym before.count) l))
+
+  -- an entry past the last opens nothing
+  pub opener_there : (w : pure.Way) (i b : ℕ) → In {X = pure.Way × ℕ} (w, b) (ways (entry C i).act) → i < length C.entries
+  opener_there w i b t = by C.entries i t
+    where
+      by : (es : List pure.Entry) (k : ℕ) → In {X = pure.Way × ℕ} (w, b) (ways (nth blank_entry es k).act) → k < length es
+      by [] k t = absurd t
+      by (x ∷ xs) zero t = omega arith
+      by (x ∷ xs) (suc k) t = let l : k < length xs = by xs k t in omega arith
+
+  -- what is opened is noted
+  pub opened_noted : (os : List (List Opening)) (b : ℕ) → AreOpenings C os → b < length C.bodies → (o : IsOpened C b) → Noted o.opener o.way (row os b)
+  opened_noted os b O h o = O.all o.opener b o.way (opener_there o.way o.opener b o.opens) h o.opens
+
+  -- the entries of a body that nothing opens are not noted, those of others are
+  pub notes_unopened : (os : List (List Opening)) (b : ℕ) (hs : List (List ℕ)) → AreOpenings C os → b < length C.bodies → row os b ≡ [] → NotesOpened C b hs hs
+  notes_unopened os b hs O h none = record { fills = fills_not hs; all = λ o. absurd (let n = opened_noted os b O h o in subst (In n.opening) none n.there) }
+
+  pub notes_opened : (b : ℕ) (x y : List (List ℕ)) → NotesHomes b (body C b).entries x y → NotesOpened C b x y
+  notes_opened b x y n = record { fills = n.fills; all = λ o. n.all }
 
 -- entries of a body, one after another
 pub no_home : (b : ℕ) (hs : List (List ℕ)) → NotesHomes b [] hs hs

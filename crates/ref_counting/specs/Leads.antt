@@ -1,5 +1,5 @@
 -- Lists of leads: entries with the names that they use or lead to, in the order in which they were found.
-use Rattle.std.specs.Prelude.{◌≡◌, ℕ, Bool, true, false, List, ◌++◌, if◌then◌else◌}
+use Rattle.std.specs.Prelude.{◌≡◌, ℕ, Bool, true, false, List, [], ◌∷◌, ◌++◌, if◌then◌else◌, nat_eq}
 use Rattle.dataflow.specs.System.{In}
 use Rattle.task_code.specs.Code.{Local, Name, Parameter}
 use Rattle.ref_counting.specs.declared.lead.Lead.{Lead}
@@ -30,3 +30,8 @@ pub record Grows (P : ℕ → Name → Type 0) (old new : List Lead) : Type 0 wh
 
 abbrev pub IsThis : ℕ → Name → ℕ → Name → Type 0
 IsThis i r j s = (j ≡ i) × (s ≡ r)
+
+-- the names that these leads have of an entry, in order
+abbrev pub names_of : List Lead → ℕ → List Name
+names_of [] i = []
+names_of (l ∷ ls) i = elim (nat_eq l.entry i) [ true ↦ name_of l ∷ names_of ls i | false ↦ names_of ls i ]

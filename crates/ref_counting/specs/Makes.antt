@@ -1,7 +1,7 @@
--- Which body declares which variable, as a list.
+-- Which body that a `wait` opens declares which variable, as a list.
 use Rattle.std.specs.Prelude.{ℕ, ◌<◌, ◌⊎◌, ◌≡◌, List, length}
 use Rattle.dataflow.specs.System.{In}
-use Rattle.task_code.specs.Code.{Code, Variable, body}
+use Rattle.task_code.specs.Code.{Code, InPlace, Variable, Way, body, entry, ways}
 use Rattle.ref_counting.specs.declared.makes.Made.{Made}
 
 abbrev pub made_by : ℕ → Variable → Made
@@ -17,10 +17,21 @@ pub record NotesMade (b : ℕ) (vs : List Variable) (old new : List Made) : Type
   pub all : (v : Variable) → In v vs → In (made_by b v) new
 
 module _ (C : Code) where
-  -- what the bodies below a number declare
+  -- a `wait` opens the body
+  pub record IsWaited (b : ℕ) : Type 0 where
+    pub opener : ℕ
+    pub opens : In {X = Way × ℕ} (InPlace, b) (ways (entry C opener).act)
+
+  -- the variables of a body are noted if a `wait` opens it, and nothing else is
+  pub record NotesWaited (b : ℕ) (old new : List Made) : Type 0 where
+    pub kept : (m : Made) → In m old → In m new
+    pub only : (m : Made) → In m new → In m old ⊎ ((m.body ≡ b) × In (variable_of m) (body C b).makes)
+    pub all : IsWaited b → (v : Variable) → In v (body C b).makes → In (made_by b v) new
+
+  -- what the bodies below a number declare that a `wait` opens
   pub record MadeUpTo (n : ℕ) (ms : List Made) : Type 0 where
     pub only : (m : Made) → In m ms → In (variable_of m) (body C m.body).makes
-    pub all : (b : ℕ) (v : Variable) → b < n → In v (body C b).makes → In (made_by b v) ms
+    pub all : (b : ℕ) (v : Variable) → b < n → IsWaited b → In v (body C b).makes → In (made_by b v) ms
 
   abbrev pub AreMade : List Made → Type 0
   AreMade ms = MadeUpTo (length C.bodies) ms

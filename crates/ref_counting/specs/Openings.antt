@@ -1,4 +1,4 @@
--- Which entries open a body, and in which bodies an entry stands, as lists by number.
+-- Which entries open a body, and in which of the bodies that are opened an entry stands, as lists by number.
 use Rattle.std.specs.Prelude.{◌≡◌, ℕ, ◌<◌, List, length}
 use Rattle.dataflow.specs.System.{In}
 use Rattle.task_code.specs.Code as pure
@@ -40,11 +40,22 @@ module _ (C : Code) where
   abbrev pub AreOpenings : List (List Opening) → Type 0
   AreOpenings os = OpeningsUpTo (length C.entries) os
 
-  -- the bodies below a number in which each entry stands
+  -- an entry opens the body
+  pub record IsOpened (b : ℕ) : Type 0 where
+    pub opener : ℕ
+    pub way : pure.Way
+    pub opens : In (way, b) (ways (entry C opener).act)
+
+  -- where the entries of a body stand is noted if an entry opens it, and nothing else is
+  pub record NotesOpened (b : ℕ) (old new : List (List ℕ)) : Type 0 where
+    pub fills : Fills (λ j c. (c ≡ b) × In j (body C b).entries) old new
+    pub all : IsOpened b → (j : ℕ) → In j (body C b).entries → j < length old → In b (row new j)
+
+  -- the bodies below a number that an entry opens, by the entries that stand in them
   pub record HomesUpTo (n : ℕ) (hs : List (List ℕ)) : Type 0 where
     pub count : length hs ≡ length C.entries
     pub only : (j b : ℕ) → In b (row hs j) → In j (body C b).entries
-    pub all : (j b : ℕ) → b < n → j < length C.entries → In j (body C b).entries → In b (row hs j)
+    pub all : (j b : ℕ) → b < n → IsOpened b → j < length C.entries → In j (body C b).entries → In b (row hs j)
 
   abbrev pub AreHomes : List (List ℕ) → Type 0
   AreHomes hs = HomesUpTo (length C.bodies) hs

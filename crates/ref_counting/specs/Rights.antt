@@ -1,13 +1,11 @@
 -- Rights: what the entries of a code may read and write, and how what is found in a body is passed on.
-use Rattle.std.specs.Prelude.{◌≡◌, ℕ, ◌<◌, List, length, map, take, ◌+◌}
+use Rattle.std.specs.Prelude.{◌≡◌, ℕ, ◌<◌, List, length, take, ◌+◌}
 use Rattle.dataflow.specs.System.{Distinct, In}
 use Rattle.task_code.specs.Code.{Calling, Code, Entry, Name, Way, body, call_at, entry, ways}
 use Rattle.task_code.specs.Exact.{Leads}
-use Rattle.task_code.specs.declared.entry.Name.{Name as Used}
-use Rattle.task_code.specs.View.{name_view}
 use Rattle.ref_counting.specs.declared.lead.Lead.{Lead}
 use Rattle.ref_counting.specs.declared.openings.Opening.{Opening}
-use Rattle.ref_counting.specs.Leads.{AllPlain, Grows, Has, name_of}
+use Rattle.ref_counting.specs.Leads.{AllPlain, Grows, Has, name_of, names_of}
 use Rattle.ref_counting.specs.Openings.{way_of}
 use Rattle.ref_counting.specs.Passing.{Sees}
 use Rattle.ref_counting.specs.Rows.{row}
@@ -67,19 +65,8 @@ module _ (C : Code) where
     pub closed : AllWithin old → IsClosed (take n old) old → IsClosed (take (n + 1) new) new
 
   -- these are the names that each entry leads to, each once
-  pub record AreRights (own : Entry → List Name) (rights : List (List Used)) : Type 0 where
-    pub count : length rights ≡ length C.entries
-    pub sound : (i : ℕ) (r : Name) → In r (map name_view (row rights i)) → Leads C own i r
-    pub complete : (i : ℕ) (r : Name) → Leads C own i r → In r (map name_view (row rights i))
-    pub once : (i : ℕ) → Distinct (map name_view (row rights i))
-
--- the leads below a number, laid out by their entries
-pub record LaysOut (n : ℕ) (ls : List Lead) (found : List (List Used)) : Type 0 where
-  pub count : length found ≡ n
-  pub only : (i : ℕ) (r : Name) → In r (map name_view (row found i)) → Has ls i r
-  pub all : (l : Lead) → In l ls → l.entry < n → In (name_of l) (map name_view (row found l.entry))
-  pub once : AllPlain ls → Distinct ls → (i : ℕ) → Distinct (map name_view (row found i))
-
--- one more lead is laid out
-abbrev pub LaysNext : ℕ → List Lead → List (List Used) → List (List Used) → Type 0
-LaysNext k ls old new = (n : ℕ) → LaysOut n (take k ls) old → LaysOut n (take (k + 1) ls) new
+  pub record AreRights (own : Entry → List Name) (ls : List Lead) : Type 0 where
+    pub sound : (i : ℕ) (r : Name) → In r (names_of ls i) → Leads C own i r
+    pub complete : (i : ℕ) (r : Name) → Leads C own i r → In r (names_of ls i)
+    pub once : (i : ℕ) → Distinct (names_of ls i)
+    pub within : AllWithin ls

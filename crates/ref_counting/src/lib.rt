@@ -1,7 +1,8 @@
 //! The rights of a code's entries: what each may read and write, by itself or through the bodies that it opens.
 #![tactic(auto)]
 
-mod lead;
+pub mod laid;
+pub mod lead;
 mod makes;
 mod openings;
 mod passing;

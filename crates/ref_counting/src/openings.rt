@@ -2,11 +2,11 @@
 ghost use Rattle.std.specs.Prelude.{◌≡◌, ℕ, ◌<◌, ◌∷◌, [], ◌^◌, length, OnOk, IfOk};
 ghost use Rattle.task_code.specs.Code.{body, entry, ways, Through};
 ghost use Rattle.task_code.specs.View.{act_view};
-ghost use Rattle.ref_counting.specs.Openings.{AreHomes, AreOpenings, HomesUpTo, NotesAll, NotesHomes, OpeningsUpTo, way_of};
+ghost use Rattle.ref_counting.specs.Openings.{AreHomes, AreOpenings, NotesAll, NotesHomes, NotesOpened, way_of};
 
+use crate::laid::Laid;
 use crate::rows::Rows;
 use std::alloc::{AllocError, Global};
-use task_code::draft::Draft;
 use task_code::entry::Act;
 
 /// How an entry opens a body.
@@ -65,7 +65,7 @@ fn note_act(openings: &mut Rows<Opening>, entry: u32, act: &Act) -> Result<(), A
 }
 
 /// Notes what the entry of a number opens.
-fn note_entry(openings: &mut Rows<Opening>, code: &Draft, number: u32) -> Result<(), AllocError>
+fn note_entry(openings: &mut Rows<Opening>, code: &Laid, number: u32) -> Result<(), AllocError>
     requires { number < length code.now.entries }
     ensures { OnOk result (NotesAll number (ways (entry code.now number).act) openings.old openings.new) }
 {
@@ -76,7 +76,7 @@ fn note_entry(openings: &mut Rows<Opening>, code: &Draft, number: u32) -> Result
 }
 
 /// The entries that open each body.
-pub fn openings(alloc: Global, code: &Draft) -> Result<Rows<Opening>, AllocError>
+pub fn openings(alloc: Global, code: &Laid) -> Result<Rows<Opening>, AllocError>
     requires { length code.now.entries < 2 ^ 32 }
     ensures { IfOk result (λ openings. AreOpenings code.now openings) }
 {
@@ -97,25 +97,38 @@ fn note_body(homes: &mut Rows<u32>, body: u32, entries: &Vec<u32>) -> Result<(),
     Ok(())
 }
 
-/// Notes where the entries of the body of a number stand.
-fn note_entries(homes: &mut Rows<u32>, code: &Draft, number: u32) -> Result<(), AllocError>
-    requires { number < length code.now.bodies }
-    ensures { OnOk result (NotesHomes number (body code.now number).entries homes.old homes.new) }
+/// Notes where the entries of the body of a number stand, if an entry opens it.
+fn note_entries(
+    homes: &mut Rows<u32>,
+    code: &Laid,
+    openings: &Rows<Opening>,
+    number: u32,
+) -> Result<(), AllocError>
+    requires number { number < length code.now.bodies }
+    requires openings { AreOpenings code.now openings.now }
+    ensures { OnOk result (NotesOpened code.now number homes.old homes.new) }
 {
+    if openings.at(number as usize).is_empty() {
+        return Ok(());
+    }
     match code.body(number) {
         None => Ok(()),
-        Some(found) => note_body(homes, number, &found.entries),
+        Some(found) => {
+            note_body(homes, number, &found.entries)?;
+            Ok(())
+        }
     }
 }
 
-/// The bodies in which each entry stands.
-pub fn homes(alloc: Global, code: &Draft) -> Result<Rows<u32>, AllocError>
-    requires { length code.now.bodies < 2 ^ 32 }
+/// The bodies in which each entry stands and which an entry opens.
+pub fn homes(alloc: Global, code: &Laid, openings: &Rows<Opening>) -> Result<Rows<u32>, AllocError>
+    requires bodies { length code.now.bodies < 2 ^ 32 }
+    requires openings { AreOpenings code.now openings.now }
     ensures { IfOk result (λ homes. AreHomes code.now homes) }
 {
     let mut homes = Rows::new(alloc, code.entry_count())?;
     for number in 0..code.body_count() {
-        note_entries(&mut homes, code, number as u32)?;
+        note_entries(&mut homes, code, openings, number as u32)?;
     }
     Ok(homes)
 }

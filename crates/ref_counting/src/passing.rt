@@ -7,11 +7,12 @@ ghost use Rattle.task_code.specs.Whole.{Seen};
 ghost use Rattle.ref_counting.specs.Makes.{AreMade};
 ghost use Rattle.ref_counting.specs.Openings.{way_of};
 ghost use Rattle.ref_counting.specs.Passing.{Answers, Hands, Outlives, Sees};
+ghost use Rattle.ref_counting.specs.Rights.{Opens};
 
+use crate::laid::Laid;
 use crate::makes::{Made, declares};
 use crate::openings::{Opening, Way};
 use indexmap::IndexSet;
-use task_code::draft::Draft;
 use task_code::entry::{Act, Argument, Name, Owned};
 
 /// The name that an input stands for, if it is of the kind that is wanted.
@@ -76,7 +77,7 @@ fn argument(act: &Act, place: usize, array: bool) -> Option<Name>
 }
 
 /// What a call calls a name of its function's body.
-fn calling(code: &Draft, call: u32, name: Name) -> Option<Name>
+fn calling(code: &Laid, call: u32, name: Name) -> Option<Name>
     requires { call_at code.now (entry code.now call).mark ≡ call }
     ensures { Answers result (Seen code.now (entry code.now call).mark Calling (name_view name)) }
 {
@@ -129,7 +130,7 @@ fn in_place(made: &IndexSet<Made>, body: u32, name: Name) -> Option<Name>
 
 /// What an entry that opens a body calls a name of it that the body does not declare.
 pub fn outward(
-    code: &Draft,
+    code: &Laid,
     made: &IndexSet<Made>,
     opening: Opening,
     body: u32,
@@ -137,6 +138,7 @@ pub fn outward(
 ) -> Option<Name>
     requires made { AreMade code.now made.now.keys }
     requires body { body < length code.now.bodies }
+    requires opens { Opens code.now opening body }
     requires marks { way_of opening.way ≡ Calling → call_at code.now (entry code.now opening.entry).mark ≡ opening.entry }
     ensures { Answers result (Sees code.now opening.entry (way_of opening.way) body (name_view name)) }
 {

@@ -3,15 +3,17 @@ ghost use Rattle.dataflow.specs.System.{Distinct, In};
 ghost use Rattle.ref_counting.specs.Rows.{row};
 ghost use Rattle.std.specs.Prelude.{List, ◌≡◌, ℕ, ◌<◌, ◌≤◌, ◌^◌, [], length, map, OnOk, IfOk};
 ghost use Rattle.task_code.specs.Code as pure;
-ghost use Rattle.task_code.specs.Code.{body, entry};
+ghost use Rattle.task_code.specs.Code.{targets};
+ghost use Rattle.task_code.specs.Exact.{needs_of};
 ghost use Rattle.ref_counting.specs.Uses.{own_of};
 ghost use Rattle.task_code.specs.View.{name_view};
 ghost use Rattle.ref_counting.specs.Leads.{AllPlain, Grows, Has, name_of};
 ghost use Rattle.ref_counting.specs.Makes.{AreMade};
 ghost use Rattle.ref_counting.specs.Openings.{AreHomes, AreOpenings, way_of};
 ghost use Rattle.ref_counting.specs.Passing.{Sees};
-ghost use Rattle.ref_counting.specs.Rights.{Adds, AllLead, AllOpen, AllWithin, ByHomes, ByOpening, ByOpenings, AreRights, HasMarks, IsClosed, LaysNext, LaysOut, Opens, StepsOn};
+ghost use Rattle.ref_counting.specs.Rights.{Adds, AllLead, AllOpen, AllWithin, ByHomes, ByOpening, ByOpenings, AreRights, HasMarks, IsClosed, Opens, StepsOn};
 
+use crate::laid::Laid;
 use crate::lead::{Lead, put};
 use crate::makes::{Made, declarations};
 use crate::openings::{Opening, homes, openings};
@@ -20,12 +22,11 @@ use crate::rows::Rows;
 use crate::uses::{Right, uses};
 use indexmap::IndexSet;
 use std::alloc::{AllocError, Global};
-use task_code::draft::Draft;
 use task_code::entry::Name;
 
 /// Passes a name of a body on to an entry that opens it.
 fn pass_to(
-    code: &Draft,
+    code: &Laid,
     made: &IndexSet<Made>,
     opening: Opening,
     body: u32,
@@ -46,7 +47,7 @@ fn pass_to(
 
 /// Passes a name of a body on to each entry that opens it.
 fn pass_body(
-    code: &Draft,
+    code: &Laid,
     made: &IndexSet<Made>,
     found: &[Opening],
     body: u32,
@@ -74,24 +75,27 @@ struct RightsIndex {
 }
 
 impl RightsIndex {
-    fn new(alloc: Global, code: &Draft) -> Result<RightsIndex, AllocError>
+    fn new(alloc: Global, code: &Laid) -> Result<RightsIndex, AllocError>
         requires entries { length code.now.entries < 2 ^ 32 }
         requires bodies { length code.now.bodies < 2 ^ 32 }
         ensures homes { IfOk result (λ index. AreHomes code.now index.homes) }
         ensures openings { IfOk result (λ index. AreOpenings code.now index.openings) }
         ensures made { IfOk result (λ index. AreMade code.now index.made.keys) }
     {
+        let openings = openings(alloc, code)?;
+        let homes = homes(alloc, code, &openings)?;
+        let made = declarations(alloc, code, &openings)?;
         Ok(RightsIndex {
-            homes: homes(alloc, code)?,
-            openings: openings(alloc, code)?,
-            made: declarations(alloc, code)?,
+            homes,
+            openings,
+            made,
         })
     }
 }
 
 /// Passes a lead on to each entry that opens a body in which its entry stands.
 fn pass_on(
-    code: &Draft,
+    code: &Laid,
     index: &RightsIndex,
     lead: Lead,
     leads: &mut IndexSet<Lead>,
@@ -111,7 +115,7 @@ fn pass_on(
 
 /// Passes the lead of a number on.
 fn pass_next(
-    code: &Draft,
+    code: &Laid,
     index: &RightsIndex,
     next: usize,
     leads: &mut IndexSet<Lead>,
@@ -134,7 +138,7 @@ fn pass_next(
 }
 
 /// Passes all leads on, until nothing new is found.
-fn pass_all(code: &Draft, index: &RightsIndex, leads: &mut IndexSet<Lead>) -> Result<(), AllocError>
+fn pass_all(code: &Laid, index: &RightsIndex, leads: &mut IndexSet<Lead>) -> Result<(), AllocError>
     requires homes { AreHomes code.now index.now.homes }
     requires openings { AreOpenings code.now index.now.openings }
     requires made { AreMade code.now index.now.made.keys }
@@ -144,6 +148,7 @@ fn pass_all(code: &Draft, index: &RightsIndex, leads: &mut IndexSet<Lead>) -> Re
     ensures closed { OnOk result (IsClosed code.now leads.new.keys leads.new.keys) }
     ensures kept { OnOk result ((i : ℕ) (r : pure.Name) → Has leads.old.keys i r → Has leads.new.keys i r) }
     ensures plain { OnOk result (AllPlain leads.old.keys → AllPlain leads.new.keys) }
+    ensures distinct { OnOk result (Distinct leads.new.keys) }
     ensures sound { OnOk result ((own : pure.Entry → List pure.Name) → AllLead code.now own leads.old.keys → AllLead code.now own leads.new.keys) }
 {
     let mut next = 0;
@@ -154,47 +159,47 @@ fn pass_all(code: &Draft, index: &RightsIndex, leads: &mut IndexSet<Lead>) -> Re
     Ok(())
 }
 
-/// Lays the lead of a number out.
-fn lay_next(leads: &IndexSet<Lead>, next: usize, found: &mut Rows<Name>) -> Result<(), AllocError>
-    requires { next < length leads.now.keys }
-    ensures { OnOk result (LaysNext next leads.now.keys found.old found.new) }
+/// The names that each entry of a code may read, or may write, as leads.
+fn names_led_to(
+    alloc: Global,
+    code: &Laid,
+    index: &RightsIndex,
+    right: Right,
+) -> Result<IndexSet<Lead>, AllocError>
+    requires entries { length code.now.entries < 2 ^ 32 }
+    requires homes { AreHomes code.now index.now.homes }
+    requires openings { AreOpenings code.now index.now.openings }
+    requires made { AreMade code.now index.now.made.keys }
+    requires marks { HasMarks code.now }
+    ensures { IfOk result (λ leads. AreRights code.now (own_of right) leads.keys) }
 {
-    match leads.get_index(next) {
-        None => Ok(()),
-        Some(lead) => {
-            found.put(lead.entry as usize, lead.name())?;
-            Ok(())
-        }
-    }
+    let mut leads = uses(alloc, code, right)?;
+    pass_all(code, index, &mut leads)?;
+    Ok(leads)
 }
 
-/// The names of each entry's leads.
-fn lay_out(alloc: Global, count: usize, leads: &IndexSet<Lead>) -> Result<Rows<Name>, AllocError>
-    ensures laid { IfOk result (λ found. LaysOut count leads.now.keys found) }
-    ensures distinct { OnOk result (Distinct leads.now.keys) }
-{
-    let mut found = Rows::new(alloc, count)?;
-    for next in 0..leads.len() {
-        lay_next(leads, next, &mut found)?;
-    }
-    Ok(found)
+/// The names that entries may read, and those that they may write, each with its entry.
+#[derive(Drop)]
+pub struct Grants {
+    pub reads: IndexSet<Lead>,
+    pub writes: IndexSet<Lead>,
 }
 
-/// The names that each entry of a code has a right of: those that it uses itself, and those that the entries of the bodies
+/// The names that each entry of a code has rights of: those that it uses itself, and those that the entries of the bodies
 /// that it opens lead to, through any number of bodies and through functions that call themselves.
 ///
 /// # Errors
 ///
 /// `AllocError` where memory that was asked for was refused.
-pub fn rights(alloc: Global, code: &Draft, right: Right) -> Result<Rows<Name>, AllocError>
+pub fn rights(alloc: Global, code: &Laid) -> Result<Grants, AllocError>
     requires entries { length code.now.entries < 2 ^ 32 }
     requires bodies { length code.now.bodies < 2 ^ 32 }
     requires marks { HasMarks code.now }
-    ensures { IfOk result (λ found. AreRights code.now (own_of right) found) }
+    ensures reads { IfOk result (λ found. AreRights code.now needs_of found.reads.keys) }
+    ensures writes { IfOk result (λ found. AreRights code.now targets found.writes.keys) }
 {
     let index = RightsIndex::new(alloc, code)?;
-    let mut leads = uses(alloc, code, right)?;
-    pass_all(code, &index, &mut leads)?;
-    let found = lay_out(alloc, code.entry_count(), &leads)?;
-    Ok(found)
+    let reads = names_led_to(alloc, code, &index, Right::Read)?;
+    let writes = names_led_to(alloc, code, &index, Right::Write)?;
+    Ok(Grants { reads, writes })
 }

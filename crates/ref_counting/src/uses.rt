@@ -9,10 +9,10 @@ ghost use Rattle.task_code.specs.View.{entry_view, name_view, need_view};
 ghost use Rattle.ref_counting.specs.Rights.{Adds};
 ghost use Rattle.ref_counting.specs.Uses.{OfThis, UsesBelow, own_of};
 
+use crate::laid::Laid;
 use crate::lead::{Lead, put};
 use indexmap::IndexSet;
 use std::alloc::{AllocError, Global};
-use task_code::draft::Draft;
 use task_code::entry::{Act, Entry, Name, Need, Owned, Variable};
 
 /// What rights are of.
@@ -104,7 +104,7 @@ fn own_name(node: u32) -> Name
 
 /// Notes what the entry of a number uses itself.
 fn note_entry(
-    code: &Draft,
+    code: &Laid,
     right: Right,
     number: u32,
     leads: &mut IndexSet<Lead>,
@@ -122,11 +122,11 @@ fn note_entry(
 }
 
 /// What entries use themselves.
-pub fn uses(alloc: Global, code: &Draft, right: Right) -> Result<IndexSet<Lead>, AllocError>
+pub fn uses(alloc: Global, code: &Laid, right: Right) -> Result<IndexSet<Lead>, AllocError>
     requires { length code.now.entries < 2 ^ 32 }
     ensures { IfOk result (λ leads. Adds (UsesBelow code.now (own_of right) (length code.now.entries)) [] leads.keys) }
 {
-    let mut leads = IndexSet::new(alloc);
+    let mut leads = IndexSet::with_capacity(alloc, code.entry_count())?;
     for number in 0..code.entry_count() {
         note_entry(code, right, number as u32, &mut leads)?;
     }

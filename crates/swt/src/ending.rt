@@ -34,13 +34,18 @@ impl Ended<'_, '_, '_> {
 
     /// Whether it ended so that there is something to be said.
     fn is_told(self) -> bool {
-        !self.is(Status::Done) && !self.is(Status::Memory)
+        self.is_checked() || !self.is(Status::Done) && !self.is(Status::Memory)
+    }
+
+    /// Whether its files were checked, and all are accepted.
+    fn is_checked(self) -> bool {
+        self.is(Status::Done) && matches!(self.line, Line::Check { .. })
     }
 }
 
-/// Says on standard error what is to be said of a command that ended so: of refusals, of blocked statements, of faults, of a limit, and of
-/// what could not be done, with the reason why a call on a file failed, where one did. Where memory was refused for it, that is said, once,
-/// and the status stays.
+/// Says on standard error what is to be said of a command that ended so: of refusals, of what is odd in a script, of blocked statements, of
+/// faults, of a limit, and of what could not be done, with the reason why a call on a file failed, where one did. Where memory was refused
+/// for it, that is said, once, and the status stays.
 pub fn explain_ending(kept: &mut Kept<'_>, ended: Ended<'_, '_, '_>, reason: Option<&Error>) {
     let rt = kept.runtime();
     if ended.is_told() && say_ending(rt, kept, ended, reason).is_err() {
@@ -54,8 +59,8 @@ fn say_ending(
     ended: Ended<'_, '_, '_>,
     reason: Option<&Error>,
 ) -> Result<(), AllocError> {
-    if ended.is(Status::Refused) {
-        kept.tell_refusal();
+    if ended.is(Status::Refused) || ended.is_checked() {
+        kept.tell_checked();
     } else if !kept.tells_json() {
         let mut text = Vec::new(rt.alloc());
         add_end(rt.alloc(), kept, ended, reason, &mut text)?;
@@ -138,12 +143,31 @@ fn add_ending(
             if ended.is(Status::Limit) {
                 explain_limit(alloc, kept, ended, text)
             } else if ended.is(Status::Fault) {
-                explain_fault(alloc, name, script, ended.tail.line()?, text)
+                let events = events_of(kept, ended);
+                explain_fault(alloc, name, script, events, ended.tail.line()?, text)
             } else {
-                explain_blocked(alloc, name, script, ended.all, text)
+                explain_blocked(alloc, name, script, events_of(kept, ended), ended.all, text)
             }
         }
     }
+}
+
+/// About how many events a run had, by what was noted of it or by the lines of the trace that is the second file: not more than these.
+fn events_of(kept: &Kept<'_>, ended: Ended<'_, '_, '_>) -> usize {
+    match kept.second() {
+        Some(trace) => lines_in(trace),
+        None => ended.teller.events(),
+    }
+}
+
+fn lines_in(text: &[u8]) -> usize {
+    let mut count: usize = 0;
+    for byte in text {
+        if *byte == b'\n' {
+            count = count.saturating_add(1);
+        }
+    }
+    count
 }
 
 /// Adds what was left to be done where a run met its limit, or behind the end of the trace that is the second file.

@@ -6,12 +6,14 @@ use explain_blocked::blocked::add_all_blocked;
 use explain_blocked::index::ScriptIndex;
 use explain_blocked::scene::Scene;
 use explain_blocked::writers::Writers;
-use explain_faults::faults::{add_all_faults, add_printed_fault, known_for};
-use explain_faults::limits::add_limit_of_rounds;
+use explain_faults::extent::{known_before, known_for, known_whole, room_for};
+use explain_faults::faults::{add_all_faults, add_printed_fault};
+use explain_faults::limits::{add_limit_of_rounds, add_too_large};
 use explain_faults::printed::Printed;
 use explain_text::lines::Lines;
 use flow::script::Flow;
 use meaning::rounds;
+use meaning_openings::fault::MeaningFault;
 use meaning_outcomes::knowledge::Knowledge;
 use std::alloc::{AllocError, Global};
 
@@ -20,10 +22,10 @@ use std::alloc::{AllocError, Global};
 enum Topic<'p> {
     /// All that is known of it, with the limit where so many rounds were not enough, and with each blocked statement or in short.
     Meaning(u32, bool),
-    /// The blocked statements, each or in short.
-    Blocked(bool),
-    /// The fault that a run has printed.
-    Fault(&'p Printed),
+    /// The blocked statements of a run of so many events, each or in short.
+    Blocked(usize, bool),
+    /// The fault that a run of so many events has printed.
+    Fault(usize, &'p Printed),
 }
 
 /// A script: its file's name, its bytes, and its statements.
@@ -47,27 +49,29 @@ pub fn explain_meaning(
     explain(alloc, file, text, Topic::Meaning(limit, all), out)
 }
 
-/// Adds what is said of a script that was run and ended blocked: of the blocked statements of its meaning.
+/// Adds what is said of a script that was run, with so many events, and ended blocked: of the blocked statements of its meaning.
 pub fn explain_blocked(
     alloc: Global,
     file: &str,
     text: &[u8],
+    events: usize,
     all: bool,
     out: &mut Vec<u8>,
 ) -> Result<(), AllocError> {
-    explain(alloc, file, text, Topic::Blocked(all), out)
+    explain(alloc, file, text, Topic::Blocked(events, all), out)
 }
 
-/// Adds what is said of a script whose run ended with the fault that is the last of what was printed.
+/// Adds what is said of a script whose run, with so many events, ended with the fault that is the last of what was printed.
 pub fn explain_fault(
     alloc: Global,
     file: &str,
     text: &[u8],
+    events: usize,
     printed: &[u8],
     out: &mut Vec<u8>,
 ) -> Result<(), AllocError> {
     match Printed::read(alloc, printed)? {
-        Some(fault) => explain(alloc, file, text, Topic::Fault(&fault), out),
+        Some(fault) => explain(alloc, file, text, Topic::Fault(events, &fault), out),
         None => Ok(()),
     }
 }
@@ -100,17 +104,41 @@ fn explain_script(
     topic: Topic<'_>,
     out: &mut Vec<u8>,
 ) -> Result<(), AllocError> {
-    let known = known_of(alloc, script.flow, topic)?;
-    explain_known(alloc, script, &known, topic, out)
+    match known_of(alloc, script.flow, topic) {
+        Ok(known) => explain_known(alloc, script, &known, topic, out),
+        Err(MeaningFault::TooLarge) => explain_large(alloc, script, topic, out),
+        Err(MeaningFault::Memory) => Err(AllocError),
+    }
 }
 
 /// What has to be known of the statements for what is told.
-fn known_of(alloc: Global, flow: &Flow<Global>, topic: Topic<'_>) -> Result<Knowledge, AllocError> {
+fn known_of(
+    alloc: Global,
+    flow: &Flow<Global>,
+    topic: Topic<'_>,
+) -> Result<Knowledge, MeaningFault> {
     match topic {
-        Topic::Meaning(limit, _) => rounds(alloc, flow, limit),
-        Topic::Blocked(_) => rounds(alloc, flow, u32::MAX),
-        Topic::Fault(fault) => known_for(alloc, flow, fault),
+        Topic::Meaning(limit, _) => {
+            let known = rounds(alloc, flow, limit)?;
+            Ok(known)
+        }
+        Topic::Blocked(events, _) => known_whole(room_for(alloc, events), flow),
+        Topic::Fault(events, fault) => known_for(room_for(alloc, events), flow, fault),
     }
+}
+
+/// Adds what is told of a script whose meaning is too large to be worked out: of a fault its place and its rule.
+fn explain_large(
+    alloc: Global,
+    script: Script<'_>,
+    topic: Topic<'_>,
+    out: &mut Vec<u8>,
+) -> Result<(), AllocError> {
+    if let Topic::Fault(..) = topic {
+        let known = known_before(alloc, script.flow)?;
+        explain_known(alloc, script, &known, topic, out)?;
+    }
+    add_too_large(out, script.file)
 }
 
 fn explain_known(
@@ -151,8 +179,8 @@ fn add_told(
     out: &mut Vec<u8>,
 ) -> Result<(), AllocError> {
     match topic {
-        Topic::Blocked(all) => add_all_blocked(scene, out, file, all),
-        Topic::Fault(fault) => add_printed_fault(scene, out, file, fault),
+        Topic::Blocked(_, all) => add_all_blocked(scene, out, file, all),
+        Topic::Fault(_, fault) => add_printed_fault(scene, out, file, fault),
         Topic::Meaning(limit, all) => {
             add_all_blocked(scene, out, file, all)?;
             add_all_faults(scene, out, file)?;

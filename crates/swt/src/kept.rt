@@ -1,7 +1,8 @@
 //! What was read of files, for what is said of them.
 
-use explain_json::json::json_line;
+use explain_json::json::{json_line, warning_lines};
 use explain_refusals::refusal::explained;
+use explain_warnings::told;
 use std::alloc::{AllocError, Global};
 use std::io::Write;
 use swt_arguments::line::Line;
@@ -11,7 +12,7 @@ use swt_arguments::request::Request;
 #[derive(Clone, Copy, PartialEq, Eq, Debug, Drop)]
 enum Keeping {
     Nothing,
-    /// One at a time: before the next is opened it is said of the last why it is refused.
+    /// One at a time: before the next is opened it is said of the last why it is refused, or what is odd in it.
     Each,
     All,
 }
@@ -41,7 +42,7 @@ struct Source {
 pub struct Kept<'r> {
     rt: &'r HostRuntime,
     wanted: Keeping,
-    /// Refusals are told as JSON.
+    /// Refusals and warnings are told as JSON.
     json: bool,
     sources: Vec<Source>,
     /// Memory for one was refused, or for what was to be said of it.
@@ -71,7 +72,7 @@ impl<'r> Kept<'r> {
         self.rt
     }
 
-    /// Whether refusals are told as JSON.
+    /// Whether refusals and warnings are told as JSON.
     pub fn tells_json(&self) -> bool {
         self.json
     }
@@ -111,7 +112,7 @@ impl<'r> Kept<'r> {
     /// A file of this name is opened.
     pub fn begin(&mut self, name: &str) {
         if self.wanted == Keeping::Each {
-            self.tell_refusal();
+            self.tell_checked();
         }
         if self.wanted != Keeping::Nothing && !self.lacks && self.add_source(name).is_err() {
             self.give_up();
@@ -154,37 +155,42 @@ impl<'r> Kept<'r> {
         self.lacks = true;
     }
 
-    /// Says on standard error why the first file is refused, where it is, and lets all go.
-    pub fn tell_refusal(&mut self) {
-        if self.told_refusal().is_err() {
+    /// Says on standard error why the first file is refused, or what is odd in it where it is accepted, and lets all go.
+    pub fn tell_checked(&mut self) {
+        if self.told_checked().is_err() {
             self.lacks = true;
         }
         self.sources.clear();
     }
 
-    fn told_refusal(&self) -> Result<(), AllocError> {
+    fn told_checked(&self) -> Result<(), AllocError> {
         match self.first() {
             Some((name, text)) if self.json => say_json(self.rt, name, text),
-            Some((name, text)) => say_refusal(self.rt, self.rt.alloc(), name, text),
+            Some((name, text)) => say_checked(self.rt, self.rt.alloc(), name, text),
             None => Ok(()),
         }
     }
 }
 
-/// Says on standard error why a text is refused, where it is.
-fn say_refusal(rt: &HostRuntime, alloc: Global, name: &str, text: &[u8]) -> Result<(), AllocError> {
-    if let Some(refusal) = explained(alloc, name, text)? {
-        // Where this can't be written, the status says enough.
-        let _ = rt.stderr().write_all(refusal.as_slice());
-    }
+/// Says on standard error why a text is refused, or what is odd in it where it is accepted.
+fn say_checked(rt: &HostRuntime, alloc: Global, name: &str, text: &[u8]) -> Result<(), AllocError> {
+    let words = match explained(alloc, name, text)? {
+        Some(refusal) => refusal,
+        None => told::explained(alloc, name, text)?,
+    };
+    // Where this can't be written, the status says enough.
+    let _ = rt.stderr().write_all(words.as_slice());
     Ok(())
 }
 
-/// The same as a line of JSON.
+/// The same as lines of JSON.
 fn say_json(rt: &HostRuntime, name: &str, text: &[u8]) -> Result<(), AllocError> {
     if let Some(refusal) = json_line(rt.alloc(), name, text)? {
         // Where this can't be written, the status says enough.
         let _ = eprintln!(rt; "{refusal}");
+        return Ok(());
     }
+    let lines = warning_lines(rt.alloc(), name, text)?;
+    let _ = rt.stderr().write_all(lines.as_slice());
     Ok(())
 }

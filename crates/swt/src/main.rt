@@ -15,6 +15,7 @@ ghost use Rattle.host_system.specs.Streams as Streams;
 
 mod ending;
 mod explain;
+mod foreign;
 mod items;
 mod keeper;
 mod kept;
@@ -26,6 +27,7 @@ mod troubles;
 mod waiting;
 
 use crate::ending::Ended;
+use crate::foreign::say_foreign;
 use crate::keeper::Keeper;
 use crate::output::Output;
 use crate::progress::Teller;
@@ -157,8 +159,12 @@ fn say_no_memory(err: &mut Standard<'_>) -> u8
     Status::Memory.number()
 }
 
-/// Says which of the words is wrong, and which was meant. Where there are no words, or they ask for help, it says how the program is called.
+/// Says which of the words is wrong, and which was meant. Where there are no words, or they ask for help, it says how the program is called;
+/// of words that could not be read it says which is no UTF-8.
 fn say_usage(rt: &HostRuntime, words: &[Word]) -> Result<(), AllocError> {
+    if words.is_empty() && say_foreign(rt)? {
+        return Ok(());
+    }
     // Where this can't be written, the status says enough.
     let Some(wrong) = first_wrong(words) else {
         let _ = eprintln!(rt; "{}", LineFault::Usage);

@@ -31,7 +31,7 @@ explain_flags = codes "--explain" ∷ codes "--explain=all" ∷ []
 abbrev pub flags_of : Command → List (List ℕ)
 flags_of Code = codes "--dot" ∷ explain_flags
 flags_of Check = codes "--json" ∷ explain_flags
-flags_of Mean = explain_flags
+flags_of Mean = codes "--progress" ∷ explain_flags
 flags_of Run = codes "--progress" ∷ explain_flags
 flags_of Replay = explain_flags
 

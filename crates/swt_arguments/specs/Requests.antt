@@ -22,10 +22,10 @@ all_given ws = flag_given (often (codes "--explain=all") ws)
 abbrev pub explain_given : List (List ℕ) → Option Bool
 explain_given ws = option_and_then (λ short. option_and_then (one_given short) (all_given ws)) (flag_given (often (codes "--explain") ws))
 
--- whether it is to show how far it is; only a run does
+-- whether it is to show how far it is; a run does, and a meaning that is worked out
 abbrev pub progress_given : Command → List (List ℕ) → Option Bool
 progress_given Check ws = Some false
-progress_given Mean ws = Some false
+progress_given Mean ws = flag_given (often (codes "--progress") ws)
 progress_given Code ws = Some false
 progress_given Run ws = flag_given (often (codes "--progress") ws)
 progress_given Replay ws = Some false

@@ -48,8 +48,8 @@ impl Command {
         match self {
             Command::Code => is(word, "--dot") || explains(word),
             Command::Check => is(word, "--json") || explains(word),
-            Command::Run => is(word, "--progress") || explains(word),
-            Command::Mean | Command::Replay => explains(word),
+            Command::Run | Command::Mean => is(word, "--progress") || explains(word),
+            Command::Replay => explains(word),
         }
     }
 
@@ -87,7 +87,7 @@ impl Command {
         match self {
             Command::Check => &["--explain", "--json"],
             Command::Replay => &["--explain"],
-            Command::Mean => &["--rounds", "--explain"],
+            Command::Mean => &["--rounds", "--explain", "--progress"],
             Command::Code => &["--dot", "--explain"],
             Command::Run => &[
                 "--engines",

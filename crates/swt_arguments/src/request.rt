@@ -19,7 +19,7 @@ pub struct Request {
     pub explain: bool,
     /// Whether each blocked statement is.
     pub all: bool,
-    /// Whether a run is to show how far it is.
+    /// Whether a run, or a meaning that is worked out, is to show how far it is.
     pub progress: bool,
     /// Whether refusals are to be told as JSON.
     pub json: bool,
@@ -197,8 +197,8 @@ fn shows_progress(command: Command, words: &[Word]) -> Result<bool, LineFault>
     ensures { Answers (progress_given command words.now) result }
 {
     match command {
-        Command::Run => words::flag(words::often("--progress", words)),
-        Command::Check | Command::Mean | Command::Code | Command::Replay => Ok(false),
+        Command::Run | Command::Mean => words::flag(words::often("--progress", words)),
+        Command::Check | Command::Code | Command::Replay => Ok(false),
     }
 }
 

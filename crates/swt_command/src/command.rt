@@ -11,6 +11,7 @@ use crate::mean::mean;
 use crate::run::{replay, run};
 use crate::trouble::tell;
 use bumpalo::Bump;
+use meaning::watch::Watch;
 use std::alloc::Global;
 use std::sync::Wait;
 use std::thread::Threads;
@@ -26,8 +27,8 @@ use workers::job::Gate;
 ///
 /// What the command prints goes to `out`, what it says of its failure to `err`, and the trace of a run, where the line wants
 /// one, to `trace`. Trees of scripts lie in the arena. A write to `err` that fails changes no status. `rt` starts the threads of a run and waits for them; what its
-/// tasks do is computed by the gate, which also learns how far the run is.
-pub fn command<R: Threads + Wait + Sync, G: Gate, O: Sink, E: Sink, S: Sink>(
+/// tasks do is computed by the gate, which also learns how far the run is, or how far the rounds are by which a meaning is worked out.
+pub fn command<R: Threads + Wait + Sync, G: Gate + Watch, O: Sink, E: Sink, S: Sink>(
     rt: &R,
     alloc: Global,
     arena: &mut Bump,
@@ -56,7 +57,7 @@ pub fn command<R: Threads + Wait + Sync, G: Gate, O: Sink, E: Sink, S: Sink>(
 }
 
 /// Does the line's command.
-fn perform<R: Threads + Wait + Sync, G: Gate, O: Sink, S: Sink>(
+fn perform<R: Threads + Wait + Sync, G: Gate + Watch, O: Sink, S: Sink>(
     rt: &R,
     alloc: Global,
     arena: &mut Bump,
@@ -74,7 +75,7 @@ fn perform<R: Threads + Wait + Sync, G: Gate, O: Sink, S: Sink>(
 {
     match line {
         Line::Check { files: names } => check(alloc, arena, names.as_slice(), files, out),
-        Line::Mean { rounds, .. } => mean(alloc, arena, files, *rounds, out),
+        Line::Mean { rounds, .. } => mean(alloc, arena, files, gate, *rounds, out),
         Line::Run {
             engines,
             workers,

@@ -6,6 +6,7 @@ pub mod buffer;
 pub mod check;
 mod code;
 pub mod command;
+pub mod direct;
 pub mod laws;
 mod mean;
 mod parts;

@@ -10,6 +10,7 @@ ghost use Rattle.swt_command.specs.Sinks.{Writes, held};
 use crate::told::{Told, worked_out};
 use board::Fault;
 use bumpalo::Bump;
+use meaning::watch::Watch;
 use std::alloc::Global;
 use swt_status::status::Status;
 use swt_status::stop::Stop;
@@ -17,15 +18,16 @@ use swt_status::trouble::Trouble;
 use swt_trace::report::{write_blocked, write_fault, write_limit, write_lines};
 use values::sink::{Sink, SinkFault};
 
-/// Prints what the script means, worked out in so many rounds at most.
+/// Prints what the script means, worked out in so many rounds at most, which are watched.
 ///
 /// # Errors
 ///
 /// The script could not be read or was refused, memory was refused, or the text could not be written.
-pub fn mean<O: Sink>(
+pub fn mean<W: Watch, O: Sink>(
     alloc: Global,
     arena: &Bump,
     files: &[Option<Vec<u8>>],
+    watch: &W,
     limit: u32,
     out: &mut O,
 ) -> Result<Status, Stop>
@@ -33,7 +35,7 @@ pub fn mean<O: Sink>(
     ensures { Means (contents files.now) limit result (held (O.taken out.old) (O.failures out.old))
         (held (O.taken out.new) (O.failures out.new)) }
 {
-    let told = worked_out(alloc, arena, files, limit)?;
+    let told = worked_out(alloc, arena, files, watch, limit)?;
     match write_told(&told, limit, out) {
         Ok(()) => Ok(status_of(&told)),
         Err(SinkFault) => Err(Stop {

@@ -79,7 +79,7 @@ pub fn listing_of(alloc: Global, arena: &Bump, files: &[Option<Vec<u8>>]) -> Res
 {
     let source = source(files, 0)?;
     match listed(alloc, arena, source) {
-        Ok(text) => Ok(text),
+        Ok(listed) => Ok(listed.into_text()),
         Err(fault) => Err(at_script(fault)),
     }
 }
@@ -95,7 +95,7 @@ pub fn drawing_of(alloc: Global, arena: &Bump, files: &[Option<Vec<u8>>]) -> Res
 {
     let source = source(files, 0)?;
     match drawn(alloc, arena, source) {
-        Ok(text) => Ok(text),
+        Ok(drawn) => Ok(drawn.into_text()),
         Err(fault) => Err(at_script(fault)),
     }
 }

@@ -9,9 +9,12 @@ use crate::scripts::{at_script, source};
 use bumpalo::Bump;
 use compile::compile::read;
 use flow::script::Flow;
-use meaning::rounds;
+use meaning::rounds_within;
+use meaning::watch::Watch;
+use meaning_openings::fault::MeaningFault;
+use meaning_openings::room::Room;
 use paths::{Fault, Statement};
-use std::alloc::{AllocError, Global};
+use std::alloc::Global;
 use swt_status::stop::Stop;
 use swt_status::trouble::Trouble;
 use values::text::Text;
@@ -34,17 +37,18 @@ pub struct Told {
 /// # Errors
 ///
 /// `Unread`, `Refused` or `Memory`.
-pub(crate) fn worked_out(
+pub(crate) fn worked_out<W: Watch>(
     alloc: Global,
     arena: &Bump,
     files: &[Option<Vec<u8>>],
+    watch: &W,
     limit: u32,
 ) -> Result<Told, Stop>
     ensures { MatchResult result (ToldOf (contents files.now) limit)
         (λ stop. (stop.place ≡ 0) × StopsAt (contents files.now) 0 stop.trouble) }
 {
     let flow = flow_of(alloc, arena, files)?;
-    match told_of(alloc, &flow, limit) {
+    match told_of(alloc, watch, &flow, limit) {
         Ok(told) => Ok(told),
         Err(_refused) => Err(Stop {
             place: 0,
@@ -73,12 +77,21 @@ fn flow_of<'a>(
     }
 }
 
-/// What is known of a script.
-fn told_of(alloc: Global, flow: &Flow<&Bump>, limit: u32) -> Result<Told, AllocError>
+/// What is known of a script. Nothing bounds how much of it is live.
+fn told_of<W: Watch>(
+    alloc: Global,
+    watch: &W,
+    flow: &Flow<&Bump>,
+    limit: u32,
+) -> Result<Told, MeaningFault>
     requires { (src : List ℕ) × IsScriptOf src (core_of flow.now) }
     ensures { IfOk result (IsTold (core_of flow.now) limit) }
 {
-    let known = rounds(alloc, flow, limit)?;
+    let room = Room {
+        alloc,
+        most: usize::MAX,
+    };
+    let known = rounds_within(room, watch, flow, limit)?;
     let blocked = known.blocked()?;
     let faults = known.faults()?;
     Ok(Told {

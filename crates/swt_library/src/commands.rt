@@ -9,8 +9,8 @@ use std::alloc::Global;
 use std::sync::Wait;
 use std::thread::Threads;
 use swt_arguments::line::Line;
+use swt_command::direct::Direct;
 use values::sink::Sink;
-use workers::job::Open;
 
 /// Does the line's command on the bytes of the files that it names to be read, one for each in order, and none for one that cannot be read.
 /// The answer is the status of a process.
@@ -35,5 +35,5 @@ pub fn command<R: Threads + Wait + Sync, O: Sink, E: Sink, S: Sink>(
         (held (S.taken trace.old) (S.failures trace.old)) (held (S.taken trace.new) (S.failures trace.new)) result }
 {
     let mut arena = Bump::new(alloc);
-    swt_command::command::command(rt, alloc, &mut arena, line, files, &Open, out, err, trace)
+    swt_command::command::command(rt, alloc, &mut arena, line, files, &Direct, out, err, trace)
 }

@@ -15,6 +15,7 @@ use crate::traced::with_trace;
 use bumpalo::Bump;
 use host::Host;
 use host::identity::Identity;
+use meaning::watch::Watch;
 use std::alloc::{AllocError, Global};
 use std::marker::Brand;
 use std::sync::Wait;
@@ -69,7 +70,7 @@ fn read<H: Host>(
 ///
 /// The files of a check are read, checked and told in turn, so that no more than one is kept. Of any other command all files are read, its
 /// command is done with one arena for all trees, and its trace gets its place.
-pub fn program<R: Threads + Wait + Sync, G: Gate, H: Host + Drop, O: Sink, E: Sink>(
+pub fn program<R: Threads + Wait + Sync, G: Gate + Watch, H: Host + Drop, O: Sink, E: Sink>(
     rt: &R,
     alloc: Global,
     host: H,
@@ -101,7 +102,7 @@ pub fn program<R: Threads + Wait + Sync, G: Gate, H: Host + Drop, O: Sink, E: Si
 }
 
 /// The same for a command whose files are read first.
-fn on_files<R: Threads + Wait + Sync, G: Gate, H: Host + Drop, O: Sink, E: Sink>(
+fn on_files<R: Threads + Wait + Sync, G: Gate + Watch, H: Host + Drop, O: Sink, E: Sink>(
     rt: &R,
     alloc: Global,
     host: H,

@@ -9,6 +9,7 @@ use bumpalo::Bump;
 use host::Host;
 use host::identity::Identity;
 use host::trace::{Past, TraceFile};
+use meaning::watch::Watch;
 use std::alloc::Global;
 use std::sync::Wait;
 use std::thread::Threads;
@@ -27,7 +28,14 @@ fn is_reported(number: u8) -> bool
 }
 
 /// Does the line's command on these bytes, with a trace that is to stand at the place. The answer is the status and the machine.
-pub fn with_trace<R: Threads + Wait + Sync, G: Gate, H: Host + Drop, K: Past, O: Sink, E: Sink>(
+pub fn with_trace<
+    R: Threads + Wait + Sync,
+    G: Gate + Watch,
+    H: Host + Drop,
+    K: Past,
+    O: Sink,
+    E: Sink,
+>(
     rt: &R,
     alloc: Global,
     arena: &mut Bump,

@@ -5,12 +5,12 @@ ghost use Rattle.task_code.specs.View.{argument_view, entry_view, name_view};
 ghost use Rattle.ref_counting.specs.Rights.{HasMarks};
 
 use crate::asserts::is_equal;
+use ref_counting::laid::Laid;
+use ref_counting::lead::Lead;
 use ref_counting::rights::rights;
-use ref_counting::uses::Right;
 use std::alloc::{AllocError, Global};
 use std::test::Fail;
 use task_code::code::{Body, Opener};
-use task_code::draft::Draft;
 use task_code::entry::{Act, Argument, Entry, Name, Owned, Variable};
 use values::value::Scalar;
 
@@ -88,28 +88,30 @@ fn function_body(alloc: Global) -> Result<Body, AllocError> {
 }
 
 /// The code of that script.
-fn calls_itself(alloc: Global) -> Result<Draft, AllocError>
+fn calls_itself(alloc: Global) -> Result<Laid, AllocError>
     ensures marks { IfOk result (λ code. HasMarks code) }
     ensures entries { IfOk result (λ code. length code.entries < 2 ^ 32) }
     ensures bodies { IfOk result (λ code. length code.bodies < 2 ^ 32) }
 {
-    let mut code = Draft::new(alloc);
+    let mut entries = Vec::new(alloc);
     let zero = Argument::Fixed(Scalar::Number(0));
-    code.push_entry(call(alloc, 10, zero, array(1))?)?;
+    entries.push(call(alloc, 10, zero, array(1))?)?;
     let same = Argument::Named(parameter(0, false));
-    code.push_entry(call(alloc, 20, same, parameter(1, true))?)?;
-    code.push_body(main_body(alloc)?)?;
-    code.push_body(function_body(alloc)?)?;
-    Ok(code)
+    entries.push(call(alloc, 20, same, parameter(1, true))?)?;
+    let mut bodies = Vec::new(alloc);
+    bodies.push(main_body(alloc)?)?;
+    bodies.push(function_body(alloc)?)?;
+    Ok(Laid::new(bodies, entries))
 }
 
 #[test]
 fn a_call_may_write_its_outputs(rt: HostRuntime) -> Result<(), Fail> {
     let alloc = rt.alloc();
     let code = calls_itself(alloc)?;
-    let writes = rights(alloc, &code, Right::Write)?;
-    assert!(rt; writes.at(0) == [array(1)].as_slice());
-    assert!(rt; writes.at(1) == [parameter(1, true)].as_slice());
+    let found = rights(alloc, &code)?;
+    is_equal(&rt, found.writes.len(), 2);
+    assert!(rt; found.writes.contains(&Lead::new(0, array(1))));
+    assert!(rt; found.writes.contains(&Lead::new(1, parameter(1, true))));
     Ok(())
 }
 
@@ -117,8 +119,7 @@ fn a_call_may_write_its_outputs(rt: HostRuntime) -> Result<(), Fail> {
 fn a_literal_is_no_datum_to_read(rt: HostRuntime) -> Result<(), Fail> {
     let alloc = rt.alloc();
     let code = calls_itself(alloc)?;
-    let reads = rights(alloc, &code, Right::Read)?;
-    is_equal(&rt, reads.at(0).len(), 0);
-    is_equal(&rt, reads.at(1).len(), 0);
+    let found = rights(alloc, &code)?;
+    is_equal(&rt, found.reads.len(), 0);
     Ok(())
 }

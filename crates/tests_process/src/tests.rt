@@ -8,9 +8,9 @@ use std::sync::Wait;
 use std::thread::Threads;
 use swt_arguments::fault::LineFault;
 use swt_command::buffer::Buffer;
+use swt_command::direct::Direct;
 use swt_process::program::program;
 use swt_process::words::read_request;
-use workers::job::Open;
 
 /// The number of the process.
 const PROCESS: u32 = 7;
@@ -57,7 +57,7 @@ fn came_of<R: Threads + Wait + Sync>(rt: &R, alloc: Global, fake: Fake) -> Resul
         fake,
         PROCESS,
         &request.line,
-        &Open,
+        &Direct,
         &mut out,
         &mut err,
     );

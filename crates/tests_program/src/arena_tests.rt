@@ -79,7 +79,11 @@ fn is_refused(read: &Result<Script<Global>, ParseFault>, fault: ParseFault) -> b
 
 /// Whether a text has the same listing over both, or is refused alike.
 fn is_listed_alike(alloc: Global, arena: &Bump, text: &[u8]) -> bool {
-    listed(alloc, alloc, text) == listed(alloc, arena, text)
+    match (listed(alloc, alloc, text), listed(alloc, arena, text)) {
+        (Ok(one), Ok(other)) => one.text() == other.text(),
+        (Err(one), Err(other)) => one == other,
+        _ => false,
+    }
 }
 
 /// A beginning of a text is the same over both. It is shown by its length where it is not.

@@ -18,9 +18,9 @@ use swt_arguments::line::Line;
 use swt_arguments::request::Request;
 use swt_arguments::word::Word;
 use swt_command::command::command;
+use swt_command::direct::Direct;
 use task_code::code::Code;
 use values::sink::{Sink, SinkFault};
-use workers::job::Open;
 
 /// Room for all that is written here.
 pub(crate) const WIDE: (usize, usize) = (100000, 100000);
@@ -179,7 +179,7 @@ fn done_by<R: Threads + Wait + Sync>(
         &mut Bump::new(alloc),
         line,
         files,
-        &Open,
+        &Direct,
         &mut out,
         &mut err,
         &mut trace,

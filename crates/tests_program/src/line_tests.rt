@@ -166,6 +166,7 @@ run a 1 3 10000000 none explain progress | run --progress a --explain
 replay a t explain | replay --explain a t
 replay a t explain all | replay --explain=all a t
 mean a 7 explain all | mean --explain=all --rounds 7 a
+mean a 7 progress | mean --progress --rounds 7 a
 run a 1 3 1 none explain all progress | run --progress --steps=1 a --explain=all
 check a --explain=all explain all | check --explain=all a -- --explain=all
 code a dot explain all | code --dot a --explain=all";
@@ -215,7 +216,8 @@ mean a --explain=
 mean a --explain=all=
 mean a --explain all
 run --progress a --progress
-mean a --progress
+mean --progress a --progress
+code a --progress
 --explain run a
 replay a
 replay a t u";

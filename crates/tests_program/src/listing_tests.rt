@@ -63,8 +63,8 @@ const LOOPS: (&[u8], &str) = (
 
 /// The script has this listing.
 fn is_listed(rt: &impl Abort, alloc: Global, script: &[u8], wanted: &str) {
-    let text = listed(alloc, alloc, script).expect(rt, "a script");
-    is_equal(rt, text.as_slice(), wanted.as_bytes());
+    let found = listed(alloc, alloc, script).expect(rt, "a script");
+    is_equal(rt, found.text(), wanted.as_bytes());
 }
 
 /// Each of these scripts has its listing.
@@ -105,6 +105,6 @@ const DRAWING: &str = "digraph code {
 #[test]
 fn draws_code(rt: HostRuntime) {
     let script = b"boolean x=true;if (x) { printf(\"x\"); }";
-    let text = drawn(rt.alloc(), rt.alloc(), script).expect(&rt, "a script");
-    is_equal(&rt, text.as_slice(), DRAWING.as_bytes());
+    let found = drawn(rt.alloc(), rt.alloc(), script).expect(&rt, "a script");
+    is_equal(&rt, found.text(), DRAWING.as_bytes());
 }

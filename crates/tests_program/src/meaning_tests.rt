@@ -4,13 +4,17 @@ use crate::doing::{flow_of, known_of};
 use explain_inputs::blocking::{Waiting, inputs_blocking};
 use flow::script::Flow;
 use flow_index::table::Sites;
-use meaning::rounds;
+use meaning::watch::{Rounds, Unwatched, Watch};
+use meaning::{rounds, rounds_within};
+use meaning_openings::fault::MeaningFault;
+use meaning_openings::room::Room;
 use meaning_outcomes::knowledge::Knowledge;
 use meaning_outcomes::settle::settle;
 use meaning_round::state::State;
 use paths::{Fault, Statement};
 use std::alloc::Global;
 use std::process::Abort;
+use std::sync::atomic::{AtomicU64, Ordering};
 use values::key::Key;
 
 /// A script whose first assignment waits for its second.
@@ -58,7 +62,8 @@ fn a_value_is_used_in_the_round_behind_it(rt: HostRuntime) {
 /// What is known of a flow before its first round, where all that is ready is open and all that is finished is closed.
 fn known_at_first(rt: &impl Abort, alloc: Global, flow: &Flow<Global>) -> Box<Knowledge> {
     let mut state = State::new(alloc, flow).expect(rt, "memory");
-    settle(&mut state, alloc).expect(rt, "memory");
+    let most = usize::MAX;
+    settle(&mut state, Room { alloc, most }).expect(rt, "memory");
     let known = Knowledge::of(alloc, state, 0, false).expect(rt, "memory");
     boxed(rt, alloc, known)
 }
@@ -157,4 +162,91 @@ fn turns_of_a_loop_are_places(rt: HostRuntime) {
     holds(&rt, known.finished());
     prints_line(&rt, &known, b"7");
     has_fault_in_turn(&rt, &known);
+}
+
+/// Whether the rounds of a script are over, where so many turns and statements may be live.
+fn end_within(
+    rt: &impl Abort,
+    alloc: Global,
+    script: &[u8],
+    most: usize,
+) -> Result<bool, MeaningFault> {
+    let flow = flow_of(rt, alloc, script);
+    match rounds_within(Room { alloc, most }, &Unwatched, &flow, 50) {
+        Ok(known) => Ok(known.finished()),
+        Err(fault) => Err(fault),
+    }
+}
+
+/// A script is too large for so many, and not for a hundred.
+fn is_larger(rt: &impl Abort, alloc: Global, script: &[u8], most: usize) {
+    is_equal(
+        rt,
+        end_within(rt, alloc, script, most),
+        Err(MeaningFault::TooLarge),
+    );
+    is_equal(rt, end_within(rt, alloc, script, 100), Ok(true));
+}
+
+/// A hundred turns, without statements and with one each.
+#[test]
+fn more_is_live_than_there_is_room_for(rt: HostRuntime) {
+    is_larger(&rt, rt.alloc(), b"foreach i in [1:100] { }", 50);
+    is_larger(
+        &rt,
+        rt.alloc(),
+        b"foreach i in [1:99] { printf(\"%i\", i); }",
+        40,
+    );
+}
+
+/// Many turns, and a function that calls itself twice.
+#[test]
+fn what_has_no_end_soon_is_too_large(rt: HostRuntime) {
+    let scripts: [&[u8]; 2] = [
+        b"foreach i in [1:4294967296] { }",
+        b"() f() { f(); f(); } f();",
+    ];
+    for script in scripts {
+        is_equal(
+            &rt,
+            end_within(&rt, rt.alloc(), script, 1000),
+            Err(MeaningFault::TooLarge),
+        );
+    }
+}
+
+/// Keeps how far the rounds were when it was told last.
+#[derive(Drop)]
+struct Noted {
+    done: AtomicU64,
+    live: AtomicU64,
+}
+
+impl Watch for Noted {
+    fn learn(&self, rounds: Rounds) {
+        self.done.store(u64::from(rounds.done), Ordering::SeqCst);
+        self.live.store(rounds.live as u64, Ordering::SeqCst);
+    }
+}
+
+#[test]
+fn who_watches_learns_how_far_the_rounds_are(rt: HostRuntime) {
+    let noted = Noted {
+        done: AtomicU64::new(0),
+        live: AtomicU64::new(0),
+    };
+    let flow = flow_of(&rt, rt.alloc(), SWAPPED);
+    let room = Room {
+        alloc: rt.alloc(),
+        most: usize::MAX,
+    };
+    let known = rounds_within(room, &noted, &flow, 10).expect(&rt, "memory");
+    let known = boxed(&rt, rt.alloc(), known);
+    is_equal(
+        &rt,
+        noted.done.load(Ordering::SeqCst),
+        u64::from(known.rounds),
+    );
+    holds(&rt, noted.live.load(Ordering::SeqCst) > 0);
 }

@@ -8,8 +8,8 @@ use std::sync::Wait;
 use std::thread::Threads;
 use swt_arguments::line::Line;
 use swt_command::command::command;
+use swt_command::direct::Direct;
 use values::sink::{Sink, SinkFault};
-use workers::job::Open;
 
 const HELLO: &[u8] = b"printf(\"hello\");";
 
@@ -75,7 +75,7 @@ fn idles<R: Threads + Wait + Sync>(
         &mut Bump::new(alloc),
         line,
         files,
-        &Open,
+        &Direct,
         &mut out,
         &mut err,
         &mut trace,

@@ -9,6 +9,8 @@ use Rattle.flow.specs.declared.statement.Block.{Block}
 use Rattle.flow.specs.declared.statement.Statement.{Statement, out-Statement, roll-Statement}
 use Rattle.flow.specs.declared.statement.Action.{Action, When, Choose, Range, Each, Wait, the_lemmas}
 use Rattle.flow.specs.View.{action_view, awaited_view, block_view, statement_view, waits_around}
+use Rattle.flow_listed.specs.Cells.{action_anchors, statement_anchors}
+use Rattle.flow_listed.proofs.Anchors.{anchors_statement}
 use Rattle.flow_listed.specs.Listed.{Listed, declared, action_listed, block_listed, statement_listed, content, looping, other, waiting, whole}
 use Rattle.flow.specs.Shapes.{Declared, action_declared, block_declared, statement_declared}
 use Rattle.language.specs.Core as core
@@ -106,6 +108,10 @@ seen_statement A s = search (rules, the_lemmas)
 
 pub listed_statement : (A : Type 0) (s : Statement A) → statement_listed s ≡ action_listed (out-Statement A s).action
 listed_statement A s = search (rules, the_lemmas)
+
+pub anchors_changed : (A : Type 0) (s : Statement A) (a : Action A) → action_anchors a ≡ action_anchors (out-Statement A s).action
+    → statement_anchors (roll-Statement A (record { at = (out-Statement A s).at; node = (out-Statement A s).node; action = a })) ≡ statement_anchors s
+anchors_changed A s a same = anchors_statement A _ ∙ same ∙ sym (anchors_statement A s)
 
 pub listed_changed : (A : Type 0) (s : Statement A) (a : Action A) → action_listed a ≡ action_listed (out-Statement A s).action
     → statement_listed (roll-Statement A (record { at = (out-Statement A s).at; node = (out-Statement A s).node; action = a })) ≡ statement_listed s

@@ -1,5 +1,6 @@
 -- Blocks that are exactly one `wait`.
 use Rattle.std.proofs.Common.{rules, ◌≡◌, ◌<◌, List, [], ◌∷◌, ◌++◌, map, length, slice_index_or, Bool, true, false, ◌&&◌, if◌then◌else◌, IsTrue, refl, ap, sym, ◌∙◌, arith}
+use Rattle.std.specs.List.{flat_map}
 use Rattle.std.proofs.lemmas.List.{append-nil}
 use Rattle.flow.specs.declared.statement.Statement.{Statement}
 use Rattle.flow.specs.declared.statement.Block.{Block, out-Block}
@@ -7,6 +8,8 @@ use Rattle.flow.specs.declared.statement.Action.{the_lemmas}
 use Rattle.flow.specs.View.{block_view, block_of, statement_view}
 use Rattle.flow.specs.Shapes.{block_declared, statement_declared, together}
 use Rattle.flow.specs.declared.statement.Statement.{out-Statement}
+use Rattle.flow_listed.specs.Cells.{block_anchors, statement_anchors}
+use Rattle.flow_listed.proofs.Anchors.{anchors_block}
 use Rattle.flow_listed.specs.Listed as shows
 use Rattle.flow_listed.specs.Listed.{Listed, block_listed, content, statement_listed}
 use Rattle.language.specs.Core as core
@@ -57,6 +60,9 @@ module _ (A : Type 0) (b : Block A) (xs : List (Statement A)) (only : Statement 
 
   pub one_declared : block_declared b ≡ statement_declared only
   one_declared = declared_block A b ∙ ap (λ (ys : List (Statement A)). together (map statement_declared ys)) one_only ∙ append-nil (statement_declared only)
+
+  pub one_anchors : block_anchors b ≡ statement_anchors only
+  one_anchors = anchors_block A b ∙ ap (λ (ys : List (Statement A)). flat_map statement_anchors ys) one_only ∙ append-nil (statement_anchors only)
 
   pub one_wait : IsTrue ((statement_seen only).wait)
   one_wait = ap (λ (ys : List (Statement A)). alone (map statement_seen ys)) (sym one_only) ∙ sym (seen_alone A b) ∙ waits

@@ -2,6 +2,7 @@
 ghost use Rattle.std.specs.Prelude.{◌≡◌, IfOk, IsTrue, OnOk, map};
 ghost use Rattle.flow.specs.View.{core_of, function_view};
 ghost use Rattle.flow.specs.Shapes.{block_declared, declared_of, kinds_of, kinds_of_function};
+ghost use Rattle.flow_listed.specs.Cells.{anchors_of, function_anchors};
 ghost use Rattle.flow_listed.specs.Listed.{function_shown, shown_of};
 ghost use Rattle.wait_merge.specs.Merged.{functions_merged, IsMerged};
 
@@ -20,6 +21,7 @@ pub fn merge<A: Allocator>(flow: Flow<A>) -> Result<Flow<A>, AllocError>
     ensures declared { IfOk result (λ merged. declared_of merged ≡ declared_of flow) }
     ensures kinds { IfOk result (λ merged. kinds_of merged ≡ kinds_of flow) }
     ensures shown { IfOk result (λ merged. shown_of merged ≡ shown_of flow) }
+    ensures cells { IfOk result (λ merged. anchors_of merged ≡ anchors_of flow) }
     ensures merged { IfOk result (λ merged. IsMerged merged) }
 {
     let Flow {
@@ -37,6 +39,7 @@ fn each<A: Allocator>(functions: &mut Vec<Function<A>, A>) -> Result<(), AllocEr
     ensures declared { OnOk result (map (λ f. block_declared f.body) functions.new.items ≡ map (λ f. block_declared f.body) functions.old.items) }
     ensures kinds { OnOk result (map kinds_of_function functions.new.items ≡ map kinds_of_function functions.old.items) }
     ensures shown { OnOk result (map function_shown functions.new.items ≡ map function_shown functions.old.items) }
+    ensures cells { OnOk result (map function_anchors functions.new.items ≡ map function_anchors functions.old.items) }
     ensures merged { OnOk result (IsTrue (functions_merged functions.new.items)) }
 {
     for i in 0..functions.len() {

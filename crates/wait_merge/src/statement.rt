@@ -3,6 +3,7 @@ ghost use Rattle.std.specs.Prelude.{◌≡◌, ◌∷◌, [], IsTrue, IsFalse, O
 ghost use Rattle.flow.specs.View.{action_view, awaited_view, block_view, statement_view, statements_view, waits_around};
 ghost use Rattle.flow.specs.Shapes.{action_declared, block_declared, statement_declared};
 ghost use Rattle.language.specs.Core as core;
+ghost use Rattle.flow_listed.specs.Cells.{action_anchors, block_anchors, statement_anchors};
 ghost use Rattle.flow_listed.specs.Listed.{action_listed, block_listed, content as inside, statement_listed};
 ghost use Rattle.wait_merge.specs.Merged.{action_seen, all_merged, block_seen, statement_seen};
 
@@ -40,6 +41,7 @@ fn take_in<A: Allocator>(
         ≡ waits_around inner.old.items (core.stmts (statement_view only) core.no_stmts)) }
     ensures declared { OnOk result (block_declared content.new.value ≡ statement_declared only) }
     ensures listed { OnOk result (inside (block_listed content.new.value) ≡ (statement_listed only).shown) }
+    ensures cells { OnOk result (block_anchors content.new.value ≡ statement_anchors only) }
     ensures alone { OnOk result (IsTrue ((statement_seen only).merged) → (block_seen content.new.value).wait ≡ false) }
     ensures merged { OnOk result (IsTrue ((statement_seen only).merged) → (block_seen content.new.value).merged ≡ true) }
 {
@@ -67,6 +69,7 @@ fn absorb<A: Allocator>(
     ensures core { OnOk result (waits_around inner.new.items (block_view content.new.value) ≡ waits_around inner.old.items (block_view content.old.value)) }
     ensures declared { OnOk result (block_declared content.new.value ≡ block_declared content.old.value) }
     ensures listed { OnOk result (inside (block_listed content.new.value) ≡ inside (block_listed content.old.value)) }
+    ensures cells { OnOk result (block_anchors content.new.value ≡ block_anchors content.old.value) }
     ensures alone { OnOk result (IsTrue ((block_seen content.old.value).merged) → (block_seen content.new.value).wait ≡ false) }
     ensures merged { OnOk result (IsTrue ((block_seen content.old.value).merged) → (block_seen content.new.value).merged ≡ true) }
 {
@@ -90,6 +93,7 @@ fn action<A: Allocator>(action: &mut Action<A>) -> Result<(), AllocError>
     ensures core { OnOk result (action_view action.new ≡ action_view action.old) }
     ensures declared { OnOk result (action_declared action.new ≡ action_declared action.old) }
     ensures listed { OnOk result (action_listed action.new ≡ action_listed action.old) }
+    ensures cells { OnOk result (action_anchors action.new ≡ action_anchors action.old) }
     ensures merged { OnOk result (IsTrue ((action_seen action.new).merged)) }
 {
     match action {
@@ -125,6 +129,7 @@ fn each<A: Allocator>(statements: &mut Vec<Statement<A>, A>) -> Result<(), Alloc
     ensures core { OnOk result (statements_view statements.new.items ≡ statements_view statements.old.items) }
     ensures declared { OnOk result (map statement_declared statements.new.items ≡ map statement_declared statements.old.items) }
     ensures listed { OnOk result (map statement_listed statements.new.items ≡ map statement_listed statements.old.items) }
+    ensures cells { OnOk result (map statement_anchors statements.new.items ≡ map statement_anchors statements.old.items) }
     ensures merged { OnOk result (IsTrue (all_merged (map statement_seen statements.new.items))) }
 {
     for i in 0..statements.len() {
@@ -140,6 +145,7 @@ pub fn block<A: Allocator>(block: &mut Block<A>) -> Result<(), AllocError>
     ensures core { OnOk result (block_view block.new ≡ block_view block.old) }
     ensures declared { OnOk result (block_declared block.new ≡ block_declared block.old) }
     ensures listed { OnOk result (block_listed block.new ≡ block_listed block.old) }
+    ensures cells { OnOk result (block_anchors block.new ≡ block_anchors block.old) }
     ensures merged { OnOk result (IsTrue ((block_seen block.new).merged)) }
 {
     each(&mut block.statements)?;

@@ -20,10 +20,10 @@ pub emit-requires-clause-size : goal.emit-requires-clause-size
 emit-requires-clause-size g c = flow_size {A = g.row.A.Denot} c.args.src.now c.in_ok-flow.flow c.in_ok-flow.ensures.flow
 
 pub of-requires-clause-whole : goal.of-requires-clause-whole
-of-requires-clause-whole g c = (compiled {A = g.row.A.Denot} c.args.src.now c.in_ok-flow.flow c.in_ok-flow.ensures.flow c.in-Ok.draft c.in-Ok.ensures).whole
+of-requires-clause-whole g c = (compiled {A = g.row.A.Denot} c.args.src.now c.in_ok-flow.flow c.in_ok-flow.ensures.flow c.in-Ok.draft c.in-Ok.ensures.emitted).whole
 
 pub of-requires-clause-few : goal.of-requires-clause-few
-of-requires-clause-few g c = (compiled {A = g.row.A.Denot} c.args.src.now c.in_ok-flow.flow c.in_ok-flow.ensures.flow c.in-Ok.draft c.in-Ok.ensures).few
+of-requires-clause-few g c = (compiled {A = g.row.A.Denot} c.args.src.now c.in_ok-flow.flow c.in_ok-flow.ensures.flow c.in-Ok.draft c.in-Ok.ensures.emitted).few
 
 pub returns-in-Ok-clause-code : goal.returns-in-Ok-clause-code
-returns-in-Ok-clause-code g c = rw c.of.ensures (compiled {A = g.row.A.Denot} c.args.src.now c.in_ok-flow.flow c.in_ok-flow.ensures.flow c.in-Ok.draft c.in-Ok.ensures)
+returns-in-Ok-clause-code g c = rw c.of.ensures (compiled {A = g.row.A.Denot} c.args.src.now c.in_ok-flow.flow c.in_ok-flow.ensures.flow c.in-Ok.draft c.in-Ok.ensures.emitted)

@@ -1,11 +1,11 @@
-use Rattle.std.proofs.Common.{map, ap, ◌∙◌}
+use Rattle.std.proofs.Common.{map, ap, refl, ◌∙◌}
 use Rattle.task_code.specs.Code as pure
 use Rattle.task_code.specs.View as code_view
 use Rattle.emit_cells.proofs.Calls.{next_is}
 use Rattle.emit_cells.proofs.parts.call_act.Goals as goal
 
-pub returns : goal.returns
-returns g c all passed room =
+pub returns-clause-calls : goal.returns-clause-calls
+returns-clause-calls g c all passed room =
     let ins = map code_view.argument_view c.in_ok-found.found.items in
     let outs = map code_view.name_view c.in_ok-outputs.outputs.items in
     record {
@@ -15,3 +15,6 @@ returns g c all passed room =
       inputs = c.in_ok-found.ensures all passed room.1.0;
       outputs = c.in_ok-outputs.ensures room.1.1;
     }
+
+pub returns-clause-unmarked : goal.returns-clause-unmarked
+returns-clause-unmarked g c = λ node mark. refl

@@ -12,8 +12,8 @@ use Rattle.emit_statements.proofs.Outers.{few_as}
 use Rattle.emit_statements.proofs.Puts.{few_both, put_added, wanted_both}
 use Rattle.emit_statements.proofs.insert.add_put.Goals as goal
 
-pub returns : goal.returns
-returns g c room priority =
+pub returns-clause-own : goal.returns-clause-own
+returns-clause-own g c room priority =
     let A = g.row.A.Denot in
     let s = c.args.statement.standing in
     let k = s.inputs in
@@ -39,4 +39,7 @@ returns g c room priority =
     let listed = subst (λ (ns : List Need). Noted ns ks) (wanted_both k first second) noted in
     put_added s c.args.statement.node (name_view c.args.array) i o first second ks (Put target place value) c.args.entries.now.items c.put.new.entries.items priority
     (ap (λ t. seen_as t i.cell.node i.cell.form) c.is_outer_plain-plain_index.ensures) (ap (λ t. seen_as t o.cell.node o.cell.form) c.is_outer_plain-plain_right.ensures) listed does
-    (c.in_ok-put.ensures (flat_map (wanted k) (first ∷ second ∷ [])) listed)
+    (c.in_ok-put.ensures.entry (flat_map (wanted k) (first ∷ second ∷ [])) listed)
+
+pub returns-clause-marks : goal.returns-clause-marks
+returns-clause-marks g c = c.in_ok-put.ensures.marks

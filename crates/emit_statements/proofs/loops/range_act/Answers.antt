@@ -1,4 +1,4 @@
-use Rattle.std.proofs.Common.{ap, map, ◌∙◌}
+use Rattle.std.proofs.Common.{ap, map, refl, ◌∙◌}
 use Rattle.std.specs.Prelude.{option_map}
 use Rattle.flow.specs.View.{outer_view}
 use Rattle.task_code.specs.View as code_view
@@ -10,8 +10,8 @@ use Rattle.emit_statements.specs.Blocks.{seen_step}
 use Rattle.emit_statements.proofs.Bounds.{ranged_is}
 use Rattle.emit_statements.proofs.loops.range_act.Goals as goal
 
-pub returns : goal.returns
-returns g c ready room_low room_high room_step =
+pub returns-clause-does : goal.returns-clause-does
+returns-clause-does g c ready room_low room_high room_step =
     let A = g.row.A.Denot in
     let k = c.args.inputs in
     let ns = map need_of c.args.needs.now.keys in
@@ -22,3 +22,6 @@ returns g c ready room_low room_high room_step =
     (c.in_ok-low.ensures ready room_low.1 ∙ ap (λ b. over k ns (seen_as b low.cell.node low.cell.form)) c.is_outer_plain.ensures)
     (c.in_ok-high.ensures ready room_high.1 ∙ ap (λ b. over k ns (seen_as b high.cell.node high.cell.form)) c.is_outer_plain-2.ensures)
     (c.in_ok-step.ensures ready room_step)
+
+pub returns-clause-unmarked : goal.returns-clause-unmarked
+returns-clause-unmarked g c = λ node mark. refl

@@ -10,6 +10,10 @@ use Rattle.flow.specs.declared.statement.Action.{Action}
 use Rattle.flow.specs.View.{action_view, name_view, names_view}
 use Rattle.syntax_trees.proofs.Views.{view-Call}
 use Rattle.lowering.proofs.Views.{view_expr}
+use Rattle.flow_listed.specs.Cells.{AreAmong, action_anchors}
+use Rattle.flow_listed.proofs.Growing.{among_as, among_equal, among_then}
+use Rattle.lowering.specs.Nodes.{all_nodes, expression_nodes, form_nodes}
+use Rattle.lowering.proofs.Anchors.{form_among, node_among}
 use Rattle.lowering.proofs.Actions.{value_called}
 use Rattle.lowering.proofs.right.of_value.Goals as goal
 
@@ -30,3 +34,14 @@ returns-in_ok-outputs-in-Function-clause-core g c =
     (λ a so. so
     ∙ ap (λ n. rules.composite_call (pos 0) (word_of {A = A} n) c.in-Function.function (rules.arguments_of t es) (names_view c.in_ok-outputs-in-Function.outputs.items)) c.deref-in-Function.ensures
     ∙ ap (λ os. rules.composite_call (pos 0) w c.in-Function.function (rules.arguments_of t es) (names_view os)) c.in_ok-outputs-in-Function.ensures ∙ sym is) c.call_alone.ensures.core
+
+pub returns-in_ok-outputs-in-Function-clause-cells : goal.returns-in_ok-outputs-in-Function-clause-cells
+returns-in_ok-outputs-in-Function-clause-cells g c =
+    let A = g.row.A.Denot in
+    let told : Action A → Type 0 = λ a. AreAmong (action_anchors a) (all_nodes (map (expression_view {A = A}) c.in-Call.arguments.items)) in
+    let wanted : Action A → Type 0 = λ a. AreAmong (action_anchors a) (expression_nodes (expression_view {A = A} c.args.expr.now)) in
+    let inside = among_then (among_equal (sym (ap form_nodes (ap form_view c.in-Call.is ∙ view-Call c.in-Call.name c.in-Call.arguments)))) (form_among A c.args.expr.now) in
+    IfOk-weaker c.call_alone.result told wanted (λ a found. among_then found inside) c.call_alone.ensures.cells
+
+pub returns-in-Array-clause-cells : goal.returns-in-Array-clause-cells
+returns-in-Array-clause-cells g c = IfOk-weaker c.filled.result _ _ (λ a is. among_as is (node_among g.row.A.Denot c.args.expr.now)) c.filled.ensures.cells

@@ -1,4 +1,8 @@
 use Rattle.std.proofs.Common.{◌++◌, ◌∷◌, [], ◌≡◌, Bool, List, map, ap, sym, ◌∙◌}
+use Rattle.std.specs.List.{flat_map}
+use Rattle.flow_listed.specs.Cells.{Anchor, function_anchors}
+use Rattle.flow_listed.proofs.Growing.{among_equal, among_then, grows_among, grows_by}
+use Rattle.lowering.specs.Nodes.{body_nodes, function_nodes}
 use Rattle.std.proofs.lemmas.List.{append-nil, map-append}
 use Rattle.syntax_trees.specs.declared.tree.Function.{Function as Composite'}
 use Rattle.language.specs.Core as core
@@ -60,3 +64,15 @@ returns-in_ok-push-in-Function-clause-shown g c =
     ∙ flat_map-append (function_shown {A = A}) c.args.found.now.items (c.in_ok-function-in-Function.field-0 ∷ []))
     (c.in_ok-function-in-Function.ensures.shown ∙ ap (λ (f : Composite' A). composite_shown (composite_of f)) c.deref.ensures)
     (ap part_of c.in-Function.is)
+
+pub returns-in_ok-push-in-Function-clause-cells : goal.returns-in_ok-push-in-Function-clause-cells
+returns-in_ok-push-in-Function-clause-cells g c =
+    let A = g.row.A.Denot in
+    let made = c.in_ok-function-in-Function.field-0 in
+    let old = flat_map (function_anchors {A = A}) c.args.found.now.items in
+    let added = ap (flat_map (function_anchors {A = A})) c.in_ok-push-in-Function.ensures.items ∙ flat_map-append (function_anchors {A = A}) c.args.found.now.items (made ∷ [])
+    ∙ ap (λ (xs : List Anchor). old ++ xs) (append-nil (function_anchors {A = A} made)) in
+    grows_among (grows_by old _ (function_anchors {A = A} made) added)
+    (among_then c.in_ok-function-in-Function.ensures.cells
+    (among_equal (ap (λ (f : Composite' A). body_nodes (composite_of f).body) c.deref.ensures ∙ sym (append-nil (body_nodes (composite_of {A = A} c.in-Function.one.value).body))
+    ∙ ap (λ (p : Part). function_nodes (p ∷ [])) (sym (ap part_of c.in-Function.is)))))

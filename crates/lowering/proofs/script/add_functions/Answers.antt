@@ -10,11 +10,16 @@ use Rattle.flow.specs.View.{function_view}
 use Rattle.lowering.specs.Shapes.{flagged, function_declarations, kinds_of_signature}
 use Rattle.flow_listed.specs.Listed.{functions_shown}
 use Rattle.lowering.specs.Listed.{composites_shown}
+use Rattle.flow_listed.proofs.Growing.{grows_again, grows_among, grows_none}
+use Rattle.lowering.proofs.Anchors.{function_at}
 use Rattle.lowering.proofs.Declaring.{function_next, kinds_next}
 use Rattle.lowering.proofs.Showing.{shown_next}
 use Rattle.lowering.proofs.Statements.{function_first}
 use Rattle.lowering.proofs.Walks.{walked_more, walked_all}
 use Rattle.lowering.proofs.script.add_functions.Goals as goal
+
+pub loop-item-init : goal.loop-item-init
+loop-item-init g c = (refl, refl, refl, refl, grows_none _ _)
 
 pub loop-item-preserved : goal.loop-item-preserved
 loop-item-preserved g c =
@@ -36,6 +41,8 @@ loop-item-preserved g c =
           (functions_shown c.args.found.now.items ++ composites_shown (map (part_of {A = A}) c.args.items.now.items))
           (functions_shown c.loop-item.found.items) (functions_shown c.add_function.new.found.items) c.args.items.now.items c.loop-item.item-index c.item-item.result
           c.loop-item.invariant.3 (grind (arith, common_steps)) (grind (arith, common_steps)) c.in_ok-add_function.ensures.shown,
+      grows_again c.loop-item.invariant.4
+          (grows_among c.in_ok-add_function.ensures.cells (function_at (part_of {A = A}) c.args.items.now.items c.loop-item.item-index c.item-item.result (grind (arith, common_steps)) (grind (arith, common_steps)))),
     )
 
 pub returns-clause-core : goal.returns-clause-core
@@ -66,3 +73,6 @@ returns-clause-shown g c =
     walked_all (part_of {A = A}) composites_shown refl
     (functions_shown c.args.found.now.items ++ composites_shown (map (part_of {A = A}) c.args.items.now.items))
     (functions_shown c.loop-item.found.items) c.args.items.now.items c.loop-item.item-index c.loop-item.invariant.3 (grind (arith, common_steps))
+
+pub returns-clause-cells : goal.returns-clause-cells
+returns-clause-cells g c = c.loop-item.invariant.4

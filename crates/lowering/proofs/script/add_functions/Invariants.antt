@@ -5,6 +5,9 @@ use Rattle.types.specs.Typed.{table_of}
 use Rattle.flow.specs.View.{function_view}
 use Rattle.flow.specs.Shapes.{functions_declared, kinds_of_function}
 use Rattle.language.specs.Scopes.{signatures}
+use Rattle.std.specs.List.{flat_map}
+use Rattle.flow_listed.specs.Cells.{AnchorsGrow, function_anchors}
+use Rattle.lowering.specs.Nodes.{function_nodes}
 use Rattle.flow_listed.specs.Listed.{functions_shown}
 use Rattle.lowering.specs.Listed.{composites_shown}
 use Rattle.lowering.specs.Shapes.{flagged, function_declarations, kinds_of_signature}
@@ -20,3 +23,4 @@ invariant-loop-item g l =
     ≡ map kinds_of_function l.found.items ++ map kinds_of_signature (signatures (map part_of (drop l.item-index l.items.items))))
     × (functions_shown l.fn.found.items ++ composites_shown (map part_of l.items.items)
     ≡ functions_shown l.found.items ++ composites_shown (map part_of (drop l.item-index l.items.items)))
+    × AnchorsGrow (flat_map function_anchors l.fn.found.items) (flat_map function_anchors l.found.items) (function_nodes (map part_of l.items.items))

@@ -7,11 +7,16 @@ use Rattle.flow.specs.View.{statements_view}
 use Rattle.lowering.specs.Shapes.{declared_by, flagged, own_declarations}
 use Rattle.lowering.specs.View.{own_statements}
 use Rattle.lowering.specs.Listed.{listed_by, own_listed}
+use Rattle.flow_listed.proofs.Growing.{grows_again, grows_among, grows_none}
+use Rattle.lowering.proofs.Anchors.{own_at}
 use Rattle.lowering.proofs.Declaring.{own_next}
 use Rattle.lowering.proofs.Showing as shows
 use Rattle.lowering.proofs.Statements.{part_first}
 use Rattle.lowering.proofs.Walks.{walked_more, walked_all}
 use Rattle.lowering.proofs.script.add_statements.Goals as goal
+
+pub loop-item-init : goal.loop-item-init
+loop-item-init g c = (refl, refl, refl, grows_none _ _)
 
 pub loop-item-preserved : goal.loop-item-preserved
 loop-item-preserved g c =
@@ -28,6 +33,8 @@ loop-item-preserved g c =
           (listed_by c.args.found.now.items ++ own_listed (map (part_of {A = g.row.A.Denot}) c.args.items.now.items))
           (listed_by c.loop-item.found.items) (listed_by c.add_statement.new.found.items) c.args.items.now.items c.loop-item.item-index c.item-item.result
           c.loop-item.invariant.2 (grind (arith, common_steps)) (grind (arith, common_steps)) c.in_ok-add_statement.ensures.listed,
+      grows_again c.loop-item.invariant.3
+          (grows_among c.in_ok-add_statement.ensures.cells (own_at (part_of {A = g.row.A.Denot}) c.args.items.now.items c.loop-item.item-index c.item-item.result (grind (arith, common_steps)) (grind (arith, common_steps)))),
     )
 
 pub returns-clause-core : goal.returns-clause-core
@@ -48,3 +55,6 @@ returns-clause-listed g c =
     walked_all (part_of {A = g.row.A.Denot}) own_listed refl
     (listed_by c.args.found.now.items ++ own_listed (map (part_of {A = g.row.A.Denot}) c.args.items.now.items))
     (listed_by c.loop-item.found.items) c.args.items.now.items c.loop-item.item-index c.loop-item.invariant.2 (grind (arith, common_steps))
+
+pub returns-clause-cells : goal.returns-clause-cells
+returns-clause-cells g c = c.loop-item.invariant.3

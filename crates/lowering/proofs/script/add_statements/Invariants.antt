@@ -4,6 +4,7 @@ use Rattle.types.specs.Typed.{table_of}
 use Rattle.flow.specs.View.{statements_view}
 use Rattle.lowering.specs.Shapes.{declared_by, flagged, own_declarations}
 use Rattle.lowering.specs.Listed.{listed_by, own_listed}
+use Rattle.lowering.specs.Nodes.{StatementsStand, own_nodes}
 use Rattle.lowering.specs.View.{own_statements}
 use Rattle.lowering.proofs.script.add_statements.Given as goal
 
@@ -15,3 +16,4 @@ invariant-loop-item g l =
     ≡ declared_by l.found.items ++ flagged (own_declarations (map part_of (drop l.item-index l.items.items))))
     × (listed_by l.fn.found.items ++ own_listed (map part_of l.items.items)
     ≡ listed_by l.found.items ++ own_listed (map part_of (drop l.item-index l.items.items)))
+    × StatementsStand l.fn.found.items l.found.items (own_nodes (map part_of l.items.items))

@@ -1,4 +1,8 @@
-use Rattle.std.proofs.Common.{List, ◌++◌, map, ap, ◌∙◌}
+use Rattle.std.proofs.Common.{List, ◌++◌, map, ap, subst, ◌∙◌}
+use Rattle.std.specs.List.{flat_map}
+use Rattle.flow_listed.specs.Cells.{AnchorsGrow, statement_anchors}
+use Rattle.flow_listed.proofs.Growing.{among_as}
+use Rattle.lowering.specs.Nodes.{own_nodes}
 use Rattle.flow.specs.declared.statement.Statement.{Statement as Added}
 use Rattle.flow_listed.specs.Listed as shows
 use Rattle.lowering.specs.Listed.{listed_by, own_listed}
@@ -22,3 +26,10 @@ returns-clause-listed g c =
     c.block_at.ensures.listed
     ∙ ap (shows.block_of 0)
     (c.in_ok-add_statements.ensures.listed ∙ ap (λ (xs : List (Added A)). listed_by xs ++ own_listed (map (part_of {A = A}) c.args.items.now.items)) c.new-statements.ensures.items)
+
+pub returns-clause-cells : goal.returns-clause-cells
+returns-clause-cells g c =
+    let A = g.row.A.Denot in
+    let now = flat_map (statement_anchors {A = A}) c.add_statements.new.found.items in
+    among_as c.block_at.ensures.cells
+    (subst (λ (xs : List (Added A)). AnchorsGrow (flat_map statement_anchors xs) now (own_nodes (map (part_of {A = A}) c.args.items.now.items))) c.new-statements.ensures.items c.in_ok-add_statements.ensures.cells).each

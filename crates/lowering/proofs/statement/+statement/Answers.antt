@@ -32,6 +32,13 @@ use Rattle.language.specs.declared.tree.Shape.{Shape}
 use Rattle.lowering.specs.Listed.{all_listed, body_listed, command_listed, listed, listed_by}
 use Rattle.lowering.specs.View.{as_declared}
 use Rattle.lowering.proofs.Showing.{listed_next, lists_form}
+use Rattle.std.specs.List.{flat_map}
+use Rattle.syntax_trees.specs.declared.tree.Expr.{Expr}
+use Rattle.syntax_trees.specs.declared.tree.Block.{Block}
+use Rattle.flow_listed.specs.Cells.{AreAmong, block_anchors, statement_anchors}
+use Rattle.flow_listed.proofs.Growing.{among_as, among_each, among_equal, among_self, among_then, grows_again, grows_among, grows_as, grows_none}
+use Rattle.lowering.specs.Nodes.{body_nodes, calling_nodes, command_nodes, expression_nodes, over_nodes, statement_nodes}
+use Rattle.lowering.proofs.Anchors.{block_stands, form_stands, statement_at}
 use Rattle.lowering.proofs.Walks.{walked_more, walked_all}
 use Rattle.lowering.proofs.statement.+statement.Goals as goal
 
@@ -45,6 +52,9 @@ pub boxed_block-each-requires : goal.boxed_block-each-requires
 boxed_block-each-requires g t c κs within =
     let e = block-size g.row.A.Denot c.args.body.now in
     search rules
+
+pub each-loop-stmt-init : goal.each-loop-stmt-init
+each-loop-stmt-init g t c = (refl, refl, refl, grows_none _ _)
 
 pub each-loop-stmt-preserved : goal.each-loop-stmt-preserved
 each-loop-stmt-preserved g t c =
@@ -61,6 +71,9 @@ each-loop-stmt-preserved g t c =
           (listed_by c.args.found.now.items ++ all_listed (map (statement_view {A = g.row.A.Denot}) c.args.statements.now.items))
           (listed_by c.loop-stmt.found.items) (listed_by c.statement.new.found.items) c.args.statements.now.items c.loop-stmt.stmt-index c.stmt-item.result
           c.loop-stmt.invariant.2 (grind (arith, common_steps)) (grind (arith, common_steps)) c.in_ok-statement.ensures.listed,
+      grows_again c.loop-stmt.invariant.3
+          (grows_among c.in_ok-statement.ensures.cells
+          (statement_at (statement_view {A = g.row.A.Denot}) c.args.statements.now.items c.loop-stmt.stmt-index c.stmt-item.result (grind (arith, common_steps)) (grind (arith, common_steps)))),
     )
 
 pub each-returns-clause-core : goal.each-returns-clause-core
@@ -420,3 +433,122 @@ boxed_block-returns-clause-listed g t c =
     (λ x is. is ∙ ap (shows.block_of b.from) (c.in_ok-each.ensures.listed
     ∙ ap (λ (xs : List (Added A)). listed_by xs ++ all_listed (map (statement_view {A = A}) b.statements.items)) c.new-statements.ensures.items)
     ∙ ap body_listed (sym (view-Block A c.args.body.now))) c.boxed_at.ensures.listed
+
+-- WHERE CELLS STAND
+
+pub statement-returns-clause-cells : goal.statement-returns-clause-cells
+statement-returns-clause-cells g t c =
+    on_ok_weaker c.command.result (λ grown. grows_as (ap statement_nodes (view_stmt g.row.A.Denot c.args.stmt.now)) grown) c.command.ensures.cells
+
+pub each-returns-clause-cells : goal.each-returns-clause-cells
+each-returns-clause-cells g t c = c.loop-stmt.invariant.3
+
+pub boxed_block-returns-clause-cells : goal.boxed_block-returns-clause-cells
+boxed_block-returns-clause-cells g t c =
+    let A = g.row.A.Denot in
+    let b = out-Block A c.args.body.now in
+    let told : Box (Made A) A → Type 0 = λ x. block_anchors x.value ≡ flat_map statement_anchors c.each.new.found.items in
+    let wanted : Box (Made A) A → Type 0 = λ x. AreAmong (block_anchors x.value) (body_nodes (body_view {A = A} c.args.body.now)) in
+    IfOk-weaker c.boxed_at.result told wanted
+    (λ x is. among_as is
+    (block_stands c.new-statements.result.items c.each.new.found.items b.from (map (statement_view {A = A}) b.statements.items) (body_view {A = A} c.args.body.now)
+    c.new-statements.ensures.items c.in_ok-each.ensures.cells (view-Block A c.args.body.now))) c.boxed_at.ensures.cells
+
+pub command-returns-in-Declare-clause-cells : goal.command-returns-in-Declare-clause-cells
+command-returns-in-Declare-clause-cells g t c =
+    on_ok_weaker c.declaration.result
+    (λ grown. grows_as (ap command_nodes (ap command_view c.in-Declare.is ∙ view_declaration c.in-Declare.decl c.in-Declare.right)) grown)
+    c.declaration.ensures.cells
+
+pub command-returns-in-Assign-clause-cells : goal.command-returns-in-Assign-clause-cells
+command-returns-in-Assign-clause-cells g t c =
+    let A = g.row.A.Denot in
+    on_ok_weaker c.add_made.result
+    (λ adds. form_stands c.assignment.result (command_view {A = A} c.args.kind.now) (trees.assign (word_of {A = A} c.in-Assign.name) (right_of {A = A} c.in-Assign.right))
+    (flat_map statement_anchors c.args.found.now.items) (flat_map statement_anchors c.add_made.new.found.items) _
+    (ap command_view c.in-Assign.is ∙ view_assign c.in-Assign.name c.in-Assign.right) c.assignment.ensures.cells
+    (among_self _) adds)
+    c.add_made.ensures.cells
+
+pub command-returns-in-Write-clause-cells : goal.command-returns-in-Write-clause-cells
+command-returns-in-Write-clause-cells g t c =
+    let A = g.row.A.Denot in
+    on_ok_weaker c.add_made-in-Write.result
+    (λ adds. form_stands c.insert.result (command_view {A = A} c.args.kind.now) (trees.write (word_of {A = A} c.in-Write.name) (expression_view {A = A} c.in-Write.index.value) (expression_view {A = A} c.in-Write.value.value))
+    (flat_map statement_anchors c.args.found.now.items) (flat_map statement_anchors c.add_made-in-Write.new.found.items) _
+    (ap command_view c.in-Write.is ∙ view_write c.in-Write.name c.in-Write.index c.in-Write.value) c.insert.ensures.cells
+    (among_equal (ap₂ (λ (i e : Expr A). expression_nodes (expression_view i) ++ expression_nodes (expression_view e)) c.deref.ensures c.deref-in-Write.ensures)) adds)
+    c.add_made-in-Write.ensures.cells
+
+pub command-returns-in-AssignAll-clause-cells : goal.command-returns-in-AssignAll-clause-cells
+command-returns-in-AssignAll-clause-cells g t c =
+    let A = g.row.A.Denot in
+    on_ok_weaker c.add_made-in-AssignAll.result
+    (λ adds. form_stands c.several.result (command_view {A = A} c.args.kind.now) (trees.assign_all (words_view {A = A} c.in-AssignAll.names) (calling_of {A = A} c.in-AssignAll.call.value))
+    (flat_map statement_anchors c.args.found.now.items) (flat_map statement_anchors c.add_made-in-AssignAll.new.found.items) _
+    (ap command_view c.in-AssignAll.is ∙ view_assign_all c.in-AssignAll.names c.in-AssignAll.call) c.several.ensures.cells
+    (among_equal (ap calling_nodes (ap (calling_of {A = A}) c.deref-in-AssignAll.ensures))) adds)
+    c.add_made-in-AssignAll.ensures.cells
+
+pub command-returns-in-Call-clause-cells : goal.command-returns-in-Call-clause-cells
+command-returns-in-Call-clause-cells g t c =
+    let A = g.row.A.Denot in
+    on_ok_weaker c.add_made-in-Call.result
+    (λ adds. form_stands c.statement_call-action.result (command_view {A = A} c.args.kind.now) (trees.calls c.in-Call.priority (calling_of {A = A} c.in-Call.call.value))
+    (flat_map statement_anchors c.args.found.now.items) (flat_map statement_anchors c.add_made-in-Call.new.found.items) _
+    (ap command_view c.in-Call.is ∙ view_calls c.in-Call.priority c.in-Call.call) c.statement_call-action.ensures.cells
+    (among_equal (ap calling_nodes (ap (calling_of {A = A}) c.deref-in-Call.ensures))) adds)
+    c.add_made-in-Call.ensures.cells
+
+pub command-returns-in-None-clause-cells : goal.command-returns-in-None-clause-cells
+command-returns-in-None-clause-cells g t c =
+    let A = g.row.A.Denot in
+    let e = expression_view {A = A} c.in-If.test.value in
+    let b = body_view {A = A} c.in-If.then.value in
+    on_ok_weaker c.add_made-in-None.result
+    (λ adds. form_stands c.choice.result (command_view {A = A} c.args.kind.now) (trees.choice e b)
+    (flat_map statement_anchors c.args.found.now.items) (flat_map statement_anchors c.add_made-in-None.new.found.items) _
+    (ap command_view c.in-If.is ∙ view_if c.in-If.test c.in-If.then c.in-If.other ∙ ap (λ o. choice_of e b (option_map (λ it. body_view {A = A} it.value) o)) c.in-None.is) c.choice.ensures.cells
+    (among_each _ _ _ _ (among_equal (ap (λ (x : Expr A). expression_nodes (expression_view x)) c.deref-in-None.ensures))
+    (among_then c.in_ok-then-in-If.ensures.cells (among_equal (ap (λ (x : Block A). body_nodes (body_view x)) c.deref-in-If.ensures)))) adds)
+    c.add_made-in-None.ensures.cells
+
+pub command-returns-in_ok-other-in-Some-clause-cells : goal.command-returns-in_ok-other-in-Some-clause-cells
+command-returns-in_ok-other-in-Some-clause-cells g t c =
+    let A = g.row.A.Denot in
+    let e = expression_view {A = A} c.in-If.test.value in
+    let b = body_view {A = A} c.in-If.then.value in
+    let o = body_view {A = A} c.in-Some.other.value in
+    on_ok_weaker c.add_made-in-Some.result
+    (λ adds. form_stands c.choice_else-action.result (command_view {A = A} c.args.kind.now) (trees.choice_else e b o)
+    (flat_map statement_anchors c.args.found.now.items) (flat_map statement_anchors c.add_made-in-Some.new.found.items) _
+    (ap command_view c.in-If.is ∙ view_if c.in-If.test c.in-If.then c.in-If.other ∙ ap (λ x. choice_of e b (option_map (λ it. body_view {A = A} it.value) x)) c.in-Some.is) c.choice_else-action.ensures.cells
+    (among_each _ _ _ _
+    (among_each _ _ _ _ (among_equal (ap (λ (x : Expr A). expression_nodes (expression_view x)) c.deref-in-Some-2.ensures))
+    (among_then c.in_ok-then-in-If.ensures.cells (among_equal (ap (λ (x : Block A). body_nodes (body_view x)) c.deref-in-If.ensures))))
+    (among_then c.in_ok-other-in-Some.ensures.cells (among_equal (ap (λ (x : Block A). body_nodes (body_view x)) c.deref-in-Some.ensures)))) adds)
+    c.add_made-in-Some.ensures.cells
+
+pub command-returns-in_ok-body-in-Foreach-clause-cells : goal.command-returns-in_ok-body-in-Foreach-clause-cells
+command-returns-in_ok-body-in-Foreach-clause-cells g t c =
+    let A = g.row.A.Denot in
+    on_ok_weaker c.add_made-in-Foreach.result
+    (λ adds. form_stands c.repeated.result (command_view {A = A} c.args.kind.now) (trees.loop (word_of {A = A} c.in-Foreach.header.value.value) (option_map (word_of {A = A}) c.in-Foreach.header.value.key) (over_of {A = A} c.in-Foreach.header.value.source) (body_view {A = A} c.in-Foreach.body.value))
+    (flat_map statement_anchors c.args.found.now.items) (flat_map statement_anchors c.add_made-in-Foreach.new.found.items) _
+    (ap command_view c.in-Foreach.is ∙ view-Foreach c.in-Foreach.header c.in-Foreach.body) c.repeated.ensures.cells
+    (among_each _ _ _ _ (among_equal (ap (λ (h : Header A). over_nodes (over_of h.source)) c.deref-in-Foreach-2.ensures))
+    (among_then c.in_ok-body-in-Foreach.ensures.cells (among_equal (ap (λ (x : Block A). body_nodes (body_view x)) c.deref-in-Foreach.ensures)))) adds)
+    c.add_made-in-Foreach.ensures.cells
+
+pub command-returns-in_ok-body-in-Wait-clause-cells : goal.command-returns-in_ok-body-in-Wait-clause-cells
+command-returns-in_ok-body-in-Wait-clause-cells g t c =
+    let A = g.row.A.Denot in
+    let nodes = body_nodes (body_view {A = A} c.in-Wait.body.value) in
+    on_ok_weaker c.add_made-in-Wait.result
+    (λ adds. form_stands c.waiting.result (command_view {A = A} c.args.kind.now) (trees.waits (words_view {A = A} c.in-Wait.names) (body_view {A = A} c.in-Wait.body.value))
+    (flat_map statement_anchors c.args.found.now.items) (flat_map statement_anchors c.add_made-in-Wait.new.found.items) nodes
+    (ap command_view c.in-Wait.is ∙ view-Wait c.in-Wait.names c.in-Wait.body)
+    (IfOk-weaker c.waiting.result _ _
+    (λ a is. among_as is (among_then c.in_ok-body-in-Wait.ensures.cells (among_equal (ap (λ (x : Block A). body_nodes (body_view x)) c.deref-in-Wait.ensures)))) c.waiting.ensures.cells)
+    (among_self nodes) adds)
+    c.add_made-in-Wait.ensures.cells

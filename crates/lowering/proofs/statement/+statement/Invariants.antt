@@ -6,6 +6,7 @@ use Rattle.types.specs.Typed.{table_of}
 use Rattle.flow.specs.View.{statements_view}
 use Rattle.lowering.specs.Shapes.{among, declared_by, flagged}
 use Rattle.lowering.specs.Listed.{all_listed, listed_by}
+use Rattle.lowering.specs.Nodes.{StatementsStand, nodes_among}
 use Rattle.lowering.specs.View.{statements_among}
 use Rattle.lowering.proofs.statement.+statement.Given as goal
 
@@ -29,3 +30,4 @@ invariant-each-loop-stmt g l =
     ≡ declared_by l.found.items ++ flagged (among (map statement_view (drop l.stmt-index l.statements.items))))
     × (listed_by l.fn.found.items ++ all_listed (map statement_view l.statements.items)
     ≡ listed_by l.found.items ++ all_listed (map statement_view (drop l.stmt-index l.statements.items)))
+    × StatementsStand l.fn.found.items l.found.items (nodes_among (map statement_view l.statements.items))

@@ -7,6 +7,8 @@ use Rattle.flow.specs.View.{action_view, statements_view}
 use Rattle.flow.specs.Shapes.{action_declared}
 use Rattle.lowering.specs.Shapes.{declared_by}
 use Rattle.flow_listed.specs.Listed.{action_listed}
+use Rattle.flow_listed.specs.Cells.{action_anchors}
+use Rattle.lowering.specs.Nodes.{StatementsStand}
 use Rattle.lowering.specs.Listed.{listed_by}
 use Rattle.lowering.proofs.statement.add_made.Goals as goal
 
@@ -30,3 +32,10 @@ returns-in-Ok-clause-listed g c =
     on_ok_weaker c.add.result
     (λ adds. subst (λ r. IsOkAnd r (λ (x : Action A). listed_by c.add.new.found.items ≡ listed_by c.args.found.now.items ++ action_listed x ∷ [])) (sym c.in-Ok.is) adds)
     c.add.ensures.listed
+
+pub returns-in-Ok-clause-cells : goal.returns-in-Ok-clause-cells
+returns-in-Ok-clause-cells g c =
+    let A = g.row.A.Denot in
+    on_ok_weaker c.add.result
+    (λ adds. subst (λ r. IsOkAnd r (λ (x : Action A). StatementsStand c.args.found.now.items c.add.new.found.items (action_anchors x))) (sym c.in-Ok.is) adds)
+    c.add.ensures.cells

@@ -10,6 +10,8 @@ use Rattle.lowering.proofs.Statements.{block_found}
 use Rattle.language_accepted.specs.Types.{body_declarations}
 use Rattle.lowering.specs.Shapes.{among, declared_by, flagged}
 use Rattle.flow_listed.specs.Listed as shows
+use Rattle.flow_listed.proofs.Growing.{among_as}
+use Rattle.lowering.proofs.Anchors.{block_stands}
 use Rattle.lowering.specs.Listed.{all_listed, body_listed, listed_by}
 use Rattle.lowering.proofs.statement.block.Goals as goal
 
@@ -38,3 +40,11 @@ returns-clause-listed g c =
     ∙ ap (shows.block_of b.from)
     (c.in_ok-each.ensures.listed ∙ ap (λ (xs : List (Added A)). listed_by xs ++ all_listed (map (statement_view {A = A}) b.statements.items)) c.new-statements.ensures.items)
     ∙ ap body_listed (sym (view-Block A c.args.body.now))
+
+pub returns-clause-cells : goal.returns-clause-cells
+returns-clause-cells g c =
+    let A = g.row.A.Denot in
+    let b = out-Block A c.args.body.now in
+    among_as c.block_at.ensures.cells
+    (block_stands c.new-statements.result.items c.each.new.found.items b.from (map (statement_view {A = A}) b.statements.items) (body_view {A = A} c.args.body.now)
+    c.new-statements.ensures.items c.in_ok-each.ensures.cells (view-Block A c.args.body.now))

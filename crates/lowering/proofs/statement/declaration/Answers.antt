@@ -1,4 +1,4 @@
-use Rattle.std.proofs.Common.{[], ◌∷◌, option_map, ap, ◌∙◌}
+use Rattle.std.proofs.Common.{[], ◌∷◌, Option, option_map, ap, sym, ◌∙◌}
 use Rattle.std.proofs.lemmas.Result.{on_ok_weaker}
 use Rattle.language.specs.Core as core
 use Rattle.syntax_trees.specs.View.{declaration_of, right_of}
@@ -7,6 +7,10 @@ use Rattle.flow.specs.declared.statement.Action.{Declare}
 use Rattle.flow.specs.View.{action_view, name_view, statements_view}
 use Rattle.lowering.proofs.Loops.{view_declare}
 use Rattle.flow_listed.specs.Listed.{action_listed, declares, other}
+use Rattle.syntax_trees.specs.declared.tree.Right.{Right}
+use Rattle.flow_listed.proofs.Anchors.{declare_anchors}
+use Rattle.flow_listed.proofs.Growing.{among_as, among_equal, among_none, among_then, grows_again, grows_among}
+use Rattle.lowering.specs.Nodes.{maybe_nodes, right_nodes}
 use Rattle.lowering.specs.Listed.{listed_by}
 use Rattle.lowering.specs.View.{Declared}
 use Rattle.lowering.proofs.Showing.{declare_shown, declares_alone, declares_both}
@@ -42,3 +46,14 @@ returns-in_ok-action-in-Some-clause-listed g c =
     (ap (option_map (right_of {A = A})) c.in-Some.is) c.in_ok-add.ensures.listed
     (declare_shown c.in_ok-variable.variable ∙ ap (λ (d : Declared). other (declares d ∷ [])) c.in_ok-variable.ensures.variable) adds c.in_ok-action-in-Some.ensures.listed)
     c.add-in-Some.ensures.listed
+
+pub returns-in-None-clause-cells : goal.returns-in-None-clause-cells
+returns-in-None-clause-cells g c = grows_among c.in_ok-add.ensures.cells (among_as (declare_anchors c.in_ok-variable.variable) (among_none _))
+
+pub returns-in_ok-action-in-Some-clause-cells : goal.returns-in_ok-action-in-Some-clause-cells
+returns-in_ok-action-in-Some-clause-cells g c =
+    let A = g.row.A.Denot in
+    on_ok_weaker c.add-in-Some.result
+    (λ adds. grows_again (grows_among c.in_ok-add.ensures.cells (among_as (declare_anchors c.in_ok-variable.variable) (among_none _)))
+    (grows_among adds (among_then c.in_ok-action-in-Some.ensures.cells (among_equal (sym (ap (λ (o : Option (Right A)). maybe_nodes right_nodes (option_map right_of o)) c.in-Some.is))))))
+    c.add-in-Some.ensures.cells

@@ -1,5 +1,6 @@
-use Rattle.std.proofs.Common.{option_map, refl, ap, ◌∙◌}
-use Rattle.syntax_trees.specs.View.{word_of, expression_view, over_of}
+use Rattle.std.proofs.Common.{option_map, refl, ap, sym, ◌∙◌}
+use Rattle.syntax_trees.specs.View.{word_of, expression_view, over_of, range_of}
+use Rattle.syntax_trees.specs.declared.tree.Source.{Source}
 use Rattle.syntax_trees.specs.declared.tree.Range.{Range}
 use Rattle.language.specs.Resolved as rules_of
 use Rattle.types.specs.Typed.{table_of}
@@ -8,6 +9,9 @@ use Rattle.lowering.proofs.Loops.{each_found, range_found}
 use Rattle.lowering.proofs.Declaring.{each_declared, range_declared}
 use Rattle.lowering.proofs.Showing.{each_shown, range_shown, same_loop}
 use Rattle.flow_listed.specs.Listed.{block_listed}
+use Rattle.flow_listed.proofs.Anchors.{each_anchors, range_loop_anchors}
+use Rattle.flow_listed.proofs.Growing.{among_as, among_each, among_equal, among_right, among_self, among_then}
+use Rattle.lowering.specs.Nodes.{over_nodes}
 use Rattle.lowering.proofs.statement.repeated.Goals as goal
 
 pub returns-in_ok-range-in-Range-clause-core : goal.returns-in_ok-range-in-Range-clause-core
@@ -47,3 +51,14 @@ pub returns-in-Array-clause-listed : goal.returns-in-Array-clause-listed
 returns-in-Array-clause-listed g c =
     each_shown c.refer.result c.in_ok-value.value c.in_ok-key.key c.args.body
     ∙ same_loop _ _ _ _ (block_listed c.args.body.value) c.in_ok-value.ensures.variable c.in_ok-key.ensures.variable
+
+pub returns-in_ok-range-in-Range-clause-cells : goal.returns-in_ok-range-in-Range-clause-cells
+returns-in_ok-range-in-Range-clause-cells g c =
+    let A = g.row.A.Denot in
+    among_as (range_loop_anchors c.in_ok-range-in-Range.range c.in_ok-value.value c.in_ok-key.key c.args.body)
+    (among_each _ _ _ _
+    (among_then c.in_ok-range-in-Range.ensures.cells (among_equal (ap (λ (r : Range A). over_nodes (range_of r)) c.deref.ensures ∙ sym (ap (λ (s : Source A). over_nodes (over_of s)) c.in-Range.is))))
+    (among_self _))
+
+pub returns-in-Array-clause-cells : goal.returns-in-Array-clause-cells
+returns-in-Array-clause-cells g c = among_as (each_anchors c.refer.result c.in_ok-value.value c.in_ok-key.key c.args.body) (among_right _ _)

@@ -14,6 +14,7 @@ use Rattle.meaning_round.specs.Standing.{active_of, deed_view}
 use Rattle.meaning_openings.specs.Opening.{HaveBodies}
 use Rattle.meaning_openings.proofs.Calling.{bodies_called, body_next, call_there, calls_more, no_bodies}
 use Rattle.meaning_openings.proofs.Entering.{more_joins, more_none}
+use Rattle.meaning_openings.proofs.Larger.{answer_passes, memory_is_small}
 use Rattle.meaning_openings.proofs.called.open_calls.Goals as goal
 
 pub loop-call-init : goal.loop-call-init
@@ -66,3 +67,13 @@ returns-clause-so g c =
     λ s n e w good live. bodies_called {A = A} s n c.args.state.now c.loop-call.state (active_of {A = A} c.args.task.now) good live
     (subst (λ (z : List core.Call). HaveBodies {A = A} s n c.args.state.now c.loop-call.state c.args.task.now.site.instance z)
     (ap (λ (z : List (Bor (Call A))). calls_listed {A = A} z) full ∙ listed) (c.loop-call.invariant.so s n e w good live))
+
+pub returns-in_err-calls-clause-large : goal.returns-in_err-calls-clause-large
+returns-in_err-calls-clause-large g c = memory_is_small _ c.from_residual.result c.from_residual.ensures.1
+
+pub returns-in_err-hold-clause-large : goal.returns-in_err-hold-clause-large
+returns-in_err-hold-clause-large g c = answer_passes c.in_err-hold.field-0.0 c.from_residual-in_err-hold.result c.from_residual-in_err-hold.ensures.1
+    (λ e s n same w good live. c.in_err-hold.ensures e s n (c.loop-call.invariant.so s n same w good live).step.so)
+
+pub returns-in_err-open_call-clause-large : goal.returns-in_err-open_call-clause-large
+returns-in_err-open_call-clause-large g c = memory_is_small _ c.from_residual-in_err-open_call.result c.from_residual-in_err-open_call.ensures.1

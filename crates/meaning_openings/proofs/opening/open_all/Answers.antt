@@ -10,7 +10,9 @@ use Rattle.meaning_invariants.specs.Active.{Active}
 use Rattle.std.proofs.lemmas.Option.{slice_get-map}
 use Rattle.meaning_cells.proofs.Ending.{slice_past, slice_there}
 use Rattle.meaning_openings.proofs.Entering.{more_joins}
+use Rattle.meaning_openings.proofs.Larger.{answer_passes}
 use Rattle.meaning_openings.proofs.Passing.{pass_all, pass_first, pass_next}
+use Rattle.meaning_openings.proofs.Taking.{got_in}
 use Rattle.meaning_openings.proofs.opening.open_all.Goals as goal
 
 pub loop-i-init : goal.loop-i-init
@@ -58,3 +60,41 @@ returns-in_default-clause-so g c =
     let p = pass_all {A = A} s n old mid c.loop-i.i (c.loop-i.invariant.so s n e w offsets good passed live) none in
     (record { so = p.step.so; goes = p.step.goes }, p.so, p.waiting.live, p.waiting.unready)
     )
+
+pub returns-in_err-open_waiting-clause-large : goal.returns-in_err-open_waiting-clause-large
+returns-in_err-open_waiting-clause-large g c = answer_passes c.in_err-open_waiting.field-0.0 c.from_residual.result c.from_residual.ensures.1
+    (λ e s n same w offsets good passed live. c.in_err-open_waiting.ensures.large e s n w offsets good live)
+
+pub returns-in_err-hold-clause-large : goal.returns-in_err-hold-clause-large
+returns-in_err-hold-clause-large g c = answer_passes c.in_err-hold.field-0.0 c.from_residual-in_err-hold.result c.from_residual-in_err-hold.ensures.1
+    (λ e s n same w offsets good passed live. c.in_err-hold.ensures e s n (c.loop-i.invariant.so s n same w offsets good passed live).step.so)
+
+pub returns-in_err-open_calls-clause-large : goal.returns-in_err-open_calls-clause-large
+returns-in_err-open_calls-clause-large g c =
+    let A = g.row.A.Denot in
+    let mid = c.loop-i.state in
+    let a = active_of {A = A} c.again-task.result in
+    let item : slice_get c.loop-i.state.tasks.items c.loop-i.i ≡ Some c.in-Some.task.now =
+    subst (λ (z : List (Task g.row.A.Denot)). slice_get z c.loop-i.i ≡ Some c.in-Some.task.now) c.deref.ensures.value
+    (slice_there c.deref.result.now c.loop-i.i c.in-Some.task.now c.in-Some.ensures.lookup.3.0 c.in-Some.ensures.lookup.1) in
+    let found = slice_get-map (active_of {A = A}) mid.tasks.items c.loop-i.i ∙ ap (option_map (active_of {A = A})) item ∙ ap (λ (z : Active). Some z) (sym c.again-task.ensures) in
+    answer_passes c.in_err-open_calls.field-0.0 c.from_residual-in_err-open_calls.result c.from_residual-in_err-open_calls.ensures.1
+    (λ e s n same w offsets good passed live. c.in_err-open_calls.ensures.large e s n (same ∙ ap (λ (z : Flow A). core_of z) (sym c.loop-i.invariant.flow)) w
+    (c.loop-i.invariant.so s n same w offsets good passed live).step.so (got_in c.loop-i.i (tasks_of {A = A} mid) a found))
+
+pub returns-in_err-open_header-clause-large : goal.returns-in_err-open_header-clause-large
+returns-in_err-open_header-clause-large g c =
+    let A = g.row.A.Denot in
+    let mid = c.loop-i.state in
+    let a = active_of {A = A} c.again-task.result in
+    let item : slice_get c.loop-i.state.tasks.items c.loop-i.i ≡ Some c.in-Some.task.now =
+    subst (λ (z : List (Task g.row.A.Denot)). slice_get z c.loop-i.i ≡ Some c.in-Some.task.now) c.deref.ensures.value
+    (slice_there c.deref.result.now c.loop-i.i c.in-Some.task.now c.in-Some.ensures.lookup.3.0 c.in-Some.ensures.lookup.1) in
+    let found = slice_get-map (active_of {A = A}) mid.tasks.items c.loop-i.i ∙ ap (option_map (active_of {A = A})) item ∙ ap (λ (z : Active). Some z) (sym c.again-task.ensures) in
+    answer_passes c.in_err-open_header.field-0.0 c.from_residual-in_err-open_header.result c.from_residual-in_err-open_header.ensures.1
+    (λ e s n same w offsets good passed live. (
+    let there = got_in c.loop-i.i (tasks_of {A = A} mid) a found in
+    let called = c.in_ok-open_calls.ensures.so s n (same ∙ ap (λ (z : Flow A). core_of z) (sym c.loop-i.invariant.flow)) w
+    (c.loop-i.invariant.so s n same w offsets good passed live).step.so there in
+    c.in_err-open_header.ensures.large e s n w offsets called.0.so (called.0.goes.listed a there)
+    ))

@@ -7,6 +7,7 @@ use Rattle.meaning_round.specs.Standing.{active_of}
 use Rattle.meaning_round.proofs.Listed.{none_of_few}
 use Rattle.meaning_openings.specs.Opening.{AreWoken}
 use Rattle.meaning_openings.proofs.Entering.{more_joins}
+use Rattle.meaning_openings.proofs.Larger.{answer_passes}
 use Rattle.meaning_openings.proofs.Passing.{woken_next}
 use Rattle.meaning_openings.proofs.opening.open_waiting.Goals as goal
 
@@ -37,3 +38,21 @@ returns-clause-so g c =
     let few : length (into_iter_items c.loop-task.task-iterator) ≡ 0 = search rules in
     let none = none_of_few (into_iter_items c.loop-task.task-iterator) few in
     λ s n w offsets good live. subst (λ (z : List (Task A)). AreWoken {A = A} s n c.args.state.now c.loop-task.state (map (active_of {A = A}) z)) none (c.loop-task.invariant.so s n w offsets good live)
+
+pub returns-in_err-hold-clause-large : goal.returns-in_err-hold-clause-large
+returns-in_err-hold-clause-large g c = answer_passes c.in_err-hold.field-0.0 c.from_residual.result c.from_residual.ensures.1
+    (λ e s n w offsets good live. c.in_err-hold.ensures e s n (c.loop-task.invariant.so s n w offsets good live).step.so)
+
+pub returns-in_err-open_header-clause-large : goal.returns-in_err-open_header-clause-large
+returns-in_err-open_header-clause-large g c =
+    let A = g.row.A.Denot in
+    let a = active_of {A = A} c.in-Some.task in
+    let rest = into_iter_items c.next.new.self in
+    let split : into_iter_items c.loop-task.task-iterator ≡ c.in-Some.task ∷ into_iter_items c.next.new.self = search rules in
+    let listed = ap (λ (z : List (Task A)). map (active_of {A = A}) z) split in
+    let here = c.loop-task.invariant.left a (subst (λ (z : List Active). a ∈ z) (sym listed) first) in
+    answer_passes c.in_err-open_header.field-0.0 c.from_residual-in_err-open_header.result c.from_residual-in_err-open_header.ensures.1
+    (λ e s n w offsets good live. (
+    let step = (c.loop-task.invariant.so s n w offsets good live).step in
+    c.in_err-open_header.ensures.large e s n w offsets step.so (step.goes.listed a (live a here))
+    ))

@@ -6,6 +6,7 @@ use Rattle.meaning_cells.specs.Chosen.{block_in, choice_view, count_in}
 use Rattle.meaning_facts.specs.Paths.{path_of}
 use Rattle.meaning_openings.specs.Opening.{AreTurned}
 use Rattle.meaning_openings.proofs.Entering.{more_joins, short_path}
+use Rattle.meaning_openings.proofs.Larger.{answer_passes, memory_is_small}
 use Rattle.meaning_openings.proofs.Turning.{turn_next}
 use Rattle.meaning_openings.proofs.turns.open_choice.Goals as goal
 
@@ -37,3 +38,10 @@ returns-clause-so g c =
     λ s n w offsets good node there chosen. subst
     (λ (z : ℕ). AreTurned {A = A} s n c.args.state.now c.loop-i.state c.args.instance c.args.at (action_view {A = A} c.args.action.now) (choice_view c.args.choice.now) z) last
     (c.loop-i.invariant.so s n w offsets good node there chosen)
+
+pub returns-in_err-hold-clause-large : goal.returns-in_err-hold-clause-large
+returns-in_err-hold-clause-large g c = answer_passes c.in_err-hold.field-0.0 c.from_residual.result c.from_residual.ensures.1
+    (λ e s n w offsets good node there chosen. c.in_err-hold.ensures e s n (c.loop-i.invariant.so s n w offsets good node there chosen).step.so)
+
+pub returns-in_err-open_turn-clause-large : goal.returns-in_err-open_turn-clause-large
+returns-in_err-open_turn-clause-large g c = memory_is_small _ c.from_residual-in_err-open_turn.result c.from_residual-in_err-open_turn.ensures.1

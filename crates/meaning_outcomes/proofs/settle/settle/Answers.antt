@@ -1,5 +1,6 @@
-use Rattle.std.proofs.Common.{rules, ◌≡◌, false, ap, ◌∙◌}
+use Rattle.std.proofs.Common.{rules, ◌≡◌, false, ap, sym, ◌∙◌}
 use Rattle.flow.specs.View.{core_of}
+use Rattle.meaning_openings.proofs.Larger.{answer_passes, memory_is_small}
 use Rattle.meaning_outcomes.proofs.Settling.{turn_after, turn_between, IsClosing}
 use Rattle.meaning_outcomes.proofs.settle.settle.Goals as goal
 
@@ -39,3 +40,15 @@ loop-preserved g c =
           c.loop.invariant.so c.in_ok-open_all.ensures.so c.in_ok-open_all.ensures.more c.in_ok-open_all.ensures.passed closing c.in_ok-close_some.ensures.so;
       flow = c.close_some.ensures.flow ∙ c.open_all.ensures.flow ∙ c.loop.invariant.flow;
     }
+
+pub returns-in_err-open_all-clause-large : goal.returns-in_err-open_all-clause-large
+returns-in_err-open_all-clause-large g c =
+    let A = g.row.A.Denot in
+    answer_passes c.in_err-open_all.field-0.0 c.from_residual.result c.from_residual.ensures.1
+    (λ e s n same w single offsets between. (
+    let b = c.loop.invariant.so s n same w single offsets between in
+    c.in_err-open_all.ensures.large e s n (same ∙ sym (ap (core_of {A = A}) c.loop.invariant.flow)) w offsets b.stands.good b.stands.passed_so b.stands.waiting_live
+    ))
+
+pub returns-in_err-close_some-clause-large : goal.returns-in_err-close_some-clause-large
+returns-in_err-close_some-clause-large g c = memory_is_small _ c.from_residual-in_err-close_some.result c.from_residual-in_err-close_some.ensures.1

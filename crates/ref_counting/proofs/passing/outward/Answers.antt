@@ -1,4 +1,6 @@
-use Rattle.std.proofs.Common.{subst, sym}
+use Rattle.std.proofs.Common.{ℕ, subst, sym}
+use Rattle.dataflow.specs.System.{In}
+use Rattle.task_code.specs.Code.{Way, entry, ways}
 use Rattle.task_code.specs.View.{name_view}
 use Rattle.ref_counting.specs.Openings.{way_of}
 use Rattle.ref_counting.specs.Passing.{Answers, Sees}
@@ -8,7 +10,9 @@ use Rattle.ref_counting.proofs.passing.outward.Goals as goal
 pub returns-in-InPlace : goal.returns-in-InPlace
 returns-in-InPlace c =
     subst (λ w. Answers c.in_place.result (Sees c.args.code.now c.args.opening.entry (way_of w) c.args.body (name_view c.args.name))) (sym c.in-InPlace.is)
-    (seen_in_place c.args.code.now c.args.opening.entry c.args.body (name_view c.args.name) c.args.made.now.keys c.requires.made c.requires.body c.in_place.result c.in_place.ensures)
+    (seen_in_place c.args.code.now c.args.opening.entry c.args.body (name_view c.args.name) c.args.made.now.keys c.requires.made c.requires.body
+    (record { opener = c.args.opening.entry; opens = subst (λ w. In {X = Way × ℕ} (way_of w, c.args.body) (ways (entry c.args.code.now c.args.opening.entry).act)) c.in-InPlace.is c.requires.opens })
+    c.in_place.result c.in_place.ensures)
 
 pub returns-in-Through : goal.returns-in-Through
 returns-in-Through c =

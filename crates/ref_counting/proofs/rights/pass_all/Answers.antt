@@ -1,5 +1,7 @@
 use Rattle.std.proofs.Common.{◌≤◌, ◌<◌, arith, subst}
 use Rattle.ref_counting.proofs.Closing.{all_closed}
+use Rattle.ref_counting.proofs.Growing.{same_fields, same_self}
+use Rattle.ref_counting.proofs.Keys.{distinct_keys}
 use Rattle.ref_counting.proofs.rights.pass_all.Goals as goal
 
 pub loop-next-preserved : goal.loop-next-preserved
@@ -19,3 +21,6 @@ loop-next-preserved c =
 
 pub returns-clause-closed : goal.returns-clause-closed
 returns-clause-closed c = all_closed c.args.code.now c.loop-next.leads.keys c.loop-next.next (subst (λ n. n ≤ c.loop-next.next) c.len.ensures.len c.loop-next-test.false) c.loop-next.invariant.closed
+
+pub returns-clause-distinct : goal.returns-clause-distinct
+returns-clause-distinct c = distinct_keys same_fields same_self c.loop-next.leads.keys c.len.ensures.unique

@@ -7,7 +7,7 @@ use Rattle.swt_command.proofs.Meant.{told_is}
 use Rattle.swt_command.proofs.told.told_of.Goals as goal
 
 pub returns : goal.returns
-returns c =
+returns g c =
     let t : Told = record { lines = c.in_ok-lines_sorted.field-0; blocked = c.in_ok-blocked.blocked; faults = c.in_ok-faults.faults; enough = c.finished.result } in
     let s : Core = core_of c.args.flow.now in
     let w = c.requires.1 in

@@ -20,13 +20,13 @@ pub emit-requires-clause-size : goal.emit-requires-clause-size
 emit-requires-clause-size g c = flow_size {A = g.row.A.Denot} c.requires.src c.args.flow c.requires.is
 
 pub of-requires-clause-whole : goal.of-requires-clause-whole
-of-requires-clause-whole g c = (compiled {A = g.row.A.Denot} c.requires.src c.args.flow c.requires.is c.in-Ok.draft c.in-Ok.ensures).whole
+of-requires-clause-whole g c = (compiled {A = g.row.A.Denot} c.requires.src c.args.flow c.requires.is c.in-Ok.draft c.in-Ok.ensures.emitted).whole
 
 pub of-requires-clause-few : goal.of-requires-clause-few
-of-requires-clause-few g c = (compiled {A = g.row.A.Denot} c.requires.src c.args.flow c.requires.is c.in-Ok.draft c.in-Ok.ensures).few
+of-requires-clause-few g c = (compiled {A = g.row.A.Denot} c.requires.src c.args.flow c.requires.is c.in-Ok.draft c.in-Ok.ensures.emitted).few
 
 pub returns-in-Ok-clause-code : goal.returns-in-Ok-clause-code
-returns-in-Ok-clause-code g c = rw c.of.ensures (λ src is. compiled {A = g.row.A.Denot} src c.args.flow is c.in-Ok.draft c.in-Ok.ensures)
+returns-in-Ok-clause-code g c = rw c.of.ensures (λ src is. compiled {A = g.row.A.Denot} src c.args.flow is c.in-Ok.draft c.in-Ok.ensures.emitted)
 
 pub returns-in-Ok-clause-emitted : goal.returns-in-Ok-clause-emitted
-returns-in-Ok-clause-emitted g c = rw c.of.ensures c.in-Ok.ensures
+returns-in-Ok-clause-emitted g c = rw c.of.ensures c.in-Ok.ensures.emitted

@@ -1,4 +1,5 @@
 use Rattle.std.proofs.Common.{rules, refl, List, length, map, ap, arith}
+use Rattle.flow_listed.specs.Cells.{function_anchors}
 use Rattle.flow_listed.specs.Listed.{Listed, Shown, declared, function_of, function_shown}
 use Rattle.std.proofs.lemmas.Grind.{common_steps}
 use Rattle.flow.specs.declared.script.Function.{Function}
@@ -24,5 +25,6 @@ loop-i-preserved g c =
       kept_at (λ (f : Function A). block_declared f.body) xs olds i f _ c.loop-i.invariant.2 here c.in_ok-block.ensures.declared,
       kept_at (kinds_of_function {A = A}) xs olds i f _ c.loop-i.invariant.3 here refl,
       kept_at (function_shown {A = A}) xs olds i f _ c.loop-i.invariant.4 here (ap listed c.in_ok-block.ensures.listed),
-      merged_more (λ (f : Function A). block_seen f.body) xs i _ c.loop-i.invariant.5 (grind (arith, common_steps)) c.in_ok-block.ensures.merged,
+      kept_at (function_anchors {A = A}) xs olds i f _ c.loop-i.invariant.5 here c.in_ok-block.ensures.cells,
+      merged_more (λ (f : Function A). block_seen f.body) xs i _ c.loop-i.invariant.6 (grind (arith, common_steps)) c.in_ok-block.ensures.merged,
     )

@@ -1,6 +1,7 @@
 use Rattle.std.proofs.Common.{◌≡◌, IsTrue, map, take, length}
 use Rattle.flow.specs.View.{function_view}
 use Rattle.flow.specs.Shapes.{block_declared, kinds_of_function}
+use Rattle.flow_listed.specs.Cells.{function_anchors}
 use Rattle.flow_listed.specs.Listed.{function_shown}
 use Rattle.wait_merge.specs.Merged.{functions_merged}
 use Rattle.wait_merge.proofs.script.each.Given as goal
@@ -12,4 +13,5 @@ invariant-loop-i g l =
     × (map (λ f. block_declared f.body) l.functions.items ≡ map (λ f. block_declared f.body) l.initial.functions.items)
     × (map kinds_of_function l.functions.items ≡ map kinds_of_function l.initial.functions.items)
     × (map function_shown l.functions.items ≡ map function_shown l.initial.functions.items)
+    × (map function_anchors l.functions.items ≡ map function_anchors l.initial.functions.items)
     × IsTrue (functions_merged (take l.i l.functions.items))

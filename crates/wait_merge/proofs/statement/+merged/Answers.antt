@@ -1,11 +1,13 @@
-use Rattle.std.proofs.Common.{rules, IsTrue, ◌++◌, map, option_map, ap, ap₂, sym, ◌∙◌, arith, subst}
+use Rattle.std.proofs.Common.{rules, IsTrue, ◌++◌, List, map, option_map, ap, ap₂, sym, ◌∙◌, arith, subst}
 use Rattle.std.proofs.lemmas.Grind.{common_steps}
 use Rattle.std.proofs.lemmas.List.{take_all}
 use Rattle.flow.specs.View.{block_view, statement_view}
 use Rattle.flow.specs.Shapes.{action_declared, block_declared, statement_declared}
 use Rattle.wait_merge.specs.Merged.{all_merged, statement_seen}
+use Rattle.flow_listed.specs.Cells.{Anchor, action_anchors, block_anchors, outer_anchors, range_anchors, statement_anchors}
 use Rattle.flow_listed.specs.Listed.{Listed, action_listed, block_listed, content, declared, looping, other, statement_listed, whole}
-use Rattle.wait_merge.proofs.Actions.{listed_changed, when_listed, choose_listed, range_listed, each_listed, wait_listed, same_waiting, both_declared, view_changed, declared_changed, seen_changed, when_core, choose_core, range_core, each_core, when_declared, choose_declared, range_declared, each_declared, when_merged, choose_merged, range_merged, each_merged}
+use Rattle.flow_listed.proofs.Anchors.{when_anchors, choose_anchors, range_loop_anchors, each_anchors, wait_anchors}
+use Rattle.wait_merge.proofs.Actions.{anchors_changed, listed_changed, when_listed, choose_listed, range_listed, each_listed, wait_listed, same_waiting, both_declared, view_changed, declared_changed, seen_changed, when_core, choose_core, range_core, each_core, when_declared, choose_declared, range_declared, each_declared, when_merged, choose_merged, range_merged, each_merged}
 use Rattle.wait_merge.proofs.Lists.{both_true, kept_at, merged_more}
 use Rattle.wait_merge.proofs.statement.+merged.Goals as goal
 
@@ -76,7 +78,8 @@ each-loop-i-preserved g t c =
       kept_at (statement_view {A = A}) xs c.args.statements.now.items i x _ c.loop-i.invariant.1 here (view_changed A x c.action.new.action c.in_ok-action.ensures.core),
       kept_at (statement_declared {A = A}) xs c.args.statements.now.items i x _ c.loop-i.invariant.2 here (declared_changed A x c.action.new.action c.in_ok-action.ensures.declared),
       kept_at (statement_listed {A = A}) xs c.args.statements.now.items i x _ c.loop-i.invariant.3 here (listed_changed A x c.action.new.action c.in_ok-action.ensures.listed),
-      merged_more (statement_seen {A = A}) xs i _ c.loop-i.invariant.4 (grind (arith, common_steps)) (seen_changed A x c.action.new.action ∙ c.in_ok-action.ensures.merged),
+      kept_at (statement_anchors {A = A}) xs c.args.statements.now.items i x _ c.loop-i.invariant.4 here (anchors_changed A x c.action.new.action c.in_ok-action.ensures.cells),
+      merged_more (statement_seen {A = A}) xs i _ c.loop-i.invariant.5 (grind (arith, common_steps)) (seen_changed A x c.action.new.action ∙ c.in_ok-action.ensures.merged),
     )
 
 pub each-returns-clause-core : goal.each-returns-clause-core
@@ -87,7 +90,7 @@ each-returns-clause-declared g t c = c.loop-i.invariant.2
 
 pub each-returns-clause-merged : goal.each-returns-clause-merged
 each-returns-clause-merged g t c =
-    subst (λ zs. IsTrue (all_merged (map (statement_seen {A = g.row.A.Denot}) zs))) (take_all c.loop-i.i c.loop-i.statements.items (grind (arith, common_steps))) c.loop-i.invariant.4
+    subst (λ zs. IsTrue (all_merged (map (statement_seen {A = g.row.A.Denot}) zs))) (take_all c.loop-i.i c.loop-i.statements.items (grind (arith, common_steps))) c.loop-i.invariant.5
 
 pub action-returns-in_ok-block-in-When-clause-listed : goal.action-returns-in_ok-block-in-When-clause-listed
 action-returns-in_ok-block-in-When-clause-listed g t c =
@@ -120,3 +123,33 @@ action-returns-in_ok-absorb-in-Wait-clause-listed g t c =
 
 pub each-returns-clause-listed : goal.each-returns-clause-listed
 each-returns-clause-listed g t c = c.loop-i.invariant.3
+
+pub action-returns-in_ok-block-in-When-clause-cells : goal.action-returns-in_ok-block-in-When-clause-cells
+action-returns-in_ok-block-in-When-clause-cells g t c =
+    when_anchors c.in-When.condition _ ∙ ap (λ (b : List Anchor). outer_anchors c.in-When.condition.value ++ b) (c.in_ok-block-in-When.ensures.cells ∙ ap block_anchors c.deref_mut.ensures.value)
+    ∙ sym (ap action_anchors c.in-When.is ∙ when_anchors c.in-When.condition c.in-When.then)
+
+pub action-returns-in_ok-block-in-Range-clause-cells : goal.action-returns-in_ok-block-in-Range-clause-cells
+action-returns-in_ok-block-in-Range-clause-cells g t c =
+    range_loop_anchors c.in-Range.range c.in-Range.value c.in-Range.turn _
+    ∙ ap (λ (b : List Anchor). range_anchors c.in-Range.range.value ++ b) (c.in_ok-block-in-Range.ensures.cells ∙ ap block_anchors c.deref_mut-in-Range.ensures.value)
+    ∙ sym (ap action_anchors c.in-Range.is ∙ range_loop_anchors c.in-Range.range c.in-Range.value c.in-Range.turn c.in-Range.body)
+
+pub action-returns-in_ok-block-in-Each-clause-cells : goal.action-returns-in_ok-block-in-Each-clause-cells
+action-returns-in_ok-block-in-Each-clause-cells g t c =
+    each_anchors c.in-Each.array c.in-Each.value c.in-Each.key _ ∙ c.in_ok-block-in-Each.ensures.cells ∙ ap block_anchors c.deref_mut-in-Each.ensures.value
+    ∙ sym (ap action_anchors c.in-Each.is ∙ each_anchors c.in-Each.array c.in-Each.value c.in-Each.key c.in-Each.body)
+
+pub action-returns-in_ok-block-in-Choose-2-clause-cells : goal.action-returns-in_ok-block-in-Choose-2-clause-cells
+action-returns-in_ok-block-in-Choose-2-clause-cells g t c =
+    choose_anchors c.in-Choose.condition _ _
+    ∙ ap₂ (λ (b d : List Anchor). outer_anchors c.in-Choose.condition.value ++ b ++ d) (c.in_ok-block-in-Choose.ensures.cells ∙ ap block_anchors c.deref_mut-in-Choose.ensures.value) (c.in_ok-block-in-Choose-2.ensures.cells ∙ ap block_anchors c.deref_mut-in-Choose-2.ensures.value)
+    ∙ sym (ap action_anchors c.in-Choose.is ∙ choose_anchors c.in-Choose.condition c.in-Choose.then c.in-Choose.other)
+
+pub action-returns-in_ok-absorb-in-Wait-clause-cells : goal.action-returns-in_ok-absorb-in-Wait-clause-cells
+action-returns-in_ok-absorb-in-Wait-clause-cells g t c =
+    wait_anchors c.in-Wait.names _ _ ∙ c.in_ok-absorb-in-Wait.ensures.cells ∙ c.in_ok-block-in-Wait.ensures.cells ∙ ap block_anchors c.deref_mut-in-Wait.ensures.value
+    ∙ sym (ap action_anchors c.in-Wait.is ∙ wait_anchors c.in-Wait.names c.in-Wait.inner c.in-Wait.content)
+
+pub each-returns-clause-cells : goal.each-returns-clause-cells
+each-returns-clause-cells g t c = c.loop-i.invariant.4

@@ -3,7 +3,7 @@ use Rattle.std.proofs.lemmas.Grind.{common_steps}
 use Rattle.flow.specs.declared.statement.Block.{Block, out-Block}
 use Rattle.flow.specs.View.{waits_around}
 use Rattle.wait_merge.specs.Merged.{block_seen}
-use Rattle.wait_merge.proofs.Blocks.{one_view, one_declared, one_listed, one_merged}
+use Rattle.wait_merge.proofs.Blocks.{one_view, one_anchors, one_declared, one_listed, one_merged}
 use Rattle.wait_merge.proofs.statement.absorb.Goals as goal
 
 pub returns-in_ok-take_in-in-Some-clause-core : goal.returns-in_ok-take_in-in-Some-clause-core
@@ -51,3 +51,12 @@ returns-in_ok-take_in-in-Some-clause-listed g c =
     let waits : (block_seen {A = A} b).wait ≡ true = sym (c.is_one_wait.ensures ∙ ap (λ (x : Block A). (block_seen x).wait) c.deref.ensures) ∙ known in
     c.in_ok-take_in-in-Some.ensures.listed
     ∙ sym (one_listed A b c.pop.new.self.items c.in-Some.only (ap (λ (x : Block A). (out-Block A x).statements.items) (sym c.deref_mut.ensures.value) ∙ c.in-Some.ensures.items) waits)
+
+pub returns-in_ok-take_in-in-Some-clause-cells : goal.returns-in_ok-take_in-in-Some-clause-cells
+returns-in_ok-take_in-in-Some-clause-cells g c =
+    let A = g.row.A.Denot in
+    let b = c.args.content.now.value in
+    let known : c.is_one_wait.result ≡ true = grind (arith, common_steps) in
+    let waits : (block_seen {A = A} b).wait ≡ true = sym (c.is_one_wait.ensures ∙ ap (λ (x : Block A). (block_seen x).wait) c.deref.ensures) ∙ known in
+    c.in_ok-take_in-in-Some.ensures.cells
+    ∙ sym (one_anchors A b c.pop.new.self.items c.in-Some.only (ap (λ (x : Block A). (out-Block A x).statements.items) (sym c.deref_mut.ensures.value) ∙ c.in-Some.ensures.items) waits)

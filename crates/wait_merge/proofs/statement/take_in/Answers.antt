@@ -3,7 +3,9 @@ use Rattle.flow.specs.declared.statement.Header.{Header}
 use Rattle.flow.specs.View.{action_view, block_view, waits_around}
 use Rattle.language.specs.Core as core
 use Rattle.wait_merge.specs.Merged.{Seen}
+use Rattle.flow_listed.specs.Cells.{action_anchors}
 use Rattle.flow_listed.specs.Listed.{Listed, action_listed}
+use Rattle.flow_listed.proofs.Anchors.{anchors_statement, wait_anchors}
 use Rattle.wait_merge.proofs.Actions.{listed_statement, wait_listed, around_more, seen_statement, view_statement, view_waits}
 use Rattle.wait_merge.proofs.Forms.{not_wait}
 use Rattle.wait_merge.proofs.statement.take_in.Goals as goal
@@ -24,6 +26,11 @@ pub returns-in-Wait-clause-listed : goal.returns-in-Wait-clause-listed
 returns-in-Wait-clause-listed g c =
     let A = g.row.A.Denot in
     sym (ap (λ (l : Listed). l.shown) (listed_statement A c.args.only ∙ ap action_listed c.in-Wait.is ∙ wait_listed c.in-Wait.names c.in-Wait.behind c.in-Wait.innermost))
+
+pub returns-in-Wait-clause-cells : goal.returns-in-Wait-clause-cells
+returns-in-Wait-clause-cells g c =
+    let A = g.row.A.Denot in
+    sym (anchors_statement A c.args.only ∙ ap action_anchors c.in-Wait.is ∙ wait_anchors c.in-Wait.names c.in-Wait.behind c.in-Wait.innermost)
 
 pub returns : goal.returns
 returns g c =

@@ -5,6 +5,8 @@ use Rattle.std.proofs.lemmas.Result.{on_ok_weaker}
 use Rattle.language.specs.Core as core
 use Rattle.flow.specs.Shapes.{action_declared, block_declared, is_array, kinds_of_function}
 use Rattle.flow.specs.View.{action_view, awaited_view, block_view, name_view, outer_view, waits_around}
+use Rattle.flow_listed.specs.Cells.{statement_anchors}
+use Rattle.flow_listed.proofs.Growing.{among_all, grows_again, grows_among, grows_as, grows_both, grows_none, grows_still}
 use Rattle.task_code.specs.View.{loop_view}
 use Rattle.language.specs.Parts.{outer_parts}
 use Rattle.code_rules.specs.Room.{OuterRoom, StepRoom}
@@ -13,6 +15,7 @@ use Rattle.flow.proofs.statement.Block.TheLaws.{the_size as block_size}
 use Rattle.flow.proofs.statement.Statement.TheLaws.{the_size as statement_size}
 use Rattle.flow.specs.declared.statement.Variable.{Variable}
 use Rattle.emit.specs.Emits.{roots_of, state_of}
+use Rattle.flow_listed.proofs.Anchors.{anchors_block, anchors_statement}
 use Rattle.emit.proofs.Opening.{numbered-in, parts-zero}
 use Rattle.emit.proofs.Emitting.{ok-both, declare-emits, emits-as, walked-all, walked-none, walked-one}
 use Rattle.emit.proofs.Branching.{branch-emits, branches-emit}
@@ -24,23 +27,29 @@ use Rattle.wait_merge.specs.Merged.{block_seen}
 use Rattle.emit.proofs.emitter.Emitter.+statement.Goals as goal
 
 pub each_statement-loop-one-init : goal.each_statement-loop-one-init
-each_statement-loop-one-init g t c = walked-none (map (kinds_of_function {A = g.row.A.Denot}) c.args.functions.now.items) (roots_of c.args.functions.now.items) c.args.inputs c.args.statements.now.items _
+each_statement-loop-one-init g t c = (walked-none (map (kinds_of_function {A = g.row.A.Denot}) c.args.functions.now.items) (roots_of c.args.functions.now.items) c.args.inputs c.args.statements.now.items _, grows_none _ _)
 
 pub each_statement-loop-one-preserved : goal.each_statement-loop-one-preserved
 each_statement-loop-one-preserved g t c =
     let A = g.row.A.Denot in
-    walked-one {A = A} (map (kinds_of_function {A = A}) c.args.functions.now.items) (roots_of c.args.functions.now.items) c.args.inputs c.args.statements.now.items c.args.statements.now.items c.loop-one.one-index c.one-item.result
-    (state_of c.args.self.now) (state_of c.loop-one.self) (state_of c.statement.new.self)
-    (grind (arith, common_steps)) (grind (arith, common_steps)) c.loop-one.invariant c.in_ok-statement.ensures
+    let ss = c.args.statements.now.items in
+    let i = c.loop-one.one-index in
+    let one = c.one-item.result in
+    let below : i < length ss = grind (arith, common_steps) in
+    let is : one ≡ get_or ss i one = grind (arith, common_steps) in (
+      walked-one {A = A} (map (kinds_of_function {A = A}) c.args.functions.now.items) (roots_of c.args.functions.now.items) c.args.inputs ss ss i one
+          (state_of c.args.self.now) (state_of c.loop-one.self) (state_of c.statement.new.self) below is c.loop-one.invariant.0 c.in_ok-statement.ensures.laid,
+      grows_again c.loop-one.invariant.1 (grows_among c.in_ok-statement.ensures.marks (among_all (statement_anchors {A = A}) ss i one below is)),
+    )
 
-pub each_statement-returns : goal.each_statement-returns
-each_statement-returns g t c =
+pub each_statement-returns-clause-laid : goal.each_statement-returns-clause-laid
+each_statement-returns-clause-laid g t c =
     let A = g.row.A.Denot in
     walked-all {A = A} (map (kinds_of_function {A = A}) c.args.functions.now.items) (roots_of c.args.functions.now.items) c.args.inputs c.args.statements.now.items c.args.statements.now.items c.loop-one.one-index
-    (state_of c.args.self.now) (state_of c.loop-one.self) (grind (arith, common_steps)) c.loop-one.invariant
+    (state_of c.args.self.now) (state_of c.loop-one.self) (grind (arith, common_steps)) c.loop-one.invariant.0
 
-pub when-returns : goal.when-returns
-when-returns g t c =
+pub when-returns-clause-laid : goal.when-returns-clause-laid
+when-returns-clause-laid g t c =
     let A = g.row.A.Denot in
     let s = c.args.statement.standing in
     let o = outer_view {A = A} c.args.condition.now in
@@ -55,8 +64,8 @@ when-returns g t c =
     (λ room. c.in_ok-number.ensures.one (block_view {A = A} c.args.then.now) room priority refl) made)
     c.add_body.ensures
 
-pub choose-returns : goal.choose-returns
-choose-returns g t c =
+pub choose-returns-clause-laid : goal.choose-returns-clause-laid
+choose-returns-clause-laid g t c =
     let A = g.row.A.Denot in
     let fs = map (kinds_of_function {A = A}) c.args.functions.now.items in
     let s = c.args.statement.standing in
@@ -77,8 +86,8 @@ choose-returns g t c =
     (λ room. c.in_ok-number.ensures.two b d c.next.result room priority refl) c.in_ok-add_body.ensures made)
     c.add_body-2.ensures
 
-pub range-returns : goal.range-returns
-range-returns g t c =
+pub range-returns-clause-laid : goal.range-returns-clause-laid
+range-returns-clause-laid g t c =
     let A = g.row.A.Denot in
     let fs = map (kinds_of_function {A = A}) c.args.functions.now.items in
     let s = c.args.statement.standing in
@@ -103,8 +112,8 @@ range-returns g t c =
     (λ low high step. c.in_ok-number.ensures.entry x y b low high step priority) made)
     c.add_body.ensures
 
-pub each-returns : goal.each-returns
-each-returns g t c =
+pub each-returns-clause-laid : goal.each-returns-clause-laid
+each-returns-clause-laid g t c =
     let A = g.row.A.Denot in
     let fs = map (kinds_of_function {A = A}) c.args.functions.now.items in
     let s = c.args.statement.standing in
@@ -122,8 +131,8 @@ each-returns g t c =
     (λ room. c.in_ok-number.ensures.entry x y b room priority) made)
     c.add_body.ensures
 
-pub wait-returns : goal.wait-returns
-wait-returns g t c =
+pub wait-returns-clause-laid : goal.wait-returns-clause-laid
+wait-returns-clause-laid g t c =
     let A = g.row.A.Denot in
     let fs = map (kinds_of_function {A = A}) c.args.functions.now.items in
     let s = c.args.statement.standing in
@@ -140,8 +149,8 @@ wait-returns g t c =
     (λ room. c.in_ok-number.ensures.entry b room priority) made)
     c.add_body.ensures
 
-pub action-returns-in-Declare : goal.action-returns-in-Declare
-action-returns-in-Declare g t c =
+pub action-returns-in-Declare-clause-laid : goal.action-returns-in-Declare-clause-laid
+action-returns-in-Declare-clause-laid g t c =
     let A = g.row.A.Denot in
     let fs = map (kinds_of_function {A = A}) c.args.functions.now.items in
     let s = c.args.statement.standing in
@@ -171,3 +180,40 @@ each_statement-statement-requires g t c κs within =
     subst (λ z. statement_size g.row.A g.A.Allocator g.A.laws z ≤ most (statement_size g.row.A g.A.Allocator g.A.laws) all) (sym here) (at_most (statement_size g.row.A g.A.Allocator g.A.laws) all c.loop-one.one-index one there) in
     let small : 2 * statement_size g.row.A g.A.Allocator g.A.laws one + 0 < t = omega (arith, d, most_is) in
     (small, within)
+
+-- MARKS
+
+pub block-returns-clause-marks : goal.block-returns-clause-marks
+block-returns-clause-marks g t c =
+    let A = g.row.A.Denot in
+    grows_as (anchors_block A c.args.block.now) c.in_ok-each_statement.ensures.marks
+
+pub each_statement-returns-clause-marks : goal.each_statement-returns-clause-marks
+each_statement-returns-clause-marks g t c = c.loop-one.invariant.1
+
+pub statement-returns-clause-marks : goal.statement-returns-clause-marks
+statement-returns-clause-marks g t c =
+    let A = g.row.A.Denot in
+    on_ok_weaker c.action.result (λ grown. grows_as (anchors_statement A c.args.one.now) grown) c.action.ensures.marks
+
+pub when-returns-clause-marks : goal.when-returns-clause-marks
+when-returns-clause-marks g t c =
+    on_ok_weaker c.add_body.result (λ made. grows_still (grows_both _ _ c.in_ok-condition_parts.ensures.marks c.in_ok-inside.ensures.marks) c.in_ok-number.ensures.marks) c.add_body.ensures
+
+pub choose-returns-clause-marks : goal.choose-returns-clause-marks
+choose-returns-clause-marks g t c =
+    on_ok_weaker c.add_body-2.result
+    (λ made. grows_still (grows_both _ _ (grows_both _ _ c.in_ok-condition_parts.ensures.marks c.in_ok-inside.ensures.marks) c.in_ok-outside.ensures.marks) c.in_ok-number.ensures.marks) c.add_body-2.ensures
+
+pub range-returns-clause-marks : goal.range-returns-clause-marks
+range-returns-clause-marks g t c =
+    on_ok_weaker c.add_body.result (λ made. grows_still (grows_both _ _ c.in_ok-range_parts.ensures.marks c.in_ok-inside.ensures.marks) c.in_ok-number.ensures.marks) c.add_body.ensures
+
+pub each-returns-clause-marks : goal.each-returns-clause-marks
+each-returns-clause-marks g t c = on_ok_weaker c.add_body.result (λ made. grows_still c.in_ok-inside.ensures.marks c.in_ok-number.ensures.marks) c.add_body.ensures
+
+pub wait-returns-clause-marks : goal.wait-returns-clause-marks
+wait-returns-clause-marks g t c = on_ok_weaker c.add_body.result (λ made. grows_still c.in_ok-inside.ensures.marks c.in_ok-number.ensures.marks) c.add_body.ensures
+
+pub action-returns-in-Declare-clause-marks : goal.action-returns-in-Declare-clause-marks
+action-returns-in-Declare-clause-marks g t c = on_ok_weaker c.declare.result (λ same. grows_none _ _) c.declare.ensures.entries

@@ -1,15 +1,19 @@
 use Rattle.std.proofs.Common.{◌+◌, ◌*◌, map, drop, max}
+use Rattle.std.specs.List.{flat_map}
 use denote.Param.Weighed.{most}
 use Rattle.flow.proofs.statement.Action.TheLaws.{the_size as action_size}
 use Rattle.flow.proofs.statement.Block.TheLaws.{the_size as block_size}
 use Rattle.flow.proofs.statement.Statement.TheLaws.{the_size as statement_size}
 use Rattle.flow.specs.Shapes.{kinds_of_function}
-use Rattle.emit.specs.Emits.{roots_of, state_of}
+use Rattle.flow_listed.specs.Cells.{statement_anchors}
+use Rattle.emit.specs.Emits.{AddsMarks, roots_of, state_of}
 use Rattle.emit.proofs.Emitting.{WalksOn}
 use Rattle.emit.proofs.emitter.Emitter.+statement.Given as goal
 
 abbrev pub invariant-each_statement-loop-one : goal.invariant-each_statement-loop-one
-invariant-each_statement-loop-one g l = WalksOn (map kinds_of_function l.functions.items) (roots_of l.functions.items) l.inputs l.statements.items (drop l.one-index l.statements.items) (state_of l.fn.self) (state_of l.self)
+invariant-each_statement-loop-one g l =
+    WalksOn (map kinds_of_function l.functions.items) (roots_of l.functions.items) l.inputs l.statements.items (drop l.one-index l.statements.items) (state_of l.fn.self) (state_of l.self)
+    × AddsMarks l.fn.self l.self (flat_map statement_anchors l.statements.items)
 
 abbrev pub decreases-block : goal.decreases-block
 decreases-block g l = 2 * block_size g.row.A g.A.Allocator g.A.laws l.block.now + 0

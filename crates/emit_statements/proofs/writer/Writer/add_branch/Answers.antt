@@ -31,3 +31,6 @@ returns-clause-two g c =
     choose_added s c.args.statement.node o b d e c.args.then m c.args.other c.note_seen.new.needs.keys (code_view.expr_view c.in_ok-test.test) c.args.self.now.entries.items c.add_entry.new.self.entries.items room.1 priority some
     (ap (λ t. seen_as t o.cell.node o.cell.form) c.is_outer_plain-plain.ensures) (c.in_ok-note_seen.ensures room.1 [] (subst (Noted []) (sym c.new-needs.ensures.empty) noted_none)) (λ ready. c.in_ok-test.ensures ready room.1) adds)
     c.add_entry.ensures.entry
+
+pub returns-clause-marks : goal.returns-clause-marks
+returns-clause-marks g c = c.add_entry.ensures.marks

@@ -18,3 +18,6 @@ returns-clause-entry c =
     each_added s c.args.statement.node a x y b (code_view.loop_view c.args.turns) ks c.args.self.now.entries.items c.add_entry.new.self.entries.items priority
     (subst (λ (n : Need). Noted (n ∷ []) ks) (ap need_named (c.named.ensures room) ∙ closed_named s.inputs a) (c.in_ok-note_name.ensures [] (subst (Noted []) (sym c.new-needs.ensures.empty) noted_none))) adds)
     c.add_entry.ensures.entry
+
+pub returns-clause-marks : goal.returns-clause-marks
+returns-clause-marks c = c.add_entry.ensures.marks

@@ -20,3 +20,6 @@ returns-clause-entry g c =
     wait_added {A = A} s c.args.statement.node names inner b c.args.body (map code_view.header_view c.in_ok-headers.headers.items) c.note_inner.new.needs.keys c.args.self.now.entries.items c.add_entry.new.self.entries.items priority
     (c.in_ok-note_inner.ensures inside (waited k names) own) (c.in_ok-headers.ensures room.0 inside) adds)
     c.add_entry.ensures.entry
+
+pub returns-clause-marks : goal.returns-clause-marks
+returns-clause-marks g c = c.add_entry.ensures.marks

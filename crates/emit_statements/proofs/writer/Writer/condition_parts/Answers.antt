@@ -18,7 +18,7 @@ returns-clause-laid g c bodies room few =
     let ps = outer_parts (outer_view {A = A} c.args.condition.now ∷ []) in
     let old = c.args.self.now.entries.items in
     let new = c.add_condition.new.entries.items in
-    let added = c.in_ok-add_condition.ensures room in
+    let added = c.in_ok-add_condition.ensures.added room in
     parts_into fs k s.at s.priority ps bodies old new c.args.self.now.filling (record { makes = c.add_outer_data.new.makes; entries = c.add_numbers.new.numbers }) c.len-from.result _ few added
     (parts_laid fs k ps s.at s.priority (laying old bodies) (laying new bodies) added.more added.is refl added.chunk)
     c.in_ok-add_outer_data.ensures (grind (arith, common_steps)) (grind (arith, common_steps)) c.in_ok-add_numbers.ensures
@@ -29,4 +29,7 @@ returns-clause-few g c l room plain bodies stand =
     let s = c.args.standing in
     let fs = map (kinds_of_function {A = A}) c.args.functions.now.items in
     let ps = outer_parts (outer_view {A = A} c.args.condition.now ∷ []) in
-    added_few fs s.inputs ps s.at s.priority ps c.args.self.now.entries.items c.add_condition.new.entries.items (c.in_ok-add_condition.ensures room) l plain bodies stand
+    added_few fs s.inputs ps s.at s.priority ps c.args.self.now.entries.items c.add_condition.new.entries.items (c.in_ok-add_condition.ensures.added room) l plain bodies stand
+
+pub returns-clause-marks : goal.returns-clause-marks
+returns-clause-marks g c = c.in_ok-add_condition.ensures.marks

@@ -1,0 +1,3 @@
+mod Added
+mod Marking
+mod Views

@@ -1,0 +1,59 @@
+-- What is odd in a script: variables that are never used or never read, and loops that have no turn.
+use Rattle.std.specs.Prelude.{ℕ, ◌+◌, Bool, List, [], ◌∷◌, ◌++◌, Option, Some, None, if◌then◌else◌, ◌||◌}
+use Rattle.lexer.specs.declared.token.Span.{Span}
+use Rattle.language.specs.Table.{Table}
+use Rattle.language.specs.Tree.{Declaration, Composite, Part, Tree, import, function, single}
+use Rattle.explain_warnings.specs.declared.mention.Kind.{Kind}
+use Rattle.explain_warnings.specs.declared.mention.Kind.TheVariants as Is
+use Rattle.explain_warnings.specs.declared.mention.Mention.{Mention}
+use Rattle.explain_warnings.specs.declared.warning.Oddity.{Oddity}
+use Rattle.explain_warnings.specs.declared.warning.Oddity.TheVariants.{NeverUsed, NeverRead, IdleInput, EmptyRange}
+use Rattle.explain_warnings.specs.declared.warning.Warning.{Warning}
+use Rattle.explain_warnings.specs.Mentions.{is_spared, mentions_in, body_mentions, tree_mentions}
+use Rattle.explain_warnings.specs.Marks.{uses_local, uses_input}
+
+abbrev pub warned : Option Oddity → Span → List Warning
+warned None at = []
+warned (Some o) at = record { oddity = o; at = at } ∷ []
+
+-- a variable is read, or assigned or written alone, or not used at all
+abbrev pub unread : (is_read is_written : Bool) → Option Oddity
+unread is_read is_written = if is_read then None else if is_written then Some NeverRead else Some NeverUsed
+
+-- what is odd at a mention, by the numbers of the variables that are read and of those that are written
+abbrev pub oddity_by : Kind → (read written : ℕ → Bool) → ℕ → Option Oddity
+oddity_by Is.Declared read written n = unread (read n) (written n)
+oddity_by Is.Read read written n = None
+oddity_by Is.Written read written n = None
+oddity_by Is.EmptyRange read written n = Some EmptyRange
+
+abbrev pub oddity_at : (read written : ℕ → Bool) → Mention → Option Oddity
+oddity_at read written m = oddity_by m.kind read written m.number
+
+abbrev pub all_said : (read written : ℕ → Bool) → List Mention → List Warning
+all_said read written [] = []
+all_said read written (m ∷ ms) = warned (oddity_at read written m) m.at ++ all_said read written ms
+
+abbrev pub idle_input : (is_read : Bool) → Declaration → List Warning
+idle_input is_read d = if is_read || is_spared d.name.text then [] else warned (Some IdleInput) d.name.span
+
+-- inputs from a place on that are not read
+abbrev pub idle : (read : ℕ → Bool) → ℕ → List Declaration → List Warning
+idle read i [] = []
+idle read i (d ∷ ds) = idle_input (read i) d ++ idle read (i + 1) ds
+
+abbrev pub function_warnings : Table → (read written : ℕ → Bool) → Composite → List Warning
+function_warnings t read written f = idle (uses_input t Is.Read (body_mentions f.body)) 0 f.inputs ++ all_said read written (body_mentions f.body)
+
+abbrev pub part_warnings : Table → (read written : ℕ → Bool) → Part → List Warning
+part_warnings t read written (import sp) = []
+part_warnings t read written (function f) = function_warnings t read written f
+part_warnings t read written (single s) = all_said read written (mentions_in s)
+
+abbrev pub parts_warnings : Table → (read written : ℕ → Bool) → Tree → List Warning
+parts_warnings t read written [] = []
+parts_warnings t read written (p ∷ ps) = part_warnings t read written p ++ parts_warnings t read written ps
+
+-- all that is said of a script, in the order of its text
+abbrev pub warnings : Table → Tree → List Warning
+warnings t tree = parts_warnings t (uses_local t Is.Read (tree_mentions tree)) (uses_local t Is.Written (tree_mentions tree)) tree

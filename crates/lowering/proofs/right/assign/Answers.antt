@@ -1,0 +1,6 @@
+use Rattle.flow_listed.proofs.Anchors.{assign_anchors}
+use Rattle.flow_listed.proofs.Growing.{among_as}
+use Rattle.lowering.proofs.right.assign.Goals as goal
+
+pub returns-clause-cells : goal.returns-clause-cells
+returns-clause-cells g c = among_as (assign_anchors c.args.target c.in_ok-boxed_outer.field-0) c.in_ok-boxed_outer.ensures.cells

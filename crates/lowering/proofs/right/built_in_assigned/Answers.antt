@@ -1,0 +1,6 @@
+use Rattle.flow_listed.proofs.Anchors.{assign_anchors}
+use Rattle.flow_listed.proofs.Growing.{among_as}
+use Rattle.lowering.proofs.right.built_in_assigned.Goals as goal
+
+pub returns-clause-cells : goal.returns-clause-cells
+returns-clause-cells g c = among_as (assign_anchors c.args.target c.in_ok-right.right) c.in_ok-right.ensures.cells
