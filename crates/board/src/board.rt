@@ -151,7 +151,7 @@ impl Board {
             return Err(Refusal::Memory);
         };
         self.core.begin(&self.program, worker, item, job);
-        self.history.push_reserved(Event::Begin { worker, item });
+        self.history.push_reserved(Event::Begin { worker, item: item as u32 });
         Ok(work)
     }
 
@@ -234,7 +234,7 @@ impl Board {
         else {
             return Err((done, Refusal::Memory));
         };
-        self.history.push_reserved(Event::End { worker, item });
+        self.history.push_reserved(Event::End { worker, item: item as u32 });
         self.answers = done.into_list();
         Ok(())
     }
@@ -270,7 +270,7 @@ impl Board {
             return Err(Refusal::Memory);
         };
         self.core.begin(&self.program, worker, item, job);
-        self.history.push_reserved(Event::Begin { worker, item });
+        self.history.push_reserved(Event::Begin { worker, item: item as u32 });
         if !self.is_going() {
             return Ok(false);
         }
@@ -285,7 +285,7 @@ impl Board {
         else {
             return Err(Refusal::Memory);
         };
-        self.history.push_reserved(Event::End { worker, item });
+        self.history.push_reserved(Event::End { worker, item: item as u32 });
         Ok(true)
     }
 
@@ -308,7 +308,7 @@ impl Board {
             return Err(Refusal::NotYours);
         };
         self.core.back(&self.program, item, job);
-        self.history.push_reserved(Event::Back { worker, item });
+        self.history.push_reserved(Event::Back { worker, item: item as u32 });
         Ok(())
     }
 

@@ -94,18 +94,18 @@ fn end_of(board: &Board) -> Ending {
 /// Does what an event says, where it is a step, and says whether it is.
 fn take(board: &mut Board, event: Event) -> Result<bool, AllocError> {
     match event {
-        Event::Begin { worker, item } if worker < 64 => match board.begin(worker, item) {
+        Event::Begin { worker, item } if worker < 64 => match board.begin(worker, item as u64) {
             Ok(work) => {
                 drop(work);
                 Ok(true)
             }
             Err(refusal) => unless_memory(refusal),
         },
-        Event::End { worker, item } if worker < 64 => match board.work(worker, item) {
+        Event::End { worker, item } if worker < 64 => match board.work(worker, item as u64) {
             Ok(work) => finish(board, worker, work),
             Err(refusal) => unless_memory(refusal),
         },
-        Event::Back { worker, item } if worker < 64 => match board.back(worker, item) {
+        Event::Back { worker, item } if worker < 64 => match board.back(worker, item as u64) {
             Ok(()) => Ok(true),
             Err(refusal) => unless_memory(refusal),
         },
@@ -154,8 +154,8 @@ fn last_of(events: &[Event], wanted: u64) -> Option<Event> {
 
 fn item_of(event: Event) -> u64 {
     match event {
-        Event::Begin { item, .. } => item,
-        Event::End { item, .. } => item,
-        Event::Back { item, .. } => item,
+        Event::Begin { item, .. } => item as u64,
+        Event::End { item, .. } => item as u64,
+        Event::Back { item, .. } => item as u64,
     }
 }

@@ -82,18 +82,18 @@ fn take_all(
 /// Does what an event says, which is a step.
 fn take(board: &mut Board, items: &mut Items, event: Event) -> Result<(), AllocError> {
     match event {
-        Event::Begin { worker, item } if worker < 64 => match board.begin(worker, item) {
+        Event::Begin { worker, item } if worker < 64 => match board.begin(worker, item as u64) {
             Ok(work) => {
                 drop(work);
                 Ok(())
             }
             Err(refusal) => none_but_memory(refusal),
         },
-        Event::End { worker, item } if worker < 64 => match board.work(worker, item) {
+        Event::End { worker, item } if worker < 64 => match board.work(worker, item as u64) {
             Ok(work) => compute(board, items, worker, work),
             Err(refusal) => none_but_memory(refusal),
         },
-        Event::Back { worker, item } if worker < 64 => match board.back(worker, item) {
+        Event::Back { worker, item } if worker < 64 => match board.back(worker, item as u64) {
             Ok(()) => Ok(()),
             Err(refusal) => none_but_memory(refusal),
         },

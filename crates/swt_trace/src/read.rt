@@ -141,7 +141,7 @@ fn read_line(bytes: &[u8]) -> Option<(Event, &[u8])>
     };
     let (worker, behind) = read_number(numbers, b' ')?;
     let (item, rest) = read_number(behind, b'\n')?;
-    if worker >= 64 || item == 0 {
+    if worker >= 64 || item == 0 || item > u32::MAX as u64 {
         return None;
     }
     let event = event_of(*letter, worker as u8, item)?;
@@ -156,9 +156,9 @@ fn event_of(byte: u8, worker: u8, item: u64) -> Option<Event>
     ensures none { IfNone result ((event : Event) → letter event ≢ byte) }
 {
     match byte {
-        b'B' => Some(Event::Begin { worker, item }),
-        b'E' => Some(Event::End { worker, item }),
-        b'K' => Some(Event::Back { worker, item }),
+        b'B' => Some(Event::Begin { worker, item: item as u32 }),
+        b'E' => Some(Event::End { worker, item: item as u32 }),
+        b'K' => Some(Event::Back { worker, item: item as u32 }),
         _ => None,
     }
 }

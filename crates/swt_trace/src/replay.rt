@@ -107,9 +107,9 @@ fn take_step(board: &mut Board, event: &Event) -> Result<bool, AllocError>
     ensures { IfOk result (λ taken. Takes board.old (event_view event.now) board.new taken) }
 {
     match event {
-        Event::Begin { worker, item } => take_begin(board, *worker, *item),
-        Event::End { worker, item } => take_end(board, *worker, *item),
-        Event::Back { worker, item } => take_back(board, *worker, *item),
+        Event::Begin { worker, item } => take_begin(board, *worker, *item as u64),
+        Event::End { worker, item } => take_end(board, *worker, *item as u64),
+        Event::Back { worker, item } => take_back(board, *worker, *item as u64),
     }
 }
 

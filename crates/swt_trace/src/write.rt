@@ -71,9 +71,9 @@ fn put_event<W: Sink>(event: &Event, page: &mut Page, sink: &mut W) -> Result<()
     ensures none_failed { OnOk result (W.failures sink.new ≡ W.failures sink.old) }
 {
     let (letter, worker, item) = match event {
-        Event::Begin { worker, item } => ("B ", *worker, *item),
-        Event::End { worker, item } => ("E ", *worker, *item),
-        Event::Back { worker, item } => ("K ", *worker, *item),
+        Event::Begin { worker, item } => ("B ", *worker, *item as u64),
+        Event::End { worker, item } => ("E ", *worker, *item as u64),
+        Event::Back { worker, item } => ("K ", *worker, *item as u64),
     };
     let line = line_of(letter, worker, item);
     page.put(sink, line.as_str().as_bytes())
