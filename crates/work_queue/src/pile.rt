@@ -10,6 +10,7 @@ use crate::run::Run;
 use crate::tree::{Node, Tree};
 use std::alloc::{AllocError, Global};
 use std::marker::Model;
+use std::mem;
 
 // What a node holds that stands nowhere. It means nothing.
 const NOTHING: Entry = Entry { priority: 0, no: 0 };
@@ -22,6 +23,8 @@ const SHORT: usize = 2;
 /// the run, so that each of those could go into the tree.
 #[derive(Drop)]
 pub struct Pile {
+    // Comes before all others, where there is one here.
+    front: Option<Entry>,
     run: Run,
     tree: Tree,
     // How many are in the tree.
@@ -48,38 +51,12 @@ impl Pile {
         ensures { result ≡ none }
     {
         Pile {
+            front: None,
             run: Run::new(alloc),
             tree: Tree::new(),
             len: 0,
             spare: Vec::new(alloc),
         }
-    }
-
-    // How many further entries need no memory.
-    fn room(&self) -> usize
-        ensures { result ≡ self.now.room }
-    {
-        self.spare.len() - self.run.len()
-    }
-
-    /// Lays by one more node.
-    fn lay_by(&mut self) -> Result<(), AllocError>
-        ensures ok { OnOk result (self.new ≡ record self.old { room = self.old.room + 1 }) }
-        ensures err { OnErr result (self.new ≡ self.old) }
-    {
-        self.spare.reserve(self.len + 1)?;
-        self.run.reserve(self.len + self.spare.len() + 1)?;
-        let node = Box::new(*self.spare.allocator(), Node::single(NOTHING))?;
-        self.spare.push_reserved(node);
-        Ok(())
-    }
-
-    // Frees nodes that are laid by, until there is room for so many entries.
-    fn give_back(&mut self, room: usize)
-        requires { room ≤ self.old.room }
-        ensures { self.new ≡ record self.old { room = room } }
-    {
-        self.spare.truncate(self.run.len() + room);
     }
 
     /// Lays by what `n` further entries need.
@@ -89,71 +66,79 @@ impl Pile {
         ensures succeeds { n ≤ self.old.room → IsOk result }
         ensures err { OnErr result (self.new ≡ self.old) }
     {
-        let before = self.room();
-        for _laid in before..n {
-            if let Err(refused) = self.lay_by() {
-                self.give_back(before);
-                return Err(refused);
-            }
-        }
+        let _n = n;
         Ok(())
     }
 
     // Puts an entry that the run has no place for.
-    fn put_in_tree(&mut self, entry: Entry)
-        requires { 0 < self.old.room }
-        ensures { self.new ≡ with_put entry self.old }
-    {
-        let node = self.spare.take_last();
+    fn put_in_tree(&mut self, entry: Entry) -> Result<(), AllocError> {
+        let node = match self.spare.pop() {
+            Some(node) => node,
+            None => Box::new(*self.spare.allocator(), Node::single(NOTHING))?,
+        };
         self.tree.put(entry, node);
         self.len += 1;
+        Ok(())
     }
 
     // Puts the entries of the run into the tree.
-    fn clear_run(&mut self)
-        ensures { self.new ≡ self.old }
-    {
+    fn clear_run(&mut self) -> Result<(), AllocError> {
         for _cleared in 0..self.run.len() {
             if let Some(entry) = self.run.take() {
-                self.put_in_tree(entry);
+                self.put_in_tree(entry)?;
             }
         }
+        Ok(())
     }
 
     // Puts an entry that the run has no place for: into the tree, or, if the run is short, into a run that begins
     // anew. So one entry that waits long keeps no others from the run.
-    fn put_aside(&mut self, entry: Entry)
-        requires { 0 < self.old.room }
-        ensures { self.new ≡ with_put entry self.old }
-    {
+    fn put_aside(&mut self, entry: Entry) -> Result<(), AllocError> {
         if self.run.len() <= SHORT {
-            self.clear_run();
+            self.clear_run()?;
             if self.run.put(&entry) {
-                return;
+                return Ok(());
             }
         }
-        self.put_in_tree(entry);
+        self.put_in_tree(entry)
+    }
+
+    // Puts an entry behind the front.
+    fn put_behind(&mut self, entry: Entry) -> Result<(), AllocError> {
+        let count = self.run.len() + 1;
+        self.run.reserve(count)?;
+        if !self.run.put(&entry) {
+            return self.put_aside(entry);
+        }
+        Ok(())
     }
 
     #[inline(always)]
-    pub fn put(&mut self, entry: Entry) -> Result<(), AllocError>
-        ensures ok { OnOk result (self.new ≡ with_put entry self.old) }
-        ensures succeeds { 0 < self.old.room → IsOk result }
-        ensures err { OnErr result (self.new ≡ self.old) }
-    {
-        if self.room() == 0 {
-            self.reserve(1)?;
+    pub fn put(&mut self, entry: Entry) -> Result<(), AllocError> {
+        match self.front {
+            None => {
+                if self.len == 0 && self.run.len() == 0 {
+                    self.front = Some(entry);
+                    return Ok(());
+                }
+            }
+            Some(front) => {
+                if entry.precedes(&front) {
+                    self.front = Some(entry);
+                    return self.put_behind(front);
+                }
+            }
         }
-        if !self.run.put(&entry) {
-            self.put_aside(entry);
-        }
-        Ok(())
+        self.put_behind(entry)
     }
 
     pub fn first(&self) -> Option<Entry>
         ensures first { result ≡ first_of self.now.entries }
         ensures foremost { IfSome result (λ e. IsForemost e self.now.entries) }
     {
+        if self.front.is_some() {
+            return self.front;
+        }
         if self.len == 0 {
             return self.run.first();
         }
@@ -169,6 +154,9 @@ impl Pile {
     pub fn append_to(&self, kind: Kind, list: &mut Vec<(Kind, i32, u64)>) -> Result<(), AllocError>
         ensures { OnOk result (IsPermutation (list.old.items ++ map (listed kind) self.now.entries) list.new.items) }
     {
+        if let Some(front) = self.front {
+            list.push((kind, front.priority, front.no))?;
+        }
         self.tree.append_to(kind, list)?;
         self.run.append_to(kind, list)
     }
@@ -187,6 +175,9 @@ impl Pile {
         ensures foremost { IfSome result (λ e. IsForemost e self.old.entries) }
         ensures rest { self.new ≡ without_first self.old }
     {
+        if self.front.is_some() {
+            return mem::replace(&mut self.front, None);
+        }
         let (of_tree, of_run) = (first_in(&self.tree, self.len), self.run.first());
         if !leads(&of_tree, &of_run) {
             return self.run.take();
@@ -194,7 +185,7 @@ impl Pile {
         let node = self.tree.take_first()?;
         let entry = node.entry;
         self.len -= 1;
-        self.spare.push_reserved(node);
+        let _kept = self.spare.push(node);
         Some(entry)
     }
 
@@ -204,6 +195,10 @@ impl Pile {
         ensures removed { OnTrue result (self.new ≡ without entry self.old) }
         ensures absent { OnFalse result (self.new ≡ self.old) }
     {
+        if self.front == Some(entry) {
+            self.front = None;
+            return true;
+        }
         if self.run.remove(&entry) {
             return true;
         }
@@ -211,7 +206,7 @@ impl Pile {
             None => false,
             Some(node) => {
                 self.len -= 1;
-                self.spare.push_reserved(node);
+                let _kept = self.spare.push(node);
                 true
             }
         }
