@@ -1,6 +1,7 @@
 -- The answers that the fields give are those that an item's inputs have in the state.
 use Rattle.std.proofs.Common.{◌≡◌, inl, inr, ℕ, zero, suc, Bool, true, false, not, List, [], ◌∷◌, ◌++◌, map, refl, sym, ap, ◌∙◌, subst, Option, None, Some}
 use Rattle.std.specs.List.{flat_map, list_all}
+use Rattle.std.proofs.lemmas.Bool.{not-true, and_parts}
 use Rattle.dataflow.specs.System.{Answer, ClosedArray, ElementAt, ElementOf, Found, In, Input, StoredScalar}
 use Rattle.dataflow.specs.Machine.{Event, Holds, IsElementKnown, IsKnown, Sees, SeesAll, SeesElement}
 use Rattle.dataflow.proofs.Known.{one_value}
@@ -10,9 +11,9 @@ use Rattle.board_history.specs.Fields.{Counted, DatumOf, Layout, LiteralOf, Mapp
 use Rattle.board_history.specs.Needs.{cell_element}
 use Rattle.board_history.specs.Stands.{Stands}
 use Rattle.board_history.proofs.EndedNames.{Resolved, to_datum, to_literal}
-use Rattle.board_history.proofs.EndedWants.{not_false, scalar_place}
+use Rattle.board_history.proofs.EndedWants.{scalar_place}
 use Rattle.board_history.proofs.Tests.{none_some, yes_no}
-use Rattle.task_code.proofs.Equal.{every_in, true_and}
+use Rattle.task_code.proofs.Equal.{every_in}
 use Rattle.task_code.proofs.Kept.{code_laws}
 use Rattle.task_code.proofs.Places.{argued, argument_kind}
 use Rattle.task_code.specs.Code.{Argument, At, AtKey, Closed, Code, Fixed, Local, Name, Named, Need, Owned, Parameter, Stored, Variable, argument, argument_in, arguments, call_at, entry, is_array_name, is_array_owned}
@@ -152,12 +153,12 @@ module _ (C : Code) (I : IsCode C) (L : Layout) (es : List Event) (F : Fields.Fi
   at_seen a r ar na (to_literal m n v pa za l) h = no_literal C p a v ar za
 
   kinds : (m : Need) → In m (entry C e).needs → fits_kinds m ≡ true
-  kinds m i = every_in fits_kinds (entry C e).needs (true_and (list_all fits_kinds (entry C e).needs) _ (I.shape e)).0 m i
+  kinds m i = every_in fits_kinds (entry C e).needs (and_parts (list_all fits_kinds (entry C e).needs) _ (I.shape e)).0 m i
 
   pub need_seen : (m : Need) → In m (entry C e).needs → NeedSeen C p s m (need_answer m)
-  need_seen (Stored r) i = stored_seen r (not_false (is_array_name r) (kinds (Stored r) i)) (res r (I.needs e (Stored r) r i (inl refl)))
+  need_seen (Stored r) i = stored_seen r (not-true (is_array_name r) (kinds (Stored r) i)) (res r (I.needs e (Stored r) r i (inl refl)))
   need_seen (Closed r) i = closed_seen r (kinds (Closed r) i) (res r (I.needs e (Closed r) r i (inl refl)))
   need_seen (At a r) i =
-      let k = true_and (is_array_name a) (not (is_array_name r)) (kinds (At a r) i) in
-      at_seen a r k.0 (not_false (is_array_name r) k.1) (res a (I.needs e (At a r) a i (inl refl))) (res r (I.needs e (At a r) r i (inr (inl refl))))
+      let k = and_parts (is_array_name a) (not (is_array_name r)) (kinds (At a r) i) in
+      at_seen a r k.0 (not-true (is_array_name r) k.1) (res a (I.needs e (At a r) a i (inl refl))) (res r (I.needs e (At a r) r i (inr (inl refl))))
   need_seen (AtKey a k) i = key_seen a k (kinds (AtKey a k) i) (res a (I.needs e (AtKey a k) a i (inl refl)))

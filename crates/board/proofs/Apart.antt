@@ -2,7 +2,7 @@
 use Rattle.std.proofs.Common.{◌≡◌, ℕ, ◌+◌, ◌*◌, ◌≤◌, Bool, true, false, cond, List, [], ◌∷◌, ◌++◌, map, refl, sym, ap, ◌∙◌, subst, if◌then◌else◌, length, arith}
 use Rattle.std.specs.List.{filter}
 use Rattle.std.proofs.Math.Nat.{mul-suc}
-use Rattle.dataflow.proofs.Lists.{map_append}
+use Rattle.std.proofs.lemmas.List.{map-append}
 use Rattle.board_history.specs.Ending.{job_kind, new_row}
 use Rattle.board_history.specs.Fields.{Does, Job, Row, Script}
 use Rattle.board_history.specs.Marking.{kind_eq}
@@ -39,7 +39,7 @@ module _ (C : Code) (k : Kind) where
   pub apart_put : (es : List ℕ) (puts : List Put) → apart_in C k (map new_row (put_jobs es puts)) ≡ run_as C k es * length puts
   apart_put es [] = omega arith
   apart_put es (p ∷ ps) =
-      let a = ap (apart_in C k) (map_append new_row (map (λ (e : ℕ). Does p.key e 0) es) (put_jobs es ps)) in
+      let a = ap (apart_in C k) (map-append new_row (map (λ (e : ℕ). Does p.key e 0) es) (put_jobs es ps)) in
       let b = apart_append (map new_row (map (λ (e : ℕ). Does p.key e 0) es)) (map new_row (put_jobs es ps)) in
       let c = apart_entries p.key es in
       let d = apart_put es ps in
@@ -48,7 +48,7 @@ module _ (C : Code) (k : Kind) where
 
   pub apart_both : (es : List ℕ) (puts : List Put) (more : List Job) → apart_in C k (map new_row (put_jobs es puts ++ more)) ≡ run_as C k es * length puts + apart_in C k (map new_row more)
   apart_both es puts more =
-      ap (apart_in C k) (map_append new_row (put_jobs es puts) more) ∙ apart_append (map new_row (put_jobs es puts)) (map new_row more)
+      ap (apart_in C k) (map-append new_row (put_jobs es puts) more) ∙ apart_append (map new_row (put_jobs es puts)) (map new_row more)
       ∙ ap (λ (n : ℕ). n + apart_in C k (map new_row more)) (apart_put es puts)
 
 -- of the item that goes on with a loop, which is a control item

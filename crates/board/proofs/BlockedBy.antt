@@ -3,6 +3,7 @@ use Rattle.std.proofs.Common.{◌≡◌, ◌↔◌, inl, inr, ℕ, zero, suc, �
 use Rattle.std.specs.Prelude.{if◌then◌else◌, nat_lt, option_map, IfOk, Result, Vec}
 use Rattle.std.proofs.Common.{Ok, Err}
 use Rattle.std.specs.List.{cons_option, filter_map, list_all, list_any}
+use Rattle.std.proofs.lemmas.Bool.{and_parts}
 use Rattle.dataflow.specs.System.{In}
 use Rattle.dataflow.specs.Machine.{Event, IsKnown}
 use Rattle.dataflow.proofs.Lists.{in_map, in_unmap}
@@ -20,7 +21,7 @@ use Rattle.board_history.specs.Needs.{missed}
 use Rattle.board_history.proofs.EndedNames.{Resolved}
 use Rattle.board_history.proofs.Marking.{RowIs, mark_is}
 use Rattle.board_history.proofs.Tests.{none_some, some_same}
-use Rattle.task_code.proofs.Equal.{every_in, name_sound, true_and}
+use Rattle.task_code.proofs.Equal.{every_in, name_sound}
 use Rattle.task_code.specs.Code.{Act, Assert, At, AtKey, Call, Cell, Closed, Code, Copy, Each, Fill, Header, If, Name, Need, Print, Put, Range, Read, Set, Stored, Wait, body, entry}
 use Rattle.task_code.specs.Effects.{Item, Main}
 use Rattle.task_code.specs.Machine.{CodeItem, CodeState}
@@ -88,9 +89,9 @@ plain_in m (n ∷ ns) h = by (plain_in m ns) (is_same_plain m n) refl h
 module _ (C : Code) (I : IsCode C) where
   headers_plain : (e : ℕ) (hs : List Header) (b : ℕ) → (entry C e).act ≡ Wait hs b → (h : Header) → In h hs → (m : Need) → In m h.needs → (is_plain m ≡ true) × In m (entry C e).needs
   headers_plain e hs b a h i m j =
-      let shape = (true_and (list_all _ (entry C e).needs) (has_shape (entry C e).act (entry C e).needs) (I.shape e)).1 in
+      let shape = (and_parts (list_all _ (entry C e).needs) (has_shape (entry C e).act (entry C e).needs) (I.shape e)).1 in
       let headers : has_headers hs (entry C e).needs ≡ true = subst (λ z. has_shape z (entry C e).needs ≡ true) a shape in
-      let each = every_in (λ (g : Header). list_all (λ n. list_any (is_same_plain n) (entry C e).needs) g.needs) hs (true_and (list_all (λ (g : Header). list_all (λ n. list_any (is_same_plain n) (entry C e).needs) g.needs) hs) _ headers).0 h i in
+      let each = every_in (λ (g : Header). list_all (λ n. list_any (is_same_plain n) (entry C e).needs) g.needs) hs (and_parts (list_all (λ (g : Header). list_all (λ n. list_any (is_same_plain n) (entry C e).needs) g.needs) hs) _ headers).0 h i in
       plain_in m (entry C e).needs (every_in (λ n. list_any (is_same_plain n) (entry C e).needs) h.needs each m j)
 
   module _ (fs : List (Option Frame)) (cs : List (Option Counted)) (k b : ℕ) where

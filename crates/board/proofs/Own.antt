@@ -4,7 +4,7 @@ use Rattle.std.specs.Prelude.{◌^◌, vec_capacity, vec_len}
 use Rattle.dataflow.specs.System.{In}
 use Rattle.dataflow.specs.Events.{NewlyAt, worker_of}
 use Rattle.dataflow.specs.Machine.{Back, Begin, End, Event, start}
-use Rattle.dataflow.proofs.Lists.{in_split, map_append}
+use Rattle.dataflow.proofs.Lists.{in_split}
 use Rattle.board_history.specs.Fields as Pure
 use Rattle.board_history.specs.Stands.{Stands}
 use Rattle.board_history.proofs.Marking.{running_marked}
@@ -37,6 +37,7 @@ use Rattle.board.specs.View.{fields_view}
 use Rattle.board.specs.declared.board.Board.TheInside.{Inside}
 use Rattle.board.specs.declared.state.Core.{Core}
 use Rattle.std.proofs.Common.{Vec, Global}
+use Rattle.std.proofs.lemmas.List.{map-append}
 use Rattle.board.proofs.Changes.{unmet, untold}
 use Rattle.board.proofs.Moves.{begins_ready, ready_begins, row_runs, runs_row, state_is, stepped}
 use Rattle.board_history.proofs.Replays.{run_replayed}
@@ -58,7 +59,7 @@ pub not_true : (b : Bool) → b ≡ false → IsTrue b → ⊥
 not_true b off t = let clash : true ≡ false = sym t ∙ off in absurd (cc)
 
 pub history_goes : (hs : List BoardEvent) (e : BoardEvent) → map event_view (hs ++ e ∷ []) ≡ map event_view hs ++ event_view e ∷ []
-history_goes hs e = map_append event_view hs (e ∷ [])
+history_goes hs e = map-append event_view hs (e ∷ [])
 
 -- one event more
 more : (P : Event → Type 0) (hs : List BoardEvent) (e : BoardEvent) → ((f : Event) → In f (map event_view hs) → P f) → P (event_view e) → (f : Event) → In f (map event_view (hs ++ e ∷ [])) → P f

@@ -2,6 +2,7 @@
 use Rattle.std.proofs.Common.{◌≡◌, ◌∙◌, ℕ, zero, suc, ◌+◌, ◌-◌, ◌<◌, ◌≤◌, true, false, List, [], ◌∷◌, ◌++◌, map, length, refl, sym, ap, subst, arith, Option, Some, None}
 use Rattle.std.specs.Prelude.{if◌then◌else◌, nat_lt}
 use Rattle.std.proofs.lemmas.Bool.Decides.{nat_tests}
+use Rattle.std.proofs.lemmas.List.{length-append}
 use Rattle.dataflow.specs.System.{Answer}
 use Rattle.dataflow.specs.Machine.{End, Event, SeesAll}
 use Rattle.board_history.specs.CodeReplay.{replayed}
@@ -59,12 +60,8 @@ map_length : {X Y : Type 0} (f : X → Y) (xs : List X) → length (map f xs) �
 map_length f [] = refl
 map_length f (x ∷ xs) = ap suc (map_length f xs)
 
-length_append : {X : Type 0} (xs ys : List X) → length (xs ++ ys) ≡ length xs + length ys
-length_append [] ys = omega arith
-length_append (x ∷ xs) ys = let h = length_append xs ys in omega arith
-
 behind_count : (rows : List Row) (js : List Job) → length (rows ++ map new_row js) - length rows ≡ length js
-behind_count rows js = let a = length_append rows (map new_row js) in let b = map_length new_row js in omega arith
+behind_count rows js = let a = length-append rows (map new_row js) in let b = map_length new_row js in omega arith
 
 runs_waits : {B : Type 0} (w : ℕ) → Running w ≡ Waiting → B
 runs_waits w h = absurd (cc)
@@ -93,7 +90,7 @@ module _ (C : Code) (I : IsCode C) (es : List Event) (F : Fields) (st : Stands C
   count = sym (ap (λ (l : List Row). length l - first) p.rows_are ∙ behind_count F.rows jobs)
 
   pub within : first ≤ length rows
-  within = let a = ap length p.rows_are in let b = length_append F.rows (map new_row jobs) in omega arith
+  within = let a = ap length p.rows_are in let b = length-append F.rows (map new_row jobs) in omega arith
 
   pub old_woken : AreOld first woken
   old_woken = woken_old F jobs p.after.known left woken (items_fit C I (layout_of C) es F st) learnt_all

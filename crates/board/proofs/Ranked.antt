@@ -6,7 +6,7 @@ use Rattle.std.specs.List.Sorted.{IsPermutation, IsSortedBy}
 use Rattle.dataflow.specs.System.{In}
 use Rattle.dataflow.proofs.Lists.{in_left, in_map, in_right, in_split, in_unmap}
 use Rattle.paths.specs.declared.statements.Statement.{Statement}
-use Rattle.task_code.proofs.Equal.{both_true, nat_same, nat_sound, true_and}
+use Rattle.task_code.proofs.Equal.{nat_same, nat_sound}
 use Rattle.board_items.proofs.Lists.{in_back, in_moved}
 use Rattle.board_history.proofs.Tests.{none_some, some_same}
 use Rattle.paths.specs.Order.{path_below, same_path, same_statement, statement_below}
@@ -15,7 +15,7 @@ use Rattle.board.specs.Blocked.{InTextOrder, comes_before}
 use Rattle.board.specs.Stuck.{Place, place_of}
 use Rattle.board.specs.Sorting.{each_once, is_last}
 use Rattle.board.specs.View.{path_view}
-use Rattle.std.proofs.lemmas.Bool.{or_parts, false_from_ne_true, or_cases, or_right, or_left}
+use Rattle.std.proofs.lemmas.Bool.{or_parts, false_from_ne_true, or_cases, or_right, or_left, and_from, and_parts}
 
 lt_sound : (n m : ℕ) → nat_lt n m ≡ true → n < m
 lt_sound n m h = grind arith
@@ -39,7 +39,7 @@ before_sound s t h = by (or_cases (path_below s.path.items t.path.items) _ h)
   where
     by : (path_below s.path.items t.path.items ≡ true) ⊎ ((same_path s.path.items t.path.items && nat_lt s.at t.at) ≡ true) → Before s t
     by (inl a) = inl a
-    by (inr a) = (let x = true_and (same_path s.path.items t.path.items) _ a in inr (path_order.is s.path.items t.path.items x.0, lt_sound s.at t.at x.1))
+    by (inr a) = (let x = and_parts (same_path s.path.items t.path.items) _ a in inr (path_order.is s.path.items t.path.items x.0, lt_sound s.at t.at x.1))
 
 before_trans : (s t u : Statement) → Before s t → Before t u → Before s u
 before_trans s t u (inl a) (inl b) = inl (path_order.chain s.path.items t.path.items u.path.items a b)
@@ -60,7 +60,7 @@ text_before s t (inr a) = inr (ap (λ p. reverse (path_view p)) a.0, lt_complete
 
 same_place : (s t : Statement) → same_statement s t ≡ true → place_of s ≡ place_of t
 same_place s t h =
-    let x = true_and (same_path s.path.items t.path.items) _ h in
+    let x = and_parts (same_path s.path.items t.path.items) _ h in
     let a = nat_sound s.at t.at x.1 in
     let b = ap (λ p. reverse (path_view p)) (path_order.is s.path.items t.path.items x.0) in
     λ i. record { at = a i; path = b i }
@@ -71,7 +71,7 @@ false_true e = absurd (cc (e))
 -- it is an order with the same statements as ties
 before_is : (s t : Statement) → Before s t → statement_below s t ≡ true
 before_is s t (inl a) = or_left (path_below s.path.items t.path.items) _ a
-before_is s t (inr a) = or_right (path_below s.path.items t.path.items) _ (both_true (same_path s.path.items t.path.items) _ (subst (λ p. same_path s.path.items p ≡ true) a.0 (path_order.own s.path.items)) (lt_complete s.at t.at a.1))
+before_is s t (inr a) = or_right (path_below s.path.items t.path.items) _ (and_from (same_path s.path.items t.path.items) _ (subst (λ p. same_path s.path.items p ≡ true) a.0 (path_order.own s.path.items)) (lt_complete s.at t.at a.1))
 
 before_not : (s t : Statement) → Before s t → Before t s → ⊥
 before_not s t a b = by (before_trans s t s a b)
@@ -81,7 +81,7 @@ before_not s t a b = by (before_trans s t s a b)
     by (inr h) = let x = h.1 in omega arith
 
 same_before : (s t : Statement) → same_statement s t ≡ true → (s.path.items ≡ t.path.items) × (s.at ≡ t.at)
-same_before s t h = let x = true_and (same_path s.path.items t.path.items) _ h in (path_order.is s.path.items t.path.items x.0, nat_sound s.at t.at x.1)
+same_before s t h = let x = and_parts (same_path s.path.items t.path.items) _ h in (path_order.is s.path.items t.path.items x.0, nat_sound s.at t.at x.1)
 
 pub before_order : IsStrictWeakOrder statement_below
 before_order =

@@ -2,8 +2,9 @@
 use Rattle.std.proofs.Common.{◌≡◌, ◌⊎◌, inl, inr, ℕ, suc, ◌+◌, ◌<◌, true, false, List, [], ◌∷◌, ◌++◌, map, refl, sym, ap, ◌∙◌, subst, arith}
 use Rattle.std.specs.Prelude.{ℤ, IsPermutation, int_lt, slice_index_or}
 use Rattle.std.proofs.lemmas.List.Sorted.{IsPermutation-map}
+use Rattle.std.proofs.lemmas.List.{map-append}
 use Rattle.dataflow.specs.System.{Distinct, In}
-use Rattle.dataflow.proofs.Lists.{distinct_append, in_left, in_map, in_right, in_split, in_unmap, map_append}
+use Rattle.dataflow.proofs.Lists.{distinct_append, in_left, in_map, in_right, in_split, in_unmap}
 use Rattle.task_code.specs.Code.{Control, Kind, Leaf}
 use Rattle.task_code.specs.Machine.{CodeItem}
 use Rattle.task_code.specs.System.{task_kind, task_priority}
@@ -137,7 +138,7 @@ module _ (a : Inside) (s : IsSound a) where
 
   all_once : Distinct (map (λ (l : Listed). l.2) all)
   all_once =
-      subst (λ (ns : List ℕ). Distinct ns) (sym (map_append (λ (l : Listed). l.2) (map (listed Control) a.core.items.queue.control.entries) (map (listed Leaf) a.core.items.queue.leaf.entries)))
+      subst (λ (ns : List ℕ). Distinct ns) (sym (map-append (λ (l : Listed). l.2) (map (listed Control) a.core.items.queue.control.entries) (map (listed Leaf) a.core.items.queue.leaf.entries)))
       (distinct_append (map (λ (l : Listed). l.2) (map (listed Control) a.core.items.queue.control.entries)) (map (λ (l : Listed). l.2) (map (listed Leaf) a.core.items.queue.leaf.entries))
       (once Control a.core.items.queue.control.entries (λ z. once_each a s Control z) (λ e h. stood a s Control e h))
       (once Leaf a.core.items.queue.leaf.entries (λ z. once_each a s Leaf z) (λ e h. stood a s Leaf e h))

@@ -1,7 +1,6 @@
 -- Room for items once the world has changed.
 use Rattle.std.proofs.Common.{◌≡◌, ◌∙◌, refl, sym, ap, ℕ, suc, ◌+◌, ◌*◌, ◌<◌, ◌≤◌, subst, if◌then◌else◌, vec_capacity, true, List, [], ◌∷◌, ◌++◌, append-nil, append_assoc, length, map, vec_len, Option, arith}
-use Rattle.std.proofs.lemmas.List.{length-append, length-map}
-use Rattle.dataflow.proofs.Lists.{map_append}
+use Rattle.std.proofs.lemmas.List.{length-append, length-map, map-append}
 use Rattle.data_store.specs.Stores.{Store}
 use Rattle.board_history.specs.Ending.{job_kind, new_row}
 use Rattle.board_history.specs.Fields.{Frame, Job, Row, Want}
@@ -45,7 +44,7 @@ pub opened_rows : (C : Code) (j : Job) (o : Openings) (fs gs : List (Option Fram
 opened_rows C j o fs gs old new s t w =
     w.goes ∙ ap (λ (rs : List Row). rs ++ map new_row (going_jobs j o.goes_on)) w.opened.placed.rows
     ∙ append_assoc old (map new_row (put_jobs (body C o.body).entries w.opened.placed.puts)) (map new_row (going_jobs j o.goes_on))
-    ∙ ap (λ (rs : List Row). old ++ rs) (sym (map_append new_row (put_jobs (body C o.body).entries w.opened.placed.puts) (going_jobs j o.goes_on)))
+    ∙ ap (λ (rs : List Row). old ++ rs) (sym (map-append new_row (put_jobs (body C o.body).entries w.opened.placed.puts) (going_jobs j o.goes_on)))
 
 pub roomy_after : (C : Code) (j : Job) (x : Change) (fs gs : List (Option Frame)) (old new : Items) (s t : Store) (known : List (Want ℕ)) →
     WorldEnds C j x fs gs (rows_view old.rows.items) (rows_view new.rows.items) s t known → IsRoomyFor C (new_controls C x) (new_leaves C x) old → (goes_on x ≡ true → job_kind C j ≡ Control) →

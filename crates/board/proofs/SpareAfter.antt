@@ -2,10 +2,9 @@
 use Rattle.std.proofs.Common.{◌≡◌, ◌∙◌, refl, sym, ap, subst, inl, inr, ℕ, ◌≤◌, Bool, true, false, List, [], ◌∷◌, ◌++◌, append_assoc, length, map, Option, arith}
 use Rattle.std.specs.List.{AllZip, filter, flat_map}
 use Rattle.std.specs.Prelude.{nat_lt}
-use Rattle.std.proofs.lemmas.List.{length-map}
+use Rattle.std.proofs.lemmas.List.{length-map, map-append}
 use Rattle.std.proofs.lemmas.List.Elements.{filter-append}
 use Rattle.dataflow.specs.System.{In}
-use Rattle.dataflow.proofs.Lists.{map_append}
 use Rattle.data_store.specs.Stores.{Store}
 use Rattle.board_history.specs.Ending.{new_row}
 use Rattle.board_history.specs.Fields.{Does, Frame, Job, Row, Script, Want}
@@ -56,7 +55,7 @@ module _ (C : Code) where
   entry_needs k (e ∷ es) = ap (λ (l : List ℕ). length (entry C e).needs ∷ l) (entry_needs k es)
 
   long_both : (xs ys : List Job) → long (xs ++ ys) ≡ long xs ++ long ys
-  long_both xs ys = ap (filter (nat_lt 2)) (map_append (first_needs C) xs ys) ∙ filter-append (nat_lt 2) (map (first_needs C) xs) (map (first_needs C) ys)
+  long_both xs ys = ap (filter (nat_lt 2)) (map-append (first_needs C) xs ys) ∙ filter-append (nat_lt 2) (map (first_needs C) xs) (map (first_needs C) ys)
 
   long_put : (es : List ℕ) (puts : List Put) (rest : List Job) → long rest ≡ [] → long (put_jobs es puts ++ rest) ≡ flat_map (λ (p : Put). long_entries es) puts
   long_put es [] rest h = h

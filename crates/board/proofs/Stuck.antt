@@ -2,6 +2,7 @@
 use Rattle.std.proofs.Common.{◌≡◌, ◌↔◌, inl, inr, ℕ, Bool, true, false, List, [], ◌∷◌, refl, sym, ap, ◌∙◌, subst, Option, None, Some, nat_eq}
 use Rattle.std.specs.Prelude.{if◌then◌else◌}
 use Rattle.std.specs.List.{list_all}
+use Rattle.std.proofs.lemmas.Bool.{not-true, and_parts}
 use Rattle.dataflow.specs.System.{ClosedArray, In, Input, StoredScalar}
 use Rattle.dataflow.specs.Machine.{Event, IsKnown}
 use Rattle.board_history.specs.Elements.{code_tests}
@@ -12,9 +13,9 @@ use Rattle.board_history.specs.Stands.{CellStands, ContentStands, Stands, array_
 use Rattle.board_history.proofs.Counts.{closed_counts, counts_closed}
 use Rattle.board_history.proofs.Elements.{code_told}
 use Rattle.board_history.proofs.EndedNames.{Resolved, to_datum, to_literal}
-use Rattle.board_history.proofs.EndedWants.{not_false, scalar_place}
+use Rattle.board_history.proofs.EndedWants.{scalar_place}
 use Rattle.board_history.proofs.Tests.{none_some, some_same, yes_no}
-use Rattle.task_code.proofs.Equal.{every_in, in_every, nat_sound, true_and}
+use Rattle.task_code.proofs.Equal.{every_in, in_every, nat_sound}
 use Rattle.task_code.specs.Code.{At, AtKey, Closed, Code, Header, Name, Need, Stored, Variable, entry, is_array_name}
 use Rattle.task_code.specs.Places.{Datum, Place, Step, place_at}
 use Rattle.task_code.specs.Runs.{FirstUnknown, IsHeaderKnown}
@@ -99,10 +100,10 @@ module _ (C : Code) (I : IsCode C) (L : Layout) (es : List Event) (F : Fields.Fi
     )
 
     pub need_told : (m : Need) → is_plain m ≡ true → In m (entry C e).needs → Told m
-    need_told (Stored r) pl i = stored_told r (not_false (is_array_name r) (kinds (Stored r) i)) (res r (I.needs e (Stored r) r i (inl refl)))
+    need_told (Stored r) pl i = stored_told r (not-true (is_array_name r) (kinds (Stored r) i)) (res r (I.needs e (Stored r) r i (inl refl)))
       where
         kinds : (m : Need) → In m (entry C e).needs → fits_kinds m ≡ true
-        kinds m i = every_in fits_kinds (entry C e).needs (true_and (list_all fits_kinds (entry C e).needs) _ (I.shape e)).0 m i
+        kinds m i = every_in fits_kinds (entry C e).needs (and_parts (list_all fits_kinds (entry C e).needs) _ (I.shape e)).0 m i
     need_told (Closed r) pl i = closed_told_by r (res r (I.needs e (Closed r) r i (inl refl)))
     need_told (At a r) pl i = absurd (cc (pl))
     need_told (AtKey a k) pl i = absurd (cc (pl))

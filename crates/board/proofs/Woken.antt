@@ -1,6 +1,7 @@
 -- Items that learn of their last input: one that waits for no element misses nothing any more.
 use Rattle.std.proofs.Common.{◌≡◌, ◌⊎◌, inl, inr, false, ℕ, suc, ◌≤◌, List, [], ◌++◌, length, map, refl, sym, ap, ◌∙◌, subst, Option, None, Some, arith}
 use Rattle.std.specs.List.{flat_map, list_all}
+use Rattle.std.proofs.lemmas.Bool.{and_parts}
 use Rattle.dataflow.specs.System.{In}
 use Rattle.dataflow.specs.Machine.{Event, Free}
 use Rattle.dataflow.proofs.Lists.{in_map, in_seam}
@@ -19,7 +20,6 @@ use Rattle.board_history.proofs.EndedWaits as Waits
 use Rattle.board_history.proofs.EndedWants.{needs_stand, left_none, none_left}
 use Rattle.board_history.proofs.Marking.{RowIs, live_mark}
 use Rattle.board_history.proofs.Tests.{some_same}
-use Rattle.task_code.proofs.Equal.{true_and}
 use Rattle.task_code.specs.Code.{Code, Name, Need, Variable, body, entry}
 use Rattle.task_code.specs.Effects.{Item, Task}
 use Rattle.task_code.specs.Machine.{CodeItem, CodeState}
@@ -52,7 +52,7 @@ module _ (C : Code) (I : IsCode C) (L : Layout) (es : List Event) (F : Fields) (
     plain_none pl vs h z = none_left later (rest t (entry C e).needs) (subst (λ (l : List (Want ℕ)). AllStand later l (rest t (entry C e).needs)) z (plain_still C I L es F w n t G P e p f res nf (entry C e).needs (λ m i. i) pl vs h))
 
     pub short_needs : (vs : List (Want ℕ)) → AllStand names vs (rest s (entry C e).needs) → still_missed known vs ≡ [] → ((length (entry C e).needs ≤ 2) × (list_all is_plain (entry C e).needs ≡ false)) ⊎ (rest t (entry C e).needs ≡ [])
-    short_needs vs h z = by (shapes (entry C e).act (entry C e).needs (true_and (list_all fits_kinds (entry C e).needs) _ (I.shape e)).1)
+    short_needs vs h z = by (shapes (entry C e).act (entry C e).needs (and_parts (list_all fits_kinds (entry C e).needs) _ (I.shape e)).1)
       where
         few : (ns : List Need) → length ns ≡ 1 → length ns ≤ 2
         few ns q = omega arith

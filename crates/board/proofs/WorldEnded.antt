@@ -1,8 +1,8 @@
 -- What becomes of instances, rows and data at the End of an item, put together for each change that it makes.
 use Rattle.std.proofs.Common.{◌≡◌, ◌∙◌, ℕ, ◌<◌, ◌≤◌, Bool, true, false, List, [], ◌∷◌, ◌++◌, map, length, refl, sym, ap, subst, arith, append_assoc, append-nil, Option, Some, None}
 use Rattle.std.specs.Prelude.{◌^◌, if◌then◌else◌, slice_get}
+use Rattle.std.proofs.lemmas.List.{map-append}
 use Rattle.dataflow.specs.System.{Opening}
-use Rattle.dataflow.proofs.Lists.{map_append}
 use Rattle.dataflow.specs.Machine.{Event}
 use Rattle.data_store.specs.Stores.{Store, at}
 use Rattle.board_history.specs.Ending.{BecomesKnown, CellsAfter, NamesLead, TakenOff, added_times, given_times, home, job_stores, made_jobs, new_row, rest_jobs}
@@ -208,7 +208,7 @@ module _ (C : Code) (I : IsCode C) (es : List Event) (F : Fields) (st : Stands C
           rows_are = opens.goes
               ∙ ap (λ (l : List Row). l ++ map new_row (going (Does k e c) o.goes_on)) (rows_are C (Does k e c) x o fs middle F.rows opens.rows stored more b opens.opened)
               ∙ append_assoc F.rows (map new_row (made_jobs C (map (made_as fs (Some k)) opens.opened.placed.puts))) (map new_row (going (Does k e c) o.goes_on))
-              ∙ ap (λ (l : List Row). F.rows ++ l) (sym (map_append new_row (made_jobs C (map (made_as fs (Some k)) opens.opened.placed.puts)) (going (Does k e c) o.goes_on)))
+              ∙ ap (λ (l : List Row). F.rows ++ l) (sym (map-append new_row (made_jobs C (map (made_as fs (Some k)) opens.opened.placed.puts)) (going (Does k e c) o.goes_on)))
               ∙ ap (λ (l : List Job). F.rows ++ map new_row (made_jobs C (map (made_as fs (Some k)) opens.opened.placed.puts) ++ l)) (goes_as k e c (rests C (task_of fs (Does k e c)) x) (one_rest C (task_of fs (Does k e c)) x) o.goes_on are.goes_on);
           few = few_left gs middle _ both.1 (few_opened C I (Does k e c) x o fs middle F.rows opens.rows stored more b opens.opened fit.count fit.first fit.few fit.around few);
         }

@@ -2,12 +2,13 @@
 use Rattle.std.proofs.Common.{◌≡◌, ◌∙◌, refl, sym, ap, subst, inl, inr, ℕ, zero, suc, ◌+◌, ◌*◌, true, false, List, [], ◌∷◌, ◌++◌, length, not, Option, Some, None, arith}
 use Rattle.std.specs.Prelude.{if◌then◌else◌}
 use Rattle.std.specs.List.{filter}
+use Rattle.std.proofs.lemmas.Bool.{not-true}
 use Rattle.dataflow.specs.System.{In}
 use Rattle.dataflow.specs.Machine.{Event}
 use Rattle.dataflow.proofs.Lists.{in_left, in_right, in_unmap}
 use Rattle.board_history.proofs.EndedNames.{flat_in, hold_named, in_flat}
 use Rattle.board_history.proofs.Layouts.{added_once}
-use Rattle.board_history.proofs.Tests.{in_kept, not_true, yes_no}
+use Rattle.board_history.proofs.Tests.{in_kept, yes_no}
 use Rattle.board_history.specs.Ending.{Instance, NamesLead, added_times, held_times, job_slot, slot_is}
 use Rattle.board_history.specs.Fields.{Does, Fields, Frame, LiteralOf, Over, Row, Slot, row_of, slot_at, slot_for}
 use Rattle.board_history.specs.Stands.{Stands}
@@ -68,7 +69,7 @@ held_none f d (h ∷ hs) all =
 pub outer_named : (C : Code) (rights : Entry → List Name) (b : ℕ) (h : Hold) → In h (outer_holds C rights b) → In h.name (names_in C rights b) × (Declared C b h.name → ⊥)
 outer_named C rights b h i =
     let p = in_kept (λ r. not (is_declared C b r)) h.name (names_in C rights b) (hold_named (filter (λ r. not (is_declared C b r)) (names_in C rights b)) h i) in
-    (p.0, λ y. yes_no (declared_is C b h.name y) (not_true (is_declared C b h.name) p.1))
+    (p.0, λ y. yes_no (declared_is C b h.name y) (not-true (is_declared C b h.name) p.1))
 
 module _ (C : Code) (I : IsCode C) (es : List Event) (F : Fields) (x : Stands C (layout_of C) es F) (n k e c : ℕ) (row : Row) (there : row_of F.rows n ≡ Some row) (job : row.job ≡ Does k e c) (live : row.mark ≡ Over → ⊥) (b : ℕ) (w : Way) (iw : In (w, b) (ways (entry C e).act)) (gs : List (Option Frame)) (made : List Instance) (body_is : (m : Instance) → In m made → m.body ≡ b) (leads : (m : Instance) → In m made → NamesLead C (layout_of C) F.frames gs k e c m) where
   -- a name stands for the same in each of the instances, and for no datum that was not there

@@ -1,7 +1,7 @@
 -- What is stored becomes known.
 use Rattle.std.proofs.Common.{◌≡◌, ◌∙◌, refl, sym, ap, subst, inl, inr, ℕ, Bool, true, false, List, [], ◌∷◌, map, Option, Some, None, option_map}
 use Rattle.std.specs.Prelude.{if◌then◌else◌, nat_eq, ◌||◌}
-use Rattle.std.proofs.lemmas.Bool.{cases_Bool}
+use Rattle.std.proofs.lemmas.Bool.{cases_Bool, or_left, or_right}
 use Rattle.dataflow.specs.System.{In}
 use Rattle.dataflow.proofs.Lists.{in_map, in_unmap}
 use Rattle.std.specs.Prelude.{IsSomeAnd, ◌-◌}
@@ -14,7 +14,6 @@ use Rattle.board_history.proofs.Next.{nat_same, nat_sound}
 use Rattle.board_history.specs.Ending.{ContentAfter}
 use Rattle.board_history.specs.Fields.{AnElement, Counted, Want, Whole, slot_at}
 use Rattle.board_history.specs.Fields as Pure
-use Rattle.board_history.proofs.Tests.{left_true, right_true}
 use Rattle.board_history.specs.Needs.{cell_known, cell_marked, elements_in, has_mark, is_array_content, is_known, is_shut}
 use Rattle.task_code.specs.Compute.{Elements, pairs}
 use Rattle.task_code.specs.Effects.{only}
@@ -40,8 +39,8 @@ use Rattle.board_changes.specs.declared.world.Change.TheVariants as Changes
 marked_there : (k : Key) (v : Scalar) (xs : Elements) → In (k, v) xs → has_mark (mark_of k) xs ≡ true
 marked_there k v [] i = absurd i
 marked_there k v (x ∷ xs) i = elim i [
-  | inl e ↦ left_true (nat_eq (mark_of k) (mark_of x.0)) (has_mark (mark_of k) xs) (subst (λ (y : Key × Scalar). nat_eq (mark_of k) (mark_of y.0) ≡ true) e (nat_same (mark_of k)))
-  | inr r ↦ right_true (nat_eq (mark_of k) (mark_of x.0)) (has_mark (mark_of k) xs) (marked_there k v xs r)
+  | inl e ↦ or_left (nat_eq (mark_of k) (mark_of x.0)) (has_mark (mark_of k) xs) (subst (λ (y : Key × Scalar). nat_eq (mark_of k) (mark_of y.0) ≡ true) e (nat_same (mark_of k)))
+  | inr r ↦ or_right (nat_eq (mark_of k) (mark_of x.0)) (has_mark (mark_of k) xs) (marked_there k v xs r)
 ]
 
 -- a scalar that has been given a value is known

@@ -4,6 +4,7 @@ use Rattle.std.proofs.lemmas.Int.{ints}
 use Rattle.std.specs.Prelude.{suc, nat_eq, ◌==◌, length}
 use Rattle.std.specs.Bool.{Decides}
 use Rattle.std.specs.Ordering.{int_eq}
+use Rattle.std.proofs.lemmas.Bool.{and_from, and_parts}
 use lib.Pointwise.{pointwise, pointwise_decides}
 use Rattle.dataflow.specs.System.{Answer, Found, Missing, Content}
 use Rattle.values.specs.declared.format.Piece.{Piece}
@@ -23,7 +24,7 @@ use Rattle.task_code.specs.Code.{Need, Stored, Closed, At, AtKey, Expr, constant
 use Rattle.task_code.specs.declared.expr.Expr.{Expr as Written}
 use Rattle.task_code.specs.View.{exprs_view}
 use Rattle.task_code.specs.Places.{Place, Constant, Datum, Nowhere, name_eq}
-use Rattle.task_code.proofs.Equal.{true_and, both_true, nat_sound, nat_same, name_sound, name_same, place_sound, place_same}
+use Rattle.task_code.proofs.Equal.{nat_sound, nat_same, name_sound, name_same, place_sound, place_same}
 use Rattle.board_compute.specs.Same.{option_eq, scalar_eq, need_eq, argument_eq, sign_eq, factor_eq, order_eq, piece_eq, operation_eq, expr_eq, exprs_eq, loop_eq, header_eq, act_eq, entry_eq, element_eq, answer_eq}
 
 -- a comparison that is true of equal values alone, and of each value and itself
@@ -78,12 +79,12 @@ needs = record { sound = sound'; own = own' }
     sound' (Stored r) (Stored s) h = ap Stored (name_sound r s h)
     sound' (Closed r) (Closed s) h = ap Closed (name_sound r s h)
     sound' (At a r) (At b s) h =
-        let t = true_and (name_eq a b) (name_eq r s) h in
+        let t = and_parts (name_eq a b) (name_eq r s) h in
         let x = name_sound a b t.0 in
         let y = name_sound r s t.1 in
         λ i. At (x i) (y i)
     sound' (AtKey a k) (AtKey b l) h =
-        let t = true_and (name_eq a b) (same_key k l) h in
+        let t = and_parts (name_eq a b) (same_key k l) h in
         let x = name_sound a b t.0 in
         let y = same_key-eq k l t.1 in
         λ i. AtKey (x i) (y i)
@@ -92,8 +93,8 @@ needs = record { sound = sound'; own = own' }
     own' : (a : Need) → need_eq a a ≡ true
     own' (Stored r) = name_same r
     own' (Closed r) = name_same r
-    own' (At a r) = both_true (name_eq a a) _ (name_same a) (name_same r)
-    own' (AtKey a k) = both_true (name_eq a a) _ (name_same a) (same_key-refl k)
+    own' (At a r) = and_from (name_eq a a) _ (name_same a) (name_same r)
+    own' (AtKey a k) = and_from (name_eq a a) _ (name_same a) (same_key-refl k)
 
 arguments : Exact argument_eq
 arguments = record { sound = sound'; own = own' }
@@ -208,7 +209,7 @@ mutual
   expr_sound (constant v) (constant w) h = ap constant (scalars.sound v w h)
   expr_sound (need m) (need n) h = ap need (nat_sound m n h)
   expr_sound (operation o es) (operation p fs) h =
-      let t = true_and (operation_eq o p) (exprs_eq es fs) h in
+      let t = and_parts (operation_eq o p) (exprs_eq es fs) h in
       let x = operations.sound o p t.0 in
       let y = exprs_sound es fs t.1 in
       λ i. operation (x i) (y i)
@@ -217,7 +218,7 @@ mutual
   exprs_sound : (a b : Exprs) → exprs_eq a b ≡ true → a ≡ b
   exprs_sound no_operand no_operand h = refl
   exprs_sound (operand e es) (operand f fs) h =
-      let t = true_and (expr_eq e f) (exprs_eq es fs) h in
+      let t = and_parts (expr_eq e f) (exprs_eq es fs) h in
       let x = expr_sound e f t.0 in
       let y = exprs_sound es fs t.1 in
       λ i. operand (x i) (y i)
@@ -227,39 +228,39 @@ mutual
   expr_own : (a : Expr) → expr_eq a a ≡ true
   expr_own (constant v) = scalars.own v
   expr_own (need n) = nat_same n
-  expr_own (operation o es) = both_true (operation_eq o o) _ (operations.own o) (exprs_own es)
+  expr_own (operation o es) = and_from (operation_eq o o) _ (operations.own o) (exprs_own es)
 
   exprs_own : (a : Exprs) → exprs_eq a a ≡ true
   exprs_own no_operand = refl
-  exprs_own (operand e es) = both_true (expr_eq e e) _ (expr_own e) (exprs_own es)
+  exprs_own (operand e es) = and_from (expr_eq e e) _ (expr_own e) (exprs_own es)
 
 loops : Exact loop_eq
 loops = record { sound = sound'; own = own' }
   where
     sound' : (a b : Loop) → loop_eq a b ≡ true → a ≡ b
     sound' a b h =
-        let t = true_and (nat_eq a.body b.body) _ h in
-        let u = true_and (nat_eq a.value b.value) _ t.1 in
+        let t = and_parts (nat_eq a.body b.body) _ h in
+        let u = and_parts (nat_eq a.value b.value) _ t.1 in
         let x = nat_sound a.body b.body t.0 in
         let y = nat_sound a.value b.value u.0 in
         let z = (options numbers).sound a.turn b.turn u.1 in
         λ i. record { body = x i; value = y i; turn = z i }
 
     own' : (a : Loop) → loop_eq a a ≡ true
-    own' a = both_true (nat_eq a.body a.body) _ (nat_same a.body) (both_true (nat_eq a.value a.value) _ (nat_same a.value) ((options numbers).own a.turn))
+    own' a = and_from (nat_eq a.body a.body) _ (nat_same a.body) (and_from (nat_eq a.value a.value) _ (nat_same a.value) ((options numbers).own a.turn))
 
 headers : Exact header_eq
 headers = record { sound = sound'; own = own' }
   where
     sound' : (a b : Header) → header_eq a b ≡ true → a ≡ b
     sound' a b h =
-        let t = true_and (nat_eq a.at b.at) _ h in
+        let t = and_parts (nat_eq a.at b.at) _ h in
         let x = nat_sound a.at b.at t.0 in
         let y = (lists needs).sound a.needs b.needs t.1 in
         λ i. record { at = x i; needs = y i }
 
     own' : (a : Header) → header_eq a a ≡ true
-    own' a = both_true (nat_eq a.at a.at) _ (nat_same a.at) ((lists needs).own a.needs)
+    own' a = and_from (nat_eq a.at a.at) _ (nat_same a.at) ((lists needs).own a.needs)
 
 acts : Exact act_eq
 acts = record { sound = sound'; own = own' }
@@ -268,26 +269,26 @@ acts = record { sound = sound'; own = own' }
     sound' (Cell e) (Cell f) h = ap Cell (expr_sound e f h)
     sound' Read Read h = refl
     sound' (Call b rs os) (Call c ss ps) h =
-        let t = true_and (nat_eq b c) _ h in
-        let u = true_and (pointwise argument_eq rs ss) _ t.1 in
+        let t = and_parts (nat_eq b c) _ h in
+        let u = and_parts (pointwise argument_eq rs ss) _ t.1 in
         let x = nat_sound b c t.0 in
         let y = (lists arguments).sound rs ss u.0 in
         let z = (lists names).sound os ps u.1 in
         λ i. Call (x i) (y i) (z i)
     sound' (Set r e) (Set s f) h =
-        let t = true_and (name_eq r s) _ h in
+        let t = and_parts (name_eq r s) _ h in
         let x = name_sound r s t.0 in
         let y = expr_sound e f t.1 in
         λ i. Set (x i) (y i)
     sound' (Fill r es) (Fill s fs) h =
-        let t = true_and (name_eq r s) _ h in
+        let t = and_parts (name_eq r s) _ h in
         let x = name_sound r s t.0 in
         let y = exprs_sound es fs t.1 in
         λ i. Fill (x i) (y i)
     sound' (Copy r) (Copy s) h = ap Copy (name_sound r s h)
     sound' (Put r j e) (Put s k f) h =
-        let t = true_and (name_eq r s) _ h in
-        let u = true_and (expr_eq j k) _ t.1 in
+        let t = and_parts (name_eq r s) _ h in
+        let u = and_parts (expr_eq j k) _ t.1 in
         let x = name_sound r s t.0 in
         let y = expr_sound j k u.0 in
         let z = expr_sound e f u.1 in
@@ -295,16 +296,16 @@ acts = record { sound = sound'; own = own' }
     sound' (Print e) (Print f) h = ap Print (expr_sound e f h)
     sound' (Assert e) (Assert f) h = ap Assert (expr_sound e f h)
     sound' (If e b c) (If f d g) h =
-        let t = true_and (expr_eq e f) _ h in
-        let u = true_and (nat_eq b d) _ t.1 in
+        let t = and_parts (expr_eq e f) _ h in
+        let u = and_parts (nat_eq b d) _ t.1 in
         let x = expr_sound e f t.0 in
         let y = nat_sound b d u.0 in
         let z = (options numbers).sound c g u.1 in
         λ i. If (x i) (y i) (z i)
     sound' (Range l m s w) (Range l' m' s' w') h =
-        let t = true_and (expr_eq l l') _ h in
-        let u = true_and (expr_eq m m') _ t.1 in
-        let v = true_and (expr_eq s s') _ u.1 in
+        let t = and_parts (expr_eq l l') _ h in
+        let u = and_parts (expr_eq m m') _ t.1 in
+        let v = and_parts (expr_eq s s') _ u.1 in
         let x = expr_sound l l' t.0 in
         let y = expr_sound m m' u.0 in
         let z = expr_sound s s' v.0 in
@@ -312,7 +313,7 @@ acts = record { sound = sound'; own = own' }
         λ i. Range (x i) (y i) (z i) (r i)
     sound' (Each w) (Each x) h = ap Each (loops.sound w x h)
     sound' (Wait hs b) (Wait is c) h =
-        let t = true_and (pointwise header_eq hs is) _ h in
+        let t = and_parts (pointwise header_eq hs is) _ h in
         let x = (lists headers).sound hs is t.0 in
         let y = nat_sound b c t.1 in
         λ i. Wait (x i) (y i)
@@ -321,31 +322,31 @@ acts = record { sound = sound'; own = own' }
     own' : (a : Act) → act_eq a a ≡ true
     own' (Cell e) = expr_own e
     own' Read = refl
-    own' (Call b rs os) = both_true (nat_eq b b) _ (nat_same b) (both_true (pointwise argument_eq rs rs) _ ((lists arguments).own rs) ((lists names).own os))
-    own' (Set r e) = both_true (name_eq r r) _ (name_same r) (expr_own e)
-    own' (Fill r es) = both_true (name_eq r r) _ (name_same r) (exprs_own es)
+    own' (Call b rs os) = and_from (nat_eq b b) _ (nat_same b) (and_from (pointwise argument_eq rs rs) _ ((lists arguments).own rs) ((lists names).own os))
+    own' (Set r e) = and_from (name_eq r r) _ (name_same r) (expr_own e)
+    own' (Fill r es) = and_from (name_eq r r) _ (name_same r) (exprs_own es)
     own' (Copy r) = name_same r
-    own' (Put r j e) = both_true (name_eq r r) _ (name_same r) (both_true (expr_eq j j) _ (expr_own j) (expr_own e))
+    own' (Put r j e) = and_from (name_eq r r) _ (name_same r) (and_from (expr_eq j j) _ (expr_own j) (expr_own e))
     own' (Print e) = expr_own e
     own' (Assert e) = expr_own e
-    own' (If e b c) = both_true (expr_eq e e) _ (expr_own e) (both_true (nat_eq b b) _ (nat_same b) ((options numbers).own c))
+    own' (If e b c) = and_from (expr_eq e e) _ (expr_own e) (and_from (nat_eq b b) _ (nat_same b) ((options numbers).own c))
     own' (Range l m s w) =
-        both_true (expr_eq l l) _ (expr_own l) (both_true (expr_eq m m) _ (expr_own m) (both_true (expr_eq s s) _ (expr_own s) (loops.own w)))
+        and_from (expr_eq l l) _ (expr_own l) (and_from (expr_eq m m) _ (expr_own m) (and_from (expr_eq s s) _ (expr_own s) (loops.own w)))
     own' (Each w) = loops.own w
-    own' (Wait hs b) = both_true (pointwise header_eq hs hs) _ ((lists headers).own hs) (nat_same b)
+    own' (Wait hs b) = and_from (pointwise header_eq hs hs) _ ((lists headers).own hs) (nat_same b)
 
 entries : Exact entry_eq
 entries = record { sound = sound'; own = own' }
   where
     sound' : (a b : Entry) → entry_eq a b ≡ true → a ≡ b
     sound' a b h =
-        let t1 = true_and (nat_eq a.node b.node) _ h in
-        let t2 = true_and (nat_eq a.at b.at) _ t1.1 in
-        let t3 = true_and (nat_eq a.mark b.mark) _ t2.1 in
-        let t4 = true_and (int_eq a.priority b.priority) _ t3.1 in
-        let t5 = true_and (pointwise need_eq a.needs b.needs) _ t4.1 in
-        let t6 = true_and (act_eq a.act b.act) _ t5.1 in
-        let t7 = true_and (pointwise name_eq a.reads b.reads) _ t6.1 in
+        let t1 = and_parts (nat_eq a.node b.node) _ h in
+        let t2 = and_parts (nat_eq a.at b.at) _ t1.1 in
+        let t3 = and_parts (nat_eq a.mark b.mark) _ t2.1 in
+        let t4 = and_parts (int_eq a.priority b.priority) _ t3.1 in
+        let t5 = and_parts (pointwise need_eq a.needs b.needs) _ t4.1 in
+        let t6 = and_parts (act_eq a.act b.act) _ t5.1 in
+        let t7 = and_parts (pointwise name_eq a.reads b.reads) _ t6.1 in
         let node' = nat_sound a.node b.node t1.0 in
         let at' = nat_sound a.at b.at t2.0 in
         let mark' = nat_sound a.mark b.mark t3.0 in
@@ -358,26 +359,26 @@ entries = record { sound = sound'; own = own' }
 
     own' : (a : Entry) → entry_eq a a ≡ true
     own' a =
-        both_true (nat_eq a.node a.node) _ (nat_same a.node)
-        (both_true (nat_eq a.at a.at) _ (nat_same a.at)
-        (both_true (nat_eq a.mark a.mark) _ (nat_same a.mark)
-        (both_true (int_eq a.priority a.priority) _ (integers.own a.priority)
-        (both_true (pointwise need_eq a.needs a.needs) _ ((lists needs).own a.needs)
-        (both_true (act_eq a.act a.act) _ (acts.own a.act)
-        (both_true (pointwise name_eq a.reads a.reads) _ ((lists names).own a.reads) ((lists names).own a.writes)))))))
+        and_from (nat_eq a.node a.node) _ (nat_same a.node)
+        (and_from (nat_eq a.at a.at) _ (nat_same a.at)
+        (and_from (nat_eq a.mark a.mark) _ (nat_same a.mark)
+        (and_from (int_eq a.priority a.priority) _ (integers.own a.priority)
+        (and_from (pointwise need_eq a.needs a.needs) _ ((lists needs).own a.needs)
+        (and_from (act_eq a.act a.act) _ (acts.own a.act)
+        (and_from (pointwise name_eq a.reads a.reads) _ ((lists names).own a.reads) ((lists names).own a.writes)))))))
 
 elements : Exact element_eq
 elements = record { sound = sound'; own = own' }
   where
     sound' : (a b : Key × Scalar) → element_eq a b ≡ true → a ≡ b
     sound' a b h =
-        let t = true_and (same_key a.0 b.0) _ h in
+        let t = and_parts (same_key a.0 b.0) _ h in
         let x = same_key-eq a.0 b.0 t.0 in
         let y = scalars.sound a.1 b.1 t.1 in
         λ i. (x i, y i)
 
     own' : (a : Key × Scalar) → element_eq a a ≡ true
-    own' a = both_true (same_key a.0 a.0) _ (same_key-refl a.0) (scalars.own a.1)
+    own' a = and_from (same_key a.0 a.0) _ (same_key-refl a.0) (scalars.own a.1)
 
 answers : Exact answer_eq
 answers = record { sound = sound'; own = own' }

@@ -2,14 +2,13 @@
 use Rattle.std.proofs.Common.{◌≡◌, ◌∙◌, ◌↔◌, refl, sym, ap, subst, inl, inr, ℕ, Bool, true, false, ◌&&◌, not, List, [], ◌∷◌, length, Option, Some, None}
 use Rattle.std.specs.Prelude.{IsTrue, if◌then◌else◌}
 use Rattle.std.specs.List.{list_all}
-use Rattle.std.proofs.lemmas.Bool.{cases_Bool}
+use Rattle.std.proofs.lemmas.Bool.{cases_Bool, and_from, and_parts}
 use Rattle.board_compute.proofs.Comparisons.{same_answers}
 use Rattle.board_compute.specs.Same.{answer_eq, option_eq, scalar_eq}
 use Rattle.data_store.specs.Stores.{Store, array_at, at}
 use Rattle.dataflow.specs.System as flow
 use Rattle.board_history.specs.Fields.{slot_at}
 use Rattle.board_history.proofs.Tests.{some_same}
-use Rattle.task_code.proofs.Equal.{both_true, true_and}
 use Rattle.task_code.specs.Compute.{elements, pairs}
 use Rattle.values.proofs.Keys.{below_differs, same_key-refl}
 use Rattle.values.specs.Maps.{found, rising}
@@ -54,12 +53,12 @@ found_is (Some v) (Some w) = (
 -- all are found
 all_found : (es ys : List Element) → list_all (λ (e : Element). option_eq scalar_eq (found e.key es) (Some e.value)) ys ≡ true → AllFound es ys
 all_found es [] h = tt
-all_found es (y ∷ ys) h = (let p = true_and (option_eq scalar_eq (found y.key es) (Some y.value)) _ h in
+all_found es (y ∷ ys) h = (let p = and_parts (option_eq scalar_eq (found y.key es) (Some y.value)) _ h in
     ((found_is (found y.key es) (Some y.value)).0 p.0, all_found es ys p.1))
 
 found_all : (es ys : List Element) → AllFound es ys → list_all (λ (e : Element). option_eq scalar_eq (found e.key es) (Some e.value)) ys ≡ true
 found_all es [] h = refl
-found_all es (y ∷ ys) h = both_true (option_eq scalar_eq (found y.key es) (Some y.value)) _ ((found_is (found y.key es) (Some y.value)).1 h.0) (found_all es ys h.1)
+found_all es (y ∷ ys) h = and_from (option_eq scalar_eq (found y.key es) (Some y.value)) _ ((found_is (found y.key es) (Some y.value)).1 h.0) (found_all es ys h.1)
 
 all_more : (e : Element) (es ys : List Element) → Above e.key ys → AllFound es ys → AllFound (e ∷ es) ys
 all_more e es [] a h = tt

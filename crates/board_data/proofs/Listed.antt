@@ -1,9 +1,8 @@
 -- Two lists by rising keys with the same elements.
 use Rattle.std.proofs.Common.{◌≡◌, ◌∙◌, refl, sym, ap, subst, inl, inr, ◌≤◌, true, false, List, [], ◌∷◌, length, Some, None, arith}
 use Rattle.std.specs.Prelude.{if◌then◌else◌}
-use Rattle.std.proofs.lemmas.Bool.{cases_Bool}
+use Rattle.std.proofs.lemmas.Bool.{cases_Bool, and_parts}
 use Rattle.board_history.proofs.Tests.{none_some, some_same}
-use Rattle.task_code.proofs.Equal.{true_and}
 use Rattle.values.proofs.Keys.{above_differs, below_differs, key_below-other, key_below-trans, same_key-eq, same_key-other}
 use Rattle.values.specs.Keys.{key_below, same_key}
 use Rattle.values.specs.Maps.{found, rising}
@@ -26,11 +25,11 @@ above_more j k (x ∷ xs) h a = (key_below-trans j k x.key h a.0, above_more j k
 
 pub tail_rises : (e : Element) (es : List Element) → rising (e ∷ es) ≡ true → rising es ≡ true
 tail_rises e [] h = refl
-tail_rises e (f ∷ es) h = (true_and (key_below e.key f.key) (rising (f ∷ es)) h).1
+tail_rises e (f ∷ es) h = (and_parts (key_below e.key f.key) (rising (f ∷ es)) h).1
 
 pub all_above : (e : Element) (es : List Element) → rising (e ∷ es) ≡ true → Above e.key es
 all_above e [] h = tt
-all_above e (f ∷ es) h = (let p = true_and (key_below e.key f.key) (rising (f ∷ es)) h in (p.0, above_more e.key f.key es p.0 (all_above f es p.1)))
+all_above e (f ∷ es) h = (let p = and_parts (key_below e.key f.key) (rising (f ∷ es)) h in (p.0, above_more e.key f.key es p.0 (all_above f es p.1)))
 
 none_above : (k : Key) (es : List Element) → Above k es → found k es ≡ None
 none_above k [] a = refl

@@ -3,6 +3,7 @@ use Rattle.std.proofs.Common.{◌≡◌, ◌∙◌, refl, sym, ap, subst, ℕ, z
 use Rattle.std.specs.Prelude.{if◌then◌else◌}
 use Rattle.std.specs.List.{AllZip, filter, flat_map, list_any}
 use Rattle.std.proofs.lemmas.List.{append_assoc, append-nil, map-append, take_more, take_all}
+use Rattle.std.proofs.lemmas.Grind.{flat_map-append}
 use Rattle.rules.specs.declared.input.Input.{Input}
 use Rattle.smallvec.specs.SmallVec.{SmallVec}
 use Rattle.task_code.specs.Code.{Body, Code, Entry, blank_body, blank_entry, body, entry, nth}
@@ -40,10 +41,6 @@ none_kept C (e ∷ es) h = by (waits_long C e) (length (entry C e).needs) _ _ (n
 pub none_long : (C : Code) (n : ℕ) (xs : List (SmallVec Input)) → list_any (waits_long C) (body C n).entries ≡ false → xs ≡ xs ++ map spare_list (long_needs C n)
 none_long C n xs h = sym (append-nil xs) ∙ ap (λ l. xs ++ map spare_list l) (sym (none_kept C (body C n).entries h))
 
-flat_more : {X Y : Type 0} (f : X → List Y) (xs ys : List X) → flat_map f (xs ++ ys) ≡ flat_map f xs ++ flat_map f ys
-flat_more f [] ys = refl
-flat_more f (x ∷ xs) ys = ap (λ l. f x ++ l) (flat_more f xs ys) ∙ sym (append_assoc (f x) (flat_map f xs) (flat_map f ys))
-
 -- one more, and none is left
 pub flat_next : {X : Type 0} (f : X → List ℕ) (old mid new : List (SmallVec Input)) (xs : List X) (i : ℕ) (x : X) → i < length xs → x ≡ get_or xs i x → mid ≡ old ++ map spare_list (flat_map f (take i xs)) → new ≡ mid ++ map spare_list (f x) → new ≡ old ++ map spare_list (flat_map f (take (i + 1) xs))
 flat_next f old mid new xs i x h is a b =
@@ -51,7 +48,7 @@ flat_next f old mid new xs i x h is a b =
     ∙ append_assoc old (map spare_list (flat_map f (take i xs))) (map spare_list (f x))
     ∙ ap (λ l. old ++ l) (sym (map-append spare_list (flat_map f (take i xs)) (f x)))
     ∙ ap (λ l. old ++ map spare_list (flat_map f (take i xs) ++ l)) (sym (append-nil (f x)))
-    ∙ ap (λ l. old ++ map spare_list l) (sym (flat_more f (take i xs) (x ∷ [])))
+    ∙ ap (λ l. old ++ map spare_list l) (sym (flat_map-append f (take i xs) (x ∷ [])))
     ∙ ap (λ (y : _). old ++ map spare_list (flat_map f (take i xs ++ y ∷ []))) is
     ∙ ap (λ l. old ++ map spare_list (flat_map f l)) (sym (take_more xs i x h))
 

@@ -1,6 +1,7 @@
 -- The datum that an item stores into takes what is stored.
 use Rattle.std.proofs.Common.{◌≡◌, ◌∙◌, refl, sym, ap, subst, inl, inr, ℕ, zero, suc, ◌<◌, ◌≤◌, Bool, true, false, List, [], ◌∷◌, ◌++◌, length, Option, Some, None, option_map, arith}
 use Rattle.std.specs.Prelude.{Err, IsSomeAnd, Ok, Result, if◌then◌else◌}
+use Rattle.std.proofs.lemmas.Bool.{and_parts}
 use Rattle.dataflow.specs.Machine.{End, Event, SeesAll}
 use Rattle.dataflow.specs.System.{Answer, Content as ContentAnswer, Found, In, Missing}
 use Rattle.data_store.specs.Data.{IsArray}
@@ -17,7 +18,6 @@ use Rattle.board_history.specs.Static.{computed_by}
 use Rattle.board_history.proofs.Next.{nat_same}
 use Rattle.board_history.proofs.Standing.{writes_told}
 use Rattle.board_history.proofs.Tests.{none_some, some_same}
-use Rattle.task_code.proofs.Equal.{true_and}
 use Rattle.task_code.proofs.Places.{argument_kind, spot_variable}
 use Rattle.task_code.specs.Code.{Act, Argument, Assert, Call, Cell, Code, Copy, Each, Fill, Fixed, If, Local, Name, Named, Need, Owned, Parameter, Print, Put, Range, Read, Set, Variable, Wait, argument, arguments, call_at, entry, is_array_name, is_array_owned, stored_of}
 use Rattle.task_code.specs.Compute.{Computed, Elements, Gives, Inserts, answer_at, compute, elements, eval, given, pairs, read}
@@ -73,9 +73,9 @@ array_target (Cell e) ns node xs r ys sh i g = no_given (eval xs e) ys g
 array_target Read ns node xs r ys sh i g = no_read (answer_at xs 0) ys g
 array_target (Call b rs os) ns node xs r ys sh i g = absurd i
 array_target (Set q e) ns node xs r ys sh i g = no_given (eval xs e) ys g
-array_target (Fill q es) ns node xs r ys sh i g = elim i [ inl p ↦ ap is_array_name p ∙ (true_and _ _ sh).0 | inr z ↦ absurd z ]
-array_target (Copy q) ns node xs r ys sh i g = elim i [ inl p ↦ ap is_array_name p ∙ (true_and _ _ sh).0 | inr z ↦ absurd z ]
-array_target (Put q k e) ns node xs r ys sh i g = elim i [ inl p ↦ ap is_array_name p ∙ (true_and _ _ sh).0 | inr z ↦ absurd z ]
+array_target (Fill q es) ns node xs r ys sh i g = elim i [ inl p ↦ ap is_array_name p ∙ (and_parts _ _ sh).0 | inr z ↦ absurd z ]
+array_target (Copy q) ns node xs r ys sh i g = elim i [ inl p ↦ ap is_array_name p ∙ (and_parts _ _ sh).0 | inr z ↦ absurd z ]
+array_target (Put q k e) ns node xs r ys sh i g = elim i [ inl p ↦ ap is_array_name p ∙ (and_parts _ _ sh).0 | inr z ↦ absurd z ]
 array_target (Print e) ns node xs r ys sh i g = absurd i
 array_target (Assert e) ns node xs r ys sh i g = absurd i
 array_target (If e b d) ns node xs r ys sh i g = absurd i
@@ -134,7 +134,7 @@ module _ (C : Code) (I : IsCode C) (es : List Event) (F : Fields) (x : Stands C 
         (y.0, y.1, z.1 ∙ ap (λ (o : Counted). Some o) (sym y.2), subst (λ (o : Counted). ContentStands C x.state place ld.2.array o.content) (sym y.2) z.2.content)
 
     shape : has_shape (entry C e).act (entry C e).needs ≡ true
-    shape = (true_and _ _ (I.shape e)).1
+    shape = (and_parts _ _ (I.shape e)).1
 
     pub scalar_there : (u : Scalar) → of_job (Does k e c) ≡ Gives u → is_keyed (at store d) ≡ false
     scalar_there u g =

@@ -1,7 +1,7 @@
 -- What the effect of an item that ends tells of the next state.
 use Rattle.std.proofs.Common.{◌≡◌, inl, inr, ℕ, zero, suc, Bool, true, false, List, [], ◌∷◌, ◌++◌, map, refl, sym, ap, ◌∙◌, subst, Option, None, Some, arith}
 use Rattle.std.specs.Prelude.{Err, Ok, Result, if◌then◌else◌, not}
-use Rattle.std.proofs.lemmas.Bool.{cases_Bool}
+use Rattle.std.proofs.lemmas.Bool.{cases_Bool, not-true, and_parts}
 use Rattle.dataflow.specs.System.{Answer, Bad, Effect, Good, In, Opening, Outcome}
 use Rattle.dataflow.specs.History.{log_of}
 use Rattle.dataflow.specs.Log.{Logged}
@@ -46,7 +46,6 @@ use Rattle.task_code.specs.Whole.{IsCode}
 use Rattle.values.specs.declared.key.Key.{Key}
 use Rattle.values.specs.declared.value.Scalar.{Scalar}
 use Rattle.board_program.specs.Spots.{layout_of}
-use Rattle.task_code.proofs.Equal.{true_and}
 use Rattle.task_code.specs.Shape.{has_shape}
 use Rattle.values.specs.Operators.{evaluated, literal}
 use Rattle.values.specs.declared.fault.OpFault.{OpFault}
@@ -120,15 +119,11 @@ no_put (Err f) q v h = absurd (cc h)
 no_put (Ok i) (Err f) v h = absurd (cc h)
 no_put (Ok i) (Ok u) v h = absurd (cc h)
 
-pub not_true : (b : Bool) → not b ≡ true → b ≡ false
-not_true true h = absurd (cc h)
-not_true false h = refl
-
 pub scalar_target : (a : Act) (ns : List Need) (node : ℕ) (xs : List (Answer Key Scalar)) (r : Name) (v : Scalar) → has_shape a ns ≡ true → In r (stored_of node a) → compute a xs ≡ Gives v → is_array_name r ≡ false
 scalar_target (Cell e) ns node xs r v sh i g = elim i [ inl p ↦ ap is_array_name p | inr z ↦ absurd z ]
 scalar_target Read ns node xs r v sh i g = elim i [ inl p ↦ ap is_array_name p | inr z ↦ absurd z ]
 scalar_target (Call b rs os) ns node xs r v sh i g = absurd i
-scalar_target (Set q e) ns node xs r v sh i g = elim i [ inl p ↦ ap is_array_name p ∙ not_true (is_array_name q) (true_and _ _ sh).0 | inr z ↦ absurd z ]
+scalar_target (Set q e) ns node xs r v sh i g = elim i [ inl p ↦ ap is_array_name p ∙ not-true (is_array_name q) (and_parts _ _ sh).0 | inr z ↦ absurd z ]
 scalar_target (Fill q es) ns node xs r v sh i g = no_fill (evaluated literal (evals xs es)) v g
 scalar_target (Copy q) ns node xs r v sh i g = absurd (cc g)
 scalar_target (Put q k e) ns node xs r v sh i g = no_put (eval xs k) (eval xs e) v g
@@ -296,7 +291,7 @@ module _ (C : Code) (I : IsCode C) (es : List Event) (F : Fields) (x : Stands C 
     inserted : (y : Computed) → what ≡ y → (r : Name) → In r (stored_of (entry C e).node (entry C e).act) → (q : List Step) (v : Variable) → place_at C path r ≡ Datum q v → v.array ≡ true → (p : Key × Scalar) → In p (stored_values y) → (ys : Elements) × (what ≡ Inserts ys)
     inserted (Fails f) g r i q v at arr p m = absurd m
     inserted (Gives u) g r i q v at arr p m =
-        let sh : has_shape (entry C e).act (entry C e).needs ≡ true = (true_and _ _ (I.shape e)).1 in
+        let sh : has_shape (entry C e).act (entry C e).needs ≡ true = (and_parts _ _ (I.shape e)).1 in
         let lacks : v.array ≡ false = scalar_place C path r.up r.owned q v (scalar_target (entry C e).act (entry C e).needs (entry C e).node (answered C path (entry C e).needs xs) r u sh i g) at in
         absurd (cc (sym arr ∙ lacks))
     inserted (Inserts ys) g r i q v at arr p m = (ys, g)

@@ -3,6 +3,7 @@ use Rattle.std.proofs.Common.{◌≡◌, ◌⊎◌, inl, inr, ℕ, suc, ◌+◌,
 use Rattle.std.specs.Prelude.{◌-◌, ℤ, if◌then◌else◌}
 use Rattle.std.specs.Ordering.{int_eq}
 use Rattle.std.proofs.lemmas.Int.{ints}
+use Rattle.std.proofs.lemmas.Bool.{and_from, and_parts}
 use Rattle.dataflow.specs.System.{Distinct, In}
 use Rattle.dataflow.specs.Machine.{Back, Begin, Event, Run}
 use Rattle.dataflow.specs.History.{log_of}
@@ -16,7 +17,7 @@ use Rattle.board_history.specs.Fields.{Fields, Layout, Mark, Over, Ready, Runnin
 use Rattle.board_history.specs.Stands.{Queued, Stands}
 use Rattle.board_history.specs.Marking.{begun_fields, kind_eq, returned_fields, without}
 use Rattle.board_history.specs.Tidy.{MarksOnly}
-use Rattle.board_history.proofs.Tests.{and_true, both_true, choose, none_some, yes_no}
+use Rattle.board_history.proofs.Tests.{choose, none_some, yes_no}
 use Rattle.board_history.proofs.Counts.{begin_counts, back_counts}
 use Rattle.board_history.proofs.Elements.{code_told}
 use Rattle.board_history.proofs.Marking.{IsItem, RowIs, distinct_without, in_without, item, item_not_over, mark_is as mark_split, running_marked, without_in}
@@ -240,14 +241,14 @@ module _ (C : Code) (I : IsCode C) (L : Layout) (es : List Event) (F : Fields) (
         (λ h. elim (old_queued k z m q) [ inl g ↦ inr (x.queue.all k z m g) | inr g ↦ inl (sym g.0) ])
         (λ h. elim (old_queued k z m q) [
           | inl g ↦ x.queue.all k z m g
-          | inr g ↦ yes_no (both_true (kind_eq (task_kind C i.task) k) (int_eq (task_priority C i.task) z) (subst (λ (b : Kind). kind_eq (task_kind C i.task) b ≡ true) g.1 (kind_same (task_kind C i.task))) (subst (λ (b : ℤ). int_eq (task_priority C i.task) b ≡ true) g.2 (int_same (task_priority C i.task)))) h
+          | inr g ↦ yes_no (and_from (kind_eq (task_kind C i.task) k) (int_eq (task_priority C i.task) z) (subst (λ (b : Kind). kind_eq (task_kind C i.task) b ≡ true) g.1 (kind_same (task_kind C i.task))) (subst (λ (b : ℤ). int_eq (task_priority C i.task) b ≡ true) g.2 (int_same (task_priority C i.task)))) h
         ])
 
     only_queued : (k : Kind) (z : ℤ) (m : ℕ) → In m (queue k z) → Queued C t k z m
     only_queued k z m =
         choose (λ (l : List ℕ). In m l → Queued C t k z m) (mine k z) (n ∷ F.queue k z) (F.queue k z)
         (λ h b. elim b [
-          | inl p ↦ (let r = and_true (kind_eq (task_kind C i.task) k) (int_eq (task_priority C i.task) z) h in
+          | inl p ↦ (let r = and_parts (kind_eq (task_kind C i.task) k) (int_eq (task_priority C i.task) z) h in
               record { item = again; there = again_there; number_is = d.num ∙ sym p; idle = refl; enabled = enabled_on C I L es F x (Back w n) n Ready t d i.task able; kind_is = kind_sound (task_kind C i.task) k r.0; priority_is = int_sound (task_priority C i.task) z r.1 })
           | inr g ↦ new_queued k z m (x.queue.only k z m g)
         ])

@@ -1,5 +1,6 @@
 -- Counts of rights along a step.
 use Rattle.std.proofs.Common.{◌≡◌, ◌⊎◌, inl, inr, ℕ, ◌+◌, List, [], ◌∷◌, ◌++◌, refl, sym, ap, ◌∙◌, subst, Option, None, Some, arith}
+use Rattle.std.proofs.lemmas.List.{map-append}
 use Rattle.dataflow.specs.System.{In, Distinct, tasks_of, Opening, Effect, Outcome, Good, Bad, System}
 use Rattle.dataflow.specs.Facts.{Live, live_main, live_opened, Made}
 use Rattle.dataflow.specs.Laws.{Laws}
@@ -7,7 +8,7 @@ use Rattle.dataflow.specs.Log.{Logged, Ready}
 use Rattle.dataflow.specs.Machine.{Item, State, Event, Begin, End, Back, new_items, ClosedByRights, Free, After, Step, Run}
 use Rattle.dataflow.specs.Promises.{tasks_in_items}
 use Rattle.dataflow.specs.History.{log_of}
-use Rattle.dataflow.proofs.Lists.{in_left, in_right, in_tasks, map_append, new_tasks, seam_here}
+use Rattle.dataflow.proofs.Lists.{in_left, in_right, in_tasks, new_tasks, seam_here}
 use Rattle.dataflow.proofs.Decide.{place_of}
 use Rattle.dataflow.proofs.Ending.{fresh_made}
 use Rattle.dataflow.proofs.Follows.{Follows, enabled}
@@ -77,7 +78,7 @@ module _ {T D K V E : Type 0} (S : System T D K V E) (X : Tests D K V) where
             let old : holds S X rights a (tasks_in_items S s.items) ≡ holds S X rights a (tasks_in_items S (x.1.before ++ x.1.item ∷ x.1.after)) = ap (λ (is : List (Item T)). holds S X rights a (tasks_in_items S is)) x.1.at.items in
             let seam = holds_seam rights a x.1.before x.1.after x.1.item in
             let new : holds S X rights a (tasks_in_items S t.items) ≡ holds S X rights a (tasks_in_items S ((x.1.before ++ x.1.after) ++ new_items s.next (tasks_of e.opens))) = ap (λ (is : List (Item T)). holds S X rights a (tasks_in_items S is)) l.1.items in
-            let split : holds S X rights a (tasks_in_items S ((x.1.before ++ x.1.after) ++ new_items s.next (tasks_of e.opens))) ≡ holds S X rights a (tasks_in_items S (x.1.before ++ x.1.after) ++ tasks_in_items S (new_items s.next (tasks_of e.opens))) = ap (λ (ts : List T). holds S X rights a ts) (map_append (λ (i : Item T). i.task) (x.1.before ++ x.1.after) (new_items s.next (tasks_of e.opens))) in
+            let split : holds S X rights a (tasks_in_items S ((x.1.before ++ x.1.after) ++ new_items s.next (tasks_of e.opens))) ≡ holds S X rights a (tasks_in_items S (x.1.before ++ x.1.after) ++ tasks_in_items S (new_items s.next (tasks_of e.opens))) = ap (λ (ts : List T). holds S X rights a ts) (map-append (λ (i : Item T). i.task) (x.1.before ++ x.1.after) (new_items s.next (tasks_of e.opens))) in
             let sum = holds_append rights a (tasks_in_items S (x.1.before ++ x.1.after)) (tasks_in_items S (new_items s.next (tasks_of e.opens))) in
             let fresh : holds S X rights a (tasks_in_items S (new_items s.next (tasks_of e.opens))) ≡ holds S X rights a (tasks_of e.opens) = ap (λ (ts : List T). holds S X rights a ts) (new_tasks s.next (tasks_of e.opens)) in
             omega arith;

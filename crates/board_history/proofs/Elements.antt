@@ -1,9 +1,10 @@
 -- The tests of code tell what they should.
 use Rattle.std.proofs.Common.{◌≡◌, ◌⊎◌, inl, inr, true, [], ◌∷◌, refl, sym, ◌∙◌, subst, if◌then◌else◌}
+use Rattle.std.proofs.lemmas.Bool.{and_from}
 use Rattle.dataflow.specs.System.{In}
 use Rattle.board_history.specs.Replay.{AreTests, HasOneValue, IsListing}
 use Rattle.board_history.specs.Elements.{put_in, by_key, code_tests}
-use Rattle.board_history.proofs.Tests.{choose, both_true}
+use Rattle.board_history.proofs.Tests.{choose}
 use Rattle.task_code.proofs.Equal.{head_below, rising_tail, place_sound, place_same}
 use Rattle.task_code.specs.Code.{Code}
 use Rattle.task_code.specs.Compute.{Elements, in_key_order}
@@ -15,7 +16,7 @@ use Rattle.values.specs.declared.value.Scalar.{Scalar}
 
 rising_cons : (y : Key × Scalar) (zs : Elements) → in_key_order zs ≡ true → ((p : Key × Scalar) → In p zs → key_below y.0 p.0 ≡ true) → in_key_order (y ∷ zs) ≡ true
 rising_cons y [] h f = refl
-rising_cons y (z ∷ zs) h f = both_true (key_below y.0 z.0) (in_key_order (z ∷ zs)) (f z (inl refl)) h
+rising_cons y (z ∷ zs) h f = and_from (key_below y.0 z.0) (in_key_order (z ∷ zs)) (f z (inl refl)) h
 
 put_only : (e : Key × Scalar) (ys : Elements) (p : Key × Scalar) → In p (put_in e ys) → (p ≡ e) ⊎ In p ys
 put_only e [] p = λ i. i
@@ -30,7 +31,7 @@ put_rising : (e : Key × Scalar) (ys : Elements) → in_key_order ys ≡ true �
 put_rising e [] h = refl
 put_rising e (y ∷ ys) h =
     choose (λ (l : Elements). in_key_order l ≡ true) (key_below e.0 y.0) (e ∷ y ∷ ys) (if same_key e.0 y.0 then y ∷ ys else y ∷ put_in e ys)
-    (λ t. both_true (key_below e.0 y.0) (in_key_order (y ∷ ys)) t h)
+    (λ t. and_from (key_below e.0 y.0) (in_key_order (y ∷ ys)) t h)
     (λ t. choose (λ (l : Elements). in_key_order l ≡ true) (same_key e.0 y.0) (y ∷ ys) (y ∷ put_in e ys)
     (λ u. h)
     (λ u. rising_cons y (put_in e ys) (put_rising e ys (rising_tail y ys h))

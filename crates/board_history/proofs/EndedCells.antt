@@ -2,6 +2,7 @@
 use Rattle.std.proofs.Common.{◌≡◌, ◌⊎◌, inl, inr, ℕ, zero, suc, ◌+◌, ◌*◌, ◌<◌, ◌≤◌, Bool, true, false, not, List, [], ◌∷◌, ◌++◌, map, length, refl, sym, ap, ◌∙◌, subst, Option, None, Some, if◌then◌else◌, arith}
 use Rattle.std.specs.List.{flat_map, filter}
 use Rattle.std.specs.Prelude.{nat_eq, nat_lt}
+use Rattle.std.proofs.lemmas.Bool.{not-true}
 use Rattle.dataflow.specs.System.{Distinct, In, Opening, tasks_of}
 use Rattle.dataflow.specs.Machine.{Event, Free}
 use Rattle.dataflow.specs.Names.{IsNaming}
@@ -18,7 +19,7 @@ use Rattle.board_history.proofs.EndedBase.{Ending, bare_t, can, computed, counts
 use Rattle.board_history.proofs.EndedFrames.{hs, made, made_block, one_rest, os}
 use Rattle.board_history.proofs.EndedNames.{datum_only, flat_in, held_told, hold_named, in_flat, named_told, outer_reads, outer_writes, own_reads, own_writes}
 use Rattle.board_history.proofs.Static.{among_times}
-use Rattle.board_history.proofs.Tests.{choose, none_some, not_true, yes_no, some_same, in_kept, kept_in}
+use Rattle.board_history.proofs.Tests.{choose, none_some, yes_no, some_same, in_kept, kept_in}
 use Rattle.task_code.proofs.Equal.{name_same}
 use Rattle.task_code.proofs.Kept.{code_laws}
 use Rattle.task_code.proofs.Places.{spot_path, spot_variable}
@@ -162,7 +163,7 @@ module _ (C : Code) (I : IsCode C) (L : Layout) (es : List Event) (F : Fields) (
     hold_name rights m x i =
         let p = in_kept (λ r. not (is_declared C m.body r)) x.name (names_in C rights m.body) (hold_named (filter (λ r. not (is_declared C m.body r)) (names_in C rights m.body)) x i) in
         let b = in_flat (λ e. rights (entry C e)) (body C m.body).entries x.name p.0 in
-        (b.0, b.1, b.2, not_true (is_declared C m.body x.name) p.1)
+        (b.0, b.1, b.2, not-true (is_declared C m.body x.name) p.1)
 
     added_reads : (ls : List Instance) → ((m : Instance) → In m ls → In m ms) → added_times C L (λ e. e.reads) (hs C I L es F w n t G P) d ls ≡ added_by C (λ e. e.reads) (Datum q v) (map (λ (m : Instance). (m.body, m.path)) ls)
     added_reads [] inn = refl

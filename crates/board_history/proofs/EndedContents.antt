@@ -1,5 +1,6 @@
 -- What the data of a board store after an End without fault.
 use Rattle.std.proofs.Common.{◌≡◌, ◌⊎◌, inl, inr, ℕ, Bool, true, false, List, [], ◌∷◌, refl, sym, ap, ◌∙◌, subst, Option, None, Some, if◌then◌else◌}
+use Rattle.std.proofs.lemmas.Bool.{or_cases, and_parts}
 use Rattle.dataflow.specs.System.{Answer, Effect, Good, In, Write}
 use Rattle.dataflow.specs.Machine.{Event, Free, Holds}
 use Rattle.dataflow.proofs.Lists.{in_left, in_map, in_right}
@@ -17,9 +18,9 @@ use Rattle.board_history.proofs.EndedCells.{name_is, names_after, naming, new_ap
 use Rattle.board_history.proofs.EndedFrames.{made}
 use Rattle.board_history.proofs.EndedNames.{Resolved, datum_only, flat_in, in_flat, own_writes, slot_test, to_datum, to_literal}
 use Rattle.board_history.proofs.EndedStores.{Stored, binds, bound_is, into, scalar_key, stores_told, target_stored, turn_in_bound, turn_stored, value_in_bound}
-use Rattle.board_history.proofs.Tests.{a_reader, a_writer, choose, none_some, or_true, unused_free, yes_no}
+use Rattle.board_history.proofs.Tests.{a_reader, a_writer, choose, none_some, unused_free, yes_no}
 use Rattle.task_code.proofs.Chunks.{computed_apart, in_chunk}
-use Rattle.task_code.proofs.Equal.{key_once, place_same, place_sound, true_and, variable_same, variable_sound}
+use Rattle.task_code.proofs.Equal.{key_once, place_same, place_sound, variable_same, variable_sound}
 use Rattle.task_code.proofs.Places.{scalar_name, spot_variable}
 use Rattle.task_code.proofs.Rights.{loop_instances, stored_target}
 use Rattle.task_code.specs.Code.{Code, Loop, Name, Variable, body, entry, is_array_name, loop_of, loop_variables, scalar, stored_of}
@@ -89,7 +90,7 @@ module _ (C : Code) (I : IsCode C) (L : Layout) (es : List Event) (F : Fields) (
       by : (b : Bool) → is_used (code_system C) code_tests P.x.state.items v.place ≡ b → In v.place P.x.state.places
       by false e = absurd ((bare_s C I L es F w n t G P).values v h (unused_free (code_system C) code_tests (code_told C) P.x.state v.place e))
       by true e =
-          elim (or_true _ _ e) [
+          elim (or_cases _ _ e) [
             | inl r ↦ (let i = a_reader (code_system C) code_tests (code_told C) P.x.state.items v.place r in read_there C I L es F w n t G P i.0 i.1 v.place i.2)
             | inr r ↦ (let i = a_writer (code_system C) code_tests (code_told C) P.x.state.items v.place r in write_there C I L es F w n t G P i.0 i.1 v.place i.2)
           ]
@@ -164,7 +165,7 @@ module _ (C : Code) (I : IsCode C) (L : Layout) (es : List Event) (F : Fields) (
       let same = slot_test C names P.x.data_stand.naming.one_name P.x.data_stand.naming.one_datum d (Datum q v) h (job_slot C L fs (Does f x c) r.0) (place_at C (path_of fs f) r.0) (own_writes C I L es F w n t G P f x c e r.0 (target_right x r.0 r.1)) q v refl in
       let at : Datum q v ≡ place_at C (path_of fs f) r.0 = place_sound (Datum q v) (place_at C (path_of fs f) r.0) (sym same ∙ z.0) in
       let scalar_is : is_array_name r.0 ≡ false = scalar_name C (path_of fs f) r.0.up r.0.owned (ap place_array (sym at) ∙ na) in
-      scalar_key (entry C x).act (entry C x).needs (entry C x).node (answered C (path_of fs f) (entry C x).needs P.answers) r.0 k u (true_and _ _ (I.shape x)).1 r.1 scalar_is z.1
+      scalar_key (entry C x).act (entry C x).needs (entry C x).node (answered C (path_of fs f) (entry C x).needs P.answers) r.0 k u (and_parts _ _ (I.shape x)).1 r.1 scalar_is z.1
 
   -- the content of a datum that was there
   pub old_content : (d : ℕ) (q : List Step) (v : Variable) → In (d, Datum q v) names → (Free (code_system C) t (Datum q v) → ⊥) → (b : Bool) → v.array ≡ b → (c x : Content) → ContentStands C P.x.state (Datum q v) b c → ContentAfter c (job_stores C L fs j (computed C I L es F w n t G P) d) x → ContentStands C t (Datum q v) b x

@@ -2,9 +2,10 @@
 use Rattle.std.proofs.Common.{◌≡◌, ◌⊎◌, inl, inr, ℕ, zero, suc, ◌+◌, ◌*◌, ◌<◌, ◌≤◌, Bool, true, false, List, [], ◌∷◌, ◌++◌, map, length, refl, sym, ap, ◌∙◌, subst, Option, None, Some, if◌then◌else◌, arith}
 use Rattle.std.specs.List.{filter}
 use Rattle.std.specs.Prelude.{nat_eq}
+use Rattle.std.proofs.lemmas.List.{map-append}
 use Rattle.dataflow.specs.System.{In, Opening, tasks_of}
 use Rattle.dataflow.specs.Machine.{Event}
-use Rattle.dataflow.proofs.Lists.{in_map, in_split, in_unmap, map_append}
+use Rattle.dataflow.proofs.Lists.{in_map, in_split, in_unmap}
 use Rattle.board_history.specs.Ending.{EndsTo, Instance, NewFrame, ended_rows, has_entries, home, is_home, is_one, jobs_after, leaving, level_inside, made_jobs, mark_after, new_row, path_around, rest_jobs, with_live, TasksStay}
 use Rattle.board_history.specs.Fields.{Does, Fields, Frame, Job, Layout, Mark, Over, Ready, Row, Running, Script, Waiting, frames_in, is_of, is_over, level_of, path_from, path_of, row_of, rows_in, slot_at, step_before, task_of}
 use Rattle.board_history.specs.Static.{opened, rests}
@@ -378,7 +379,7 @@ module _ (C : Code) (I : IsCode C) (L : Layout) (es : List Event) (F : Fields) (
   made_tasks : (ms : List Instance) → ((m : Instance) → In m ms → path_of gs m.key ≡ m.path) → map (task_of gs) (made_jobs C ms) ≡ tasks_of (map (block C) (map (λ (m : Instance). (m.body, m.path)) ms))
   made_tasks [] h = refl
   made_tasks (m ∷ ms) h =
-      map_append (task_of gs) (map (λ e. Does m.key e 0) (body C m.body).entries) (made_jobs C ms)
+      map-append (task_of gs) (map (λ e. Does m.key e 0) (body C m.body).entries) (made_jobs C ms)
       ∙ (let a = block_tasks m (h m (inl refl)) (body C m.body).entries in let r = made_tasks ms (λ l i. h l (inr i)) in λ i. a i ++ r i)
 
   few_tasks : (ss : List (ℕ × List Step)) → tasks_of (map (block C) (filter (has_entries C) ss)) ≡ tasks_of (map (block C) ss)
@@ -407,7 +408,7 @@ module _ (C : Code) (I : IsCode C) (L : Layout) (es : List Event) (F : Fields) (
   pub tasks_stay : TasksStay fs gs F.rows n jobs (tasks_of (o C I L es F w n t G P).effect.opens)
   tasks_stay = record {
     others = others;
-    opened = map_append (task_of gs) (made_jobs C made) (rest_jobs j os)
+    opened = map-append (task_of gs) (made_jobs C made) (rest_jobs j os)
         ∙ (λ i. made_part i ++ rest_part i)
         ∙ sym (tasks_append C (map (block C) (opened C (task C I L es F w n t G P) (computed C I L es F w n t G P))) os)
         ∙ ap tasks_of (sym (opens_are C I L es F w n t G P));

@@ -1,6 +1,7 @@
 -- The items of a board after an End without fault.
 use Rattle.std.proofs.Common.{◌≡◌, ◌⊎◌, inl, inr, ℕ, zero, suc, ◌+◌, ◌<◌, ◌≤◌, true, false, List, [], ◌∷◌, ◌++◌, map, length, refl, sym, ap, ◌∙◌, subst, Option, None, Some, if◌then◌else◌, arith}
 use Rattle.std.specs.Prelude.{◌-◌, nat_eq}
+use Rattle.std.proofs.lemmas.Bool.{or_cases, or_left, or_right}
 use Rattle.dataflow.specs.System.{Effect, Good, Bad, In, Outcome, System, tasks_of}
 use Rattle.dataflow.specs.Laws.{Laws}
 use Rattle.dataflow.specs.Log.{Logged, Waits}
@@ -25,7 +26,7 @@ use Rattle.board_history.proofs.Marking.{IsItem, RowIs, item, item_not_over, mar
 use Rattle.board_history.proofs.Next.{nat_same, nat_sound}
 use Rattle.board_history.proofs.Replays.{replayed_then, run_next, run_replayed}
 use Rattle.board_history.proofs.Rows.{AllFine, ended_items, ended_running, is_idle, no_row, opened_items, row_by, row_item, row_split, rows_length}
-use Rattle.board_history.proofs.Tests.{choose, left_true, none_some, or_true, right_true, yes_no, some_same}
+use Rattle.board_history.proofs.Tests.{choose, none_some, yes_no, some_same}
 use Rattle.task_code.proofs.Kept.{code_laws}
 use Rattle.task_code.specs.Code.{Code}
 use Rattle.task_code.specs.Effects.{Main, Task}
@@ -55,14 +56,14 @@ map_length f (x ∷ xs) = let h = map_length f xs in omega arith
 
 pub one_in : (n : ℕ) (ms : List ℕ) → is_one n ms ≡ true → In n ms
 one_in n [] h = yes_no h refl
-one_in n (m ∷ ms) h = elim (or_true (nat_eq n m) (is_one n ms) h) [ inl p ↦ inl (nat_sound n m p) | inr g ↦ inr (one_in n ms g) ]
+one_in n (m ∷ ms) h = elim (or_cases (nat_eq n m) (is_one n ms) h) [ inl p ↦ inl (nat_sound n m p) | inr g ↦ inr (one_in n ms g) ]
 
 pub in_one : (n : ℕ) (ms : List ℕ) → In n ms → is_one n ms ≡ true
 in_one n [] h = absurd h
 in_one n (m ∷ ms) h =
     elim h [
-      | inl p ↦ left_true (nat_eq n m) (is_one n ms) (subst (λ (k : ℕ). nat_eq n k ≡ true) p (nat_same n))
-      | inr g ↦ right_true (nat_eq n m) (is_one n ms) (in_one n ms g)
+      | inl p ↦ or_left (nat_eq n m) (is_one n ms) (subst (λ (k : ℕ). nat_eq n k ≡ true) p (nat_same n))
+      | inr g ↦ or_right (nat_eq n m) (is_one n ms) (in_one n ms g)
     ]
 
 -- an item that does not run, told by its row's mark

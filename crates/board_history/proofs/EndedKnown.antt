@@ -1,6 +1,7 @@
 -- What is known of data after an End, told by the fields.
 use Rattle.std.proofs.Common.{◌≡◌, inl, inr, ℕ, zero, suc, ◌<◌, Bool, true, false, ◌||◌, List, [], ◌∷◌, ◌++◌, map, refl, sym, ap, ◌∙◌, subst, Option, None, Some, arith}
 use Rattle.std.specs.Prelude.{nat_eq}
+use Rattle.std.proofs.lemmas.Bool.{and_from, or_cases, or_left, or_right}
 use Rattle.dataflow.specs.System.{In, tasks_of}
 use Rattle.dataflow.specs.Machine.{ClosedByRights, Event, Free, Holds, new_items}
 use Rattle.dataflow.proofs.Lists.{in_split, in_tasks, makes_in, new_tasks, seam_in, in_map}
@@ -16,7 +17,7 @@ use Rattle.board_history.proofs.EndedBase.{Ending, can, computed, here, made_is,
 use Rattle.board_history.proofs.EndedCells.{names_after, old_cell, old_cell_there, old_name}
 use Rattle.board_history.proofs.EndedContents.{data_after, held_on, held_was, to_stored}
 use Rattle.board_history.proofs.Next.{nat_same, nat_sound}
-use Rattle.board_history.proofs.Tests.{choose, closed_sound, closed_told, held_value, left_true, none_some, or_true, right_true, value_held, yes_no, both_true, some_same}
+use Rattle.board_history.proofs.Tests.{choose, closed_sound, closed_told, held_value, none_some, value_held, yes_no, some_same}
 use Rattle.task_code.proofs.Kept.{code_laws}
 use Rattle.task_code.specs.Code.{Code, Variable, body}
 use Rattle.task_code.specs.Compute.{Elements}
@@ -206,7 +207,7 @@ module _ (C : Code) (I : IsCode C) (L : Layout) (es : List Event) (F : Fields) (
     covered_by : (k : Want ℕ) → (known : List (Want ℕ)) (i : Want ℕ) → In i known → covers i k ≡ true → is_covered known k ≡ true
     covered_by k [] i g e = absurd g
     covered_by k (x ∷ xs) i g e =
-        elim g [ inl p ↦ left_true (covers x k) (is_covered xs k) (subst (λ (y : Want ℕ). covers y k ≡ true) p e) | inr r ↦ right_true (covers x k) (is_covered xs k) (covered_by k xs i r e) ]
+        elim g [ inl p ↦ or_left (covers x k) (is_covered xs k) (subst (λ (y : Want ℕ). covers y k ≡ true) p e) | inr r ↦ or_right (covers x k) (is_covered xs k) (covered_by k xs i r e) ]
 
     -- what is not told did not become known
     pub scalar_unknown : v.array ≡ false → is_covered P.to.known (Whole d) ≡ false → value_at (code_system C) code_tests P.x.state.stored (Datum q v) only ≡ None → value_at (code_system C) code_tests t.stored (Datum q v) only ≡ None
@@ -247,7 +248,7 @@ module _ (C : Code) (I : IsCode C) (L : Layout) (es : List Event) (F : Fields) (
         one_less : (a b c e : Bool) → (a ≡ true → b ≡ true) → (c ≡ true → e ≡ true) → (b || e) ≡ false → (a || c) ≡ false
         one_less true true c e f g z = yes_no refl z
         one_less true false c e f g z = yes_no (f refl) refl
-        one_less false b true e f g z = yes_no (right_true b e (g refl)) z
+        one_less false b true e f g z = yes_no (or_right b e (g refl)) z
         one_less false b false e f g z = refl
 
         less : (x : Want ℕ) → covers x (Whole d) ≡ true → covers x (AnElement d k) ≡ true
@@ -261,7 +262,7 @@ module _ (C : Code) (I : IsCode C) (L : Layout) (es : List Event) (F : Fields) (
             tail : (xs : List (Want ℕ)) → is_covered xs (Whole d) ≡ true → is_covered xs (AnElement d k) ≡ true
             tail [] z = z
             tail (x ∷ xs) z =
-                elim (or_true (covers x (Whole d)) (is_covered xs (Whole d)) z) [ inl g ↦ left_true (covers x (AnElement d k)) (is_covered xs (AnElement d k)) (less x g) | inr g ↦ right_true (covers x (AnElement d k)) (is_covered xs (AnElement d k)) (tail xs g) ]
+                elim (or_cases (covers x (Whole d)) (is_covered xs (Whole d)) z) [ inl g ↦ or_left (covers x (AnElement d k)) (is_covered xs (AnElement d k)) (less x g) | inr g ↦ or_right (covers x (AnElement d k)) (is_covered xs (AnElement d k)) (tail xs g) ]
 
     pub element_unknown : v.array ≡ true → (k : Key) → is_covered P.to.known (AnElement d (mark_of k)) ≡ false → is_closed (code_system C) code_tests P.x.state (Datum q v) ≡ false → value_at (code_system C) code_tests P.x.state.stored (Datum q v) k ≡ None → (value_at (code_system C) code_tests t.stored (Datum q v) k ≡ None) × (is_closed (code_system C) code_tests t (Datum q v) ≡ false)
     element_unknown na k nc open_before e =
@@ -271,13 +272,13 @@ module _ (C : Code) (I : IsCode C) (L : Layout) (es : List Event) (F : Fields) (
         by None g = refl
         by (Some u) g =
             let i = P.to.becomes.inserted d before k u was (array_before ∙ na) (new_value k u e g) in
-            yes_no (covered_by (AnElement d (mark_of k)) P.to.known (AnElement d (mark_of k)) i (both_true (nat_eq d d) (nat_eq (mark_of k) (mark_of k)) (nat_same d) (nat_same (mark_of k)))) nc
+            yes_no (covered_by (AnElement d (mark_of k)) P.to.known (AnElement d (mark_of k)) i (and_from (nat_eq d d) (nat_eq (mark_of k) (mark_of k)) (nat_same d) (nat_same (mark_of k)))) nc
 
     -- what is told is known
     told_known : (xs : List (Want ℕ)) → ((x : Want ℕ) → In x xs → In x P.to.known) → is_covered xs (Whole d) ≡ true → is_known G.cells (Whole d) ≡ true
     told_known [] inn z = yes_no z refl
     told_known (Whole y ∷ xs) inn z =
-        elim (or_true (nat_eq y d) (is_covered xs (Whole d)) z) [
+        elim (or_cases (nat_eq y d) (is_covered xs (Whole d)) z) [
           | inl g ↦ subst (λ (k : ℕ). is_known G.cells (Whole k) ≡ true) (nat_sound y d g) (P.to.becomes.sound (Whole y) (inn (Whole y) (inl refl)))
           | inr g ↦ told_known xs (λ x i. inn x (inr i)) g
         ]

@@ -1,6 +1,8 @@
 -- What items that waited miss still after an End without fault.
 use Rattle.std.proofs.Common.{◌≡◌, ◌⊎◌, inl, inr, ℕ, Bool, true, false, not, List, [], ◌∷◌, ◌++◌, refl, sym, ap, ◌∙◌, subst, Option, None, Some}
 use Rattle.std.specs.List.{flat_map, list_all, list_any}
+use Rattle.std.proofs.lemmas.Grind.{flat_map-append}
+use Rattle.std.proofs.lemmas.Bool.{not-true, or_cases, and_parts}
 use Rattle.dataflow.specs.System.{In, Input}
 use Rattle.dataflow.specs.Machine.{Event, Free}
 use Rattle.board_history.specs.Elements.{code_tests}
@@ -13,9 +15,9 @@ use Rattle.board_history.proofs.EndedBase.{Ending}
 use Rattle.board_history.proofs.EndedCells.{names_after}
 use Rattle.board_history.proofs.EndedKnown.{array_unknown, closed_stays, covered_known, element_unknown, known_array, known_scalar, scalar_unknown, stays_later, value_stays_at}
 use Rattle.board_history.proofs.EndedNames.{Resolved, to_datum, to_literal}
-use Rattle.board_history.proofs.EndedWants.{flat_append, no_element_input, not_false, scalar_place, none_left}
-use Rattle.board_history.proofs.Tests.{choose, closed_sound, closed_told, or_true, yes_no}
-use Rattle.task_code.proofs.Equal.{every_in, true_and}
+use Rattle.board_history.proofs.EndedWants.{no_element_input, scalar_place, none_left}
+use Rattle.board_history.proofs.Tests.{choose, closed_sound, closed_told, yes_no}
+use Rattle.task_code.proofs.Equal.{every_in}
 use Rattle.task_code.specs.Code.{Act, Assert, At, AtKey, Call, Cell, Closed, Code, Copy, Each, Fill, Header, If, Name, Need, Print, Put, Range, Read, Set, Stored, Variable, Wait, entry, is_array_name}
 use Rattle.task_code.specs.Compute.{key_of}
 use Rattle.task_code.specs.Effects.{only}
@@ -46,10 +48,10 @@ AllPlain ns = (x : Need) → In x ns → is_plain x ≡ true
 some_header : (m : Need) (hs : List Header) → list_any (λ h. list_any (is_same_plain m) h.needs) hs ≡ true → is_plain m ≡ true
 some_header m [] h = yes_no h refl
 some_header m (x ∷ hs) h =
-    elim (or_true (list_any (is_same_plain m) x.needs) (list_any (λ h. list_any (is_same_plain m) h.needs) hs) h) [ inl g ↦ same_plain m x.needs g | inr g ↦ some_header m hs g ]
+    elim (or_cases (list_any (is_same_plain m) x.needs) (list_any (λ h. list_any (is_same_plain m) h.needs) hs) h) [ inl g ↦ same_plain m x.needs g | inr g ↦ some_header m hs g ]
 
 fed_plain : (ns : List Need) (b : Bool) → feeds ns b ≡ true → AllPlain ns
-fed_plain ns b h = every_in is_plain ns (true_and (list_all is_plain ns) b h).0
+fed_plain ns b h = every_in is_plain ns (and_parts (list_all is_plain ns) b h).0
 
 array_plain : (ns : List Need) → one_array ns ≡ true → AllPlain ns
 array_plain [] h x i = absurd i
@@ -81,16 +83,16 @@ pub shapes : (a : Act) (ns : List Need) → has_shape a ns ≡ true → AllPlain
 shapes (Cell e) ns h = inl (fed_plain ns _ h)
 shapes Read ns h = inr (one_of_element ns h)
 shapes (Call b rs os) ns h = inl (none_plain ns h)
-shapes (Set r e) ns h = inl (fed_plain ns _ (true_and (not (is_array_name r)) _ h).1)
-shapes (Fill r es) ns h = inl (fed_plain ns _ (true_and (is_array_name r) _ h).1)
-shapes (Copy r) ns h = inl (array_plain ns (true_and (is_array_name r) _ h).1)
-shapes (Put r i e) ns h = inl (fed_plain ns _ (true_and (is_array_name r) _ h).1)
+shapes (Set r e) ns h = inl (fed_plain ns _ (and_parts (not (is_array_name r)) _ h).1)
+shapes (Fill r es) ns h = inl (fed_plain ns _ (and_parts (is_array_name r) _ h).1)
+shapes (Copy r) ns h = inl (array_plain ns (and_parts (is_array_name r) _ h).1)
+shapes (Put r i e) ns h = inl (fed_plain ns _ (and_parts (is_array_name r) _ h).1)
 shapes (Print e) ns h = inl (fed_plain ns _ h)
 shapes (Assert e) ns h = inl (fed_plain ns _ h)
 shapes (If e b d) ns h = inl (fed_plain ns _ h)
 shapes (Range l hh s w) ns h = inl (fed_plain ns _ h)
 shapes (Each w) ns h = inl (array_plain ns h)
-shapes (Wait hs b) ns h = inl (every_plain (λ m. list_any (λ h. list_any (is_same_plain m) h.needs) hs) ns (λ m g. some_header m hs g) (true_and (list_all (λ h. list_all (λ m. list_any (is_same_plain m) ns) h.needs) hs) _ h).1)
+shapes (Wait hs b) ns h = inl (every_plain (λ m. list_any (λ h. list_any (is_same_plain m) h.needs) hs) ns (λ m g. some_header m hs g) (and_parts (list_all (λ h. list_all (λ m. list_any (is_same_plain m) ns) h.needs) hs) _ h).1)
 
 no_nil : {X B : Type 0} {x : X} {xs : List X} → ◌≡◌ {A = List X} (x ∷ xs) [] → B
 no_nil h = absurd (cc)
@@ -224,10 +226,10 @@ module _ (C : Code) (I : IsCode C) (L : Layout) (es : List Event) (F : Fields) (
         (subst (λ (y : List (Input Place Key)). Waited (flat_map (wanted C s) y) (flat_map (wanted C t) y)) (sym (no_element_input v (place_at C p r))) (none refl refl))
 
     kinds : (m : Need) → In m (entry C e).needs → fits_kinds m ≡ true
-    kinds m i = every_in fits_kinds (entry C e).needs (true_and (list_all fits_kinds (entry C e).needs) _ (I.shape e)).0 m i
+    kinds m i = every_in fits_kinds (entry C e).needs (and_parts (list_all fits_kinds (entry C e).needs) _ (I.shape e)).0 m i
 
     plain_waited : (m : Need) → In m (entry C e).needs → is_plain m ≡ true → PlainWaited (part s m) (part t m)
-    plain_waited (Stored r) i pl = let ir = I.needs e (Stored r) r i (inl refl) in stored_waited r ir (not_false (is_array_name r) (kinds (Stored r) i)) (res r ir)
+    plain_waited (Stored r) i pl = let ir = I.needs e (Stored r) r i (inl refl) in stored_waited r ir (not-true (is_array_name r) (kinds (Stored r) i)) (res r ir)
     plain_waited (Closed r) i pl = let ir = I.needs e (Closed r) r i (inl refl) in closed_waited r ir (kinds (Closed r) i) (res r ir)
     plain_waited (At a r) i pl = yes_no pl refl
     plain_waited (AtKey a k) i pl = yes_no pl refl
@@ -240,8 +242,8 @@ module _ (C : Code) (I : IsCode C) (L : Layout) (es : List Event) (F : Fields) (
     plain_still [] inn pl [] h = tt
     plain_still [] inn pl (v ∷ vs) h = absurd h
     plain_still (m ∷ ns) inn pl vs h =
-        subst (λ (l : List (Want Place)). AllStand later (still_missed known vs) l) (sym (flat_append (wanted C t) (inputs_at C p m) (flat_map (inputs_at C p) ns)))
-        (by (plain_waited m (inn m (inl refl)) (pl m (inl refl))) vs (subst (λ (l : List (Want Place)). AllStand names vs l) (flat_append (wanted C s) (inputs_at C p m) (flat_map (inputs_at C p) ns)) h) (λ us g. plain_still ns (λ x i. inn x (inr i)) (λ x i. pl x (inr i)) us g))
+        subst (λ (l : List (Want Place)). AllStand later (still_missed known vs) l) (sym (flat_map-append (wanted C t) (inputs_at C p m) (flat_map (inputs_at C p) ns)))
+        (by (plain_waited m (inn m (inl refl)) (pl m (inl refl))) vs (subst (λ (l : List (Want Place)). AllStand names vs l) (flat_map-append (wanted C s) (inputs_at C p m) (flat_map (inputs_at C p) ns)) h) (λ us g. plain_still ns (λ x i. inn x (inr i)) (λ x i. pl x (inr i)) us g))
       where
         first : (d : ℕ) (a : Place) (us : List (Want ℕ)) → In (d, a) names → In (d, a) later → (is_covered known (Whole d) ≡ false → part t m ≡ Whole a ∷ []) → (is_covered known (Whole d) ≡ true → part t m ≡ []) → AllStand later (still_missed known us) (rest t ns) → AllStand later (still_missed known (Whole d ∷ us)) (part t m ++ (rest t ns))
         first d a us i il nc yc ih =
@@ -285,7 +287,7 @@ module _ (C : Code) (I : IsCode C) (L : Layout) (es : List Event) (F : Fields) (
         of (Whole b ∷ []) h =
             choose (λ (l : List (Want ℕ)). (l ≡ [] → ⊥) → AllStand later l (part t m ++ [])) (not (is_covered known (Whole b))) (Whole b ∷ []) []
             (λ z ne. let same : d ≡ b = P.x.data_stand.naming.one_name d b a i h.0 in
-            subst (λ (l : List (Want Place)). AllStand later (Whole b ∷ []) (l ++ [])) (sym (nc (subst (λ (y : ℕ). is_covered known (Whole y) ≡ false) (sym same) (not_false (is_covered known (Whole b)) z)))) (subst (λ (y : ℕ). In (y, a) later) same il, tt))
+            subst (λ (l : List (Want Place)). AllStand later (Whole b ∷ []) (l ++ [])) (sym (nc (subst (λ (y : ℕ). is_covered known (Whole y) ≡ false) (sym same) (not-true (is_covered known (Whole b)) z)))) (subst (λ (y : ℕ). In (y, a) later) same il, tt))
             (λ z ne. absurd (ne refl))
     one_still m (element d a k i il ps nc) vs h ne = of vs (subst (λ (l : List (Want Place)). AllStand names vs (l ++ [])) ps h) ne
       where
@@ -296,17 +298,17 @@ module _ (C : Code) (I : IsCode C) (L : Layout) (es : List Event) (F : Fields) (
         of (AnElement b l ∷ []) h =
             choose (λ (z : List (Want ℕ)). (z ≡ [] → ⊥) → AllStand later z (part t m ++ [])) (not (is_covered known (AnElement b l))) (AnElement b l ∷ []) []
             (λ z ne. let same : d ≡ b = P.x.data_stand.naming.one_name d b a i h.0.0 in
-            let c : is_covered known (AnElement d k) ≡ false = (λ q. is_covered known (AnElement (same q) (sym h.0.1 q))) ∙ not_false (is_covered known (AnElement b l)) z in
+            let c : is_covered known (AnElement d k) ≡ false = (λ q. is_covered known (AnElement (same q) (sym h.0.1 q))) ∙ not-true (is_covered known (AnElement b l)) z in
             subst (λ (y : List (Want Place)). AllStand later (AnElement b l ∷ []) (y ++ [])) (sym (nc c)) ((subst (λ (y : ℕ). In (y, a) later) same il, h.0.1), tt))
             (λ z ne. absurd (ne refl))
 
     pub still_stand : (vs : List (Want ℕ)) → AllStand names vs (flat_map (wanted C s) (flat_map (inputs_at C p) (entry C e).needs)) → (still_missed known vs ≡ [] → ⊥) → AllStand later (still_missed known vs) (flat_map (wanted C t) (flat_map (inputs_at C p) (entry C e).needs))
-    still_stand vs h ne = by (shapes (entry C e).act (entry C e).needs (true_and (list_all fits_kinds (entry C e).needs) _ (I.shape e)).1)
+    still_stand vs h ne = by (shapes (entry C e).act (entry C e).needs (and_parts (list_all fits_kinds (entry C e).needs) _ (I.shape e)).1)
       where
         single : (m : Need) → (entry C e).needs ≡ m ∷ [] → Waited (part s m) (part t m) → AllStand later (still_missed known vs) (flat_map (wanted C t) (flat_map (inputs_at C p) (entry C e).needs))
         single m q g =
-            let fs_ = flat_append (wanted C s) (inputs_at C p m) [] in
-            let ft = flat_append (wanted C t) (inputs_at C p m) [] in
+            let fs_ = flat_map-append (wanted C s) (inputs_at C p m) [] in
+            let ft = flat_map-append (wanted C t) (inputs_at C p m) [] in
             subst (λ (ns : List Need). AllStand later (still_missed known vs) (flat_map (wanted C t) (flat_map (inputs_at C p) ns))) (sym q)
             (subst (λ (l : List (Want Place)). AllStand later (still_missed known vs) l) (sym ft)
             (one_still m g vs (subst (λ (l : List (Want Place)). AllStand names vs l) fs_ (subst (λ (ns : List Need). AllStand names vs (flat_map (wanted C s) (flat_map (inputs_at C p) ns))) q h)) ne))
@@ -315,9 +317,9 @@ module _ (C : Code) (I : IsCode C) (L : Layout) (es : List Event) (F : Fields) (
         by (inl pl) = plain_still (entry C e).needs (λ m i. i) pl vs h
         by (inr (at_name a r q)) =
             let i : In (At a r) (entry C e).needs = subst (λ (l : List Need). In (At a r) l) (sym q) (inl refl) in
-            let k = true_and (is_array_name a) (not (is_array_name r)) (kinds (At a r) i) in
+            let k = and_parts (is_array_name a) (not (is_array_name r)) (kinds (At a r) i) in
             let ia = I.needs e (At a r) a i (inl refl) in
-            single (At a r) q (at_waited a r ia (I.needs e (At a r) r i (inr (inl refl))) k.0 (not_false (is_array_name r) k.1) (res a ia))
+            single (At a r) q (at_waited a r ia (I.needs e (At a r) r i (inr (inl refl))) k.0 (not-true (is_array_name r) k.1) (res a ia))
         by (inr (at_key a k q)) =
             let i : In (AtKey a k) (entry C e).needs = subst (λ (l : List Need). In (AtKey a k) l) (sym q) (inl refl) in
             let ia = I.needs e (AtKey a k) a i (inl refl) in
@@ -329,7 +331,7 @@ module _ (C : Code) (I : IsCode C) (L : Layout) (es : List Event) (F : Fields) (
 
     -- where nothing was missed, nothing is
     pub none_later : flat_map (wanted C s) (flat_map (inputs_at C p) (entry C e).needs) ≡ [] → flat_map (wanted C t) (flat_map (inputs_at C p) (entry C e).needs) ≡ []
-    none_later z = by (shapes (entry C e).act (entry C e).needs (true_and (list_all fits_kinds (entry C e).needs) _ (I.shape e)).1)
+    none_later z = by (shapes (entry C e).act (entry C e).needs (and_parts (list_all fits_kinds (entry C e).needs) _ (I.shape e)).1)
       where
         gone : (m : Need) → Waited (part s m) (part t m) → part s m ≡ [] → part t m ≡ []
         gone m (none ps pt) y = pt
@@ -338,16 +340,16 @@ module _ (C : Code) (I : IsCode C) (L : Layout) (es : List Event) (F : Fields) (
 
         single : (m : Need) → (entry C e).needs ≡ m ∷ [] → Waited (part s m) (part t m) → flat_map (wanted C t) (flat_map (inputs_at C p) (entry C e).needs) ≡ []
         single m q g =
-            let y : part s m ≡ [] = nil_append (part s m) [] (sym (flat_append (wanted C s) (inputs_at C p m) []) ∙ ap (λ (ns : List Need). flat_map (wanted C s) (flat_map (inputs_at C p) ns)) (sym q) ∙ z) in
-            ap (λ (ns : List Need). flat_map (wanted C t) (flat_map (inputs_at C p) ns)) q ∙ flat_append (wanted C t) (inputs_at C p m) [] ∙ ap (λ (l : List (Want Place)). l ++ []) (gone m g y)
+            let y : part s m ≡ [] = nil_append (part s m) [] (sym (flat_map-append (wanted C s) (inputs_at C p m) []) ∙ ap (λ (ns : List Need). flat_map (wanted C s) (flat_map (inputs_at C p) ns)) (sym q) ∙ z) in
+            ap (λ (ns : List Need). flat_map (wanted C t) (flat_map (inputs_at C p) ns)) q ∙ flat_map-append (wanted C t) (inputs_at C p m) [] ∙ ap (λ (l : List (Want Place)). l ++ []) (gone m g y)
 
         by : AllPlain (entry C e).needs ⊎ OneElement (entry C e).needs → flat_map (wanted C t) (flat_map (inputs_at C p) (entry C e).needs) ≡ []
         by (inl pl) = none_left later (flat_map (wanted C t) (flat_map (inputs_at C p) (entry C e).needs)) (plain_still (entry C e).needs (λ m i. i) pl [] (subst (λ (l : List (Want Place)). AllStand names [] l) (sym z) tt))
         by (inr (at_name a r q)) =
             let i : In (At a r) (entry C e).needs = subst (λ (l : List Need). In (At a r) l) (sym q) (inl refl) in
-            let k = true_and (is_array_name a) (not (is_array_name r)) (kinds (At a r) i) in
+            let k = and_parts (is_array_name a) (not (is_array_name r)) (kinds (At a r) i) in
             let ia = I.needs e (At a r) a i (inl refl) in
-            single (At a r) q (at_waited a r ia (I.needs e (At a r) r i (inr (inl refl))) k.0 (not_false (is_array_name r) k.1) (res a ia))
+            single (At a r) q (at_waited a r ia (I.needs e (At a r) r i (inr (inl refl))) k.0 (not-true (is_array_name r) k.1) (res a ia))
         by (inr (at_key a k q)) =
             let i : In (AtKey a k) (entry C e).needs = subst (λ (l : List Need). In (AtKey a k) l) (sym q) (inl refl) in
             let ia = I.needs e (AtKey a k) a i (inl refl) in

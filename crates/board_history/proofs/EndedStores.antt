@@ -2,12 +2,12 @@
 use Rattle.std.proofs.Common.{◌≡◌, ◌⊎◌, inl, inr, ℕ, Bool, true, false, ◌&&◌, List, [], ◌∷◌, map, refl, sym, ap, ◌∙◌, subst, Option, None, Some}
 use Rattle.std.specs.List.{flat_map}
 use Rattle.std.specs.Prelude.{Result, Ok, Err}
+use Rattle.std.proofs.lemmas.Bool.{and_parts}
 use Rattle.dataflow.specs.System.{Answer, Content, Found, In, Missing, Write}
 use Rattle.dataflow.proofs.Lists.{in_map}
 use Rattle.board_history.specs.Ending.{stored_values}
 use Rattle.board_history.proofs.EndedNames.{flat_in}
 use Rattle.board_history.proofs.Tests.{yes_no}
-use Rattle.task_code.proofs.Equal.{true_and}
 use Rattle.task_code.proofs.Rights.{in_gather}
 use Rattle.task_code.specs.Code.{Act, Assert, Call, Cell, Code, Copy, Each, Fill, If, Loop, Name, Need, Print, Put, Range, Read, Set, Wait, here, is_array_name, loop_of, scalar, stored_of}
 use Rattle.task_code.specs.Compute.{Computed, Elements, Fails, Gives, Inserts, Opens, Takes, Turns, answer_at, compute, content, eval, evals, filled, given, key_scalar, put, read}
@@ -113,11 +113,11 @@ scalar_key Read ns node xs r k v sh i na h = only_key (read (answer_at xs 0)) k 
 scalar_key (Call b rs os) ns node xs r k v sh i na h = absurd i
 scalar_key (Set q e) ns node xs r k v sh i na h = only_key (given (eval xs e)) k v (given_scalar (eval xs e)) h
 scalar_key (Fill q es) ns node xs r k v sh i na h =
-    elim i [ inl p ↦ yes_no (true_and (is_array_name q) _ sh).0 (ap is_array_name (sym p) ∙ na) | inr g ↦ absurd g ]
+    elim i [ inl p ↦ yes_no (and_parts (is_array_name q) _ sh).0 (ap is_array_name (sym p) ∙ na) | inr g ↦ absurd g ]
 scalar_key (Copy q) ns node xs r k v sh i na h =
-    elim i [ inl p ↦ yes_no (true_and (is_array_name q) _ sh).0 (ap is_array_name (sym p) ∙ na) | inr g ↦ absurd g ]
+    elim i [ inl p ↦ yes_no (and_parts (is_array_name q) _ sh).0 (ap is_array_name (sym p) ∙ na) | inr g ↦ absurd g ]
 scalar_key (Put q x e) ns node xs r k v sh i na h =
-    elim i [ inl p ↦ yes_no (true_and (is_array_name q) _ sh).0 (ap is_array_name (sym p) ∙ na) | inr g ↦ absurd g ]
+    elim i [ inl p ↦ yes_no (and_parts (is_array_name q) _ sh).0 (ap is_array_name (sym p) ∙ na) | inr g ↦ absurd g ]
 scalar_key (Print e) ns node xs r k v sh i na h = absurd i
 scalar_key (Assert e) ns node xs r k v sh i na h = absurd i
 scalar_key (If e b d) ns node xs r k v sh i na h = absurd i

@@ -1,9 +1,10 @@
 -- The waiters of a board after an End without fault.
 use Rattle.std.proofs.Common.{◌≡◌, ◌⊎◌, inl, inr, ℕ, zero, suc, ◌+◌, ◌<◌, true, List, [], ◌∷◌, ◌++◌, map, length, refl, sym, ap, ◌∙◌, subst, Option, None, Some, arith}
 use Rattle.std.specs.List.{flat_map}
+use Rattle.std.proofs.lemmas.List.{map-append}
 use Rattle.dataflow.specs.System.{Distinct, In, tasks_of}
 use Rattle.dataflow.specs.Machine.{Event, Free, new_items}
-use Rattle.dataflow.proofs.Lists.{in_left, in_map, in_right, in_seam, in_split, seam_distinct, seam_in, map_append}
+use Rattle.dataflow.proofs.Lists.{in_left, in_map, in_right, in_seam, in_split, seam_distinct, seam_in}
 use Rattle.dataflow.proofs.Numbers.{number_of_item}
 use Rattle.board_history.specs.Ending.{Instance, IsOwn, job_slot, jobs_after, missed_again, missed_first, new_row, or_else}
 use Rattle.board_history.specs.Fields.{Does, Fields, Frame, Job, Layout, Row, Script, Slot, Waiter, Want, path_of, row_of, slot_at, slot_for, task_of}
@@ -95,9 +96,9 @@ module _ (C : Code) (I : IsCode C) (L : Layout) (es : List Event) (F : Fields) (
           let b = (o C I L es F w n t G P).before in
           let a = (o C I L es F w n t G P).after in
           let i = (o C I L es F w n t G P).item in
-          let e : map number_of_item P.x.state.items ≡ map number_of_item b ++ i.number ∷ map number_of_item a = ap (map number_of_item) (o C I L es F w n t G P).there ∙ map_append number_of_item b (i ∷ a) in
+          let e : map number_of_item P.x.state.items ≡ map number_of_item b ++ i.number ∷ map number_of_item a = ap (map number_of_item) (o C I L es F w n t G P).there ∙ map-append number_of_item b (i ∷ a) in
           let z = seam_distinct i.number (map number_of_item b) (map number_of_item a) (subst (λ (l : List ℕ). Distinct l) e d) in
-          subst (λ (l : List ℕ). (In i.number l → ⊥) × Distinct l) (sym (map_append number_of_item b a)) z
+          subst (λ (l : List ℕ). (In i.number l → ⊥) × Distinct l) (sym (map-append number_of_item b a)) z
 
   -- a live item's names: no datum that it reads is free
   read_used : (i : CodeItem) → In i t.items → (e c : ℕ) (p : List Step) → i.task ≡ Item e p c → (r : Name) → In r (entry C e).reads → (q : List Step) (v : Variable) → place_at C p r ≡ Datum q v → Free (code_system C) t (Datum q v) → ⊥

@@ -1,6 +1,8 @@
 -- What items miss after an End without fault.
 use Rattle.std.proofs.Common.{◌≡◌, inl, inr, ℕ, zero, suc, Bool, true, false, not, List, [], ◌∷◌, ◌++◌, refl, sym, ap, ◌∙◌, subst, Option, None, Some}
 use Rattle.std.specs.List.{flat_map, list_all}
+use Rattle.std.proofs.lemmas.Grind.{flat_map-append}
+use Rattle.std.proofs.lemmas.Bool.{not-true, and_parts}
 use Rattle.dataflow.specs.System.{In, Input}
 use Rattle.dataflow.specs.Machine.{Event}
 use Rattle.board_history.specs.Elements.{code_tests}
@@ -13,7 +15,7 @@ use Rattle.board_history.proofs.EndedCells.{names_after}
 use Rattle.board_history.proofs.EndedKnown.{element_told, scalar_told, shut_told}
 use Rattle.board_history.proofs.EndedNames.{Resolved, to_datum, to_literal}
 use Rattle.board_history.proofs.Tests.{yes_no}
-use Rattle.task_code.proofs.Equal.{every_in, true_and}
+use Rattle.task_code.proofs.Equal.{every_in}
 use Rattle.task_code.proofs.Places.{argued, argument_kind, not_nowhere, not_constant, spot_variable}
 use Rattle.task_code.specs.Code.{Argument, At, AtKey, Closed, Code, Fixed, Local, Name, Named, Need, Owned, Parameter, Stored, Variable, argument, arguments, call_at, entry, is_array_name, is_array_owned}
 use Rattle.task_code.specs.Compute.{key_of}
@@ -41,14 +43,6 @@ array_of C (s ∷ p) zero (Parameter k b) q v h = by (λ r e. array_of C p r.up 
     by f (Some (Named r)) e h = sym (argument_kind (arguments (entry C (call_at C s.offset)).act) k b r e) ∙ f r h
 array_of C (s ∷ p) (suc up) x q v h = array_of C p up x q v h
 
-pub flat_append : {X Y : Type 0} (f : X → List Y) (xs ys : List X) → flat_map f (xs ++ ys) ≡ flat_map f xs ++ flat_map f ys
-flat_append f [] ys = refl
-flat_append {X} {Y} f (x ∷ xs) ys = ap (λ (l : List Y). f x ++ l) (flat_append f xs ys) ∙ sym (assoc (f x) (flat_map f xs) (flat_map f ys))
-  where
-    assoc : (a b c : List Y) → (a ++ b) ++ c ≡ a ++ (b ++ c)
-    assoc [] b c = refl
-    assoc (z ∷ a) b c = ap (λ (l : List Y). z ∷ l) (assoc a b c)
-
 stand_append : (names : List (ℕ × Place)) (xs ys : List (Want ℕ)) (us vs : List (Want Place)) → AllStand names xs us → AllStand names ys vs → AllStand names (xs ++ ys) (us ++ vs)
 stand_append names [] ys [] vs h g = g
 stand_append names [] ys (u ∷ us) vs h g = absurd h
@@ -65,10 +59,6 @@ left_none ns (x ∷ vs) h = absurd h
 
 pub scalar_place : (C : Code) (p : List Step) (r : Name) (q : List Step) (v : Variable) (b : Bool) → is_array_name r ≡ b → place_at C p r ≡ Datum q v → v.array ≡ b
 scalar_place C p r q v b h e = sym (array_of C p r.up r.owned q v e) ∙ h
-
-pub not_false : (b : Bool) → not b ≡ true → b ≡ false
-not_false true h = yes_no h refl
-not_false false h = refl
 
 pub no_element_input : (v : Scalar) (b : Place) → element_input (Constant v) b ≡ []
 no_element_input v (Constant u) = refl
@@ -167,19 +157,19 @@ module _ (C : Code) (I : IsCode C) (L : Layout) (es : List Event) (F : Fields) (
         (subst (λ (y : List (Input Place Key)). AllStand later [] (flat_map (wanted C t) y)) (sym (no_element_input v (place_at C p r))) tt))
 
     need_stand : (m : Need) → In m (entry C e).needs → Stand m
-    need_stand (Stored r) i = stored_stand r (not_false (is_array_name r) (kinds (Stored r) i)) (res r (I.needs e (Stored r) r i (inl refl)))
+    need_stand (Stored r) i = stored_stand r (not-true (is_array_name r) (kinds (Stored r) i)) (res r (I.needs e (Stored r) r i (inl refl)))
       where
         kinds : (m : Need) → In m (entry C e).needs → fits_kinds m ≡ true
-        kinds m i = every_in fits_kinds (entry C e).needs (true_and (list_all fits_kinds (entry C e).needs) _ (I.shape e)).0 m i
+        kinds m i = every_in fits_kinds (entry C e).needs (and_parts (list_all fits_kinds (entry C e).needs) _ (I.shape e)).0 m i
     need_stand (Closed r) i = closed_stand r (res r (I.needs e (Closed r) r i (inl refl)))
     need_stand (At a r) i =
-        let k = true_and (is_array_name a) (not (is_array_name r)) (every_in fits_kinds (entry C e).needs (true_and (list_all fits_kinds (entry C e).needs) _ (I.shape e)).0 (At a r) i) in
-        at_stand a r k.0 (not_false (is_array_name r) k.1) (res a (I.needs e (At a r) a i (inl refl))) (res r (I.needs e (At a r) r i (inr (inl refl))))
+        let k = and_parts (is_array_name a) (not (is_array_name r)) (every_in fits_kinds (entry C e).needs (and_parts (list_all fits_kinds (entry C e).needs) _ (I.shape e)).0 (At a r) i) in
+        at_stand a r k.0 (not-true (is_array_name r) k.1) (res a (I.needs e (At a r) a i (inl refl))) (res r (I.needs e (At a r) r i (inr (inl refl))))
     need_stand (AtKey a k) i =
-        key_stand a k (every_in fits_kinds (entry C e).needs (true_and (list_all fits_kinds (entry C e).needs) _ (I.shape e)).0 (AtKey a k) i) (res a (I.needs e (AtKey a k) a i (inl refl)))
+        key_stand a k (every_in fits_kinds (entry C e).needs (and_parts (list_all fits_kinds (entry C e).needs) _ (I.shape e)).0 (AtKey a k) i) (res a (I.needs e (AtKey a k) a i (inl refl)))
 
     pub needs_stand : (ns : List Need) → ((m : Need) → In m ns → In m (entry C e).needs) → AllStand later (flat_map (missed C G.cells f) ns) (flat_map (wanted C t) (flat_map (inputs_at C p) ns))
     needs_stand [] inn = tt
     needs_stand (m ∷ ns) inn =
-        subst (λ (l : List (Want Place)). AllStand later (missed C G.cells f m ++ flat_map (missed C G.cells f) ns) l) (sym (flat_append (wanted C t) (inputs_at C p m) (flat_map (inputs_at C p) ns)))
+        subst (λ (l : List (Want Place)). AllStand later (missed C G.cells f m ++ flat_map (missed C G.cells f) ns) l) (sym (flat_map-append (wanted C t) (inputs_at C p m) (flat_map (inputs_at C p) ns)))
         (stand_append later (missed C G.cells f m) (flat_map (missed C G.cells f) ns) (flat_map (wanted C t) (inputs_at C p m)) (flat_map (wanted C t) (flat_map (inputs_at C p) ns)) (need_stand m (inn m (inl refl))) (needs_stand ns (λ x i. inn x (inr i))))

@@ -1,6 +1,7 @@
 -- Slabs of instances: what stays when some are added or gone.
 use Rattle.std.proofs.Common.{◌≡◌, ◌⊎◌, inl, inr, ℕ, zero, suc, ◌+◌, ◌*◌, ◌<◌, Bool, true, false, List, [], ◌∷◌, length, refl, sym, ap, ◌∙◌, subst, Option, None, Some, if◌then◌else◌, arith}
 use Rattle.std.specs.Prelude.{nat_eq}
+use Rattle.std.proofs.lemmas.Bool.{cases_eq}
 use Rattle.dataflow.specs.System.{Distinct, In}
 use Rattle.board_history.specs.Ending.{SameSlots, Sets, TakenOff, goes, is_home, outside, stays, with_live}
 use Rattle.board_history.specs.Fields.{Absent, Does, Frame, Layout, Slot, frame_up, frames_in, level_of, lies_in, path_from, path_of, slot_at, slot_for, step_before, task_of}
@@ -179,14 +180,6 @@ module _ (R : ℕ → ℕ) (gs : List (Option Frame)) where
 none_inside : (j k : ℕ) (fs : List (Option Frame)) (f : Frame) → frames_in j fs ≡ 0 → slot_at fs k ≡ Some f → f.parent ≡ Some j → ⊥
 none_inside j k fs f z h e = let p = inside_counted j k fs f h e in omega arith
 
--- which of two keys
-pub key_split : (k j : ℕ) → (k ≡ j) ⊎ (k ≡ j → ⊥)
-key_split k j = by (nat_eq k j) refl
-  where
-    by : (t : Bool) → nat_eq k j ≡ t → (k ≡ j) ⊎ (k ≡ j → ⊥)
-    by true h = inl (nat_sound k j h)
-    by false h = inr (λ e. yes_no (subst (λ (l : ℕ). nat_eq k l ≡ true) e (nat_same k)) h)
-
 module _ (R : ℕ → ℕ) (fs gs : List (Option Frame)) (k : ℕ) (f : Frame) (here : slot_at fs k ≡ Some f) (s : Sound R (Some k) fs) where
   -- one less is inside
   module _ (n : ℕ) (is : f.live ≡ suc (suc n)) (set : Sets fs k (Some (with_live (suc n) f)) gs) where
@@ -200,21 +193,21 @@ module _ (R : ℕ → ℕ) (fs gs : List (Option Frame)) (k : ℕ) (f : Frame) (
 
     fewer_slot : (j : ℕ) (g : Frame) → slot_at gs j ≡ Some g → (h : Frame) × (slot_at fs j ≡ Some h) × Alike g h
     fewer_slot j g q =
-        elim (key_split j k) [
+        elim (cases_eq j k) [
           | inl e ↦ (f, subst (λ (i : ℕ). slot_at fs i ≡ Some f) (sym e) here, subst (λ (y : Frame). Alike y f) (some_same (sym set.here ∙ subst (λ (i : ℕ). slot_at gs i ≡ Some g) e q)) (record { parent = refl; level = refl; depth = refl; way = refl; body = refl; slots = refl }))
           | inr ne ↦ (g, sym (set.others j ne) ∙ q, alike_same g)
         ]
 
     fewer_there : (j : ℕ) (g : Frame) → slot_at fs j ≡ Some g → (h : Frame) × (slot_at gs j ≡ Some h) × (h.level ≡ g.level)
     fewer_there j g q =
-        elim (key_split j k) [
+        elim (cases_eq j k) [
           | inl e ↦ (with_live (suc n) f, subst (λ (i : ℕ). slot_at gs i ≡ Some (with_live (suc n) f)) (sym e) set.here, ap (λ (y : Frame). y.level) (some_same (sym here ∙ subst (λ (i : ℕ). slot_at fs i ≡ Some g) e q)))
           | inr ne ↦ (g, set.others j ne ∙ q, refl)
         ]
 
     fewer_live : (j : ℕ) (g : Frame) → slot_at gs j ≡ Some g → (g.live ≡ (R j + frames_in j gs) + one_if (is_home None j)) × (0 < g.live)
     fewer_live j g q =
-        elim (key_split j k) [
+        elim (cases_eq j k) [
           | inl e ↦ (let l = ap (λ (y : Frame). y.live) (some_same (sym set.here ∙ subst (λ (i : ℕ). slot_at gs i ≡ Some g) e q)) in
               let a = s.live j f (subst (λ (i : ℕ). slot_at fs i ≡ Some f) (sym e) here) in
               let h = ap (λ (i : ℕ). one_if (is_home (Some k) i)) e ∙ home_here k in
@@ -345,7 +338,7 @@ frames_added i around fs (k ∷ ks) gs d fresh new other =
 
     rest : (j : ℕ) → (In j ks → ⊥) → lies i (slot_at (cleared gs k) j) ≡ lies i (slot_at fs j)
     rest j ne =
-        elim (key_split j k) [
+        elim (cases_eq j k) [
           | inl e ↦ ap (lies i) (subst (λ (l : ℕ). slot_at (cleared gs k) l ≡ None) (sym e) (cleared_here gs k)) ∙ sym (ap (lies i) (subst (λ (l : ℕ). slot_at fs l ≡ None) (sym e) (fresh k (inl refl))))
           | inr ap_ ↦ ap (lies i) (cleared_others gs k j ap_) ∙ other j (λ h. elim h [ inl q ↦ ap_ q | inr g ↦ ne g ])
         ]

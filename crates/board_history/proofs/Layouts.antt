@@ -1,6 +1,7 @@
 -- Names of new instances lead where they should.
 use Rattle.std.proofs.Common.{◌≡◌, inl, inr, ℕ, suc, ◌+◌, ◌*◌, Bool, not, List, [], ◌∷◌, ◌++◌, length, refl, sym, ap, ◌∙◌, subst, Option, None, Some, if◌then◌else◌, arith}
 use Rattle.std.specs.List.{filter}
+use Rattle.std.proofs.lemmas.Bool.{not-true}
 use Rattle.dataflow.specs.System.{In}
 use Rattle.dataflow.specs.Machine.{Event}
 use Rattle.dataflow.proofs.Lists.{in_left}
@@ -13,7 +14,7 @@ use Rattle.board_history.proofs.EndedNames.{flat_in, hold_named, in_flat}
 use Rattle.board_history.proofs.Reached.{frame_reached}
 use Rattle.board_history.proofs.Frames.{Within, alike_live, slot_of, slot_same, up_step}
 use Rattle.task_code.specs.Code.{Calling, Code, Entry, Fixed, InPlace, Name, Through, Way, argument, body, entry, nth, ways}
-use Rattle.board_history.proofs.Tests.{not_true, yes_no, in_kept}
+use Rattle.board_history.proofs.Tests.{yes_no, in_kept}
 use Rattle.task_code.proofs.Decided.{declared_is}
 use Rattle.task_code.specs.Check.{is_declared}
 use Rattle.task_code.specs.Whole.{Declared, IsCode, Seen}
@@ -108,4 +109,4 @@ added_once C L rights hs d b f (m ∷ ms) one same =
     named : (h : Hold) → In h (outer_holds C rights b) → In h.name (names_in C rights b) × (Declared C b h.name → ⊥)
     named h i =
         let p = in_kept (λ r. not (is_declared C b r)) h.name (names_in C rights b) (hold_named (filter (λ r. not (is_declared C b r)) (names_in C rights b)) h i) in
-        (p.0, λ y. yes_no (declared_is C b h.name y) (not_true (is_declared C b h.name) p.1))
+        (p.0, λ y. yes_no (declared_is C b h.name y) (not-true (is_declared C b h.name) p.1))

@@ -2,11 +2,12 @@
 use Rattle.std.proofs.Common.{◌≡◌, inl, inr, ℕ, zero, suc, ◌+◌, Bool, true, false, not, List, [], ◌∷◌, ◌++◌, map, refl, sym, ap, ◌∙◌, subst, if◌then◌else◌, arith}
 use Rattle.std.specs.Prelude.{cond}
 use Rattle.std.specs.List.{flat_map, filter}
+use Rattle.std.proofs.lemmas.Bool.{or_cases, false_from_ne_true}
 use Rattle.dataflow.specs.System.{In}
 use Rattle.board_history.specs.Counts.{times, holds}
 use Rattle.board_history.specs.Elements.{code_tests}
 use Rattle.board_history.specs.Static.{Hold, name_times, add_hold, counted_names, names_in, held_by, AddsHolds}
-use Rattle.board_history.proofs.Tests.{choose, yes_no, not_so, or_true}
+use Rattle.board_history.proofs.Tests.{choose, yes_no}
 use Rattle.task_code.proofs.Equal.{name_sound, name_same, place_sound, place_same, variable_sound}
 use Rattle.task_code.proofs.Places.{only_here, declared_at, spot_path, spot_variable}
 use Rattle.task_code.specs.Check.{is_declared, variable_in}
@@ -80,7 +81,7 @@ module _ (C : Code) where
   -- what is declared is a variable of the body
   in_variables : (v : Variable) (vs : List Variable) → variable_in v vs ≡ true → In v vs
   in_variables v [] h = yes_no h refl
-  in_variables v (w ∷ vs) h = elim (or_true (variable_eq v w) (variable_in v vs) h) [ inl p ↦ inl (variable_sound v w p) | inr i ↦ inr (in_variables v vs i) ]
+  in_variables v (w ∷ vs) h = elim (or_cases (variable_eq v w) (variable_in v vs) h) [ inl p ↦ inl (variable_sound v w p) | inr i ↦ inr (in_variables v vs i) ]
 
   pub declared_of : (b up : ℕ) (x : Owned) → is_declared C b (record { up = up; owned = x }) ≡ true → (v : Variable) × In v (body C b).makes × (record { up = up; owned = x } ≡ here v)
   declared_of b zero (Local v) h = (v, in_variables v (body C b).makes h, refl)
@@ -99,7 +100,7 @@ module _ (C : Code) where
       by true h ih =
           let d = declared_of b r.up r.owned h in
           let at : place_at C p r ≡ Datum p d.0 = ap (place_at C p) d.2 ∙ declared_at C p d.0 in
-          let no : place_eq (Datum q v) (place_at C p r) ≡ false = not_so (place_eq (Datum q v) (place_at C p r)) (λ t.
+          let no : place_eq (Datum q v) (place_at C p r) ≡ false = false_from_ne_true (place_eq (Datum q v) (place_at C p r)) (λ t.
           let e : Datum q v ≡ Datum p d.0 = place_sound (Datum q v) (place_at C p r) t ∙ at in
           apart (subst (λ (w : Variable). In w (body C b).makes) (sym (spot_variable e)) d.1) (spot_path e)) in
           let zero_more : pointing p (Datum q v) (r ∷ rs) ≡ 0 + pointing p (Datum q v) rs = λ k. (if no k then 1 else 0) + pointing p (Datum q v) rs in

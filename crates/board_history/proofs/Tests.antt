@@ -1,6 +1,7 @@
 -- What the tests of a state tell.
 use Rattle.std.proofs.Common.{◌≡◌, ◌⊎◌, inl, inr, Bool, true, false, not, ◌&&◌, ◌||◌, List, [], ◌∷◌, refl, sym, ap, ◌∙◌, subst, Option, None, Some, if◌then◌else◌}
 use Rattle.std.specs.List.{filter}
+use Rattle.std.proofs.lemmas.Bool.{and_from, not-true, or_cases, or_parts, or_left, or_right, and_parts}
 use Rattle.dataflow.specs.System.{In, Write, Effect, System}
 use Rattle.dataflow.specs.Machine.{Item, State, ClosedByRights, Free, Clashes}
 use Rattle.board_history.specs.Replay.{Tests, AreTests, is_among, has_reader, has_writer, is_closed, is_used, value_at, elements_at, is_there, clashes}
@@ -40,41 +41,9 @@ kept_in {X} p x (y ∷ xs) h u =
     (λ z. elim h [ inl e ↦ inl e | inr g ↦ inr (kept_in p x xs g u) ])
     (λ z. elim h [ inl e ↦ yes_no (ap p (sym e) ∙ u) z | inr g ↦ kept_in p x xs g u ])
 
-pub or_true : (a b : Bool) → (a || b) ≡ true → (a ≡ true) ⊎ (b ≡ true)
-or_true true b h = inl refl
-or_true false b h = inr h
-
-pub or_false : (a b : Bool) → (a || b) ≡ false → (a ≡ false) × (b ≡ false)
-or_false true b h = yes_no refl h
-or_false false b h = (refl, h)
-
-pub left_true : (a b : Bool) → a ≡ true → (a || b) ≡ true
-left_true true b h = refl
-left_true false b h = yes_no h refl
-
-pub right_true : (a b : Bool) → b ≡ true → (a || b) ≡ true
-right_true true b h = refl
-right_true false b h = h
-
-pub and_true : (a b : Bool) → (a && b) ≡ true → (a ≡ true) × (b ≡ true)
-and_true true b h = (refl, h)
-and_true false b h = yes_no h refl
-
-pub both_true : (a b : Bool) → a ≡ true → b ≡ true → (a && b) ≡ true
-both_true true b h k = k
-both_true false b h k = yes_no h refl
-
-pub not_true : (a : Bool) → not a ≡ true → a ≡ false
-not_true true h = yes_no h refl
-not_true false h = refl
-
 pub true_not : (a : Bool) → (a ≡ true → ⊥) → not a ≡ true
 true_not true h = absurd (h refl)
 true_not false h = refl
-
-pub not_so : (a : Bool) → (a ≡ true → ⊥) → a ≡ false
-not_so true h = absurd (h refl)
-not_so false h = refl
 
 module _ {T D K V E : Type 0} (S : System T D K V E) (X : Tests D K V) (R : AreTests S X) where
   pub same_of : (a b : D) → a ≡ b → X.same_place a b ≡ true
@@ -82,24 +51,24 @@ module _ {T D K V E : Type 0} (S : System T D K V E) (X : Tests D K V) (R : AreT
 
   pub among_in : (a : D) (bs : List D) → is_among S X a bs ≡ true → In a bs
   among_in a [] h = yes_no h refl
-  among_in a (b ∷ bs) h = elim (or_true (X.same_place a b) (is_among S X a bs) h) [ inl p ↦ inl (R.place_sound a b p) | inr i ↦ inr (among_in a bs i) ]
+  among_in a (b ∷ bs) h = elim (or_cases (X.same_place a b) (is_among S X a bs) h) [ inl p ↦ inl (R.place_sound a b p) | inr i ↦ inr (among_in a bs i) ]
 
   pub in_among : (a : D) (bs : List D) → In a bs → is_among S X a bs ≡ true
   in_among a [] h = absurd h
   in_among a (b ∷ bs) h =
-      elim h [ inl p ↦ left_true (X.same_place a b) (is_among S X a bs) (same_of a b p) | inr i ↦ right_true (X.same_place a b) (is_among S X a bs) (in_among a bs i) ]
+      elim h [ inl p ↦ or_left (X.same_place a b) (is_among S X a bs) (same_of a b p) | inr i ↦ or_right (X.same_place a b) (is_among S X a bs) (in_among a bs i) ]
 
   -- who may read or write
   pub no_writer : (is : List (Item T)) (a : D) → has_writer S X is a ≡ false → (i : Item T) → In i is → In a (S.may_write i.task) → ⊥
   no_writer [] a h i m w = m
   no_writer (j ∷ is) a h i m w =
-      let r = or_false (is_among S X a (S.may_write j.task)) (has_writer S X is a) h in
+      let r = or_parts (is_among S X a (S.may_write j.task)) (has_writer S X is a) h in
       elim m [ inl p ↦ yes_no (in_among a (S.may_write j.task) (subst (λ (x : Item T). In a (S.may_write x.task)) p w)) r.0 | inr g ↦ no_writer is a r.1 i g w ]
 
   pub a_writer : (is : List (Item T)) (a : D) → has_writer S X is a ≡ true → (i : Item T) × In i is × In a (S.may_write i.task)
   a_writer [] a h = yes_no h refl
   a_writer (j ∷ is) a h =
-      elim (or_true (is_among S X a (S.may_write j.task)) (has_writer S X is a) h) [
+      elim (or_cases (is_among S X a (S.may_write j.task)) (has_writer S X is a) h) [
         | inl p ↦ (j, inl refl, among_in a (S.may_write j.task) p)
         | inr q ↦ (let r = a_writer is a q in (r.0, inr r.1, r.2))
       ]
@@ -107,34 +76,34 @@ module _ {T D K V E : Type 0} (S : System T D K V E) (X : Tests D K V) (R : AreT
   pub no_reader : (is : List (Item T)) (a : D) → has_reader S X is a ≡ false → (i : Item T) → In i is → In a (S.may_read i.task) → ⊥
   no_reader [] a h i m w = m
   no_reader (j ∷ is) a h i m w =
-      let r = or_false (is_among S X a (S.may_read j.task)) (has_reader S X is a) h in
+      let r = or_parts (is_among S X a (S.may_read j.task)) (has_reader S X is a) h in
       elim m [ inl p ↦ yes_no (in_among a (S.may_read j.task) (subst (λ (x : Item T). In a (S.may_read x.task)) p w)) r.0 | inr g ↦ no_reader is a r.1 i g w ]
 
   pub a_reader : (is : List (Item T)) (a : D) → has_reader S X is a ≡ true → (i : Item T) × In i is × In a (S.may_read i.task)
   a_reader [] a h = yes_no h refl
   a_reader (j ∷ is) a h =
-      elim (or_true (is_among S X a (S.may_read j.task)) (has_reader S X is a) h) [
+      elim (or_cases (is_among S X a (S.may_read j.task)) (has_reader S X is a) h) [
         | inl p ↦ (j, inl refl, among_in a (S.may_read j.task) p)
         | inr q ↦ (let r = a_reader is a q in (r.0, inr r.1, r.2))
       ]
 
   pub closed_sound : (s : State T D K V E) (a : D) → is_closed S X s a ≡ true → ClosedByRights S s a
   closed_sound s a h =
-      let r = and_true (is_among S X a s.places) (not (has_writer S X s.items a)) h in
-      record { there = among_in a s.places r.0; nobody = no_writer s.items a (not_true (has_writer S X s.items a) r.1) }
+      let r = and_parts (is_among S X a s.places) (not (has_writer S X s.items a)) h in
+      record { there = among_in a s.places r.0; nobody = no_writer s.items a (not-true (has_writer S X s.items a) r.1) }
 
   pub closed_told : (s : State T D K V E) (a : D) → ClosedByRights S s a → is_closed S X s a ≡ true
   closed_told s a c =
-      both_true (is_among S X a s.places) (not (has_writer S X s.items a)) (in_among a s.places c.there) (true_not (has_writer S X s.items a) (λ h. let w = a_writer s.items a h in c.nobody w.0 w.1 w.2))
+      and_from (is_among S X a s.places) (not (has_writer S X s.items a)) (in_among a s.places c.there) (true_not (has_writer S X s.items a) (λ h. let w = a_writer s.items a h in c.nobody w.0 w.1 w.2))
 
   pub unused_free : (s : State T D K V E) (a : D) → is_used S X s.items a ≡ false → Free S s a
   unused_free s a h =
-      let r = or_false (has_reader S X s.items a) (has_writer S X s.items a) h in
+      let r = or_parts (has_reader S X s.items a) (has_writer S X s.items a) h in
       record { unread = no_reader s.items a r.0; unwritten = no_writer s.items a r.1 }
 
   pub used_not_free : (s : State T D K V E) (a : D) → is_used S X s.items a ≡ true → Free S s a → ⊥
   used_not_free s a h f =
-      elim (or_true (has_reader S X s.items a) (has_writer S X s.items a) h) [
+      elim (or_cases (has_reader S X s.items a) (has_writer S X s.items a) h) [
         | inl p ↦ (let r = a_reader s.items a p in f.unread r.0 r.1 r.2)
         | inr p ↦ (let r = a_writer s.items a p in f.unwritten r.0 r.1 r.2)
       ]
@@ -144,7 +113,7 @@ module _ {T D K V E : Type 0} (S : System T D K V E) (X : Tests D K V) (R : AreT
   value_held [] a k v = λ h. none_some h
   value_held (w ∷ ws) a k v =
       choose (λ (r : Option V). r ≡ Some v → In (record { place = a; key = k; value = v }) (w ∷ ws)) (X.same_place a w.place && X.same_key k w.key) (Some w.value) (value_at S X ws a k)
-      (λ t h. let r = and_true (X.same_place a w.place) (X.same_key k w.key) t in
+      (λ t h. let r = and_parts (X.same_place a w.place) (X.same_key k w.key) t in
       let p = R.place_sound a w.place r.0 in
       let q = R.key_sound k w.key r.1 in
       let u : w.value ≡ v = cc in
@@ -157,7 +126,7 @@ module _ {T D K V E : Type 0} (S : System T D K V E) (X : Tests D K V) (R : AreT
       choose (λ (r : Option V). (u : V) × (r ≡ Some u)) (X.same_place a w.place && X.same_key k w.key) (Some w.value) (value_at S X ws a k)
       (λ t. (w.value, refl))
       (λ t. elim h [
-        | inl e ↦ yes_no (both_true (X.same_place a w.place) (X.same_key k w.key) (same_of a w.place (ap (λ (x : Write D K V). x.place) e)) (subst (λ (l : K). X.same_key k l ≡ true) (ap (λ (x : Write D K V). x.key) e) (R.key_same k))) t
+        | inl e ↦ yes_no (and_from (X.same_place a w.place) (X.same_key k w.key) (same_of a w.place (ap (λ (x : Write D K V). x.place) e)) (subst (λ (l : K). X.same_key k l ≡ true) (ap (λ (x : Write D K V). x.key) e) (R.key_same k))) t
         | inr i ↦ held_value ws a k v i
       ])
 
@@ -186,8 +155,8 @@ module _ {T D K V E : Type 0} (S : System T D K V E) (X : Tests D K V) (R : AreT
   clash_sound : (stored ws : List (Write D K V)) → clashes S X stored ws ≡ true → Clash stored ws
   clash_sound stored [] h = yes_no h refl
   clash_sound stored (w ∷ ws) h =
-      elim (or_true (S.is_array w.place && is_there S X (value_at S X stored w.place w.key)) (clashes S X stored ws) h) [
-        | inl p ↦ (let r = and_true (S.is_array w.place) (is_there S X (value_at S X stored w.place w.key)) p in
+      elim (or_cases (S.is_array w.place && is_there S X (value_at S X stored w.place w.key)) (clashes S X stored ws) h) [
+        | inl p ↦ (let r = and_parts (S.is_array w.place) (is_there S X (value_at S X stored w.place w.key)) p in
             let v = there_some (value_at S X stored w.place w.key) r.1 in
             (w.place, w.key, w.value, v.0, r.0, inl refl, value_held stored w.place w.key v.0 v.1))
         | inr p ↦ (let x = clash_sound stored ws p in (x.0, x.1, x.2, x.3, x.4, inr x.5, x.6))
@@ -198,9 +167,9 @@ module _ {T D K V E : Type 0} (S : System T D K V E) (X : Tests D K V) (R : AreT
   clash_told stored (w ∷ ws) x =
       elim x.5 [
         | inl e ↦ (let v = held_value stored w.place w.key x.3 (subst (λ (y : Write D K V). In (record { place = y.place; key = y.key; value = x.3 }) stored) e x.6) in
-            left_true (S.is_array w.place && is_there S X (value_at S X stored w.place w.key)) (clashes S X stored ws)
-            (both_true (S.is_array w.place) (is_there S X (value_at S X stored w.place w.key)) (sym (ap (λ (y : Write D K V). S.is_array y.place) e) ∙ x.4) (ap (is_there S X) v.1)))
-        | inr i ↦ right_true (S.is_array w.place && is_there S X (value_at S X stored w.place w.key)) (clashes S X stored ws) (clash_told stored ws (x.0, x.1, x.2, x.3, x.4, i, x.6))
+            or_left (S.is_array w.place && is_there S X (value_at S X stored w.place w.key)) (clashes S X stored ws)
+            (and_from (S.is_array w.place) (is_there S X (value_at S X stored w.place w.key)) (sym (ap (λ (y : Write D K V). S.is_array y.place) e) ∙ x.4) (ap (is_there S X) v.1)))
+        | inr i ↦ or_right (S.is_array w.place && is_there S X (value_at S X stored w.place w.key)) (clashes S X stored ws) (clash_told stored ws (x.0, x.1, x.2, x.3, x.4, i, x.6))
       ]
 
   pub clashes_sound : (s : State T D K V E) (e : Effect T D K V) → clashes S X s.stored e.writes ≡ true → Clashes S s e

@@ -1,10 +1,10 @@
 -- What the end of an item of code adds to the counts.
 use Rattle.std.proofs.Common.{◌≡◌, inl, inr, ℕ, zero, suc, ◌+◌, ◌*◌, Bool, true, false, List, [], ◌∷◌, ◌++◌, map, length, refl, sym, ap, ◌∙◌, Option, None, Some, if◌then◌else◌, arith}
+use Rattle.std.proofs.lemmas.Bool.{false_from_ne_true}
 use Rattle.dataflow.specs.System.{In, Opening, tasks_of}
 use Rattle.board_history.specs.Counts.{holds, times}
 use Rattle.board_history.specs.Elements.{code_tests}
 use Rattle.board_history.specs.Static.{Hold, blocks_hold, held_by, outer_holds, OpensHolds, TurnsHold}
-use Rattle.board_history.proofs.Tests.{not_so}
 use Rattle.board_history.proofs.Counts.{holds_append}
 use Rattle.board_history.proofs.Static.{adds_holds}
 use Rattle.task_code.proofs.Equal.{place_sound}
@@ -59,8 +59,8 @@ module _ (C : Code) where
   -- an outer name means the same in each turn
   same_test : (mark : ℕ) (p q : List Step) (v : Variable) (k l : Key) → (q ≡ step_at mark k p → ⊥) → (q ≡ step_at mark l p → ⊥) → (up : ℕ) (x : Owned) → place_eq (Datum q v) (resolve C (step_at mark k p) up x) ≡ place_eq (Datum q v) (resolve C (step_at mark l p) up x)
   same_test mark p q v k l nk nl zero (Local w) =
-      not_so (place_eq (Datum q v) (Datum (step_at mark k p) w)) (λ h. nk (spot_path (place_sound (Datum q v) (Datum (step_at mark k p) w) h)))
-      ∙ sym (not_so (place_eq (Datum q v) (Datum (step_at mark l p) w)) (λ h. nl (spot_path (place_sound (Datum q v) (Datum (step_at mark l p) w) h))))
+      false_from_ne_true (place_eq (Datum q v) (Datum (step_at mark k p) w)) (λ h. nk (spot_path (place_sound (Datum q v) (Datum (step_at mark k p) w) h)))
+      ∙ sym (false_from_ne_true (place_eq (Datum q v) (Datum (step_at mark l p) w)) (λ h. nl (spot_path (place_sound (Datum q v) (Datum (step_at mark l p) w) h))))
   same_test mark p q v k l nk nl zero (Parameter n b) = refl
   same_test mark p q v k l nk nl (suc up) x = refl
 

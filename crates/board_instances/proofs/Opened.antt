@@ -2,6 +2,8 @@
 use Rattle.std.proofs.Common.{◌≡◌, ◌∙◌, ◌⊎◌, inl, inr, refl, sym, ap, subst, ℕ, suc, ◌+◌, ◌<◌, List, [], ◌∷◌, ◌++◌, map, length, Option, Some, None, nat_eq, Bool, true, false, if◌then◌else◌, arith}
 use Rattle.std.specs.List.{filter}
 use Rattle.std.proofs.lemmas.List.{length-map}
+use Rattle.std.proofs.lemmas.Bool.{cases_eq}
+use Rattle.std.proofs.lemmas.Option.{same_Some}
 use Rattle.dataflow.specs.Machine.{Event}
 use Rattle.dataflow.specs.System.{Distinct, In}
 use Rattle.dataflow.proofs.Lists.{in_map, in_unmap}
@@ -9,7 +11,6 @@ use Rattle.board_history.specs.Ending.{AreMade, FramesOpen, Instance, NewFrame, 
 use Rattle.board_history.specs.Fields.{Does, Fields, Frame, Layout, Row, Slot, level_of, path_of, slot_at, step_before}
 use Rattle.board_history.specs.Stands.{Stands}
 use Rattle.board_history.specs.Static.{opened}
-use Rattle.board_history.proofs.Frames.{key_split}
 use Rattle.board_history.proofs.Next.{nat_same, nat_sound}
 use Rattle.task_code.specs.Code.{Code, body}
 use Rattle.task_code.specs.Compute.{Computed}
@@ -21,9 +22,6 @@ use Rattle.board_instances.specs.Openings.{ArePlaced, IsInner, Put, WithMore, pu
 
 none_some : {X B : Type 0} (o : Option X) (x : X) → o ≡ Some x → o ≡ None → B
 none_some o x p q = absurd (cc (p, q))
-
-same_some : {X : Type 0} (x y : X) → Some x ≡ Some y → x ≡ y
-same_some x y e = cc e
 
 -- where fields stand for a state, instances lie in one another
 pub stands_nested : (C : Code) (L : Layout) (events : List Event) (F : Fields) → Stands C L events F → IsNested F.frames
@@ -49,7 +47,7 @@ outermost_opened C fs xs some = record { parent = refl; level = refl; depth = re
 -- the key is one of those that were put in, or not
 key_or : (puts : List Put) (k : ℕ) → ((p : Put) × In p puts × (p.key ≡ k)) ⊎ ((p : Put) → In p puts → p.key ≡ k → ⊥)
 key_or [] k = inr (λ p h e. absurd h)
-key_or (p ∷ ps) k = elim (key_split p.key k) [
+key_or (p ∷ ps) k = elim (cases_eq p.key k) [
   | inl same ↦ inl (p, inl refl, same)
   | inr apart ↦ elim (key_or ps k) [
     | inl x ↦ inl (x.0, inr x.1, x.2)
@@ -103,8 +101,8 @@ some_more m n false e = absurd (cc (e))
 -- so many more are in the one around
 more_old : (fs middle : List (Option Frame)) (around : Option ℕ) (n : ℕ) → FitsAround fs around n → WithMore fs around n middle → (k : ℕ) (f : Frame) → slot_at fs k ≡ Some f → slot_at middle k ≡ Some (with_live (f.live + (if is_home around k then n else 0)) f)
 more_old fs middle None n fit more k f h = ap (λ (hs : List (Option Frame)). slot_at hs k) more ∙ h ∙ ap (λ m. Some (with_live m f)) (none_more f.live n false refl)
-more_old fs middle (Some j) n fit more k f h = elim (key_split k j) [
-  | inl same ↦ ap (slot_at middle) same ∙ sets.here ∙ ap (λ (g : Frame). Some (with_live (g.live + n) g)) (same_some fit.0 f (sym fit.1 ∙ ap (slot_at fs) (sym same) ∙ h)) ∙ ap (λ m. Some (with_live m f)) (some_more f.live n (nat_eq j k) (ap (nat_eq j) same ∙ nat_same j))
+more_old fs middle (Some j) n fit more k f h = elim (cases_eq k j) [
+  | inl same ↦ ap (slot_at middle) same ∙ sets.here ∙ ap (λ (g : Frame). Some (with_live (g.live + n) g)) (same_Some fit.0 f (sym fit.1 ∙ ap (slot_at fs) (sym same) ∙ h)) ∙ ap (λ m. Some (with_live m f)) (some_more f.live n (nat_eq j k) (ap (nat_eq j) same ∙ nat_same j))
   | inr apart ↦ sets.others k apart ∙ h ∙ ap (λ m. Some (with_live m f)) (none_more f.live n (nat_eq j k) (apart_tests j k apart))
 ]
   where
@@ -121,7 +119,7 @@ more_none fs middle around n fit more k h = by (slot_at fs k) refl
 
 more_some : (fs middle : List (Option Frame)) (around : Option ℕ) (n : ℕ) → FitsAround fs around n → WithMore fs around n middle → (k : ℕ) (g : Frame) → slot_at middle k ≡ Some g → (f : Frame) × (slot_at fs k ≡ Some f)
 more_some fs middle None n fit more k g h = (g, sym (ap (λ (hs : List (Option Frame)). slot_at hs k) more) ∙ h)
-more_some fs middle (Some j) n fit more k g h = elim (key_split k j) [
+more_some fs middle (Some j) n fit more k g h = elim (cases_eq k j) [
   | inl same ↦ (fit.0, ap (slot_at fs) same ∙ fit.1)
   | inr apart ↦ (g, sym ((more fit.0 fit.1 fit.2).others k apart) ∙ h)
 ]
@@ -129,7 +127,7 @@ more_some fs middle (Some j) n fit more k g h = elim (key_split k j) [
 -- the one around is there
 around_there : (fs : List (Option Frame)) (n : ℕ) (around : Option ℕ) → FitsAround fs around n → (j : ℕ) → around ≡ Some j → (f : Frame) × (slot_at fs j ≡ Some f)
 around_there fs n None fit j e = absurd (cc (e))
-around_there fs n (Some k) fit j e = (fit.0, ap (slot_at fs) (sym (same_some k j e)) ∙ fit.1)
+around_there fs n (Some k) fit j e = (fit.0, ap (slot_at fs) (sym (same_Some k j e)) ∙ fit.1)
 
 module _ (C : Code) (fs middle gs : List (Option Frame)) (around : Option ℕ) (frames : List Frame) (entries : List ℕ) (old new : List Row) (last : Option ℕ) (all : (f : Frame) → In f frames → IsOpened C fs around f) (fit : FitsAround fs around (length frames)) (more : WithMore fs around (length frames) middle) (x : ArePlaced frames entries middle gs old new last) where
   abbrev those : List Instance
@@ -173,11 +171,11 @@ module _ (C : Code) (fs middle gs : List (Option Frame)) (around : Option ℕ) (
   placed_nested nested = record {
     inside = λ k j g h e. elim (which k g h) [
       | inl f ↦ inside_old k j g h e f.0 f.1
-      | inr p ↦ inside_new j g p.0.frame (same_some p.0.frame g (sym (x.put_in.there p.0 p.1) ∙ ap (slot_at gs) p.2 ∙ h)) e (opened_put p.0 p.1)
+      | inr p ↦ inside_new j g p.0.frame (same_Some p.0.frame g (sym (x.put_in.there p.0 p.1) ∙ ap (slot_at gs) p.2 ∙ h)) e (opened_put p.0 p.1)
     ];
     kept = λ k g h. elim (which k g h) [
-      | inl f ↦ (let q = nested.kept k f.0 f.1 in let e = ap (λ (y : Frame). y.live) (same_some _ g (sym (kept_old k f.0 f.1) ∙ h)) in at_least f.0.live _ g.live q e)
-      | inr p ↦ subst (λ (y : Frame). 0 < y.live) (same_some p.0.frame g (sym (x.put_in.there p.0 p.1) ∙ ap (slot_at gs) p.2 ∙ h)) (opened_put p.0 p.1).some
+      | inl f ↦ (let q = nested.kept k f.0 f.1 in let e = ap (λ (y : Frame). y.live) (same_Some _ g (sym (kept_old k f.0 f.1) ∙ h)) in at_least f.0.live _ g.live q e)
+      | inr p ↦ subst (λ (y : Frame). 0 < y.live) (same_Some p.0.frame g (sym (x.put_in.there p.0 p.1) ∙ ap (slot_at gs) p.2 ∙ h)) (opened_put p.0 p.1).some
     ];
   }
     where
@@ -186,7 +184,7 @@ module _ (C : Code) (fs middle gs : List (Option Frame)) (around : Option ℕ) (
 
       inside_old : (k j : ℕ) (g : Frame) → slot_at gs k ≡ Some g → g.parent ≡ Some j → (f : Frame) → slot_at fs k ≡ Some f → (h : Frame) × (slot_at gs j ≡ Some h) × (g.level ≡ suc h.level)
       inside_old k j g h e f there = (
-          let same = same_some _ g (sym (kept_old k f there) ∙ h) in
+          let same = same_Some _ g (sym (kept_old k f there) ∙ h) in
           let q = nested.inside k j f there (ap (λ (y : Frame). y.parent) same ∙ e) in
           (with_live (q.0.live + (if is_home around j then length those else 0)) q.0, kept_old j q.0 q.1, sym (ap (λ (y : Frame). y.level) same) ∙ q.2))
 

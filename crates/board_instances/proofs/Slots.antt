@@ -1,5 +1,6 @@
 -- Instances by their keys, and what is left after one is written or goes.
 use Rattle.std.proofs.Common.{◌≡◌, ◌∙◌, refl, sym, ap, subst, rules, ℕ, suc, ◌-◌, ◌<◌, ◌≤◌, IfSome, IsSome, List, Option, Some, None, option_map, slice_set, arith}
+use Rattle.std.proofs.lemmas.Option.{same_Some}
 use Rattle.slab.specs.Slab.{Slab, Updates, get, with_value}
 use Rattle.slab.proofs.SlabLemmas.{Updates-with_value}
 use Rattle.board_history.specs.Ending.{SameSlots, Sets, TakenOff, goes, outside, stays, with_live}
@@ -16,14 +17,11 @@ view_there s k i e = frame_there s k ∙ ap (option_map frame_view) (sym e)
 pub view_absent : (s : Slab Instance) (k : ℕ) → None ≡ get s k → slot_at (frames_view s.slots) k ≡ None
 view_absent s k e = frame_there s k ∙ ap (option_map frame_view) (sym e)
 
-same_some : {X : Type 0} (x y : X) → Some x ≡ Some y → x ≡ y
-same_some x y e = cc e
-
 some_or_none : {X : Type 0} {B : Type 0} (o : Option X) (x : X) → o ≡ Some x → o ≡ None → B
 some_or_none o x p q = absurd (cc (p, q))
 
 pub view_is : (s : Slab Instance) (k : ℕ) (i : Instance) (f : Frame) → Some i ≡ get s k → slot_at (frames_view s.slots) k ≡ Some f → f ≡ frame_view i
-view_is s k i f e h = same_some f (frame_view i) (sym h ∙ view_there s k i e)
+view_is s k i f e h = same_Some f (frame_view i) (sym h ∙ view_there s k i e)
 
 pub not_there : {B : Type 0} (s : Slab Instance) (k : ℕ) (f : Frame) → None ≡ get s k → slot_at (frames_view s.slots) k ≡ Some f → B
 not_there s k f e h = some_or_none _ f h (view_absent s k e)
@@ -99,13 +97,13 @@ LiesIn fs (Some k) = (f : Frame) × (slot_at fs k ≡ Some f) × NestedTo f.leve
 
 -- where an instance goes, what is around it lies in others still
 pub lies_outward : (fs hs : List (Option Frame)) (k j : ℕ) (f : Frame) → slot_at fs k ≡ Some f → f.parent ≡ Some j → Sets fs k None hs → LiesIn fs (Some k) → LiesIn hs (Some j)
-lies_outward fs hs k j f h p set x = (let n = same_level x.0 (same_some x.0 f (sym x.1 ∙ h)) x.2 in let g = n.inside k j f h (omega arith) p in (g.0, set.others j (apart j g.0 g.1 g.2) ∙ g.1, outer g.0 g.2 n))
+lies_outward fs hs k j f h p set x = (let n = same_level x.0 (same_Some x.0 f (sym x.1 ∙ h)) x.2 in let g = n.inside k j f h (omega arith) p in (g.0, set.others j (apart j g.0 g.1 g.2) ∙ g.1, outer g.0 g.2 n))
   where
     same_level : (q : Frame) → q ≡ f → NestedTo q.level fs → NestedTo f.level fs
     same_level q e y = subst (λ (q : Frame). NestedTo q.level fs) e y
 
     apart : (i : ℕ) (q : Frame) → slot_at fs i ≡ Some q → f.level ≡ suc q.level → i ≡ k → ⊥
-    apart i q there l e = level_apart q (same_some q f (sym there ∙ ap (slot_at fs) e ∙ h)) l
+    apart i q there l e = level_apart q (same_Some q f (sym there ∙ ap (slot_at fs) e ∙ h)) l
       where
         level_apart : (q : Frame) → q ≡ f → f.level ≡ suc q.level → ⊥
         level_apart q e l = let m : q.level ≡ f.level = ap (λ (x : Frame). x.level) e in omega (arith, m, l)
@@ -120,7 +118,7 @@ lies_outward fs hs k j f h p set x = (let n = same_level x.0 (same_some x.0 f (s
     }
       where
         lower : (r : Frame) (m : ℕ) → slot_at fs m ≡ Some r → (q : Frame) → q.level ≡ suc r.level → q.level ≤ g.level → m ≡ k → ⊥
-        lower r m there q e most same = (let v : r.level ≡ f.level = ap (λ (x : Frame). x.level) (same_some r f (sym there ∙ ap (slot_at fs) same ∙ h)) in omega (arith, e, most, l, v))
+        lower r m there q e most same = (let v : r.level ≡ f.level = ap (λ (x : Frame). x.level) (same_Some r f (sym there ∙ ap (slot_at fs) same ∙ h)) in omega (arith, e, most, l, v))
 
 -- what is there lies in others
 pub lies_there : (fs : List (Option Frame)) (k : ℕ) → IsNested fs → IsSome (slot_at fs k) → LiesIn fs (Some k)

@@ -3,8 +3,8 @@ use Rattle.std.proofs.Common.{◌≡◌, ◌∙◌, ℕ, ◌≤◌, List, [], �
 use Rattle.std.specs.List.{AllZip, filter, flat_map}
 use Rattle.std.specs.Prelude.{nat_lt}
 use Rattle.std.proofs.lemmas.List.Elements.{filter-append}
+use Rattle.std.proofs.lemmas.List.{map-append}
 use Rattle.dataflow.specs.System.{Opening}
-use Rattle.dataflow.proofs.Lists.{map_append}
 use Rattle.board_history.specs.Ending.{Instance, jobs_after, made_jobs, new_row, rest_jobs}
 use Rattle.board_history.specs.Fields.{Does, Job, Row, Script}
 use Rattle.rules.specs.declared.input.Input.{Input}
@@ -41,7 +41,7 @@ module _ (C : Code) where
   rest_long (Does k e c) (o ∷ os) = rest_long (Does k e c) os
 
   long_both : (xs ys : List Job) → long (xs ++ ys) ≡ long xs ++ long ys
-  long_both xs ys = ap (filter (nat_lt 2)) (map_append (first_needs C) xs ys) ∙ filter-append (nat_lt 2) (map (first_needs C) xs) (map (first_needs C) ys)
+  long_both xs ys = ap (filter (nat_lt 2)) (map-append (first_needs C) xs ys) ∙ filter-append (nat_lt 2) (map (first_needs C) xs) (map (first_needs C) ys)
 
   made_long : (made : List Instance) (rest : List Job) → long rest ≡ [] → long (made_jobs C made ++ rest) ≡ flat_map long_of made
   made_long [] rest h = h

@@ -4,7 +4,7 @@ use Rattle.std.specs.Prelude.{ℤ, if◌then◌else◌, IsPermutation}
 use Rattle.std.specs.List.{filter}
 use Rattle.std.proofs.lemmas.List.Elements.{filter-append}
 use Rattle.std.proofs.lemmas.List.Sorted.{IsPermutation-append_comm, IsPermutation-append_left, IsPermutation-refl, IsPermutation-trans}
-use Rattle.dataflow.proofs.Lists.{map_append}
+use Rattle.std.proofs.lemmas.List.{map-append}
 use Rattle.board_history.specs.Fields.{Counted, Frame, Over, Ready, Row, Waiter, row_of}
 use Rattle.board_history.specs.Marking.{mark_at}
 use Rattle.task_code.specs.Code.{Code, Kind}
@@ -44,7 +44,7 @@ module _ (C : Code) (fs : List (Option Frame)) (cs : List (Option Counted)) (row
         record {
           rows_are = a.rows_are;
           newly_are = subst (λ (l : List ℕ). IsPermutation l newly) (sym (left_out (can_begin C fs cs rows first) done m n)) a.newly_are;
-          waits = subst (λ (l : List Waiter). IsPermutation (before ++ l) later) (sym (ap (map (waiter_at C fs cs rows first)) (kept_more waits_on done m (ap not n)) ∙ map_append (waiter_at C fs cs rows first) (filter waits_on done) (m ∷ [])))
+          waits = subst (λ (l : List Waiter). IsPermutation (before ++ l) later) (sym (ap (map (waiter_at C fs cs rows first)) (kept_more waits_on done m (ap not n)) ∙ map-append (waiter_at C fs cs rows first) (filter waits_on done) (m ∷ [])))
               (subst (λ (l : List Waiter). IsPermutation l later) (append_assoc before (map (waiter_at C fs cs rows first) (filter waits_on done)) (waiter_at C fs cs rows first m ∷ []))
               (IsPermutation-trans _ _ _ (IsPermutation-append_left (waiter_at C fs cs rows first m ∷ []) _ _ a.waits)
               (IsPermutation-trans _ _ _ (IsPermutation-append_comm waiting (waiter_at C fs cs rows first m ∷ [])) p)));

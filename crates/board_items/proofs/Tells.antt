@@ -6,8 +6,10 @@ use Rattle.std.specs.List.{filter}
 use Rattle.std.proofs.lemmas.Bool.Decides.{nat_tests}
 use Rattle.std.proofs.lemmas.Int.{ints}
 use Rattle.std.proofs.lemmas.List.Sorted.{IsPermutation-map}
+use Rattle.std.proofs.lemmas.Bool.{and_from, not-true, and_parts}
+use Rattle.std.proofs.lemmas.List.{map-append}
 use Rattle.dataflow.specs.System.{Distinct, In}
-use Rattle.dataflow.proofs.Lists.{distinct_append, in_left, in_map, in_right, in_split, in_unmap, map_append}
+use Rattle.dataflow.proofs.Lists.{distinct_append, in_left, in_map, in_right, in_split, in_unmap}
 use Rattle.board_history.specs.Ending.{NewlyAfter, QueueAfter, WaitsAfter, ended_rows, job_kind, job_priority, mark_after, missed_again, missed_first, new_row, or_else}
 use Rattle.board_history.specs.Fields.{Does, Counted, Fields, Frame, Job, Layout, Ready, Row, Script, Waiter, Waiting, Want, row_of}
 use Rattle.board_history.specs.Marking.{kind_eq}
@@ -15,7 +17,7 @@ use Rattle.board_history.specs.Needs.{job_missed}
 use Rattle.board_history.proofs.EndedItems.{row_below}
 use Rattle.board_history.proofs.EndedRows.{row_kept, row_of_new, row_split_at, row_to}
 use Rattle.board_history.proofs.Rows.{no_row, row_by}
-use Rattle.board_history.proofs.Tests.{and_true, both_true, in_kept, kept_in, none_some, not_true, some_same, yes_no}
+use Rattle.board_history.proofs.Tests.{in_kept, kept_in, none_some, some_same, yes_no}
 use Rattle.rules.specs.Waiting as Rules
 use Rattle.task_code.specs.Code.{Code, Control, Kind, Leaf}
 use Rattle.board_program.specs.Spots.{layout_of}
@@ -291,7 +293,7 @@ module _ (C : Code) (F G : Fields) (n : ℕ) (jobs : List Job) (known : List (Wa
         | inl g ↦ stayed g
         | inr g ↦ (let u = in_unmap waits_as w (filter (λ m. not (begins m)) done) g in
             let k = in_kept (λ m. not (begins m)) u.0 done u.1 in
-            settled u.0 k.0 (λ z. yes_no (ap is_nil z) (not_true (begins u.0) k.1)) u.2)
+            settled u.0 k.0 (λ z. yes_no (ap is_nil z) (not-true (begins u.0) k.1)) u.2)
       ]
 
   abbrev Came : Waiter → Type 0
@@ -317,7 +319,7 @@ module _ (C : Code) (F G : Fields) (n : ℕ) (jobs : List Job) (known : List (Wa
   waits_once : Distinct (map item_of G.waiting)
   waits_once =
       distinct_moved (map item_of waiting_as) (map item_of G.waiting) (IsPermutation-map item_of waiting_as G.waiting a.waits)
-      (subst (λ (l : List ℕ). Distinct l) (sym (map_append item_of (waiters_view ws) (map waits_as (filter (λ m. not (begins m)) done)) ∙ ap (λ (l : List ℕ). map item_of (waiters_view ws) ++ l) (items_are (filter (λ m. not (begins m)) done))))
+      (subst (λ (l : List ℕ). Distinct l) (sym (map-append item_of (waiters_view ws) (map waits_as (filter (λ m. not (begins m)) done)) ∙ ap (λ (l : List ℕ). map item_of (waiters_view ws) ++ l) (items_are (filter (λ m. not (begins m)) done))))
       (distinct_append (map item_of (waiters_view ws)) (filter (λ m. not (begins m)) done)
       (subst (λ (l : List Waiter). Distinct (map item_of l)) (sym before_is) (waiting_once known F.waiting fit.once))
       (distinct_kept (λ m. not (begins m)) done done_once)
@@ -404,7 +406,7 @@ module _ (C : Code) (F G : Fields) (n : ℕ) (jobs : List Job) (known : List (Wa
       let q = row_before m r h in
       let t : so (job_kind C r.job) (job_priority C r.job) m ≡ true =
       ap (runs_so C (job_kind C r.job) (job_priority C r.job)) q.1
-      ∙ both_true (kind_eq (job_kind C q.0.job) (job_kind C r.job)) (int_eq (job_priority C q.0.job) (job_priority C r.job))
+      ∙ and_from (kind_eq (job_kind C q.0.job) (job_kind C r.job)) (int_eq (job_priority C q.0.job) (job_priority C r.job))
       (subst (λ (j : Job). kind_eq (job_kind C j) (job_kind C r.job) ≡ true) q.2 (kind_same (job_kind C r.job)))
       (subst (λ (j : Job). int_eq (job_priority C j) (job_priority C r.job) ≡ true) q.2 (int_same (job_priority C r.job)))
       in
@@ -420,7 +422,7 @@ module _ (C : Code) (F G : Fields) (n : ℕ) (jobs : List Job) (known : List (Wa
             let d = in_kept begins m done p.0 in
             let r = done_row m d.0 in
             let q = row_after m r.0 r.1 in
-            let t = and_true (kind_eq (job_kind C r.0.job) k) (int_eq (job_priority C r.0.job) z) (ap (runs_so C k z) (sym r.1) ∙ p.1) in
+            let t = and_parts (kind_eq (job_kind C r.0.job) k) (int_eq (job_priority C r.0.job) z) (ap (runs_so C k z) (sym r.1) ∙ p.1) in
             inr (q.0, q.1, in_moved (filter begins done) G.newly m a.newly_are p.0, ap (job_kind C) q.2 ∙ kind_sound (job_kind C r.0.job) k t.0, ap (job_priority C) q.2 ∙ int_sound (job_priority C r.0.job) z t.1))
       ]
 

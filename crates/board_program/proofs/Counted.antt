@@ -1,8 +1,10 @@
 -- Variables found by their numbers, and names counted at the places of their variables.
 use Rattle.std.proofs.Common.{◌≡◌, ◌∙◌, refl, sym, ap, subst, ℕ, zero, suc, ◌+◌, ◌*◌, ◌<◌, ◌≤◌, List, [], ◌∷◌, ◌++◌, length, map, take, drop, Option, Some, None, Bool, true, false, arith}
 use Rattle.std.specs.Prelude.{is_some, nat_eq, replicate, set, slice_index_or, if◌then◌else◌}
+use Rattle.std.proofs.lemmas.Bool.{and_parts}
+use Rattle.std.proofs.lemmas.List.{map-append}
 use Rattle.board_history.specs.Static.{name_times, names_in}
-use Rattle.task_code.proofs.Equal.{nat_same, nat_sound, name_sound, true_and, variable_same, variable_sound}
+use Rattle.task_code.proofs.Equal.{nat_same, nat_sound, name_sound, variable_same, variable_sound}
 use Rattle.task_code.specs.Check.{is_declared}
 use Rattle.task_code.specs.Code.{Body, body, Code, Entry, entry, here, Local, Name, Owned, Parameter, scalar, Variable}
 use Rattle.task_code.specs.Places.{name_eq, variable_eq}
@@ -12,7 +14,6 @@ use Rattle.task_code.specs.declared.entry.Entry.{Entry as EntryValue}
 use Rattle.task_code.specs.declared.entry.Name.{Name as NameValue}
 use Rattle.task_code.specs.declared.entry.Variable.{Variable as VariableValue}
 use Rattle.board_program.proofs.Counts.{blank_there, place_told, times_append}
-use Rattle.board_program.proofs.Holds.{map_more}
 use Rattle.board_program.proofs.Homes.{cut, emptied, next, taken, whole}
 use Rattle.board_program.specs.Places.{CountsMore, CountsOf, FindsPlaces, NotesPlace, counts_from, number_of, own_place, place_at, place_in, with_counts}
 use Rattle.board_program.specs.Spots.{place_from}
@@ -198,7 +199,7 @@ module _ (m : Places) where
       by : (up : ℕ) (x : Owned) → own_place m (record { up = up; owned = x }) ≡ None → CountsMore m (record { up = up; owned = x } ∷ []) old old
       by zero (Local v) p = record { counts = λ ms rs f c. c ∙ sym (counts_same ms rs (here v) 0 ms (λ k x l h. none_some (sym (sym (f.each v) ∙ p) ∙ same_place ms rs v k x h))) }
       by zero (Parameter n a) p = other (record { up = zero; owned = Parameter n a }) (λ v h. no_truth h)
-      by (suc up) x p = other (record { up = suc up; owned = x }) (λ v h. absurd (omega (arith, nat_sound 0 (suc up) (true_and (nat_eq 0 (suc up)) _ h).0)))
+      by (suc up) x p = other (record { up = suc up; owned = x }) (λ v h. absurd (omega (arith, nat_sound 0 (suc up) (and_parts (nat_eq 0 (suc up)) _ h).0)))
 
   -- a place past the counts is none's
   pub past_counted : (r : Name) (old : List ℕ) (k : ℕ) → own_place m r ≡ Some k → length old ≤ k → CountsMore m (r ∷ []) old old
@@ -230,7 +231,7 @@ module _ (m : Places) where
       joined (x ∷ xs) ys zs = ap (λ l. x ∷ l) (joined xs ys zs)
 
   pub counted_next : (xs : List NameValue) (i : ℕ) (d : NameValue) (old mid new : List ℕ) → i < length xs → CountsMore m (map name_view (take i xs)) old mid → CountsMore m (name_view (slice_index_or xs i d) ∷ []) mid new → CountsMore m (map name_view (take (i + 1) xs)) old new
-  counted_next xs i d old mid new l f g = subst (λ rs. CountsMore m rs old new) (sym (ap (map name_view) (taken xs i d l) ∙ map_more name_view (take i xs) (slice_index_or xs i d ∷ []))) (more_after _ _ old mid new f g)
+  counted_next xs i d old mid new l f g = subst (λ rs. CountsMore m rs old new) (sym (ap (map name_view) (taken xs i d l) ∙ map-append name_view (take i xs) (slice_index_or xs i d ∷ []))) (more_after _ _ old mid new f g)
 
   pub counted_all : (xs : List NameValue) (i : ℕ) (old new : List ℕ) → length xs ≤ i → CountsMore m (map name_view (take i xs)) old new → CountsMore m (map name_view xs) old new
   counted_all xs i old new l f = subst (λ l. CountsMore m (map name_view l) old new) (whole xs i l) f

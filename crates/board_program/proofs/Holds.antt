@@ -1,6 +1,7 @@
 -- Holds added one after the other.
 use Rattle.std.proofs.Common.{◌≡◌, ◌∙◌, refl, sym, ap, subst, ℕ, zero, suc, ◌+◌, ◌<◌, ◌≤◌, List, [], ◌∷◌, ◌++◌, length, map, take, Some, None, Bool, true, false, not, arith}
 use Rattle.std.specs.Prelude.{set, slice_index_or, if◌then◌else◌}
+use Rattle.std.proofs.lemmas.List.{map-append}
 use Rattle.board_history.specs.Ending.{held_times, slot_is}
 use Rattle.board_history.specs.Fields.{Slot}
 use Rattle.board_history.specs.Static as Static
@@ -18,11 +19,6 @@ use Rattle.board_program.specs.Spots.{spot_in}
 use Rattle.board_program.specs.Tables.{GainsHold, GainsNames, GainsRights, HoldsOf, at_name, at_spot, hold_times, named_by, names_of, outside}
 use Rattle.board_program.specs.declared.program.Hold.{Hold}
 use Rattle.board_program.specs.declared.spot.Spot.{Spot}
-
--- lists one behind another
-pub map_more : {X Y : Type 0} (g : X → Y) (xs ys : List X) → map g (xs ++ ys) ≡ map g xs ++ map g ys
-map_more g [] ys = refl
-map_more g (x ∷ xs) ys = ap (λ l. g x ∷ l) (map_more g xs ys)
 
 -- one hold more, or a hold that grows
 swap : (a b c e x : ℕ) → a + b ≡ c + e → (x + a) + b ≡ (x + c) + e
@@ -144,7 +140,7 @@ module _ (C : Code) (b : ℕ) where
 
   pub gains_next : (k l : ℕ) (xs : List NameValue) (i : ℕ) (d : NameValue) (hs ms gs : List Hold) → GainsNames C b k l (map name_view (take i xs)) hs ms → GainsNames C b k l (name_view (slice_index_or xs i d) ∷ []) ms gs → i < length xs → GainsNames C b k l (map name_view (take (i + 1) xs)) hs gs
   gains_next k l xs i d hs ms gs x y h =
-      subst (λ rs. GainsNames C b k l rs hs gs) (sym (ap (map name_view) (taken xs i d h) ∙ map_more name_view (take i xs) (slice_index_or xs i d ∷ [])))
+      subst (λ rs. GainsNames C b k l rs hs gs) (sym (ap (map name_view) (taken xs i d h) ∙ map-append name_view (take i xs) (slice_index_or xs i d ∷ [])))
       (gains_more k l (map name_view (take i xs)) (name_view (slice_index_or xs i d) ∷ []) hs ms gs x y)
 
   pub gains_all : (k l : ℕ) (xs : List NameValue) (i : ℕ) (hs gs : List Hold) → GainsNames C b k l (map name_view (take i xs)) hs gs → length xs ≤ i → GainsNames C b k l (map name_view xs) hs gs

@@ -1,16 +1,12 @@
 -- The bodies that have the entries, one after the other.
 use Rattle.std.proofs.Common.{◌≡◌, ◌∙◌, refl, ap, ℕ, zero, suc, ◌+◌, ◌<◌, ◌≤◌, List, [], ◌∷◌, ◌++◌, length, take, drop, Option, Some, None, arith}
 use Rattle.std.specs.Prelude.{replicate, set, slice_index_or}
+use Rattle.std.proofs.lemmas.List.{set_past}
 use Rattle.task_code.specs.Code.{blank_body, Body, nth}
 use Rattle.board_program.specs.Spots.{note, noted}
 
 pub next : (n : ℕ) → suc n ≡ n + 1
 next n = omega arith
-
-set_past : {X : Type 0} (xs : List X) (i : ℕ) (x : X) → length xs ≤ i → set xs i x ≡ xs
-set_past [] i x h = refl
-set_past (y ∷ xs) zero x h = absurd (omega (arith, h))
-set_past (y ∷ xs) (suc i) x h = ap (λ l. y ∷ l) (set_past xs i x (omega (arith, h)))
 
 -- the first of what is left
 pub cut : {X : Type 0} (xs : List X) (i : ℕ) (d : X) → i < length xs → drop i xs ≡ slice_index_or xs i d ∷ drop (suc i) xs

@@ -1,6 +1,7 @@
 -- The names of the bodies that runs open lead somewhere, and so that new instances find them.
 use Rattle.std.proofs.Common.{◌≡◌, ◌⊎◌, ◌∙◌, refl, sym, ap, subst, inl, inr, ℕ, zero, suc, ◌+◌, ◌-◌, ◌<◌, ◌≤◌, Bool, true, false, List, [], ◌∷◌, ◌++◌, length, Option, Some, None, arith}
 use Rattle.std.specs.Prelude.{◌^◌, min, if◌then◌else◌}
+use Rattle.std.proofs.lemmas.Bool.{cases_lt}
 use Rattle.dataflow.proofs.Decide.{distinct_within}
 use Rattle.dataflow.proofs.Lists.{in_left, in_right, in_split}
 use Rattle.dataflow.specs.System.{Distinct, In}
@@ -34,12 +35,6 @@ place_in v n (w ∷ ws) k h = by (place_in v (suc n) ws k) (variable_eq w v) ref
     by r true e = inl (sym (variable_sound w v e))
     by r false e = inr (r (sym (ap (λ (b : Bool). if b then Some n else place_from (suc n) v ws) e) ∙ h))
 
--- numbers below one
-below : (n m : ℕ) → (n < m) ⊎ (m ≤ n)
-below n zero = inr (omega arith)
-below zero (suc m) = inl (omega arith)
-below (suc n) (suc m) = elim (below n m) [ inl h ↦ inl (omega (arith, h)) | inr h ↦ inr (omega (arith, h)) ]
-
 abbrev upto : ℕ → List ℕ
 upto zero = []
 upto (suc n) = n ∷ upto n
@@ -50,7 +45,7 @@ upto_length (suc n) = ap suc (upto_length n)
 
 in_upto : (n k : ℕ) → k < n → In k (upto n)
 in_upto zero k h = absurd (omega (arith, h))
-in_upto (suc n) k h = elim (below k n) [ inl l ↦ inr (in_upto n k l) | inr g ↦ inl (omega (arith, h, g)) ]
+in_upto (suc n) k h = elim (cases_lt k n) [ inl l ↦ inr (in_upto n k l) | inr g ↦ inl (omega (arith, h, g)) ]
 
 -- bodies around one another
 abbrev IsRoot : Opener → Type 0
@@ -82,19 +77,19 @@ module _ (C : Code) where
 
   -- a body that has an entry, or an opener, is there
   there_in : (b i : ℕ) → In i (body C b).entries → b < length C.bodies
-  there_in b i h = elim (below b (length C.bodies)) [
+  there_in b i h = elim (cases_lt b (length C.bodies)) [
     | inl l ↦ l
     | inr g ↦ absurd (subst (λ (y : Body). In i y.entries) (blank C.bodies b g) h)
   ]
 
   there_opened : (b : ℕ) → ((body C b).opener ≡ ByMain → ⊥) → b < length C.bodies
-  there_opened b n = elim (below b (length C.bodies)) [
+  there_opened b n = elim (cases_lt b (length C.bodies)) [
     | inl l ↦ l
     | inr g ↦ absurd (n (ap (λ (y : Body). y.opener) (blank C.bodies b g)))
   ]
 
   there_made : (b : ℕ) (v : Variable) → In v (body C b).makes → b < length C.bodies
-  there_made b v h = elim (below b (length C.bodies)) [
+  there_made b v h = elim (cases_lt b (length C.bodies)) [
     | inl l ↦ l
     | inr g ↦ absurd (subst (λ (y : Body). In v y.makes) (blank C.bodies b g) h)
   ]

@@ -1,10 +1,10 @@
 -- How often a number stands in a list, and sums over lists.
 use Rattle.std.proofs.Common.{◌≡◌, ◌⊎◌, inl, inr, ℕ, zero, suc, ◌+◌, ◌≤◌, Bool, true, false, not, cond, nat_eq, List, [], ◌∷◌, ◌++◌, map, length, refl, ap, subst, arith}
 use Rattle.std.specs.List.{flat_map}
-use Rattle.std.proofs.lemmas.Bool.{eqb-true}
+use Rattle.std.proofs.lemmas.Bool.{eqb-true, and_parts}
 use Rattle.dataflow.specs.System.{In, Distinct}
 use Rattle.language.specs.Members.{◌∈◌, first, later}
-use Rattle.language.proofs.Tested.{both, has_in, self_eq}
+use Rattle.language.proofs.Tested.{has_in, self_eq}
 use Rattle.language.specs.Distinct.{has, distinct}
 
 -- MEMBERS
@@ -105,7 +105,7 @@ not_true false h k = absurd (cc (k))
 pub test_distinct : (xs : List ℕ) → distinct xs ≡ true → Distinct xs
 test_distinct [] h = tt
 test_distinct (x ∷ xs) h =
-    let p = both (not (has x xs)) (distinct xs) h in
+    let p = and_parts (not (has x xs)) (distinct xs) h in
     (λ i. not_true (has x xs) p.0 (has_in (in_member x xs i)), test_distinct xs p.1)
 
 -- a list made of parts

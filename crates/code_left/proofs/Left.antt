@@ -2,6 +2,7 @@
 use Rattle.std.proofs.Common.{◌≡◌, ◌⊎◌, inl, inr, ℕ, zero, suc, ◌<◌, Bool, true, false, List, [], ◌∷◌, map, refl, sym, ap, ◌∙◌, subst, Option, None, Some, arith}
 use Rattle.std.specs.Prelude.{not, length}
 use Rattle.std.specs.List.{flat_map, list_all, list_any}
+use Rattle.std.proofs.lemmas.Bool.{or_cases, and_parts}
 use Rattle.dataflow.specs.System.{In, Input}
 use Rattle.dataflow.specs.Log.{Logged}
 use Rattle.dataflow.specs.Machine.{IsKnown}
@@ -19,9 +20,8 @@ use Rattle.task_code.specs.Runs.{Blocked, FirstUnknown, IsBlockedAt, IsHeaderKno
 use Rattle.task_code.specs.Shape.{fits_kinds, has_headers, has_shape, is_none, is_same_plain}
 use Rattle.task_code.specs.System.{code_system, element_input, inputs_at, key_input, scalar_input, task_inputs, task_reads, task_writes, whole_input}
 use Rattle.task_code.specs.Whole.{IsCode}
-use Rattle.task_code.proofs.Checked.{or_true}
 use Rattle.task_code.proofs.Counted.{gather_in}
-use Rattle.task_code.proofs.Equal.{every_in, name_sound, true_and}
+use Rattle.task_code.proofs.Equal.{every_in, name_sound}
 use Rattle.task_code.proofs.Kept.{code_laws}
 use Rattle.task_code.proofs.Places.{argued, argument_kind, declared_at, no_longer, not_constant, not_nowhere, only_here, spot_path, spot_variable}
 use Rattle.task_code.proofs.Rights.{in_gather}
@@ -31,7 +31,7 @@ use Rattle.code_left.proofs.Sourced.{among_in, makes_data, shape, sourced}
 
 pub any_in : {X : Type 0} (f : X → Bool) (xs : List X) → list_any f xs ≡ true → (x : X) × In x xs × (f x ≡ true)
 any_in f [] h = absurd (cc)
-any_in {X} f (y ∷ ys) h = by (or_true (f y) (list_any f ys) h) (any_in f ys)
+any_in {X} f (y ∷ ys) h = by (or_cases (f y) (list_any f ys) h) (any_in f ys)
   where
     by : (f y ≡ true) ⊎ (list_any f ys ≡ true) → (list_any f ys ≡ true → (x : X) × In x ys × (f x ≡ true)) → (x : X) × In x (y ∷ ys) × (f x ≡ true)
     by (inl p) r = (y, inl refl, p)
@@ -52,7 +52,7 @@ plain_is (AtKey a k) m h = absurd (cc)
 -- what a wait needs, one of its headers does
 needs_header : (hs : List Header) (ns : List Need) → has_headers hs ns ≡ true → (n : Need) → In n ns → (h : Header) × In h hs × In n h.needs
 needs_header hs ns t n i =
-    let x = (true_and (list_all (λ h. list_all (λ n. list_any (is_same_plain n) ns) h.needs) hs) (list_all (λ n. list_any (λ h. list_any (is_same_plain n) h.needs) hs) ns) t).1 in
+    let x = (and_parts (list_all (λ h. list_all (λ n. list_any (is_same_plain n) ns) h.needs) hs) (list_all (λ n. list_any (λ h. list_any (is_same_plain n) h.needs) hs) ns) t).1 in
     let h = any_in (λ h. list_any (is_same_plain n) h.needs) hs (every_in (λ n. list_any (λ h. list_any (is_same_plain n) h.needs) hs) ns x n i) in
     let m = any_in (is_same_plain n) h.0.needs h.2 in
     (h.0, h.1, subst (λ (k : Need). In k h.0.needs) (sym (plain_is n m.0 m.2)) m.1)
@@ -188,14 +188,14 @@ module _ (C : Code) where
     need_fits : (p : List Step) (n : Need) → fits_kinds n ≡ true → (i : Input Place Key) → In i (inputs_at C p n) → Fits i
     need_fits p (Stored r) h i m = scalar_fits (place_at C p r) (named_scalar p r h) i m
     need_fits p (Closed r) h i m = whole_fits (place_at C p r) i m
-    need_fits p (At a r) h i m = element_fits (place_at C p a) (place_at C p r) (named_scalar p r (true_and (is_array_name a) (not (is_array_name r)) h).1) i m
+    need_fits p (At a r) h i m = element_fits (place_at C p a) (place_at C p r) (named_scalar p r (and_parts (is_array_name a) (not (is_array_name r)) h).1) i m
     need_fits p (AtKey a k) h i m = key_fits (place_at C p a) k i m
 
     fits : (t : Task) (i : Input Place Key) → In i (task_inputs C t) → Fits i
     fits Main i m = absurd m
     fits (Item j p c) i m =
         let n = in_gather C (inputs_at C p) (entry C j).needs i m in
-        need_fits p n.0 (every_in fits_kinds (entry C j).needs (true_and (list_all fits_kinds (entry C j).needs) _ (I.shape j)).0 n.0 n.1) i n.2
+        need_fits p n.0 (every_in fits_kinds (entry C j).needs (and_parts (list_all fits_kinds (entry C j).needs) _ (I.shape j)).0 n.0 n.1) i n.2
 
     module _ (X : IsExact C) (G : CellsFollow C) (s : CodeState) (log : CodeLog) (f : Follows (code_system C) s log) (quiet : Quiet C s) where
       -- an item of a statement that counts

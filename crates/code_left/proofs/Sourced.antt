@@ -2,6 +2,7 @@
 use Rattle.std.proofs.Common.{◌≡◌, ◌⊎◌, inl, inr, ℕ, Bool, true, false, List, [], ◌∷◌, map, refl, sym, ap, ◌∙◌, subst, Option, None, Some}
 use Rattle.std.specs.Prelude.{◌&&◌, Result, Ok, Err, pos}
 use Rattle.std.specs.List.{flat_map, list_all}
+use Rattle.std.proofs.lemmas.Bool.{and_parts}
 use Rattle.dataflow.specs.System.{In, Answer, Found, Missing, Content, Bad, Effect, Good, Opening, Outcome, Write}
 use Rattle.dataflow.specs.Laws.{Can}
 use Rattle.dataflow.proofs.Lists.{in_left, in_map, in_unmap, tasks_in}
@@ -21,7 +22,6 @@ use Rattle.task_code.specs.System.{answered, code_system, data_among, task_reads
 use Rattle.task_code.specs.Places.{Constant, Nowhere}
 use Rattle.task_code.specs.Whole.{IsCode, OpenedBy}
 use Rattle.task_code.proofs.Counted.{gather_in}
-use Rattle.task_code.proofs.Equal.{true_and}
 use Rattle.task_code.proofs.Opens.{IsRest, OpensBlock, effect_is, found, in_block, in_rest, made_in, no_loop_rest, opened, rest_makes, seen_place, some_same, stepped}
 use Rattle.task_code.proofs.Places.{declared_at, only_here, scalar_name}
 use Rattle.code_left.specs.Sources.{FindsSources, HandsOn, IsAssigned, IsTurns, Reached, at_start, by_entry, always_opens}
@@ -202,7 +202,7 @@ module _ (C : Code) where
       (x.0, subst (λ (z : Computed). In (record { place = place_at C p r; key = only; value = x.0 }) (stored_at (place_at C p t) z)) (sym x.1) (inl (λ i. record { place = place_at C p (q i); key = only; value = x.0 })))
 
   no_array : (r t : Name) (b : Bool) {B : Type 0} → r ≡ t → is_array_name r ≡ false → (is_array_name t && b) ≡ true → B
-  no_array r t b q n h = (let m = (true_and (is_array_name t) b h).0 in let k = sym (ap is_array_name q) ∙ n in absurd (cc))
+  no_array r t b q n h = (let m = (and_parts (is_array_name t) b h).0 in let k = sym (ap is_array_name q) ∙ n in absurd (cc))
 
   stored_itself : (a : Act) (ns : List Need) (node mark : ℕ) (p : List Step) (c : ℕ) (xs : List (Answer Key Scalar)) (r : Name) → has_shape a ns ≡ true → In r (stored_of node a) → is_array_name r ≡ false → IsFound (compute a xs) → (v : Scalar) × In (record { place = place_at C p r; key = only; value = v }) (stores C a node mark p c (compute a xs))
   stored_itself (Cell e) ns node mark p c xs r sh h n g = elim h [ inl q ↦ one_stored p r (here (scalar node)) (given (eval xs e)) q (given_is (eval xs e) g) | inr z ↦ absurd z ]
@@ -221,7 +221,7 @@ module _ (C : Code) where
 
   module _ (I : IsCode C) (F : FindsSources C) where
     pub shape : (i : ℕ) → has_shape (entry C i).act (entry C i).needs ≡ true
-    shape i = (true_and (list_all fits_kinds (entry C i).needs) _ (I.shape i)).1
+    shape i = (and_parts (list_all fits_kinds (entry C i).needs) _ (I.shape i)).1
 
     -- a loop that opens the block stores it
     turned_in : (i c : ℕ) (p : List Step) (e : E) (o : O) (can : Can (code_system C) (Item i p c) e) (b : OpensBlock C i p c (found C can) o) (v : Variable) → IsTurns C b.instance.0 v → Supplies (code_system C) e (Datum b.instance.1 v)

@@ -2,13 +2,14 @@
 use Rattle.std.proofs.Common.{◌≡◌, ◌⊎◌, inl, inr, ℕ, zero, suc, ◌<◌, true, false, List, [], ◌∷◌, refl, sym, ◌∙◌, subst, Option, None, Some, arith}
 use Rattle.std.specs.Prelude.{◌&&◌, ◌||◌, not, nat_lt}
 use Rattle.std.specs.List.{list_all, list_any}
+use Rattle.std.proofs.lemmas.Bool.{or_cases, and_parts}
 use Rattle.dataflow.specs.System.{In}
 use Rattle.task_code.specs.Code.{Argument, Body, ByCalls, ByMain, ByStep, ByWait, Calling, Code, Entry, Fixed, InPlace, Local, Loop, Name, Named, Opener, Owned, Parameter, Through, Variable, Way, argument, blank_body, blank_entry, body, entry, here, is_array_name, loop_of, loop_variables, scalar, stored_of, ways}
 use Rattle.task_code.specs.Check.{every_at, is_seen, name_in}
 use Rattle.task_code.specs.Exact.{needs_of}
 use Rattle.task_code.specs.Whole.{Seen}
-use Rattle.task_code.proofs.Checked.{every_at_sound, in_name_in, name_in_sound, not_true, or_true, variable_in_sound}
-use Rattle.task_code.proofs.Equal.{every_in, true_and}
+use Rattle.task_code.proofs.Checked.{every_at_sound, in_name_in, name_in_sound, not_true, variable_in_sound}
+use Rattle.task_code.proofs.Equal.{every_in}
 use Rattle.code_left.specs.Sources.{CellsFollow, FindsSources, HandsOn, IsAssigned, IsTurns, always_opens, is_cell}
 use Rattle.code_left.specs.Tested.{hands_on, has_sources, in_loop, is_behind, is_handed, is_supplied, is_turn}
 use Rattle.code_left.proofs.Left.{any_in}
@@ -56,10 +57,10 @@ module _ (C : Code) where
 
   module _ (t : has_sources C ≡ true) where
     first : every_at (λ b x. list_all (is_supplied C x) x.makes) C.bodies ≡ true
-    first = (true_and (every_at (λ b x. list_all (is_supplied C x) x.makes) C.bodies) _ t).0
+    first = (and_parts (every_at (λ b x. list_all (is_supplied C x) x.makes) C.bodies) _ t).0
 
     others : (every_at (λ i e. list_all (is_handed C e) e.writes) C.entries ≡ true) × (every_at (λ i e. every_at (is_behind C i e) C.entries) C.entries ≡ true)
-    others = true_and (every_at (λ i e. list_all (is_handed C e) e.writes) C.entries) _ (true_and (every_at (λ b x. list_all (is_supplied C x) x.makes) C.bodies) _ t).1
+    others = and_parts (every_at (λ i e. list_all (is_handed C e) e.writes) C.entries) _ (and_parts (every_at (λ b x. list_all (is_supplied C x) x.makes) C.bodies) _ t).1
 
     assigned : (b j : ℕ) (v : Variable) → In v (body C b).makes → v.array ≡ false → In j (body C b).entries → In (here v) (entry C j).reads → IsTurns C b v ⊎ IsAssigned C b v
     assigned b j v im sc ij ir = by (every_at_sound blank_body (λ b x. list_all (is_supplied C x) x.makes) C.bodies first b)
@@ -78,14 +79,14 @@ module _ (C : Code) where
 
         by_turn : (is_turn C v (body C b).opener ≡ true) ⊎ ((list_any (λ k. name_in (here v) (entry C k).writes) (body C b).entries || list_all (λ j. not (name_in (here v) (entry C j).reads)) (body C b).entries) ≡ true) → IsTurns C b v ⊎ IsAssigned C b v
         by_turn (inl h) = inl (turned b v (body C b).opener refl h)
-        by_turn (inr h) = by_source (or_true (list_any (λ k. name_in (here v) (entry C k).writes) (body C b).entries) _ h)
+        by_turn (inr h) = by_source (or_cases (list_any (λ k. name_in (here v) (entry C k).writes) (body C b).entries) _ h)
 
         by_array : (v.array ≡ true) ⊎ ((is_turn C v (body C b).opener || (list_any (λ k. name_in (here v) (entry C k).writes) (body C b).entries || list_all (λ j. not (name_in (here v) (entry C j).reads)) (body C b).entries)) ≡ true) → IsTurns C b v ⊎ IsAssigned C b v
         by_array (inl h) = (let q = sym h ∙ sc in absurd (cc))
-        by_array (inr h) = by_turn (or_true (is_turn C v (body C b).opener) _ h)
+        by_array (inr h) = by_turn (or_cases (is_turn C v (body C b).opener) _ h)
 
         by : (list_all (is_supplied C (body C b)) (body C b).makes ≡ true) ⊎ (body C b ≡ blank_body) → IsTurns C b v ⊎ IsAssigned C b v
-        by (inl h) = by_array (or_true v.array _ (every_in (is_supplied C (body C b)) (body C b).makes h v im))
+        by (inl h) = by_array (or_cases v.array _ (every_in (is_supplied C (body C b)) (body C b).makes h v im))
         by (inr e) = absurd (subst (λ (x : Body). In v x.makes) e im)
 
     abbrev Handed : ℕ → Name → Type 0
@@ -96,7 +97,7 @@ module _ (C : Code) where
       where
         further : (always_opens (entry C i).act && list_all (hands_on C (entry C i) r) (ways (entry C i).act)) ≡ true → Handed i r
         further h =
-            let g = true_and (always_opens (entry C i).act) (list_all (hands_on C (entry C i) r) (ways (entry C i).act)) h in
+            let g = and_parts (always_opens (entry C i).act) (list_all (hands_on C (entry C i) r) (ways (entry C i).act)) h in
             inr (g.0, λ w b iw. handed_on i r w b (every_in (hands_on C (entry C i) r) (ways (entry C i).act) g.1 (w, b) iw))
 
         by_store : (name_in r (stored_of (entry C i).node (entry C i).act) ≡ true) ⊎ ((always_opens (entry C i).act && list_all (hands_on C (entry C i) r) (ways (entry C i).act)) ≡ true) → Handed i r
@@ -105,10 +106,10 @@ module _ (C : Code) where
 
         by_array : (is_array_name r ≡ true) ⊎ ((name_in r (stored_of (entry C i).node (entry C i).act) || (always_opens (entry C i).act && list_all (hands_on C (entry C i) r) (ways (entry C i).act))) ≡ true) → Handed i r
         by_array (inl h) = (let q = sym h ∙ n in absurd (cc))
-        by_array (inr h) = by_store (or_true (name_in r (stored_of (entry C i).node (entry C i).act)) _ h)
+        by_array (inr h) = by_store (or_cases (name_in r (stored_of (entry C i).node (entry C i).act)) _ h)
 
         by : (list_all (is_handed C (entry C i)) (entry C i).writes ≡ true) ⊎ (entry C i ≡ blank_entry) → Handed i r
-        by (inl h) = by_array (or_true (is_array_name r) _ (every_in (is_handed C (entry C i)) (entry C i).writes h r ir))
+        by (inl h) = by_array (or_cases (is_array_name r) _ (every_in (is_handed C (entry C i)) (entry C i).writes h r ir))
         by (inr e) = absurd (subst (λ (x : Entry). In r x.writes) e ir)
 
     blank_cell : (x : Entry) → x ≡ blank_entry → is_cell x.act ≡ true → ⊥
@@ -123,14 +124,14 @@ module _ (C : Code) where
 
         by_other : (not (is_cell (entry C j).act) ≡ true) ⊎ ((not (name_in (here (scalar (entry C j).node)) (needs_of (entry C i))) || nat_lt j i) ≡ true) → j < i
         by_other (inl h) = absurd (not_true (is_cell (entry C j).act) h cj)
-        by_other (inr h) = by_need (or_true (not (name_in (here (scalar (entry C j).node)) (needs_of (entry C i)))) (nat_lt j i) h)
+        by_other (inr h) = by_need (or_cases (not (name_in (here (scalar (entry C j).node)) (needs_of (entry C i)))) (nat_lt j i) h)
 
         by_cell : (not (is_cell (entry C i).act) ≡ true) ⊎ ((not (is_cell (entry C j).act) || (not (name_in (here (scalar (entry C j).node)) (needs_of (entry C i))) || nat_lt j i)) ≡ true) → j < i
         by_cell (inl h) = absurd (not_true (is_cell (entry C i).act) h ci)
-        by_cell (inr h) = by_other (or_true (not (is_cell (entry C j).act)) _ h)
+        by_cell (inr h) = by_other (or_cases (not (is_cell (entry C j).act)) _ h)
 
         by_second : (is_behind C i (entry C i) j (entry C j) ≡ true) ⊎ (entry C j ≡ blank_entry) → j < i
-        by_second (inl h) = by_cell (or_true (not (is_cell (entry C i).act)) _ h)
+        by_second (inl h) = by_cell (or_cases (not (is_cell (entry C i).act)) _ h)
         by_second (inr e) = absurd (blank_cell (entry C j) e cj)
 
         by : (every_at (is_behind C i (entry C i)) C.entries ≡ true) ⊎ (entry C i ≡ blank_entry) → j < i

@@ -1,6 +1,6 @@
 -- Who may write a scalar stores it, or always opens a block and hands the right on.
 use Rattle.std.proofs.Common.{◌≡◌, ◌⊎◌, inl, inr, ℕ, suc, ◌+◌, ◌<◌, ◌≤◌, Bool, true, false, List, [], ◌∷◌, ◌++◌, map, length, refl, sym, ap, ap₂, ◌∙◌, subst, Option, Some, None, arith}
-use Rattle.std.proofs.lemmas.Option.{slice_get_within}
+use Rattle.std.proofs.lemmas.Option.{slice_get_within, same_Some}
 use Rattle.std.specs.Prelude.{slice_get}
 use Rattle.dataflow.specs.System.{In}
 use Rattle.language.specs.Core as Co
@@ -27,7 +27,7 @@ use Rattle.code_rules.specs.NodesOnce.{TellsNode}
 use Rattle.code_whole.specs.Described.{is_array_shape, kinds_of_signature}
 use Rattle.code_whole.specs.Standing.{CallsAreFound}
 use Rattle.code_whole.proofs.Aims.{alone, named_of, Calls, Assigned, Aims, at_cell, at_hidden, at_alone, at_own, aims}
-use Rattle.code_whole.proofs.Arguments.{arg_at, get_map, get_right, get_some, inputs_length, out_at, some_same}
+use Rattle.code_whole.proofs.Arguments.{arg_at, get_map, get_right, get_some, inputs_length, out_at}
 use Rattle.code_whole.proofs.Bases.{only, Assigns, names, further_in}
 use Rattle.code_whole.proofs.Openings.{OpensAs, opens_header, opens_wait, opens_call, opens_as, call_of_stmt}
 use Rattle.code_whole.proofs.Owners.{owned_scope, Round, round}
@@ -141,7 +141,7 @@ module _ {s : Core} {fs : List Kinds} {ds : List (ℕ × Bool)} (C : Code) (l : 
           let a = arg_at (ca.ins ++ map Named ca.outs) k bb (Named q) (sym (argument_is b ca way k bb) ∙ ar) in
           let e1 : k ≡ length ca.ins + j = place ∙ ap (λ (x : ℕ). x + j) (sym counted) in
           let here_q : slice_get (map Named ca.outs) j ≡ Some (Named q) = sym (get_right ca.ins (map Named ca.outs) j) ∙ subst (λ (x : ℕ). slice_get (ca.ins ++ map Named ca.outs) x ≡ Some (Named q)) e1 a.0 in
-          let same : q ≡ r = named_same (some_same (sym here_q ∙ get_map Named ca.outs j r at_j)) in
+          let same : q ≡ r = named_same (same_Some _ _ (sym here_q ∙ get_map Named ca.outs j r at_j)) in
           record { holder = z.number; there = z.there; inside = z.name; seen = (k, bb, e, subst (λ (y : code.Name). argument C (entry C i).mark k bb ≡ Some (Named y)) same ar); right = z.right }
 
       by : Declared C b z.name ⊎ SeenFrom C (λ e. e.writes) i Calling z.name → HandsOn C i Calling b r
@@ -160,7 +160,7 @@ module _ {s : Core} {fs : List Kinds} {ds : List (ℕ × Bool)} (C : Code) (l : 
       let y = out_at C l o.0 r ca.outputs o.1 in
       let below : o.0 < f.outputs = subst (λ (n : ℕ). o.0 < n) count (slice_get_within c.outputs o.0 y.0 y.2) in
       let called = scoped.calls st c (Rattle.code_whole.proofs.Openings.stmt_in C l L t lt m) among_calls in
-      let counted : length ca.ins ≡ f.inputs = sym (inputs_length C l ca.inputs) ∙ (called.2 ∙ ap (λ (g : Function). g.inputs) (some_same (sym called.1 ∙ fn))) in
+      let counted : length ca.ins ≡ f.inputs = sym (inputs_length C l ca.inputs) ∙ (called.2 ∙ ap (λ (g : Function). g.inputs) (same_Some _ _ (sym called.1 ∙ fn))) in
       let target : output o.0 ∈ targets_in f.body = elim (single.output_assigned f o.0 (function_in s.functions c.function f fn) below) [ inl z ↦ named_target z | inr z ↦ written_target z ] in
       by o.0 o.1 counted (held C l L I (by_entry i Calling x h way) (output o.0) stands target)
     where

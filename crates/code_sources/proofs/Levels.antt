@@ -1,10 +1,11 @@
 -- How deep a body that is reached lies in that of its function, and which body declares what an entry may write.
 use Rattle.std.proofs.Common.{◌≡◌, ◌⊎◌, inl, inr, ℕ, suc, ◌<◌, Bool, refl, sym, ap, ap₂, ◌∙◌, subst, arith}
+use Rattle.std.proofs.lemmas.Option.{same_Some}
 use Rattle.dataflow.specs.System.{In}
 use Rattle.task_code.specs.Code.{Variable, Owned, Local, Parameter, Name, Named, Code, Way, InPlace, Through, Calling, Opener, ByMain, ByWait, ByStep, ByCalls, arguments, call_at, entry, body, here, is_array_name}
 use Rattle.task_code.specs.Whole.{IsCode, OpenedBy, Declared, SeenFrom, Seen}
 use Rattle.code_left.specs.Sources.{Reached, at_start, by_entry}
-use Rattle.code_whole.proofs.Arguments.{arg_at, some_same}
+use Rattle.code_whole.proofs.Arguments.{arg_at}
 
 -- LEVELS
 
@@ -156,7 +157,7 @@ module _ (C : Code) (I : IsCode C) where
         let k = parameter_slot r q s.0 z.0 s.1 z.1 s.2 z.2 e in
         let a = arg_at (arguments (entry C (call_at C mark)).act) s.0 s.1 (Named o) s.3 in
         let c = arg_at (arguments (entry C (call_at C mark)).act) z.0 z.1 (Named p) z.3 in
-        let same : o ≡ p = named_same (some_same (sym a.0 ∙ (ap (λ (n : ℕ). Rattle.std.specs.Prelude.slice_get (arguments (entry C (call_at C mark)).act) n) k ∙ c.0))) in
+        let same : o ≡ p = named_same (same_Some _ _ (sym a.0 ∙ (ap (λ (n : ℕ). Rattle.std.specs.Prelude.slice_get (arguments (entry C (call_at C mark)).act) n) k ∙ c.0))) in
         let flag : s.1 ≡ z.1 = sym a.1 ∙ (ap is_array_name same ∙ c.1) in
         s.2 ∙ (ap₂ (λ (n : ℕ) (b : Bool). record { up = 0; owned = Parameter n b }) k flag ∙ sym z.2)
 

@@ -33,11 +33,11 @@ use Rattle.code_whole.proofs.Openings.{OpensAs, opens_header, opens_wait, opens_
 use Rattle.code_whole.proofs.Scoping.{SeesAs, before, InScopes, Hidden, OutputsCome}
 use Rattle.code_whole.proofs.Settling.{IsParameter, is_output, is_input, FunctionScoped, ScriptScoped}
 use Rattle.code_whole.proofs.Lookup.{deeper_of, HeaderScope, StmtAt, lookup}
-use Rattle.code_whole.proofs.Arguments.{some_same, arg_at, get_right, get_unmap, get_in, get_one, get_some, out_at, inputs_length, comes_length, out_type}
+use Rattle.code_whole.proofs.Arguments.{arg_at, get_right, get_unmap, get_in, get_one, get_some, out_at, inputs_length, comes_length, out_type}
 use Rattle.code_whole.proofs.Led.{SeenAs, flag_is, step_out, parameter_is, Within, Settled, CallKnown, call_known_of, handed, Content, content, led}
 use Rattle.code_whole.proofs.Bases.{Assigns, names, further_in, has_target, keeps_targets, base_written}
 use Rattle.code_whole.proofs.Owners.{OwnerOf, OwnedScope, owner_at}
-use Rattle.std.proofs.lemmas.Option.{slice_get_within}
+use Rattle.std.proofs.lemmas.Option.{slice_get_within, same_Some}
 
 -- the block of one statement
 abbrev pub alone : Stmt → Block
@@ -237,7 +237,7 @@ module _ {s : Core} {fs : List Kinds} {ds : List (ℕ × Bool)} (C : Code) (l : 
         known = call_known_of C l L found scoped sigs type_of S D Assigns (keeps_targets s single) k.comes m
 
         counted : length ca.ins ≡ f.inputs
-        counted = sym (inputs_length C l ca.inputs) ∙ (comes_length known.inputs ∙ (ap (λ (u : Signature). length u.inputs) (some_same (sym known.there ∙ F.there)) ∙ F.inputs))
+        counted = sym (inputs_length C l ca.inputs) ∙ (comes_length known.inputs ∙ (ap (λ (u : Signature). length u.inputs) (same_Some _ _ (sym known.there ∙ F.there)) ∙ F.inputs))
 
         named_same : {x y : code.Name} → Named x ≡ Named y → x ≡ y
         named_same h = cc

@@ -2,6 +2,7 @@
 use Rattle.std.proofs.Common.{◌≡◌, inl, inr, ℕ, suc, ℤ, Bool, true, false, List, [], ◌∷◌, map, refl, sym, ap, ◌∙◌, subst, Option, Some, None}
 use Rattle.std.specs.Prelude.{slice_get}
 use Rattle.std.specs.List.{flat_map}
+use Rattle.std.proofs.lemmas.Option.{same_Some}
 use Rattle.dataflow.specs.System.{In}
 use Rattle.dataflow.proofs.Lists.{in_split}
 use Rattle.language.specs.Core as Co
@@ -33,7 +34,7 @@ use Rattle.code_whole.proofs.Scoping.{SeesAs, Comes, ExprComes, AllCome, FormCom
 use Rattle.code_whole.proofs.Settling.{ScriptScoped}
 use Rattle.code_whole.proofs.Lookup.{lookup, one_wait, inner_before}
 use Rattle.code_whole.proofs.Made.{PartsMade, stmt_made, cell_declared, read_real, plain_before}
-use Rattle.code_whole.proofs.Arguments.{some_same, get_map, get_one, get_some, out_at, out_type}
+use Rattle.code_whole.proofs.Arguments.{get_map, get_one, get_some, out_at, out_type}
 use Rattle.code_whole.proofs.Led.{cell_part, Keeping, Within, Settled, settle, come, CallKnown, call_known, out_settled}
 
 pub of_needed : (r : code.Name) (ns : List Need) → In r (flat_map needed ns) → (n : Need) × In n ns × In r (needed n)
@@ -159,7 +160,7 @@ module _ {s : Core} {fs : List Kinds} {ds : List (ℕ × Bool)} (C : Code) (l : 
 
   step_in : (lo hi : Outer) (st : Option Outer) (x : ℕ) (y : Option ℕ) (b : Block) (o : Outer) → st ≡ Some o → inner o.cell ∈ before (range lo hi st x y b)
   step_in lo hi None x y b o e = absurd (cc (e))
-  step_in lo hi (Some q) x y b o e = outer_in (lo ∷ hi ∷ q ∷ []) (later (later (subst (λ (z : Outer). o ∈ (z ∷ [])) (sym (some_same e)) first)))
+  step_in lo hi (Some q) x y b o e = outer_in (lo ∷ hi ∷ q ∷ []) (later (later (subst (λ (z : Outer). o ∈ (z ∷ [])) (sym (same_Some _ _ e)) first)))
 
   range_reads : {t : ℕ} {g : Scope} (lo hi : Outer) (st : Option Outer) (x : ℕ) (y : Option ℕ) (b : Block) (w : Known t g (range lo hi st x y b)) → Made t (range lo hi st x y b) → (e : Expr) (n : Need) (r : code.Name)
       → In e (own_exprs l (L.table.inputs_of t) (range lo hi st x y b)) → In n (wanted (L.table.inputs_of t) e) → In r (needed n) → Read t g r

@@ -30,10 +30,10 @@ use Rattle.code_whole.proofs.Openings.{OpensAs, opens_header, opens_wait, opens_
 use Rattle.code_whole.proofs.Scoping.{before, InScopes}
 use Rattle.code_whole.proofs.Settling.{IsParameter, is_output, is_input, FunctionScoped, ScriptScoped}
 use Rattle.code_whole.proofs.Lookup.{deeper_of, HeaderScope, lookup, before_own}
-use Rattle.code_whole.proofs.Arguments.{some_same, Kind, arg_of, get_left, get_right, get_map, get_one, out_of, input_of, inputs_length, InputComes, come_at, comes_length, outs_at}
+use Rattle.code_whole.proofs.Arguments.{Kind, arg_of, get_left, get_right, get_map, get_one, out_of, input_of, inputs_length, InputComes, come_at, comes_length, outs_at}
 use Rattle.code_whole.proofs.Led.{SeenAs, Keeping, Within, Settled, CallKnown, call_known_of, handed, led}
 use Rattle.code_whole.proofs.Bases.{call_kind}
-use Rattle.std.proofs.lemmas.Option.{slice_get_within}
+use Rattle.std.proofs.lemmas.Option.{slice_get_within, same_Some}
 
 -- whether a name is declared in a body is told by its variables
 find_variable : (r : code.Name) (vs : List Variable) → ((v : Variable) × In v vs × (r ≡ code.here v)) ⊎ ((v : Variable) → In v vs → r ≡ code.here v → ⊥)
@@ -154,7 +154,7 @@ module _ {s : Core} {fs : List Kinds} {ds : List (ℕ × Bool)} (C : Code) (l : 
             let sc = scope_of (scoped_block s b.1).1 in
             let at_stmt = lookup sigs type_of sc.scoped_in b.2 in
             let known : CallIn at_stmt.scope act q.call = call_known_of C l L found scoped sigs type_of S D Q K at_stmt.comes (calls_part (own_parts act) q.there) in
-            let same : known.signature ≡ sig = some_same (sym known.there ∙ (ap (λ (n : ℕ). slice_get sigs n) q.function ∙ there)) in
+            let same : known.signature ≡ sig = same_Some _ _ (sym known.there ∙ (ap (λ (n : ℕ). slice_get sigs n) q.function ∙ there)) in
             let come = come_at j τ known.inputs (subst (λ (z : Signature). slice_get z.inputs j ≡ Some τ) (sym same) ty) in
             q.fits.inputs (kinds_of_signature sig) j come.0 a (is_array_shape τ.shape)
             (subst (λ (n : ℕ). slice_get fs n ≡ Some (kinds_of_signature sig)) (sym q.function) (subst (λ (z : List Kinds). slice_get z c.function ≡ Some (kinds_of_signature sig)) (sym kinds) (get_map kinds_of_signature sigs c.function sig there)))
@@ -198,7 +198,7 @@ module _ {s : Core} {fs : List Kinds} {ds : List (ℕ × Bool)} (C : Code) (l : 
         known = call_known_of C l L found scoped sigs type_of S D Q K w.known.comes m
 
         same : F.signature ≡ known.signature
-        same = some_same (sym F.there ∙ known.there)
+        same = same_Some _ _ (sym F.there ∙ known.there)
 
         counted : length ca.ins ≡ f.inputs
         counted = sym (inputs_length C l ca.inputs) ∙ (comes_length known.inputs ∙ (ap (λ (u : Signature). length u.inputs) (sym same) ∙ F.inputs))

@@ -30,8 +30,8 @@ use Rattle.code_whole.proofs.Scoping.{SeesAs, Comes, of_scope, of_cell, of_call,
 use Rattle.code_whole.proofs.Settling.{IsParameter, is_output, is_input, FunctionScoped, ScriptScoped}
 use Rattle.code_whole.proofs.Lookup.{deeper_of, HeaderScope, StmtAt, lookup, one_wait, inner_before, call_comes}
 use Rattle.code_whole.proofs.Made.{declares, PartsMade, parts_made, cell_declared, read_declared, call_declared}
-use Rattle.code_whole.proofs.Arguments.{some_same, arg_at, get_left, get_right, get_unmap, get_in, get_one, out_at, input_at, input_of, inputs_length, InputComes, come_at, comes_length, outs_at}
-use Rattle.std.proofs.lemmas.Option.{slice_get_within}
+use Rattle.code_whole.proofs.Arguments.{arg_at, get_left, get_right, get_unmap, get_in, get_one, out_at, input_at, input_of, inputs_length, InputComes, come_at, comes_length, outs_at}
+use Rattle.std.proofs.lemmas.Option.{slice_get_within, same_Some}
 
 -- a name of code that is this one, of a variable that is seen
 pub record SeenAs (k : ℕ) (g : Scope) (Q : Bool → Owned → Type 0) (r : code.Name) : Type 0 where
@@ -176,7 +176,7 @@ module _ {s : Core} {fs : List Kinds} {ds : List (ℕ × Bool)} (C : Code) (l : 
               inl (subst (λ (z : code.Name). Declared C t z) (sym same) (call_declared C l L p h.0 (h.1).is))
           by o (inr h) =
               let q = outs_at j τ h.3 ty in
-              let same : q.0 ≡ o.0 = some_same (sym q.1 ∙ o.2) in
+              let same : q.0 ≡ o.0 = same_Some _ _ (sym q.1 ∙ o.2) in
               let flag : o.1 ≡ d = flag_is (T.inputs_of t) o.1 d o.0 r o.3 fl in
               let sees : SeesAs w.known.scope o.0 d = seen_at same (subst (λ (f : Bool). SeesAs w.known.scope q.0 f) sh q.2) in
               settle w sees (K.to_output (T.block_of t) w.at w.node h.0 h.1 c d o.0 (subst (λ (z : Action). stmt w.at w.node z ∈ block_list (T.block_of t)) h.2 w.there) (get_in c.outputs j o.0 o.2)) r
@@ -234,9 +234,9 @@ module _ {s : Core} {fs : List Kinds} {ds : List (ℕ × Bool)} (C : Code) (l : 
               let come = come_at j x.type known.inputs (subst (λ (v : Signature). slice_get v.inputs j ≡ Some x.type) same ty) in
               let arg = input_of C l j come.0 ca.inputs come.1 in
               let full : slice_get (ca.ins ++ map Named ca.outs) kk ≡ Some arg.0 = subst (λ (n : ℕ). slice_get (ca.ins ++ map Named ca.outs) n ≡ Some arg.0) (sym u.0) (get_left ca.ins (map Named ca.outs) j arg.0 arg.1) in
-              let is : arg.0 ≡ Named r = some_same (sym full ∙ got.0) in
+              let is : arg.0 ≡ Named r = same_Some _ _ (sym full ∙ got.0) in
               let inn = input_at C l j arg.0 ca.inputs arg.1 in
-              let here_is : come.0 ≡ inn.0 = some_same (sym come.1 ∙ inn.1) in
+              let here_is : come.0 ≡ inn.0 = same_Some _ _ (sym come.1 ∙ inn.1) in
               in_settled w p inn.2 x.type (subst (λ (v : Name). InputComes w.known.scope (before a) v x.type) here_is come.2) d r is sh (got.1 ∙ u.1)
               (λ q o. K.from_input f c.function j d fn (subst (λ (n : ℕ). j < n) F.inputs (slice_get_within F.signature.inputs j x.type ty)) (subst (λ (v : Name). Q d f.body v.what) e kept) q (T.block_of t) o)
 

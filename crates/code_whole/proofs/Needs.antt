@@ -2,12 +2,13 @@
 use Rattle.std.proofs.Common.{◌≡◌, ◌⊎◌, inl, inr, ℕ, suc, ◌<◌, Bool, true, false, List, [], ◌∷◌, length, refl, sym, ap, ◌∙◌, subst, arith}
 use Rattle.std.specs.Prelude.{not, ◌||◌, nat_lt, if◌then◌else◌, map}
 use Rattle.std.specs.List.{list_all, list_any, flat_map}
+use Rattle.std.proofs.lemmas.Bool.{and_from}
 use Rattle.dataflow.specs.System.{In}
 use Rattle.dataflow.proofs.Lists.{in_left, in_right, in_split}
 use Rattle.language.specs.Core.{Owned, local, input, output, Name, Expr, Exprs, literal, name, whole, operator, none, also, Awaited, scalar, array, Stmt, Block}
 use Rattle.task_code.specs.Code.{Need, Stored, Closed, At, AtKey, Header, is_array_name, is_array_owned}
 use Rattle.task_code.specs.Shape.{fits_kinds, is_plain, is_same_plain, is_fed, are_fed}
-use Rattle.task_code.proofs.Equal.{name_sound, name_same, in_every, both_true}
+use Rattle.task_code.proofs.Equal.{name_sound, name_same, in_every}
 use Rattle.code_rules.specs.CodeNames.{owned_as, name_as, wanted, wanted_all, without, each_once, place_in, over, all_over, awaited_need, header}
 use Rattle.code_rules.specs.Laying.{Headers, one_header, more_headers}
 
@@ -127,7 +128,7 @@ mutual
   pub all_fed_over : (k : ℕ) (ns : List Need) (es : Exprs) → ((n : Need) → In n (wanted_all k es) → In n ns) → are_fed (length ns) (all_over k ns es) ≡ true
   all_fed_over k ns none h = refl
   all_fed_over k ns (also e es) h =
-      both_true (is_fed (length ns) (over k ns e)) (are_fed (length ns) (all_over k ns es)) (is_fed_over k ns e (λ n i. h n (in_left n (wanted k e) (wanted_all k es) i))) (all_fed_over k ns es (λ n i. h n (in_right n (wanted k e) (wanted_all k es) i)))
+      and_from (is_fed (length ns) (over k ns e)) (are_fed (length ns) (all_over k ns es)) (is_fed_over k ns e (λ n i. h n (in_left n (wanted k e) (wanted_all k es) i))) (all_fed_over k ns es (λ n i. h n (in_right n (wanted k e) (wanted_all k es) i)))
 
 -- HEADERS
 

@@ -1,6 +1,7 @@
 -- Each call of an accepted script has an offset of its own.
 use Rattle.std.proofs.Common.{◌≡◌, inl, inr, ℕ, Bool, true, false, List, [], ◌∷◌, map, subst}
 use Rattle.std.specs.Prelude.{not}
+use Rattle.std.proofs.lemmas.Bool.{and_parts}
 use Rattle.dataflow.specs.System.{In, Distinct}
 use Rattle.language.specs.Core.{Call}
 use Rattle.language.specs.Members.{◌∈◌, first, later}
@@ -9,7 +10,7 @@ use Rattle.language_accepted.specs.Placed.{IsPlaced}
 use Rattle.language.specs.Resolved.{core}
 use Rattle.language.specs.Table.{Table}
 use Rattle.language.specs.Tree.{Tree}
-use Rattle.language.proofs.Tested.{flat, both, has_in}
+use Rattle.language.proofs.Tested.{flat, has_in}
 use Rattle.language.specs.Distinct.{distinct, has}
 use Rattle.language_laws.proofs.TestedNames.{offset}
 use Rattle.language_laws.proofs.TreeOffsets.{offsets_once}
@@ -27,7 +28,7 @@ in_flat n (c ∷ cs) (inr h) = later (in_flat n cs h)
 apart_offsets : (cs : List Call) → distinct (flat offset cs) ≡ true → Distinct (map (λ (c : Call). c.at) cs)
 apart_offsets [] h = tt
 apart_offsets (c ∷ cs) h =
-    let p = both (not (has c.at (flat offset cs))) (distinct (flat offset cs)) h in
+    let p = and_parts (not (has c.at (flat offset cs))) (distinct (flat offset cs)) h in
     (λ i. lacks (has c.at (flat offset cs)) p.0 (has_in (in_flat c.at cs i)), apart_offsets cs p.1)
 
 pub accepted_calls : (t : Table) (tree : Tree) → IsPlaced tree → CallsOnce (core t tree)

@@ -2,6 +2,7 @@
 use Rattle.std.proofs.Common.{◌≡◌, ◌⊎◌, inl, inr, ℕ, zero, suc, ◌<◌, ℤ, Bool, true, List, [], ◌∷◌, length, refl, sym, subst, arith}
 use Rattle.std.specs.Prelude.{◌&&◌}
 use Rattle.std.specs.List.{list_all, list_any, flat_map}
+use Rattle.std.proofs.lemmas.Bool.{and_from}
 use Rattle.dataflow.specs.System.{In}
 use Rattle.dataflow.proofs.Lists.{in_left, in_right}
 use Rattle.language.specs.Core as Co
@@ -10,7 +11,7 @@ use Rattle.language.specs.Parts.{block_list}
 use Rattle.task_code.specs.Code as code
 use Rattle.task_code.specs.Code.{Need, Act, Entry, Header, Variable, Code, entry, body, nth, blank_entry, blank_body, is_array_name}
 use Rattle.task_code.specs.Shape.{fits_kinds, is_plain, is_same_plain, is_fed, one_element, feeds, has_headers, has_shape, is_shaped}
-use Rattle.task_code.proofs.Equal.{both_true, in_every}
+use Rattle.task_code.proofs.Equal.{in_every}
 use Rattle.code_rules.specs.CodeNames.{name_as, wanted, each_once, over}
 use Rattle.code_rules.specs.IsCodeOf.{Layout, seen, own_expr, own_exprs, own_needs, step_expr, fill_act, simple_act, IsSimple, IsEntry, IndexAs, at_literal, at_name, at_datum, PartAs, plain_literal, plain_name, a_cell, a_read, a_call}
 use Rattle.code_rules.specs.Laying.{Kinds}
@@ -36,10 +37,10 @@ body_within C t j h = elim (within blank_body C.bodies t) [
 shaped : (e : Entry) (ns : List Need) (a : Act) → e.needs ≡ ns → e.act ≡ a → list_all fits_kinds ns ≡ true → has_shape a ns ≡ true → is_shaped e ≡ true
 shaped e ns a q p h g =
     subst (λ (z : List Need). (list_all fits_kinds z && has_shape e.act z) ≡ true) (sym q)
-    (subst (λ (z : Act). (list_all fits_kinds ns && has_shape z ns) ≡ true) (sym p) (both_true (list_all fits_kinds ns) (has_shape a ns) h g))
+    (subst (λ (z : Act). (list_all fits_kinds ns && has_shape z ns) ≡ true) (sym p) (and_from (list_all fits_kinds ns) (has_shape a ns) h g))
 
 fed_all : (ns : List Need) (b : Bool) → AllFine ns → b ≡ true → feeds ns b ≡ true
-fed_all ns b f h = both_true (list_all is_plain ns) b (fine_plain ns f) h
+fed_all ns b f h = and_from (list_all is_plain ns) b (fine_plain ns f) h
 
 in_exprs : (k : ℕ) (e : Expr) (es : List Expr) → In e es → (n : Need) → In n (wanted k e) → In n (flat_map (wanted k) es)
 in_exprs k e [] i n h = absurd i
@@ -57,18 +58,18 @@ fed_in : (k : ℕ) (e : Expr) (es : List Expr) → In e es → is_fed (length (n
 fed_in k e es i = is_fed_over k (needs_of k es) e (λ n h. in_once n (flat_map (wanted k) es) (in_exprs k e es i n h))
 
 fill_shape : (l : Layout) (k : ℕ) (x : Name) (e : Expr) → has_shape (fill_act l k (needs_of k (e ∷ [])) x e) (needs_of k (e ∷ [])) ≡ true
-fill_shape l k x (Co.whole b) = both_true (is_array_name (name_as k true x)) true (flag_of k true x) refl
-fill_shape l k x (Co.literal v) = both_true (is_array_name (name_as k true x)) true (flag_of k true x) refl
-fill_shape l k x (Co.name y) = both_true (is_array_name (name_as k true x)) true (flag_of k true x) refl
+fill_shape l k x (Co.whole b) = and_from (is_array_name (name_as k true x)) true (flag_of k true x) refl
+fill_shape l k x (Co.literal v) = and_from (is_array_name (name_as k true x)) true (flag_of k true x) refl
+fill_shape l k x (Co.name y) = and_from (is_array_name (name_as k true x)) true (flag_of k true x) refl
 fill_shape l k x (Co.operator o es) =
     let ns = needs_of k (Co.operator o es ∷ []) in
-    both_true (is_array_name (name_as k true x)) _ (flag_of k true x)
+    and_from (is_array_name (name_as k true x)) _ (flag_of k true x)
     (fed_all ns _ (fine_of k (Co.operator o es ∷ [])) (all_fed_over k ns es (λ n h. in_once n (flat_map (wanted k) (Co.operator o es ∷ [])) (in_exprs k (Co.operator o es) (Co.operator o es ∷ []) (inl refl) n h))))
 
 headers_shape : (hs : List Header) → HeadersFine hs → has_headers hs (each_once (flat_map (λ h. h.needs) hs)) ≡ true
 headers_shape hs f =
     let ns = each_once (flat_map (λ (h : Header). h.needs) hs) in
-    both_true _ _
+    and_from _ _
     (in_every (λ (h : Header). list_all (λ n. list_any (is_same_plain n) ns) h.needs) hs (λ h i. in_every (λ n. list_any (is_same_plain n) ns) h.needs (λ n j.
     any_in (is_same_plain n) n ns (in_once n _ (in_flat hs h n i j)) (plain_same n (f h i n j).1))))
     (in_every (λ (n : Need). list_any (λ (h : Header). list_any (is_same_plain n) h.needs) hs) ns (λ n i. (
@@ -81,11 +82,11 @@ module _ (C : Code) (l : Layout) (T : Table) where
   fed_entry k j at p es a e h = shaped (entry C j) (needs_of k es) a e.needs_is e.act_is (fine_kinds (needs_of k es) (fine_of k es)) h
 
   simple_shape : (k : ℕ) (a : Action) → IsSimple a → has_shape (simple_act l k (own_needs l k a) a) (own_needs l k a) ≡ true
-  simple_shape k (assign x o) z = both_true _ _ (no_array k x) (fed_all _ _ (fine_of k (own_expr o ∷ [])) (fed_in k (own_expr o) (own_expr o ∷ []) (inl refl)))
+  simple_shape k (assign x o) z = and_from _ _ (no_array k x) (fed_all _ _ (fine_of k (own_expr o ∷ [])) (fed_in k (own_expr o) (own_expr o ∷ []) (inl refl)))
   simple_shape k (fill x o) z = fill_shape l k x (own_expr o)
   simple_shape k (insert x i o) z =
       let es = seen l i.cell ∷ seen l o.cell ∷ [] in
-      both_true _ _ (flag_of k true x) (fed_all _ _ (fine_of k es) (both_true _ _ (fed_in k (seen l i.cell) es (inl refl)) (fed_in k (seen l o.cell) es (inr (inl refl)))))
+      and_from _ _ (flag_of k true x) (fed_all _ _ (fine_of k es) (and_from _ _ (fed_in k (seen l i.cell) es (inl refl)) (fed_in k (seen l o.cell) es (inr (inl refl)))))
   simple_shape k (print p o) z = fed_all _ _ (fine_of k (own_expr o ∷ [])) (fed_in k (own_expr o) (own_expr o ∷ []) (inl refl))
   simple_shape k (assert p o) z = fed_all _ _ (fine_of k (own_expr o ∷ [])) (fed_in k (own_expr o) (own_expr o ∷ []) (inl refl))
   simple_shape k (declare v) z = absurd z
@@ -105,16 +106,16 @@ module _ (C : Code) (l : Layout) (T : Table) where
   own_shaped {k} {j} (own_range {at = at} {lo = lo} {hi = hi} {st = st} e m s) =
       let es = seen l lo.cell ∷ seen l hi.cell ∷ step_expr l k st ∷ [] in
       fed_entry k j at _ es _ e
-      (fed_all _ _ (fine_of k es) (both_true _ _ (fed_in k (seen l lo.cell) es (inl refl)) (both_true _ _ (fed_in k (seen l hi.cell) es (inr (inl refl))) (fed_in k (step_expr l k st) es (inr (inr (inl refl)))))))
+      (fed_all _ _ (fine_of k es) (and_from _ _ (fed_in k (seen l lo.cell) es (inl refl)) (and_from _ _ (fed_in k (seen l hi.cell) es (inr (inl refl))) (fed_in k (step_expr l k st) es (inr (inr (inl refl)))))))
   own_shaped {k} {j} (own_each {at = at} {a = a} e m s) = fed_entry k j at _ (Co.whole a ∷ []) _ e refl
   own_shaped {k} {j} (own_wait {at = at} {hs = hs} w e s) =
       let f = headers_fine w in
       shaped (entry C j) _ _ e.needs_is e.act_is (fine_kinds _ (once_fine _ (headers_flat hs f))) (headers_shape hs f)
 
   index_shape : {k n : ℕ} {all : List Part} {x : Name} {need : Need} → IndexAs C l k all x n need → (list_all fits_kinds (need ∷ []) ≡ true) × (one_element (need ∷ []) ≡ true)
-  index_shape {k} {x = x} (at_literal i p) = (both_true _ _ (flag_of k true x) refl, refl)
-  index_shape {k} {x = x} (at_name {x = y} i p) = (both_true _ _ (both_true _ _ (flag_of k true x) (no_array k y)) refl, refl)
-  index_shape {k} {x = x} (at_datum {c = c} i p) = (both_true _ _ (both_true _ _ (flag_of k true x) refl) refl, refl)
+  index_shape {k} {x = x} (at_literal i p) = (and_from _ _ (flag_of k true x) refl, refl)
+  index_shape {k} {x = x} (at_name {x = y} i p) = (and_from _ _ (and_from _ _ (flag_of k true x) (no_array k y)) refl, refl)
+  index_shape {k} {x = x} (at_datum {c = c} i p) = (and_from _ _ (and_from _ _ (flag_of k true x) refl) refl, refl)
 
   only_that : (i : ℕ) {j : ℕ} → In j (i ∷ []) → is_shaped (entry C i) ≡ true → is_shaped (entry C j) ≡ true
   only_that i (inl e) h = subst (λ (z : ℕ). is_shaped (entry C z) ≡ true) (sym e) h

@@ -36,14 +36,14 @@ use Rattle.code_whole.proofs.Openings.{LoopsOver, over_range, over_each, LoopIn,
 use Rattle.code_whole.proofs.Scoping.{SeesAs, before, InScopes, Hidden, OutputsCome}
 use Rattle.code_whole.proofs.Settling.{IsParameter, is_output, is_input, FunctionScoped, ScriptScoped}
 use Rattle.code_whole.proofs.Lookup.{StmtAt, lookup}
-use Rattle.code_whole.proofs.Arguments.{some_same, arg_at, get_right, get_unmap, get_in, get_one, out_at, inputs_length, comes_length, out_type}
+use Rattle.code_whole.proofs.Arguments.{arg_at, get_right, get_unmap, get_in, get_one, out_at, inputs_length, comes_length, out_type}
 use Rattle.code_whole.proofs.Led.{SeenAs, flag_is, parameter_is, CallKnown, call_known_of, handed, led, Settled}
 use Rattle.code_whole.proofs.Bases.{Assigns, names, further_in, has_target, keeps_targets, base_written}
 use Rattle.code_whole.proofs.Owners.{OwnerOf, Round, round, Assignable, of_local, of_output, assignable, OwnedScope, owned_scope, owner_at, role_given, named_target}
 use Rattle.code_whole.proofs.Kept.{cell_node, hidden_node, declared_cell, declared_hidden, cell_hidden, role_cell, role_hidden, hidden_once}
 use Rattle.code_whole.proofs.Aims.{alone, named_of, Calls, Assigned, Aims, at_cell, at_hidden, at_alone, at_own, aims}
 use Rattle.code_whole.proofs.Singles.{stmt_way, no_two, positions, own_once, loop_tells, loop_calls}
-use Rattle.std.proofs.lemmas.Option.{slice_get_within}
+use Rattle.std.proofs.lemmas.Option.{slice_get_within, same_Some}
 
 only_in : {X : Type 0} {x y : X} → x ∈ (y ∷ []) → x ≡ y
 only_in m = elim (Rattle.language.proofs.Members.split_in m) [ inl e ↦ e | inr i ↦ elim i [ ] ]
@@ -401,7 +401,7 @@ module _ {s : Core} {fs : List Kinds} {ds : List (ℕ × Bool)} (C : Code) (l : 
           let F = S.functions c.function f fn in
           let x = output_of j F fn st h right in
           let y = output_of j' F fn st h' right' in
-          let counted : length ca.ins ≡ f.inputs = sym (inputs_length C l ca.inputs) ∙ (comes_length known.inputs ∙ (ap (λ (u : Signature). length u.inputs) (some_same (sym known.there ∙ F.there)) ∙ F.inputs)) in
+          let counted : length ca.ins ≡ f.inputs = sym (inputs_length C l ca.inputs) ∙ (comes_length known.inputs ∙ (ap (λ (u : Signature). length u.inputs) (same_Some _ _ (sym known.there ∙ F.there)) ∙ F.inputs)) in
           let u = got ca counted k x.place x.is e in
           let v = got ca counted k' y.place y.is e' in
           let z = outs_apart g at_stmt m known ca.outputs x.place y.place r u.0 v.0 u.1 in

@@ -125,7 +125,3 @@ text_put key bytes v numbers new old is h e =
 pub either_way : {X E : Type 0} (P : Table → Type 0) (r : Result X E) (new changed old : Table) → OnOk r (new ≡ changed) → OnErr r (new ≡ old) → P changed → P old → P new
 either_way P (Ok x) new changed old e f p q = subst P (sym e) p
 either_way P (Err x) new changed old e f p q = subst P (sym f) q
-
-pub if_ok : {X E P Q : Type 0} (r : Result X E) → (P → Q) → OnOk r P → OnOk r Q
-if_ok (Ok x) f p = f p
-if_ok (Err x) f p = tt

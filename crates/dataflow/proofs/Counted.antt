@@ -1,5 +1,6 @@
 -- How often items can newly begin in a run: there is such a number, and the events alone tell it.
 use Rattle.std.proofs.Common.{◌≡◌, ◌⊎◌, inl, inr, ℕ, ◌+◌, ◌≤◌, List, [], ◌∷◌, map, refl, sym, ◌∙◌, subst, Option, None, Some, length, arith}
+use Rattle.std.proofs.lemmas.Bool.{cases_eq}
 use Rattle.dataflow.specs.System.{In, Distinct, Input, StoredScalar, ClosedArray, ElementOf, ElementAt, Effect, System}
 use Rattle.dataflow.specs.Laws.{Laws}
 use Rattle.dataflow.specs.Machine.{Item, State, Event, Holds, ClosedByRights, IsElementKnown, IsKnown, Enabled, Steps, Run, start}
@@ -12,9 +13,6 @@ use Rattle.dataflow.proofs.Known.{one_value, sees, sees_only}
 use Rattle.dataflow.proofs.Numbers.{number_of_item, Numbered, step_numbered, start_numbered}
 use Rattle.dataflow.proofs.Steps.{start_follow, step_follow}
 use Rattle.dataflow.proofs.Determined.{Alike, step_alike}
-
-pub nat_is : (n m : ℕ) → (n ≡ m) ⊎ (n ≡ m → ⊥)
-nat_is n m = grind arith
 
 -- the members of a list that pass a test
 pub record Picked {X : Type 0} (P : X → Type 0) (xs : List X) : Type 0 where
@@ -107,7 +105,7 @@ module _ {T D K V E : Type 0} (S : System T D K V E) (L : Laws S) where
 
     item_is : (k : ℕ) (i : Item T) → Ready k i ⊎ (Ready k i → ⊥)
     unfolding Ready
-    item_is k i = by (nat_is i.number k) (idle_is i.runs) (all_known_is (S.inputs i.task))
+    item_is k i = by (cases_eq i.number k) (idle_is i.runs) (all_known_is (S.inputs i.task))
       where
         by : ((i.number ≡ k) ⊎ (i.number ≡ k → ⊥)) → ((i.runs ≡ None) ⊎ (i.runs ≡ None → ⊥)) → (Enabled S s i.task ⊎ (Enabled S s i.task → ⊥)) → ((i.number ≡ k) × (i.runs ≡ None) × Enabled S s i.task) ⊎ (((i.number ≡ k) × (i.runs ≡ None) × Enabled S s i.task) → ⊥)
         by (inl p) (inl q) (inl e) = inl (p, q, e)

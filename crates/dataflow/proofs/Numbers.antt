@@ -1,8 +1,9 @@
 -- No two items have one number, and each number is below the next one.
 use Rattle.std.proofs.Common.{◌≡◌, ◌⊎◌, inl, inr, ℕ, suc, ◌+◌, ◌<◌, ◌≤◌, List, [], ◌∷◌, ◌++◌, length, map, refl, ap, sym, ◌∙◌, subst, arith}
+use Rattle.std.proofs.lemmas.List.{map-append}
 use Rattle.dataflow.specs.System.{In, Distinct, tasks_of, Outcome, Good, Bad, System}
 use Rattle.dataflow.specs.Machine.{Item, State, Event, Begin, End, Back, new_items, Leaves, ended, After, Step, Steps, Run, start}
-use Rattle.dataflow.proofs.Lists.{in_split, map_append, seam_distinct, seam_in, distinct_append, in_map, in_unmap}
+use Rattle.dataflow.proofs.Lists.{in_split, seam_distinct, seam_in, distinct_append, in_map, in_unmap}
 
 abbrev pub number_of_item : {T : Type 0} → Item T → ℕ
 number_of_item i = i.number
@@ -64,8 +65,8 @@ module _ {T D K V E : Type 0} (S : System T D K V E) where
       others_once : Distinct (map number_of_item (before ++ after))
       others_once =
           let d = subst (λ (is : List (Item T)). Distinct (map number_of_item is)) at n.once in
-          let r = seam_distinct i.number (map number_of_item before) (map number_of_item after) (subst (λ (ks : List ℕ). Distinct ks) (map_append number_of_item before (i ∷ after)) d) in
-          subst (λ (ks : List ℕ). Distinct ks) (sym (map_append number_of_item before after)) r.1
+          let r = seam_distinct i.number (map number_of_item before) (map number_of_item after) (subst (λ (ks : List ℕ). Distinct ks) (map-append number_of_item before (i ∷ after)) d) in
+          subst (λ (ks : List ℕ). Distinct ks) (sym (map-append number_of_item before after)) r.1
 
       apart : (k : ℕ) → In k (map number_of_item (before ++ after)) → In k (map number_of_item (new_items old.next (tasks_of e.opens))) → ⊥
       apart k h g =
@@ -74,7 +75,7 @@ module _ {T D K V E : Type 0} (S : System T D K V E) where
           omega arith
 
       once : Distinct (map number_of_item ((before ++ after) ++ new_items old.next (tasks_of e.opens)))
-      once = subst (λ (ks : List ℕ). Distinct ks) (sym (map_append number_of_item (before ++ after) (new_items old.next (tasks_of e.opens))))
+      once = subst (λ (ks : List ℕ). Distinct ks) (sym (map-append number_of_item (before ++ after) (new_items old.next (tasks_of e.opens))))
           (distinct_append (map number_of_item (before ++ after)) (map number_of_item (new_items old.next (tasks_of e.opens))) others_once (new_once old.next (tasks_of e.opens)) apart)
 
       by_part : (k : ℕ) → In k (map number_of_item (before ++ after)) ⊎ In k (map number_of_item (new_items old.next (tasks_of e.opens))) → k < old.next + length (tasks_of e.opens)
@@ -82,7 +83,7 @@ module _ {T D K V E : Type 0} (S : System T D K V E) where
       by_part k (inr h) = (new_between old.next (tasks_of e.opens) k h).1
 
       below : (k : ℕ) → In k (map number_of_item ((before ++ after) ++ new_items old.next (tasks_of e.opens))) → k < old.next + length (tasks_of e.opens)
-      below k h = by_part k (in_split k (map number_of_item (before ++ after)) (map number_of_item (new_items old.next (tasks_of e.opens))) (subst (λ (ks : List ℕ). In k ks) (map_append number_of_item (before ++ after) (new_items old.next (tasks_of e.opens))) h))
+      below k h = by_part k (in_split k (map number_of_item (before ++ after)) (map number_of_item (new_items old.next (tasks_of e.opens))) (subst (λ (ks : List ℕ). In k ks) (map-append number_of_item (before ++ after) (new_items old.next (tasks_of e.opens))) h))
 
   pub step_numbered : (old : State T D K V E) (e : Event) (new : State T D K V E) → Numbered old → Step S old e new → Numbered new
   step_numbered old (Begin w n) new h x = marked_numbered old new x.1.before x.1.after x.1.item (record { number = x.1.item.number; task = x.1.item.task; runs = _ }) x.1.at.items refl h x.1.result

@@ -2,6 +2,7 @@
 use Rattle.std.proofs.Common.{◌≡◌, ℕ, suc, ◌+◌, ◌≤◌, ◌<◌, ◌^◌, Bool, List, [], ◌∷◌, ◌++◌, map, drop, get_or, length, refl, sym, ap, ◌∙◌, subst, arith, append_assoc, append-nil}
 use Rattle.std.specs.Prelude.{IsTrue, OnOk, Result, Ok, Err}
 use Rattle.std.proofs.lemmas.List.{length-map, drop_more, drop_all}
+use Rattle.std.proofs.lemmas.Bool.{and_parts}
 use Rattle.language.specs.Core.{Stmt, stmt, Action, declare, Block, no_stmts, stmts}
 use Rattle.language.specs.Members.{first}
 use Rattle.language.specs.Parts.{parts, stmts_within}
@@ -9,7 +10,6 @@ use Rattle.language_laws.specs.TypedValues.{own_parts}
 use Rattle.flow.specs.declared.statement.Statement.{Statement}
 use Rattle.flow.specs.Shapes.{statement_declared, together}
 use Rattle.flow.specs.View.{block_of, statement_view}
-use Rattle.task_code.proofs.Equal.{true_and}
 use Rattle.task_code.specs.Code as code
 use Rattle.task_code.specs.Code.{Variable}
 use Rattle.task_code.specs.View.{body_view, entry_view, variable_view}
@@ -89,7 +89,7 @@ module _ {A : Type 0} (fs : List Kinds) (roots k : ℕ) where
   walked-one all ss i one from s t below is before here =
       let e : drop i ss ≡ one ∷ drop (i + 1) ss = drop_more ss i one below ∙ ap (λ x. x ∷ drop (i + 1) ss) (sym is) in
       record {
-        walks = λ u rest. before.walks u (subst (λ xs. EmitsRest xs s u) (sym e) (λ m. let both = true_and (statement_seen one).merged (all_merged (map statement_seen (drop (i + 1) ss))) m in one-more fs roots k (statement_view one) (block_of (map statement_view (drop (i + 1) ss))) (statement_declared one) (together (map statement_declared (drop (i + 1) ss))) s t u (here both.0) (rest both.1)));
+        walks = λ u rest. before.walks u (subst (λ xs. EmitsRest xs s u) (sym e) (λ m. let both = and_parts (statement_seen one).merged (all_merged (map statement_seen (drop (i + 1) ss))) m in one-more fs roots k (statement_view one) (block_of (map statement_view (drop (i + 1) ss))) (statement_declared one) (together (map statement_declared (drop (i + 1) ss))) s t u (here both.0) (rest both.1)));
       }
 
   pub walked-all : (all ss : List (Statement A)) (i : ℕ) (from s : State) → length ss ≤ i → WalksOn all (drop i ss) from s → EmitsRest all from s

@@ -2,12 +2,12 @@
 use Rattle.std.proofs.Common.{◌≡◌, ℕ, suc, ◌+◌, ◌≤◌, ◌<◌, ◌^◌, Bool, List, [], ◌∷◌, ◌++◌, map, drop, get_or, length, refl, sym, ap, ap₂, ◌∙◌, subst, arith, append_assoc, append-nil}
 use Rattle.std.specs.Prelude.{IsTrue}
 use Rattle.std.proofs.lemmas.List.{drop_more, drop_all}
+use Rattle.std.proofs.lemmas.Bool.{and_parts}
 use Rattle.language.specs.Core.{Block, Function, Core}
 use Rattle.language.specs.Parts.{blocks_of, function_blocks, script_stmts, stmts_among, stmts_within}
 use Rattle.flow.specs.declared.script.Function.{Function as Found}
 use Rattle.flow.specs.Shapes.{block_declared, functions_declared}
 use Rattle.flow.specs.View.{function_view}
-use Rattle.task_code.proofs.Equal.{true_and}
 use Rattle.task_code.specs.Code as code
 use Rattle.task_code.specs.Code.{ByCalls, ByMain, Opener, Variable}
 use Rattle.task_code.specs.View.{body_view, variable_view}
@@ -98,7 +98,7 @@ module _ {A : Type 0} (fs : List Kinds) (roots : ℕ) where
   functions-step all gs i f s t u old mid new below is before here =
       let e : drop i gs ≡ f ∷ drop (i + 1) gs = drop_more gs i f below ∙ ap (λ x. x ∷ drop (i + 1) gs) (sym is) in
       record {
-        walks = λ v last rest. before.walks v last (subst (λ xs. EmitsOthers xs t v mid last) (sym e) (λ m. let both = true_and (block_seen f.body).merged (functions_merged (drop (i + 1) gs)) m in functions-more fs roots (function_view f) (map function_view (drop (i + 1) gs)) (block_declared f.body) (functions_declared (drop (i + 1) gs)) t u v mid new last (here both.0) (rest both.1)));
+        walks = λ v last rest. before.walks v last (subst (λ xs. EmitsOthers xs t v mid last) (sym e) (λ m. let both = and_parts (block_seen f.body).merged (functions_merged (drop (i + 1) gs)) m in functions-more fs roots (function_view f) (map function_view (drop (i + 1) gs)) (block_declared f.body) (functions_declared (drop (i + 1) gs)) t u v mid new last (here both.0) (rest both.1)));
       }
 
   pub functions-end : (all gs : List (Found A)) (i : ℕ) (s t : Laying) (old new : List Opened) → length gs ≤ i → FunctionsOn all (drop i gs) s t old new → EmitsOthers all s t old new

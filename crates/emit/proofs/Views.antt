@@ -8,12 +8,11 @@ use Rattle.flow.specs.declared.statement.Block.{Block, out-Block}
 use Rattle.flow.specs.declared.statement.Statement.{Statement, out-Statement}
 use Rattle.flow.specs.View.{action_view, block_of, block_view, statement_view}
 use Rattle.flow.specs.Shapes.{action_declared, is_array}
-use Rattle.task_code.proofs.Equal.{true_and}
 use Rattle.code_rules.specs.Laying.{is_one_wait, is_wait, is_wait_alone}
 use Rattle.wait_merge.specs.Merged.{Seen, action_seen, alone, block_seen, statement_seen}
 use Rattle.wait_merge.proofs.Actions.{seen_statement, view_statement}
 use Rattle.wait_merge.proofs.Blocks.{seen_alone}
-use Rattle.std.proofs.lemmas.Bool.{not-true}
+use Rattle.std.proofs.lemmas.Bool.{not-true, and_parts}
 
 -- what a statement does, as it is seen, and what it declares
 module _ {A : Type 0} where
@@ -64,5 +63,5 @@ one_wait_seen A b = ap is_one_wait (view_block A b) ∙ alone_seen A (out-Block 
 -- the content of a `wait` that is merged is not one `wait` more
 pub lone_and : {A : Type 0} → (b : Block A) → (not (block_seen b).wait && (block_seen b).merged) ≡ true → (is_one_wait (block_view b) ≡ false) × ((block_seen b).merged ≡ true)
 lone_and {A} b h =
-    let both = true_and (not (block_seen b).wait) (block_seen b).merged h in
+    let both = and_parts (not (block_seen b).wait) (block_seen b).merged h in
     (one_wait_seen A b ∙ not-true (block_seen b).wait both.0, both.1)

@@ -4,7 +4,7 @@ use Rattle.std.specs.Prelude.{if◌then◌else◌, Option, Some, None, position,
 use Rattle.std.specs.List.{list_any, position_or_len}
 use Rattle.std.proofs.Math.Bool.{beq}
 use Rattle.std.proofs.Math.Dec.{eqb}
-use Rattle.std.proofs.lemmas.Bool.{eqb-true, eq-eqb, cases_Bool, and_from}
+use Rattle.std.proofs.lemmas.Bool.{eqb-true, eq-eqb, cases_Bool, and_from, and_parts}
 use Rattle.std.proofs.lemmas.List.{map-append, append-nil, take_more}
 use Rattle.std.proofs.lemmas.Option.{get_or_from_slice_get, slice_get_within}
 use Rattle.std.proofs.lemmas.List.Recursion.{is_position_or_len}
@@ -12,7 +12,7 @@ use Rattle.indexmap.specs.IndexSet.{insert_key}
 use Rattle.language.specs.Core as Core
 use Rattle.task_code.specs.Code.{Owned, Local, Parameter, Name, Need, Stored, Closed, At, AtKey, is_array_owned}
 use Rattle.task_code.specs.Shape.{is_same_plain}
-use Rattle.task_code.proofs.Equal.{name_same, true_and}
+use Rattle.task_code.proofs.Equal.{name_same}
 use Rattle.code_rules.specs.CodeNames.{each_once, name_as, place_in}
 use Rattle.code_rules.specs.Room.{Each}
 use Rattle.emit_cells.specs.declared.needs.PlainNeed.{PlainNeed}
@@ -31,10 +31,10 @@ same_fields a b = eqb a.up b.up && (beq a.local b.local && (eqb a.node b.node &&
 
 pub same_wanted : (a b : PlainNeed) → same_fields a b ≡ true → a ≡ b
 same_wanted a b h =
-    let x = true_and (eqb a.up b.up) _ h in
-    let y = true_and (beq a.local b.local) _ x.1 in
-    let z = true_and (eqb a.node b.node) _ y.1 in
-    let w = true_and (eqb a.place b.place) _ z.1 in
+    let x = and_parts (eqb a.up b.up) _ h in
+    let y = and_parts (beq a.local b.local) _ x.1 in
+    let z = and_parts (eqb a.node b.node) _ y.1 in
+    let w = and_parts (eqb a.place b.place) _ z.1 in
     let u : a.up ≡ b.up = eqb-true a.up b.up x.0 in
     let l : a.local ≡ b.local = same_flag a.local b.local y.0 in
     let n : a.node ≡ b.node = eqb-true a.node b.node z.0 in

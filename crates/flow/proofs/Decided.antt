@@ -2,7 +2,7 @@
 use Rattle.std.specs.Prelude.{◌≡◌, ℕ, zero, suc, ◌<◌, Bool, true, false, ◌&&◌, List, [], ◌∷◌, ◌++◌, length, Some, slice_get, nat_lt, refl}
 use Rattle.std.specs.List.{flat_map, list_all}
 use Rattle.std.proofs.Common.{inl, inr, sym, ap, ◌∙◌, subst}
-use Rattle.std.proofs.lemmas.Bool.{eqb-true, eq-eqb, ltb-true, lt-ltb}
+use Rattle.std.proofs.lemmas.Bool.{eqb-true, eq-eqb, ltb-true, lt-ltb, and_from}
 use Rattle.language.specs.Core.{Owned, local, input, output, Name, Call, Part, inner, calls, Stmt, stmt, Action, declare, call_alone, assign, fill, insert, print, assert, when, choose, range, each, wait, Block, no_stmts, stmts, Core}
 use Rattle.language.specs.Members.{◌∈◌, first, later}
 use Rattle.language.specs.Parts.{block_list, parts, part_calls}
@@ -17,9 +17,6 @@ both : (a b : Bool) → a && b ≡ true → (a ≡ true) × (b ≡ true)
 both true b h = (refl, h)
 both false b h = absurd (cc (h))
 
-and_both : {a b : Bool} → a ≡ true → b ≡ true → a && b ≡ true
-and_both {a} {b} h k = ap (λ (z : Bool). z && b) h ∙ k
-
 all_in : {X : Type 0} (p : X → Bool) {x : X} (xs : List X) → list_all p xs ≡ true → x ∈ xs → p x ≡ true
 all_in p [] h m = elim m [ ]
 all_in p (x ∷ xs) h first = (both (p x) (list_all p xs) h).0
@@ -27,7 +24,7 @@ all_in p (x ∷ xs) h (later m) = all_in p xs (both (p x) (list_all p xs) h).1 m
 
 in_all : {X : Type 0} (p : X → Bool) (xs : List X) → ((x : X) → x ∈ xs → p x ≡ true) → list_all p xs ≡ true
 in_all p [] h = refl
-in_all p (x ∷ xs) h = and_both (h x first) (in_all p xs (λ y m. h y (later m)))
+in_all p (x ∷ xs) h = and_from _ _ (h x first) (in_all p xs (λ y m. h y (later m)))
 
 all_at : {X : Type 0} (p : X → Bool) (xs : List X) (i : ℕ) {x : X} → list_all p xs ≡ true → slice_get xs i ≡ Some x → p x ≡ true
 all_at p [] i h e = absurd (cc (e))
@@ -96,7 +93,7 @@ part_named os n (calls c) h m = all_in (is_declared os) (c.inputs ++ c.outputs) 
 
 named_part : (os : List Owner) (n : ℕ) (p : Part) → ((x : Name) → x ∈ part_names p → is_declared os x ≡ true) → ((c : Call) → p ≡ calls c → c.function < n) → part_fits os n p ≡ true
 named_part os n (inner c) h f = in_all (is_declared os) (form_names c.form) h
-named_part os n (calls c) h f = and_both (in_all (is_declared os) (c.inputs ++ c.outputs) h) (lt-ltb c.function n (f c refl))
+named_part os n (calls c) h f = and_from _ _ (in_all (is_declared os) (c.inputs ++ c.outputs) h) (lt-ltb c.function n (f c refl))
 
 fit_names : (os : List Owner) (n : ℕ) (a : Action) {x : Name} → is_fit os n a ≡ true → x ∈ names_used a → is_declared os x ≡ true
 fit_names os n a h m =
@@ -113,7 +110,7 @@ fit_calls os n a {c} h m =
 
 names_fit : (os : List Owner) (n : ℕ) (a : Action) → ((x : Name) → x ∈ names_used a → is_declared os x ≡ true) → ((c : Call) → c ∈ part_calls (parts a) → c.function < n) → is_fit os n a ≡ true
 names_fit os n a h f =
-    and_both (in_all (is_declared os) (own_names a) (λ x m. h x (to_left (own_names a) (flat_map part_names (parts a)) m)))
+    and_from _ _ (in_all (is_declared os) (own_names a) (λ x m. h x (to_left (own_names a) (flat_map part_names (parts a)) m)))
     (in_all (part_fits os n) (parts a) (λ p m. named_part os n p (λ x i. h x (to_right (own_names a) (flat_map part_names (parts a)) (member_flat part_names (parts a) m i)))
     (λ c e. f c (part_call (parts a) (subst (λ z. z ∈ parts a) e m)))))
 
@@ -180,15 +177,15 @@ module _ (s : Core) where
       inside_fits (print p e) i m = refl
       inside_fits (assert p e) i m = refl
       inside_fits (when c b) i m = block_fits b (opened i m first) b (λ st j. j)
-      inside_fits (choose c b d) i m = and_both (block_fits b (opened i m first) b (λ st j. j)) (block_fits d (opened i m (later first)) d (λ st j. j))
+      inside_fits (choose c b d) i m = and_from _ _ (block_fits b (opened i m first) b (λ st j. j)) (block_fits d (opened i m (later first)) d (λ st j. j))
       inside_fits (range lo hi st v k b) i m = block_fits b (opened i m first) b (λ st j. j)
       inside_fits (each x v k b) i m = block_fits b (opened i m first) b (λ st j. j)
       inside_fits (wait xs b) i m = block_fits b (in_wait i m) b (λ st j. j)
 
       block_fits : {os : List Owner} (b : Block) → IsWithin s os b → (c : Block) → ((st : Stmt) → st ∈ block_list c → st ∈ block_list b) → fits os count c ≡ true
       block_fits b i no_stmts h = refl
-      block_fits b i (stmts (stmt at k a) c) h = and_both (and_both (own i (h (stmt at k a) first)) (inside_fits a i (h (stmt at k a) first))) (block_fits b i c (λ st m. h st (later m)))
+      block_fits b i (stmts (stmt at k a) c) h = and_from _ _ (and_from _ _ (own i (h (stmt at k a) first)) (inside_fits a i (h (stmt at k a) first))) (block_fits b i c (λ st m. h st (later m)))
 
     pub whole_test : is_whole s ≡ true
-    whole_test = and_both (block_fits s.body of_script s.body (λ st m. m))
+    whole_test = and_from _ _ (block_fits s.body of_script s.body (λ st m. m))
         (in_all (function_fits count) s.functions (λ f m. (let r = at_of s.functions m in block_fits f.body (of_function r.0 r.1) f.body (λ st i. i))))

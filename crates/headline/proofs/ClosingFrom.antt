@@ -2,6 +2,7 @@
 use Rattle.std.proofs.Common.{◌≡◌, ◌⊎◌, inl, inr, ℕ, zero, suc, ◌<◌, ◌≤◌, ◌+◌, Bool, true, false, List, [], ◌∷◌, ◌++◌, map, length, refl, sym, ap, ◌∙◌, subst, Option, Some, None, arith}
 use Rattle.std.specs.Prelude.{pos, ℤ, slice_get, drop}
 use Rattle.std.specs.List.{flat_map}
+use Rattle.std.proofs.lemmas.Bool.{cases_eq}
 use Rattle.dataflow.specs.System.{In, Opening}
 use Rattle.dataflow.specs.Facts as Fa
 use Rattle.dataflow.specs.Facts.{Live, live_main, live_opened, idle, done}
@@ -25,7 +26,7 @@ use Rattle.language.specs.Single.{SinglyAssigned}
 use Rattle.language.specs.WellFormed.{Declares, Uses, own, inside, in_wait, IsAlone, IsHidden, header_blocks, WellFormed}
 use Rattle.language.proofs.Blocks.{header_inner, inner_below, below_below, inner_block, among_script}
 use Rattle.language_laws.proofs.OneAssign.{found_below}
-use Rattle.language_laws.proofs.Declared.{declared, live_block, header_of, output_found, output_in, place_here, nat_is}
+use Rattle.language_laws.proofs.Declared.{declared, live_block, header_of, output_found, output_in, place_here}
 use Rattle.language.proofs.Members.{split_in, either}
 use Rattle.task_code.specs.Code as code
 use Rattle.task_code.specs.Code.{Variable, Local, Parameter, Header, Act, Way, InPlace, Through, Loop, Code, entry, body, ways, loop_of, targets as code_targets, stored_of, is_array_name, is_array_owned}
@@ -94,9 +95,9 @@ name_back : (k : ℕ) (r : code.Name) → is_array_name r ≡ true → (x : Name
 name_back k r h = (let o = owned_back k r.owned h in (record { up = r.up; what = o.0 }, (λ z. record { up = r.up; owned = o.1 z }), o.2))
 
 owned_is : (a b : Owned) → (a ≡ b) ⊎ (a ≡ b → ⊥)
-owned_is (local n) (local m) = elim (nat_is n m) [ inl e ↦ inl (ap local e) | inr ne ↦ inr (λ e. ne (cc (e))) ]
-owned_is (input n) (input m) = elim (nat_is n m) [ inl e ↦ inl (ap input e) | inr ne ↦ inr (λ e. ne (cc (e))) ]
-owned_is (output n) (output m) = elim (nat_is n m) [ inl e ↦ inl (ap output e) | inr ne ↦ inr (λ e. ne (cc (e))) ]
+owned_is (local n) (local m) = elim (cases_eq n m) [ inl e ↦ inl (ap local e) | inr ne ↦ inr (λ e. ne (cc (e))) ]
+owned_is (input n) (input m) = elim (cases_eq n m) [ inl e ↦ inl (ap input e) | inr ne ↦ inr (λ e. ne (cc (e))) ]
+owned_is (output n) (output m) = elim (cases_eq n m) [ inl e ↦ inl (ap output e) | inr ne ↦ inr (λ e. ne (cc (e))) ]
 owned_is (local n) (input m) = inr (λ e. absurd (cc (e)))
 owned_is (local n) (output m) = inr (λ e. absurd (cc (e)))
 owned_is (input n) (local m) = inr (λ e. absurd (cc (e)))

@@ -32,7 +32,7 @@ use Rattle.task_code.specs.Places.{Step, Datum, Constant, Nowhere, place_at}
 use Rattle.task_code.specs.Shape.{fits_kinds, has_shape}
 use Rattle.task_code.specs.System.{scalar_input, whole_input, key_input, element_input, inputs_at, code_system}
 use Rattle.task_code.specs.Whole.{IsCode}
-use Rattle.task_code.proofs.Equal.{true_and, every_in}
+use Rattle.task_code.proofs.Equal.{every_in}
 use Rattle.task_code.proofs.Kept.{code_laws}
 use Rattle.task_code.proofs.Places.{spot_path, spot_variable, not_constant}
 use Rattle.task_code.proofs.Rights.{in_gather}
@@ -55,7 +55,7 @@ use Rattle.headline.proofs.Means.{chain_live, covering_reads}
 use Rattle.headline.proofs.Readings.{cell_has, to_code, name_stands, same_array}
 use Rattle.headline.proofs.Transfer.{reading_valid}
 use Rattle.headline.proofs.WrittenFrom.{path_same}
-use Rattle.std.proofs.lemmas.Bool.{not-true}
+use Rattle.std.proofs.lemmas.Bool.{not-true, and_parts}
 
 module _ (s : Core) (C : Code) (w : IsCodeOf s C) (wf : WellFormed s) (I : IsCode C) (sc : Scoped s) (clean : CleanCode C) (K : Knowledge) where
   abbrev E : Task → TaskEffect → Type 0
@@ -300,12 +300,12 @@ module _ (s : Core) (C : Code) (w : IsCodeOf s C) (wf : WellFormed s) (I : IsCod
           need_in (code.Stored r) m f i h x = scalar_in (place_at C p r) (scalar_name (code.Stored r) r m (inl refl) (not-true (is_array_name r) f)) i h x
           need_in (code.Closed r) m f i h x = whole_in (place_at C p r) (array_name (code.Closed r) r m (inl refl) f) i h x
           need_in (code.At a r) m f i h x =
-              let q = true_and (is_array_name a) (not (is_array_name r)) f in
+              let q = and_parts (is_array_name a) (not (is_array_name r)) f in
               element_in (place_at C p a) (place_at C p r) (array_name (code.At a r) a m (inl refl) q.0) (scalar_name (code.At a r) r m (inr (inl refl)) (not-true (is_array_name r) q.1)) i h x
           need_in (code.AtKey a key) m f i h x = key_in (place_at C p a) key (array_name (code.AtKey a key) a m (inl refl) f) i h x
 
           needs_in : (n : Need) → In n (entry C j).needs → NeedFed p n
-          needs_in n m = need_in n m (every_in fits_kinds (entry C j).needs (true_and (list_all fits_kinds (entry C j).needs) (has_shape (entry C j).act (entry C j).needs) (I.shape j)).0 n m)
+          needs_in n m = need_in n m (every_in fits_kinds (entry C j).needs (and_parts (list_all fits_kinds (entry C j).needs) (has_shape (entry C j).act (entry C j).needs) (I.shape j)).0 n m)
 
         task_in : {t : Task} → (t ≡ Main) ⊎ StandingItem s C w K wf I sc t → (i : Input CodePlaces.Place Key) → In i ((code_system C).inputs t) → (x : Got) → Answers s K i x → Gets i x
         task_in (inl q) i h x a = absurd (subst (λ (z : Task). In i ((code_system C).inputs z)) q h)

@@ -2,6 +2,7 @@
 use Rattle.std.proofs.Common.{◌≡◌, ◌⊎◌, inl, inr, ℕ, zero, suc, ◌<◌, ◌≤◌, ◌+◌, arith, Bool, true, false, List, [], ◌∷◌, ◌++◌, map, length, refl, sym, ap, ◌∙◌, subst, Option, Some, None, Ok}
 use Rattle.std.specs.Prelude.{pos, ℤ, if◌then◌else◌, take, drop}
 use Rattle.std.specs.List.{flat_map}
+use Rattle.std.proofs.lemmas.Bool.{cases_eq}
 use Rattle.dataflow.specs.System.{In, Found, Content}
 use Rattle.dataflow.proofs.Lists.{in_left, in_right, in_split}
 use Rattle.values.specs.declared.key.Key.{Key}
@@ -22,7 +23,6 @@ use Rattle.language.specs.Parts.{outer_cells, outer_parts, parts, part_cells, ce
 use Rattle.language.specs.Places.{Path, place, most_steps}
 use Rattle.language.specs.WellFormed.{WellFormed}
 use Rattle.language.proofs.Members.{split_in, to_left, to_right, either}
-use Rattle.language_laws.proofs.Declared.{nat_is}
 use Rattle.task_code.specs.Code as code
 use Rattle.task_code.specs.Code.{Need, Header, Act, If, Wait, Way, Code, Through, InPlace, Calling, Loop, entry, body, ways, loop_of}
 use Rattle.task_code.specs.Compute.{Computed, Takes, Turns, Elements, elements, pairs, content, answer_at, in_key_order, ranged, range_turns, turns_or, compute, branched}
@@ -204,7 +204,7 @@ outer_among (x ∷ os) o (later h) = to_right x.parts _ (later (outer_among os o
 pub turn_there : (low step : ℤ) (m n i : ℕ) → m ≤ i → i < m + n → In (Key.Number (pos i), Number (value_in low step i)) (range_turns low step m n)
 turn_there low step m zero i a b = absurd (omega arith)
 turn_there low step m (suc n) i a b =
-    elim (nat_is i m) [
+    elim (cases_eq i m) [
       | inl e ↦ inl (ap (λ (z : ℕ). (Key.Number (pos z), Number (value_in low step z))) e)
       | inr ne ↦ inr (turn_there low step (suc m) n i (later_place m i a ne) (omega arith))
     ]

@@ -17,7 +17,7 @@ use Rattle.task_code.specs.Places as CodePlaces
 use Rattle.task_code.specs.Shape.{fits_kinds, has_shape}
 use Rattle.task_code.specs.System.{scalar_input, whole_input, key_input, element_input, data_among, inputs_at, code_system}
 use Rattle.task_code.specs.Whole.{Declared, SeenFrom, Fixes, IsCode}
-use Rattle.task_code.proofs.Equal.{true_and, every_in}
+use Rattle.task_code.proofs.Equal.{every_in}
 use Rattle.task_code.proofs.Opens.{seen_place}
 use Rattle.task_code.proofs.Places.{argument_kind, argued, spot_variable, not_constant}
 use Rattle.task_code.proofs.Rights.{declared_place, in_gather}
@@ -29,7 +29,7 @@ use Rattle.code_rules.specs.IsCodeOf.{Layout, BodyAs, body_as, IsCodeOf}
 use Rattle.language_laws.specs.TypedValues.{TypedValues}
 use Rattle.headline.proofs.LiveTo.{live_to}
 use Rattle.headline.proofs.Opening.{kind_fixed}
-use Rattle.std.proofs.lemmas.Bool.{false_from_ne_true, not-true}
+use Rattle.std.proofs.lemmas.Bool.{false_from_ne_true, not-true, and_parts}
 
 in_data : (d : CodePlaces.Place) (ds : List CodePlaces.Place) → In d (data_among ds) → In d ds
 in_data d [] h = absurd h
@@ -127,14 +127,14 @@ module _ (s : Core) (C : Code) (w : IsCodeOf s C) (K : Knowledge) (wf : WellForm
     need_fits (Stored r) m f i h = scalar_fits (place_at C p r) (read_fits false (Stored r) r m (inl refl) (not-true (is_array_name r) f)) i h
     need_fits (code.Closed r) m f i h = whole_fits (place_at C p r) (read_fits true (code.Closed r) r m (inl refl) f) i h
     need_fits (At a r) m f i h =
-        let q = true_and (is_array_name a) (not (is_array_name r)) f in
+        let q = and_parts (is_array_name a) (not (is_array_name r)) f in
         element_fits (place_at C p a) (place_at C p r) (read_fits true (At a r) a m (inl refl) q.0) (read_fits false (At a r) r m (inr (inl refl)) (not-true (is_array_name r) q.1)) i h
     need_fits (AtKey a key) m f i h = key_fits (place_at C p a) key (read_fits true (AtKey a key) a m (inl refl) f) i h
 
     item_fits : (c : ℕ) (i : Input CodePlaces.Place Key) → In i ((code_system C).inputs (Item j p c)) → FitsKind s C K i
     item_fits c i h =
         let n = in_gather C (inputs_at C p) (entry C j).needs i h in
-        let f = every_in fits_kinds (entry C j).needs (true_and (list_all fits_kinds (entry C j).needs) (has_shape (entry C j).act (entry C j).needs) (I.shape j)).0 n.0 n.1 in
+        let f = every_in fits_kinds (entry C j).needs (and_parts (list_all fits_kinds (entry C j).needs) (has_shape (entry C j).act (entry C j).needs) (I.shape j)).0 n.0 n.1 in
         need_fits n.0 n.1 f i n.2
 
   -- THE INPUTS OF A LIVE TASK FIT

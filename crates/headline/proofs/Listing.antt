@@ -1,8 +1,8 @@
 -- The lines of facts with their writers, in the order of a log.
 use Rattle.std.proofs.Common.{◌≡◌, ◌⊎◌, inl, inr, ℕ, List, [], ◌∷◌, ◌++◌, map, refl, sym, ap, ◌∙◌, subst}
+use Rattle.std.proofs.lemmas.List.{map-append}
 use Rattle.dataflow.specs.System.{In, Effect}
 use Rattle.dataflow.specs.Promises.{lines_of}
-use Rattle.dataflow.proofs.Lists.{map_append}
 use Rattle.values.specs.declared.key.Key.{Key}
 use Rattle.values.specs.declared.value.Scalar.{Scalar}
 use Rattle.values.specs.declared.value.Scalar.TheVariants.{Text}
@@ -105,10 +105,10 @@ module _ (C : Code) where
   pub listing_texts : (fs : LogFacts) → texts (listing fs) ≡ map text (lines_of (code_system C) fs)
   listing_texts [] = refl
   listing_texts (x ∷ fs) =
-      map_append (λ (l : Written). l.1) (listing fs) (its_lines x)
+      map-append (λ (l : Written). l.1) (listing fs) (its_lines x)
       ∙ ap (λ (l : List (List ℕ)). l ++ texts (its_lines x)) (listing_texts fs)
       ∙ ap (λ (l : List (List ℕ)). map text (lines_of (code_system C) fs) ++ l) (its_texts (writer x.0) x.1.lines)
-      ∙ sym (map_append text (lines_of (code_system C) fs) x.1.lines)
+      ∙ sym (map-append text (lines_of (code_system C) fs) x.1.lines)
 
   -- the lines of facts are texts
   pub all_texts : (vs : List Scalar) → ((y : Scalar) → In y vs → (bytes : List ℕ) × (y ≡ Text bytes)) → vs ≡ map Text (map text vs)

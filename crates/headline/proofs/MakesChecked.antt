@@ -8,10 +8,10 @@ use Rattle.language.specs.Members.{◌∈◌, first, later}
 use Rattle.language.specs.Parts.{stmt_action, block_list}
 use Rattle.task_code.specs.Code.{Variable, Code}
 use Rattle.task_code.specs.Check.{variable_in}
-use Rattle.task_code.proofs.Equal.{true_and, nat_sound, bool_sound, every_in}
-use Rattle.task_code.proofs.Checked.{variable_in_sound, or_true}
+use Rattle.task_code.proofs.Equal.{nat_sound, bool_sound, every_in}
+use Rattle.task_code.proofs.Checked.{variable_in_sound}
 use Rattle.code_rules.specs.IsCodeOf.{Layout, MakesAs}
-use Rattle.std.proofs.lemmas.Bool.{not-true}
+use Rattle.std.proofs.lemmas.Bool.{not-true, or_cases, and_parts}
 
 -- some statement declares this node
 abbrev pub declares_node : ℕ → Action → Bool
@@ -40,15 +40,15 @@ node_there n _ h = absurd (cc)
 declared_there : (n : ℕ) (sts : List Stmt) → is_declared_in n sts ≡ true → (at : ℕ) × (m : ℕ) × (stmt at m (declare n) ∈ sts)
 declared_there n [] h = absurd (cc)
 declared_there n (stmt at m a ∷ sts) h =
-    elim (or_true (declares_node n a) (is_declared_in n sts) h) [
+    elim (or_cases (declares_node n a) (is_declared_in n sts) h) [
       | inl p ↦ (at, m, subst (λ (x : Action). stmt at m x ∈ (stmt at m a ∷ sts)) (node_there n a p) first)
       | inr q ↦ (let r = declared_there n sts q in (r.0, r.1, later r.2))
     ]
 
 every_member : {X : Type 0} (f : X → Bool) (xs : List X) → list_all f xs ≡ true → {x : X} → x ∈ xs → f x ≡ true
 every_member f [] h i = elim i [ ]
-every_member f (x ∷ xs) h first = (true_and (f x) (list_all f xs) h).0
-every_member f (x ∷ xs) h (later i) = every_member f xs (true_and (f x) (list_all f xs) h).1 i
+every_member f (x ∷ xs) h first = (and_parts (f x) (list_all f xs) h).0
+every_member f (x ∷ xs) h (later i) = every_member f xs (and_parts (f x) (list_all f xs) h).1 i
 
 true_false : {A : Type 0} {b : Bool} → b ≡ true → b ≡ false → A
 true_false h k = absurd (let n : true ≡ false = sym h ∙ k in cc)
@@ -56,7 +56,7 @@ true_false h k = absurd (let n : true ≡ false = sym h ∙ k in cc)
 pub makes_checked : (C : Code) (l : Layout) (b : Block) (vs : List Variable) → all_made l vs (block_list b) ≡ true → list_all (is_real l (block_list b)) vs ≡ true → MakesAs C l b vs
 makes_checked C l b vs h r = record {
   declared = λ at m n i. variable_in_sound _ vs (every_member (λ st. is_made l vs (stmt_action st)) (block_list b) h i);
-  arrays = λ n i. (let x = true_and _ _ (every_in (is_real l (block_list b)) vs r _ i) in declared_there n (block_list b) x.0);
-  kinds = λ v i. (let x = true_and _ _ (every_in (is_real l (block_list b)) vs r v i) in bool_sound v.array (l.array v.node) (true_and _ _ x.1).0);
-  real = λ v i. (let x = true_and _ _ (every_in (is_real l (block_list b)) vs r v i) in not-true (l.plain v.node) (true_and _ _ x.1).1);
+  arrays = λ n i. (let x = and_parts _ _ (every_in (is_real l (block_list b)) vs r _ i) in declared_there n (block_list b) x.0);
+  kinds = λ v i. (let x = and_parts _ _ (every_in (is_real l (block_list b)) vs r v i) in bool_sound v.array (l.array v.node) (and_parts _ _ x.1).0);
+  real = λ v i. (let x = and_parts _ _ (every_in (is_real l (block_list b)) vs r v i) in not-true (l.plain v.node) (and_parts _ _ x.1).1);
 }

@@ -5,9 +5,9 @@ use Rattle.std.specs.List.{list_all}
 use Rattle.task_code.specs.Code as code
 use Rattle.task_code.specs.Code.{Act, Entry, Code, entry, nth, blank_entry}
 use Rattle.task_code.specs.Whole.{IsCode}
-use Rattle.task_code.proofs.Equal.{true_and, nat_same}
+use Rattle.task_code.proofs.Equal.{nat_same}
 use Rattle.code_rules.specs.NodesOnce.{TellsNode, NodesOnce}
-use Rattle.std.proofs.lemmas.Bool.{and_from}
+use Rattle.std.proofs.lemmas.Bool.{and_from, and_parts}
 
 abbrev tells : Act → Bool
 tells (code.Cell e) = true
@@ -56,15 +56,15 @@ clashes e f h g q = and_from (tells e.act) _ (tells_so e.act h) (and_from (tells
 
 free_at : (e : Entry) (es : List Entry) (j : ℕ) → list_all (λ f. not (clash e f)) es ≡ true → j < length es → clash e (nth blank_entry es j) ≡ true → ⊥
 free_at e [] j h l c = absurd (omega arith)
-free_at e (f ∷ es) zero h l c = not_so (clash e f) (true_and (not (clash e f)) _ h).0 c
-free_at e (f ∷ es) (suc j) h l c = free_at e es j (true_and (not (clash e f)) _ h).1 (omega arith) c
+free_at e (f ∷ es) zero h l c = not_so (clash e f) (and_parts (not (clash e f)) _ h).0 c
+free_at e (f ∷ es) (suc j) h l c = free_at e es j (and_parts (not (clash e f)) _ h).1 (omega arith) c
 
 one_at : (es : List Entry) (i j : ℕ) → nodes_apart es ≡ true → i < length es → j < length es → TellsNode (nth blank_entry es i).act → TellsNode (nth blank_entry es j).act → (nth blank_entry es i).node ≡ (nth blank_entry es j).node → i ≡ j
 one_at [] i j h l m a b q = absurd (omega arith)
 one_at (e ∷ es) zero zero h l m a b q = refl
-one_at (e ∷ es) zero (suc j) h l m a b q = absurd (free_at e es j (true_and (list_all (λ f. not (clash e f)) es) _ h).0 (omega arith) (clashes e (nth blank_entry es j) a b q))
-one_at (e ∷ es) (suc i) zero h l m a b q = absurd (free_at e es i (true_and (list_all (λ f. not (clash e f)) es) _ h).0 (omega arith) (clashes e (nth blank_entry es i) b a (sym q)))
-one_at (e ∷ es) (suc i) (suc j) h l m a b q = ap suc (one_at es i j (true_and (list_all (λ f. not (clash e f)) es) _ h).1 (omega arith) (omega arith) a b q)
+one_at (e ∷ es) zero (suc j) h l m a b q = absurd (free_at e es j (and_parts (list_all (λ f. not (clash e f)) es) _ h).0 (omega arith) (clashes e (nth blank_entry es j) a b q))
+one_at (e ∷ es) (suc i) zero h l m a b q = absurd (free_at e es i (and_parts (list_all (λ f. not (clash e f)) es) _ h).0 (omega arith) (clashes e (nth blank_entry es i) b a (sym q)))
+one_at (e ∷ es) (suc i) (suc j) h l m a b q = ap suc (one_at es i j (and_parts (list_all (λ f. not (clash e f)) es) _ h).1 (omega arith) (omega arith) a b q)
 
 pub nodes_checked : (C : Code) → IsCode C → nodes_apart C.entries ≡ true → NodesOnce C
 nodes_checked C I h t u i j a b f g q = one_at C.entries i j h (I.there t i a) (I.there u j b) f g q

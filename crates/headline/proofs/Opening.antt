@@ -25,7 +25,7 @@ use Rattle.task_code.specs.Places.{Step, Datum, Constant, place_at}
 use Rattle.task_code.specs.Places as CodePlaces
 use Rattle.task_code.specs.Shape.{fits_kinds, has_shape}
 use Rattle.task_code.specs.Whole.{Declared, SeenFrom, Fixes, IsCode}
-use Rattle.task_code.proofs.Equal.{true_and, every_in}
+use Rattle.task_code.proofs.Equal.{every_in}
 use Rattle.task_code.proofs.Opens.{seen_place}
 use Rattle.task_code.proofs.Places.{argument_kind}
 use Rattle.task_code.proofs.Rights.{declared_place}
@@ -36,7 +36,7 @@ use Rattle.language_laws.specs.Scoped.{IsIn, AreIn, FormIn}
 use Rattle.code_rules.specs.IsCodeOf.{Layout, seen, seen_as}
 use Rattle.headline.proofs.Evaluate.{IsDatum, ArrayIsDatum, ArraysAreData}
 use Rattle.headline.proofs.Readings.{cell_has}
-use Rattle.std.proofs.lemmas.Bool.{and_from}
+use Rattle.std.proofs.lemmas.Bool.{and_from, and_parts}
 
 -- HOW DEEP
 
@@ -134,12 +134,12 @@ module _ (s : Core) (C : Code) (l : Layout) (K : Knowledge) (I : IsCode C) where
   arrays_are_data {p} ch j i = all_data (entry C j).needs (λ n m. m)
     where
       fits : (n : Need) → In n (entry C j).needs → fits_kinds n ≡ true
-      fits n m = every_in fits_kinds (entry C j).needs (true_and (list_all fits_kinds (entry C j).needs) (has_shape (entry C j).act (entry C j).needs) (I.shape j)).0 n m
+      fits n m = every_in fits_kinds (entry C j).needs (and_parts (list_all fits_kinds (entry C j).needs) (has_shape (entry C j).act (entry C j).needs) (I.shape j)).0 n m
 
       one : (n : Need) → In n (entry C j).needs → fits_kinds n ≡ true → ArrayIsDatum s C K p n
       one (Stored r) m f = tt
       one (code.Closed r) m f = array_datum ch j i r (I.needs j (code.Closed r) r m (inl refl)) f
-      one (At a r) m f = array_datum ch j i a (I.needs j (At a r) a m (inl refl)) (true_and _ _ f).0
+      one (At a r) m f = array_datum ch j i a (I.needs j (At a r) a m (inl refl)) (and_parts _ _ f).0
       one (AtKey a key) m f = array_datum ch j i a (I.needs j (AtKey a key) a m (inl refl)) f
 
       all_data : (ns : List Need) → ((n : Need) → In n ns → In n (entry C j).needs) → ArraysAreData s C K p ns

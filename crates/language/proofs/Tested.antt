@@ -1,7 +1,7 @@
 -- A test that a core keeps what an accepted script's core keeps.
 use Rattle.std.specs.Prelude.{◌≡◌, ◌⊎◌, ℕ, zero, suc, Bool, true, false, not, ◌&&◌, ◌||◌, List, [], ◌∷◌, ◌++◌, Option, Some, None, cond, nat_eq, find, refl}
 use Rattle.std.proofs.Common.{inl, inr, sym, ap, ◌∙◌, subst, arith}
-use Rattle.std.proofs.lemmas.Bool.{eqb-true}
+use Rattle.std.proofs.lemmas.Bool.{eqb-true, or_cases, or_left, or_right, and_parts}
 use Rattle.language.specs.Core.{Owned, local, input, output, Name, here, Cell, Call, Outer, Stmt, stmt, Action, declare, call_alone, assign, fill, insert, range, each, Block, Core}
 use Rattle.language.specs.Distinct.{has, distinct}
 use Rattle.language.specs.Members.{◌∈◌, first, later}
@@ -16,22 +16,6 @@ abbrev pub flat : {X : Type 0} → (X → List ℕ) → List X → List ℕ
 flat f [] = []
 flat f (x ∷ xs) = f x ++ flat f xs
 
-pub both : (a b : Bool) → (a && b) ≡ true → (a ≡ true) × (b ≡ true)
-both true b h = (refl, h)
-both false b h = absurd (cc (h))
-
-pub either_true : (a b : Bool) → (a || b) ≡ true → (a ≡ true) ⊎ (b ≡ true)
-either_true true b h = inl refl
-either_true false b h = inr h
-
-pub true_left : (a b : Bool) → a ≡ true → (a || b) ≡ true
-true_left true b h = refl
-true_left false b h = absurd (cc (h))
-
-pub true_right : (a b : Bool) → b ≡ true → (a || b) ≡ true
-true_right true b h = refl
-true_right false b h = h
-
 not_true : (a : Bool) {A : Type 0} → not a ≡ true → a ≡ true → A
 not_true true h k = absurd (cc (h))
 not_true false h k = absurd (cc (k))
@@ -40,25 +24,25 @@ pub self_eq : (n : ℕ) → nat_eq n n ≡ true
 self_eq n = grind arith
 
 pub has_in : {n : ℕ} {xs : List ℕ} → n ∈ xs → has n xs ≡ true
-has_in {n} {xs} first = true_left (nat_eq n n) _ (self_eq n)
-has_in {n} (later {y = y} {xs = xs} m) = true_right (nat_eq n y) (has n xs) (has_in m)
+has_in {n} {xs} first = or_left (nat_eq n n) _ (self_eq n)
+has_in {n} (later {y = y} {xs = xs} m) = or_right (nat_eq n y) (has n xs) (has_in m)
 
 pub in_has : (n : ℕ) (xs : List ℕ) → has n xs ≡ true → n ∈ xs
 in_has n [] h = absurd (cc (h))
-in_has n (x ∷ xs) h = elim (either_true (nat_eq n x) (has n xs) h) [ inl e ↦ subst (λ (z : ℕ). n ∈ (z ∷ xs)) (eqb-true n x e) first | inr k ↦ later (in_has n xs k) ]
+in_has n (x ∷ xs) h = elim (or_cases (nat_eq n x) (has n xs) h) [ inl e ↦ subst (λ (z : ℕ). n ∈ (z ∷ xs)) (eqb-true n x e) first | inr k ↦ later (in_has n xs k) ]
 
 pub distinct_right : (xs ys : List ℕ) → distinct (xs ++ ys) ≡ true → distinct ys ≡ true
 distinct_right [] ys h = h
-distinct_right (x ∷ xs) ys h = distinct_right xs ys (both (not (has x (xs ++ ys))) (distinct (xs ++ ys)) h).1
+distinct_right (x ∷ xs) ys h = distinct_right xs ys (and_parts (not (has x (xs ++ ys))) (distinct (xs ++ ys)) h).1
 
 pub distinct_apart : (xs ys : List ℕ) {n : ℕ} {A : Type 0} → distinct (xs ++ ys) ≡ true → n ∈ xs → n ∈ ys → A
 distinct_apart [] ys h m k = elim m [ ]
-distinct_apart (x ∷ xs) ys h first k = not_true (has x (xs ++ ys)) (both (not (has x (xs ++ ys))) (distinct (xs ++ ys)) h).0 (has_in (to_right xs ys k))
-distinct_apart (x ∷ xs) ys h (later m) k = distinct_apart xs ys (both (not (has x (xs ++ ys))) (distinct (xs ++ ys)) h).1 m k
+distinct_apart (x ∷ xs) ys h first k = not_true (has x (xs ++ ys)) (and_parts (not (has x (xs ++ ys))) (distinct (xs ++ ys)) h).0 (has_in (to_right xs ys k))
+distinct_apart (x ∷ xs) ys h (later m) k = distinct_apart xs ys (and_parts (not (has x (xs ++ ys))) (distinct (xs ++ ys)) h).1 m k
 
 distinct_left : (xs ys : List ℕ) → distinct (xs ++ ys) ≡ true → distinct xs ≡ true
 distinct_left [] ys h = refl
-distinct_left (x ∷ xs) ys h = and_true (not (has x xs)) (distinct xs) (fresh (has x xs) refl) (distinct_left xs ys (both (not (has x (xs ++ ys))) (distinct (xs ++ ys)) h).1)
+distinct_left (x ∷ xs) ys h = and_true (not (has x xs)) (distinct xs) (fresh (has x xs) refl) (distinct_left xs ys (and_parts (not (has x (xs ++ ys))) (distinct (xs ++ ys)) h).1)
   where
     and_true : (a b : Bool) → a ≡ true → b ≡ true → (a && b) ≡ true
     and_true true b h k = k
@@ -66,7 +50,7 @@ distinct_left (x ∷ xs) ys h = and_true (not (has x xs)) (distinct xs) (fresh (
 
     fresh : (b : Bool) → has x xs ≡ b → not b ≡ true
     fresh false e = refl
-    fresh true e = not_true (has x (xs ++ ys)) (both (not (has x (xs ++ ys))) (distinct (xs ++ ys)) h).0 (has_in (to_left xs ys (in_has x xs e)))
+    fresh true e = not_true (has x (xs ++ ys)) (and_parts (not (has x (xs ++ ys))) (distinct (xs ++ ys)) h).0 (has_in (to_left xs ys (in_has x xs e)))
 
 pub flat_in : {X : Type 0} (f : X → List ℕ) {x : X} {n : ℕ} (xs : List X) → x ∈ xs → n ∈ f x → n ∈ flat f xs
 flat_in f [] m i = elim m [ ]
@@ -96,8 +80,8 @@ every p (x ∷ xs) = p x && every p xs
 
 pub every_in : {X : Type 0} (p : X → Bool) {x : X} (xs : List X) → every p xs ≡ true → x ∈ xs → p x ≡ true
 every_in p [] h m = elim m [ ]
-every_in p (x ∷ xs) h first = (both (p x) (every p xs) h).0
-every_in p (x ∷ xs) h (later m) = every_in p xs (both (p x) (every p xs) h).1 m
+every_in p (x ∷ xs) h first = (and_parts (p x) (every p xs) h).0
+every_in p (x ∷ xs) h (later m) = every_in p xs (and_parts (p x) (every p xs) h).1 m
 
 pub among_split : (bs : List Block) {st : Stmt} → st ∈ stmts_among bs → (b : Block) × (b ∈ bs) × (st ∈ block_list b)
 among_split [] m = elim m [ ]
@@ -302,8 +286,8 @@ targets_fine s (stmt at n a) = every (may_be_target s) (by_name a) && every (λ 
 
 named_at : (p : Name → Bool) (xs : List Name) (j : ℕ) → every p xs ≡ true → p (here 0) ≡ true → p (name_at xs j) ≡ true
 named_at p [] j h z = z
-named_at p (x ∷ xs) zero h z = (both (p x) (every p xs) h).0
-named_at p (x ∷ xs) (suc j) h z = named_at p xs j (both (p x) (every p xs) h).1 z
+named_at p (x ∷ xs) zero h z = (and_parts (p x) (every p xs) h).0
+named_at p (x ∷ xs) (suc j) h z = named_at p xs j (and_parts (p x) (every p xs) h).1 z
 
 pub found_one : (p : Call → Bool) (cs : List Call) (c : Call) → find p cs ≡ Some c → c ∈ cs
 found_one p [] c h = absurd (cc (h))
@@ -328,11 +312,11 @@ call_among (s ∷ ss) (later m) i = to_right (stmt_calls s) (calls_among ss) (ca
 module _ (s : Core) (fine : every (targets_fine s) (script_stmts s) ≡ true) where
   outputs_fine : (st : Stmt) {c : Call} → st ∈ script_stmts s → c ∈ stmt_calls st → every (may_be_target s) c.outputs ≡ true
   outputs_fine (stmt at n a) m i =
-      every_in (λ (c : Call). every (may_be_target s) c.outputs) (stmt_calls (stmt at n a)) (both (every (may_be_target s) (by_name a)) (every (λ (c : Call). every (may_be_target s) c.outputs) (stmt_calls (stmt at n a))) (every_in (targets_fine s) (script_stmts s) fine m)).1 i
+      every_in (λ (c : Call). every (may_be_target s) c.outputs) (stmt_calls (stmt at n a)) (and_parts (every (may_be_target s) (by_name a)) (every (λ (c : Call). every (may_be_target s) c.outputs) (stmt_calls (stmt at n a))) (every_in (targets_fine s) (script_stmts s) fine m)).1 i
 
   target_fine : {at n : ℕ} {a : Action} {x : Name} → stmt at n a ∈ script_stmts s → x ∈ by_name a → may_be s x.what ≡ true
   target_fine {at} {n} {a} m i =
-      every_in (may_be_target s) (by_name a) (both (every (may_be_target s) (by_name a)) (every (λ (c : Call). every (may_be_target s) c.outputs) (stmt_calls (stmt at n a))) (every_in (targets_fine s) (script_stmts s) fine m)).0 i
+      every_in (may_be_target s) (by_name a) (and_parts (every (may_be_target s) (by_name a)) (every (λ (c : Call). every (may_be_target s) c.outputs) (stmt_calls (stmt at n a))) (every_in (targets_fine s) (script_stmts s) fine m)).0 i
 
   output_fine : (o : Option Call) (at j : ℕ) → call_at s at ≡ o → may_be s (output_name o j).what ≡ true
   output_fine None at j e = refl

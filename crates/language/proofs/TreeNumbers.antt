@@ -1,7 +1,7 @@
 -- The nodes of a core are numbers of its tree, each at most as often: so where no number stands twice in the tree, none does in the core.
 use Rattle.std.specs.Prelude.{◌≡◌, ℕ, zero, suc, ◌+◌, ◌≤◌, Bool, true, false, not, ◌&&◌, ◌||◌, List, [], ◌∷◌, ◌++◌, nat_eq, cond, refl}
 use Rattle.std.proofs.Common.{ap, subst, arith}
-use Rattle.std.proofs.lemmas.Bool.{eqb-true}
+use Rattle.std.proofs.lemmas.Bool.{eqb-true, and_parts}
 use Rattle.language.specs.Tree as T
 use Rattle.language.specs.Tree.{Word, Node, Expression, expression, number, text, truth, variable, element, call, prefixed, chain, Expressions, no_expressions, and_expression, expressions_of, RightSide, value, list, Calling, Over, Statement, statement, Command, choice, choice_else, loop, waits, Body, body, Statements, no_statements, and_statement, Tree, import, function, single}
 use Rattle.language.specs.Core.{here, compute, read, Call, Part, inner, calls}
@@ -12,7 +12,7 @@ use Rattle.language.specs.Table.{Table, Callee, composite, built_in}
 use Rattle.language.specs.declared.tree.Shape.{Shape}
 pub use Rattle.language.specs.Numbers.{expression_numbers, form_numbers, expressions_numbers}
 use Rattle.language.specs.Members.{◌∈◌, first, later}
-use Rattle.language.proofs.Tested.{flat, both, self_eq, cell_nodes, name_nodes}
+use Rattle.language.proofs.Tested.{flat, self_eq, cell_nodes, name_nodes}
 use Rattle.language.specs.Distinct.{has, distinct}
 
 -- COUNTS
@@ -79,10 +79,10 @@ few_distinct (x ∷ xs) h = and_true (not (has x xs)) (distinct xs) (fresh (has 
 pub distinct_few : (xs : List ℕ) → distinct xs ≡ true → (n : ℕ) → times n xs ≤ 1
 unfolding hit
 distinct_few [] h n = omega arith
-distinct_few (x ∷ xs) h n = by (nat_eq n x) refl (distinct_few xs (both (not (has x xs)) (distinct xs) h).1 n)
+distinct_few (x ∷ xs) h n = by (nat_eq n x) refl (distinct_few xs (and_parts (not (has x xs)) (distinct xs) h).1 n)
   where
     none_more : has x xs ≡ true → ⊥
-    none_more k = no_true (has x xs) (both (not (has x xs)) (distinct xs) h).0 k
+    none_more k = no_true (has x xs) (and_parts (not (has x xs)) (distinct xs) h).0 k
       where
         no_true : (b : Bool) → not b ≡ true → b ≡ true → ⊥
         no_true true h k = absurd (cc (h))

@@ -1,6 +1,7 @@
 -- The core of a typed script with numbers in reading order is scoped, and where it is singly assigned and no called name stands at the offset of another it is well formed.
 use Rattle.std.specs.Prelude.{◌≡◌, ◌⊎◌, ℕ, zero, suc, ◌<◌, Bool, true, false, ◌&&◌, ◌||◌, List, [], ◌∷◌, Option, Some, length, nat_eq, nat_lt, slice_get, refl}
 use Rattle.std.proofs.Common.{inl, inr, sym, ap, ap₂, ◌∙◌, subst, arith}
+use Rattle.std.proofs.lemmas.Bool.{and_from}
 use Rattle.language.specs.Core.{Owned, local, input, output, Name, Cell, Call, Part, inner, calls, Stmt, stmt, Action, each, wait, Block, Function, Core}
 use Rattle.language.specs.Members.{◌∈◌, first, later}
 use Rattle.language.specs.Numbers.{numbers}
@@ -35,9 +36,6 @@ use Rattle.language_accepted.proofs.Once.{rising_once}
 every_of : {X : Type 0} (p : X → Bool) (xs : List X) → ((x : X) → x ∈ xs → p x ≡ true) → every p xs ≡ true
 every_of p [] h = refl
 every_of p (x ∷ xs) h = ap₂ (λ (a b : Bool). a && b) (h x first) (every_of p xs (λ y m. h y (later m)))
-
-and_true : {a b : Bool} → a ≡ true → b ≡ true → (a && b) ≡ true
-and_true h k = ap₂ (λ (a b : Bool). a && b) h k
 
 here_true : (n : ℕ) → n ≡ 0 → is_here n ≡ true
 here_true n e = ap is_here e
@@ -170,7 +168,7 @@ module _ (t : Table) (tree : Tree) (rise : Rise 0 (numbers tree)) (typed : WellT
         ap (may_be s) r.1 ∙ has_in h))
 
     targets_true : (st : Stmt) → st ∈ script_stmts s → targets_fine s st ≡ true
-    targets_true (stmt at n a) m = and_true (by_name_true (stmt at n a) m) (every_of (λ (c : Call). every (may_be_target s) c.outputs) (stmt_calls (stmt at n a)) (λ c i. elim (call_targets a c i) [
+    targets_true (stmt at n a) m = and_from _ _ (by_name_true (stmt at n a) m) (every_of (λ (c : Call). every (may_be_target s) c.outputs) (stmt_calls (stmt at n a)) (λ c i. elim (call_targets a c i) [
       | inl j ↦ hidden_true at n a c m j
       | inr e ↦ subst (λ (xs : List Name). every (may_be_target s) xs ≡ true) (sym e) (by_name_true (stmt at n a) m)
     ]))
@@ -178,7 +176,7 @@ module _ (t : Table) (tree : Tree) (rise : Rise 0 (numbers tree)) (typed : WellT
     script_true : every (here_and_declared s.body) (used s.body) ≡ true
     script_true = every_of (here_and_declared s.body) (used s.body) (λ x m. elim (used_stands fs 0 all.script m) [
       | inl v ↦ (let i = v.visible in elim i [ ])
-      | inr r ↦ and_true (here_true x.up r.0) r.1
+      | inr r ↦ and_from _ _ (here_true x.up r.0) r.1
     ])
 
     -- a header's block
@@ -211,11 +209,11 @@ module _ (t : Table) (tree : Tree) (rise : Rise 0 (numbers tree)) (typed : WellT
         let b = all.functions f m in
         every_of (function_name f) (used f.body) (λ x i. elim (used_stands fs f.inputs b.placed i) [
           | inl v ↦ parameter x i (subst (IsParameter f) (sym v.is) (b.parameters v.variable v.visible))
-          | inr r ↦ and_true (here_true x.up r.0) (declared x.what r.1)
+          | inr r ↦ and_from _ _ (here_true x.up r.0) (declared x.what r.1)
         ])
       where
         declared : (what : Owned) → declares f.body what ≡ true → ((declares f.body what || is_output what) && output_below f.outputs what) ≡ true
-        declared (local n) h = and_true (ap (λ (z : Bool). z || false) h) refl
+        declared (local n) h = and_from _ _ (ap (λ (z : Bool). z || false) h) refl
         declared (input i) h = absurd (cc (h))
         declared (output j) h = absurd (cc (h))
 
@@ -224,7 +222,7 @@ module _ (t : Table) (tree : Tree) (rise : Rise 0 (numbers tree)) (typed : WellT
 
         parameter : (x : Name) → x ∈ used f.body → IsParameter f x → function_name f x ≡ true
         parameter x i p = elim p.is [
-          | inl r ↦ and_true (here_true x.up p.near) (outputs x.what r.0 r.1 r.2)
+          | inl r ↦ and_from _ _ (here_true x.up p.near) (outputs x.what r.0 r.1 r.2)
           | inr r ↦ absurd (no_target s single (an_input m r.2) (subst (λ (z : Owned). HasTarget z f.body) r.1 (used_target f.body i)))
         ]
 

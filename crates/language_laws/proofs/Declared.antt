@@ -1,6 +1,7 @@
 -- What a name is, and which blocks are live: facts about one script.
 use Rattle.std.specs.Prelude.{◌≡◌, ◌⊎◌, ℕ, zero, suc, List, [], ◌∷◌, Some, slice_get, refl}
 use Rattle.std.proofs.Common.{inl, inr, sym, ap, ◌∙◌, subst, arith}
+use Rattle.std.proofs.lemmas.Bool.{cases_eq}
 use Rattle.values.specs.declared.key.Key.{Key}
 use Rattle.values.specs.declared.value.Value.{Value}
 use Rattle.language.specs.Core.{Owned, local, input, output, Name, Stmt, stmt, Action, declare, call_alone, assign, fill, insert, print, assert, when, choose, range, each, wait, Block, Core}
@@ -13,9 +14,6 @@ use Rattle.language.specs.Places.{Path, place_of}
 use Rattle.language.specs.WellFormed.{header_blocks, Declares}
 use Rattle.language.proofs.Blocks.{header_inner, inner_block, main_block, function_block, among_script}
 use Rattle.language.proofs.Members.{split_in}
-
-pub nat_is : (a b : ℕ) → (a ≡ b) ⊎ (a ≡ b → ⊥)
-nat_is a b = grind arith
 
 pub header_of : {a : Action} {vs : List Value} {k : Key} {c : Block} → Opens a vs k c → c ∈ header_blocks a
 header_of then_alone = first
@@ -76,7 +74,7 @@ declared_in n (stmt at m a ∷ ss) = by (is_declare a) (declared_in n ss)
     by : (((k : ℕ) × (a ≡ declare k)) ⊎ ((k : ℕ) → a ≡ declare k → ⊥)) → (DeclaredIn n ss ⊎ (DeclaredIn n ss → ⊥)) → DeclaredIn n (stmt at m a ∷ ss) ⊎ (DeclaredIn n (stmt at m a ∷ ss) → ⊥)
     by x (inl d) = inl (record { at = d.at; node = d.node; there = later d.there })
     by (inr x) (inr y) = inr (λ d. elim (split_in d.there) [ inl e ↦ x n (stmt_actions e) | inr k ↦ y (record { at = d.at; node = d.node; there = k }) ])
-    by (inl x) (inr y) = elim (nat_is x.0 n) [
+    by (inl x) (inr y) = elim (cases_eq x.0 n) [
       | inl e ↦ inl (record { at = at; node = m; there = subst (λ (b : Action). stmt at m b ∈ (stmt at m a ∷ ss)) (x.1 ∙ ap (λ (k : ℕ). declare k) e) first })
       | inr z ↦ inr (λ d. elim (split_in d.there) [ inl e ↦ z (declare_same (sym x.1 ∙ stmt_actions e)) | inr k ↦ y (record { at = d.at; node = d.node; there = k }) ])
     ]

@@ -1,6 +1,7 @@
 -- Scripts without branches, loops and composite calls: their one path is the script's.
 use Rattle.std.specs.Prelude.{◌≡◌, Bool, true, false, ◌&&◌, List, [], ◌∷◌, refl}
 use Rattle.std.specs.List.{list_all}
+use Rattle.std.proofs.lemmas.Bool.{and_parts}
 use Rattle.values.specs.declared.key.Key.{Key}
 use Rattle.values.specs.declared.value.Scalar.{Scalar}
 use Rattle.values.specs.declared.value.Value.{Value}
@@ -44,21 +45,17 @@ none_in : (cs : List Call) {c : Call} → is_none cs ≡ true → c ∈ cs → �
 none_in [] e m = elim m [ ]
 none_in (d ∷ cs) e m = absurd (cc (e))
 
-both : (a b : Bool) → (a && b) ≡ true → (a ≡ true) × (b ≡ true)
-both true b h = (refl, h)
-both false b h = absurd (cc (h))
-
 all_of : (p : Stmt → Bool) (ss : List Stmt) {st : Stmt} → list_all p ss ≡ true → st ∈ ss → p st ≡ true
 all_of p [] h m = elim m [ ]
-all_of p (s ∷ ss) h first = (both (p s) (list_all p ss) h).0
-all_of p (s ∷ ss) h (later m) = all_of p ss (both (p s) (list_all p ss) h).1 m
+all_of p (s ∷ ss) h first = (and_parts (p s) (list_all p ss) h).0
+all_of p (s ∷ ss) h (later m) = all_of p ss (and_parts (p s) (list_all p ss) h).1 m
 
 module _ (s : Core) (flat : Flat s) where
   pub plain_stmt : {st : Stmt} → st ∈ script_stmts s → is_plain (stmt_action st) ≡ true
-  plain_stmt {st} m = (both (is_plain (stmt_action st)) (is_none (stmt_calls st)) (all_of is_flat (script_stmts s) flat m)).0
+  plain_stmt {st} m = (and_parts (is_plain (stmt_action st)) (is_none (stmt_calls st)) (all_of is_flat (script_stmts s) flat m)).0
 
   pub call_free : {st : Stmt} {c : Call} → st ∈ script_stmts s → c ∈ stmt_calls st → ⊥
-  call_free {st} m i = none_in (stmt_calls st) (both (is_plain (stmt_action st)) (is_none (stmt_calls st)) (all_of is_flat (script_stmts s) flat m)).1 i
+  call_free {st} m i = none_in (stmt_calls st) (and_parts (is_plain (stmt_action st)) (is_none (stmt_calls st)) (all_of is_flat (script_stmts s) flat m)).1 i
 
   -- every live statement stands at the script's own path
   pub at_script : {K : Knowledge} {path : Path} {b : Block} → Live s K path b → path ≡ []

@@ -1,12 +1,11 @@
 -- Whether two places are one.
 use Rattle.std.specs.Prelude.{◌≡◌, ◌⊎◌, true, false, [], ◌∷◌, refl}
 use Rattle.std.proofs.Common.{inl, inr, sym, ap, ◌∙◌, subst}
-use Rattle.std.proofs.lemmas.Bool.{cases_Bool}
+use Rattle.std.proofs.lemmas.Bool.{cases_Bool, cases_eq}
 use Rattle.values.specs.declared.key.Key.{Key}
 use Rattle.values.specs.Keys.{same_key}
 use Rattle.values.proofs.Keys.{same_key-refl, same_key-eq}
 use Rattle.language.specs.Places.{Path, Place, Step}
-use Rattle.language_laws.proofs.Declared.{nat_is}
 
 true_false : true ≡ false → ⊥
 true_false h = absurd (cc (h))
@@ -24,7 +23,7 @@ path_is : (p q : Path) → (p ≡ q) ⊎ (p ≡ q → ⊥)
 path_is [] [] = inl refl
 path_is [] (b ∷ q) = inr (λ e. absurd (cc (e)))
 path_is (a ∷ p) [] = inr (λ e. absurd (cc (e)))
-path_is (a ∷ p) (b ∷ q) = by (nat_is a.0 b.0) (key_is a.1 b.1) (path_is p q)
+path_is (a ∷ p) (b ∷ q) = by (cases_eq a.0 b.0) (key_is a.1 b.1) (path_is p q)
   where
     by : ((a.0 ≡ b.0) ⊎ (a.0 ≡ b.0 → ⊥)) → ((a.1 ≡ b.1) ⊎ (a.1 ≡ b.1 → ⊥)) → ((p ≡ q) ⊎ (p ≡ q → ⊥)) → (a ∷ p ≡ b ∷ q) ⊎ (a ∷ p ≡ b ∷ q → ⊥)
     by (inl e) (inl f) (inl g) = inl (λ i. (e i, f i) ∷ g i)
@@ -33,7 +32,7 @@ path_is (a ∷ p) (b ∷ q) = by (nat_is a.0 b.0) (key_is a.1 b.1) (path_is p q)
     by (inl e) (inl f) (inr h) = inr (λ e. h (step_parts e).1)
 
 pub place_is : (a b : Place) → (a ≡ b) ⊎ (a ≡ b → ⊥)
-place_is a b = by (path_is a.0 b.0) (nat_is a.1 b.1)
+place_is a b = by (path_is a.0 b.0) (cases_eq a.1 b.1)
   where
     by : ((a.0 ≡ b.0) ⊎ (a.0 ≡ b.0 → ⊥)) → ((a.1 ≡ b.1) ⊎ (a.1 ≡ b.1 → ⊥)) → (a ≡ b) ⊎ (a ≡ b → ⊥)
     by (inl e) (inl f) = inl (λ i. (e i, f i))

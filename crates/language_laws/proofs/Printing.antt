@@ -3,6 +3,7 @@ use Rattle.std.specs.Prelude.{◌≡◌, ◌⊎◌, ℕ, suc, ℤ, Bool, true, f
 use Rattle.std.specs.List.{list_all}
 use Rattle.std.proofs.Common.{inl, inr, sym, ap, ◌∙◌, subst}
 use Rattle.std.proofs.lemmas.List.Sorted.{IsPermutation-refl}
+use Rattle.std.proofs.lemmas.Bool.{and_parts}
 use Rattle.values.specs.declared.value.Scalar.TheVariants.{Text}
 use Rattle.values.specs.declared.value.Value.{Value}
 use Rattle.values.specs.declared.value.Value.TheVariants.{One}
@@ -70,18 +71,14 @@ main_or_other s (opened {c = c} {header = a} l m r o d) = inr (inner_other s (ma
 main_or_other s (waited l m r) = inr (inner_other s (main_or_other s l) m first)
 main_or_other s (called {f = f} {c = c} l m i e d) = inr (to_right (blocks_below s.body) (function_blocks s.functions) (body_block s.functions c.function f e))
 
-both : (a b : Bool) → (a && b) ≡ true → (a ≡ true) × (b ≡ true)
-both true b h = (refl, h)
-both false b h = absurd (cc (h))
-
 abbrev pub is_quiet : Action → Bool
 is_quiet (print p c) = false
 is_quiet _ = true
 
 all_of : (p : Stmt → Bool) (ss : List Stmt) {st : Stmt} → list_all p ss ≡ true → st ∈ ss → p st ≡ true
 all_of p [] h m = elim m [ ]
-all_of p (s ∷ ss) h first = (both (p s) (list_all p ss) h).0
-all_of p (s ∷ ss) h (later m) = all_of p ss (both (p s) (list_all p ss) h).1 m
+all_of p (s ∷ ss) h first = (and_parts (p s) (list_all p ss) h).0
+all_of p (s ∷ ss) h (later m) = all_of p ss (and_parts (p s) (list_all p ss) h).1 m
 
 -- of a script whose other blocks print nothing
 pub main_prints : (s : Core) → list_all (λ st. is_quiet (stmt_action st)) (stmts_among (other_blocks s)) ≡ true → PrintsAt s (printers (block_list s.body))

@@ -1,7 +1,7 @@
 -- A test that names stand where they are declared, and that calls are found.
 use Rattle.std.specs.Prelude.{◌≡◌, ◌⊎◌, ℕ, zero, suc, ◌<◌, Bool, true, false, not, ◌&&◌, ◌||◌, List, [], ◌∷◌, ◌++◌, length, Option, Some, None, ℤ, cond, nat_eq, nat_lt, find, slice_get, refl}
 use Rattle.std.proofs.Common.{inl, inr, sym, ap, ◌∙◌, subst, arith}
-use Rattle.std.proofs.lemmas.Bool.{eqb-true, ltb-true}
+use Rattle.std.proofs.lemmas.Bool.{eqb-true, ltb-true, or_cases, and_parts}
 use Rattle.values.specs.Operators as op
 use Rattle.values.specs.Operators.{literal}
 use Rattle.language.specs.Core.{Owned, local, input, output, Name, here, literal as lit, name as nm, whole, operator, Form, compute, read, Call, Part, inner, calls, Outer, Stmt, stmt, Action, declare, call_alone, assign, fill, insert, print, assert, when, choose, range, each, wait, Block, no_stmts, stmts, Function, Core}
@@ -12,7 +12,7 @@ use Rattle.language.proofs.Blocks.{among_script}
 use Rattle.language_laws.proofs.Declared.{local_same}
 use Rattle.language_laws.proofs.OneAssign.{function_in}
 use Rattle.language.proofs.Members.{split_in, to_left, to_right, either}
-use Rattle.language.proofs.Tested.{flat, both, either_true, has_in, in_has, self_eq, distinct_apart, distinct_right, flat_in, flat_once, every, every_in, declared_of, name_nodes, hidden_calls, hidden_of, nodes, block_nodes, writer_of, declared_node, hidden_node, stmt_once, stmt_distinct, cell_once, role_once, role_cells, one_block, targets_fine, call_among, assign_apart, role_assign, split_flat, among_split, hidden_distinct}
+use Rattle.language.proofs.Tested.{flat, has_in, in_has, self_eq, distinct_apart, distinct_right, flat_in, flat_once, every, every_in, declared_of, name_nodes, hidden_calls, hidden_of, nodes, block_nodes, writer_of, declared_node, hidden_node, stmt_once, stmt_distinct, cell_once, role_once, role_cells, one_block, targets_fine, call_among, assign_apart, role_assign, split_flat, among_split, hidden_distinct}
 use Rattle.language.specs.Distinct.{has, distinct}
 
 -- NAMES
@@ -427,7 +427,7 @@ module _ (s : Core) (g : Passes s) where
 
   used_script : (up : ℕ) (what : Owned) → Uses s.body up what → (up ≡ 0) × Declares s.body what
   used_script up what u =
-      let r = both (is_here up) (declares s.body what) (every_in (here_and_declared s.body) (used s.body) g.script_body (uses_used u)) in
+      let r = and_parts (is_here up) (declares s.body what) (every_in (here_and_declared s.body) (used s.body) g.script_body (uses_used u)) in
       (here_zero up r.0, declares_it s.body what r.1)
 
   used_header : (b c : Block) (at n : ℕ) (a : Action) (what : Owned) → b ∈ script_blocks s → stmt at n a ∈ block_list b → c ∈ header_blocks a → Uses c 0 what → Declares c what
@@ -443,9 +443,9 @@ module _ (s : Core) (g : Passes s) where
 
   function_names : (i : ℕ) (f : Function) (up : ℕ) (what : Owned) → slice_get s.functions i ≡ Some f → Uses f.body up what → (up ≡ 0) × (Declares f.body what ⊎ ((j : ℕ) × (what ≡ output j)))
   function_names i f up what e u =
-      let r = both (is_here up) ((declares f.body what || is_output what) && output_below f.outputs what) (used_function i f e u) in
-      let q = both (declares f.body what || is_output what) (output_below f.outputs what) r.1 in
-      (here_zero up r.0, elim (either_true (declares f.body what) (is_output what) q.0) [ inl d ↦ inl (declares_it f.body what d) | inr o ↦ inr (an_output what o) ])
+      let r = and_parts (is_here up) ((declares f.body what || is_output what) && output_below f.outputs what) (used_function i f e u) in
+      let q = and_parts (declares f.body what || is_output what) (output_below f.outputs what) r.1 in
+      (here_zero up r.0, elim (or_cases (declares f.body what) (is_output what) q.0) [ inl d ↦ inl (declares_it f.body what d) | inr o ↦ inr (an_output what o) ])
     where
       an_output : (what : Owned) → is_output what ≡ true → (j : ℕ) × (what ≡ output j)
       an_output (output j) h = (j, refl)
@@ -458,7 +458,7 @@ module _ (s : Core) (g : Passes s) where
 
   call_outputs : (b : Block) (st : Stmt) (c : Call) (f : Function) (j : ℕ) → b ∈ script_blocks s → st ∈ block_list b → c ∈ stmt_calls st → slice_get s.functions c.function ≡ Some f → Uses f.body 0 (output j) → (x : Name) × (slice_get c.outputs j ≡ Some x)
   call_outputs b st c f j k i m e u =
-      let r = both (declares f.body (output j) || is_output (output j)) (output_below f.outputs (output j)) (both (is_here 0) ((declares f.body (output j) || is_output (output j)) && output_below f.outputs (output j)) (used_function c.function f e u)).1 in
+      let r = and_parts (declares f.body (output j) || is_output (output j)) (output_below f.outputs (output j)) (and_parts (is_here 0) ((declares f.body (output j) || is_output (output j)) && output_below f.outputs (output j)) (used_function c.function f e u)).1 in
       let l = ltb-true j f.outputs r.1 in
       let n = call_count b st c f k i m e in
       get_below c.outputs j (omega arith)

@@ -1,12 +1,12 @@
 -- A test that a core is singly assigned.
 use Rattle.std.specs.Prelude.{◌≡◌, ◌⊎◌, ℕ, zero, suc, ◌+◌, ◌<◌, ◌≤◌, Bool, true, false, not, ◌&&◌, ◌||◌, List, [], ◌∷◌, Some, None, nat_eq, nat_lt, max, min, refl}
 use Rattle.std.proofs.Common.{inl, inr, sym, ap, ◌∙◌, subst, arith}
-use Rattle.std.proofs.lemmas.Bool.{eqb-true, ltb-true}
+use Rattle.std.proofs.lemmas.Bool.{eqb-true, ltb-true, and_from, or_cases, or_left, or_right, and_parts}
 use Rattle.language.specs.Core.{Owned, local, input, output, Name, Expr, literal, name, whole, operator, Exprs, none, also, Form, compute, read, Cell, Awaited, scalar, array, Stmt, stmt, Action, declare, call_alone, assign, fill, insert, print, assert, when, choose, range, each, wait, Block, no_stmts, stmts, Function, Core}
 use Rattle.language.specs.Members.{◌∈◌, first, later}
 use Rattle.language.specs.Parts.{block_list, script_blocks, script_stmts, stmts_within, cells, stmt_action, by_name, by_element}
 use Rattle.language.specs.Single.{Times, nowhere, here_too, not_here, IsSimple, Way, way_end, way_on, StmtWay, simple, taken, skipped, then_way, else_way, range_way, each_way, wait_way, IsNamed, IsWritten, Reads, the_name, an_operand, ReadsSome, the_first, a_later, IsRead, in_cell, in_wait, Owns, declared_here, an_output, Given, an_input, range_value, range_turn, each_value, each_key, LoopBody, of_range, of_each, SinglyAssigned}
-use Rattle.language.proofs.Tested.{both, either_true, true_left, true_right, self_eq, flat_in, every, every_in, roles_of}
+use Rattle.language.proofs.Tested.{self_eq, flat_in, every, every_in, roles_of}
 use Rattle.language_laws.proofs.TestedNames.{declared_by, declared_in}
 
 -- COUNTS
@@ -138,12 +138,12 @@ any p [] = false
 any p (x ∷ xs) = p x || any p xs
 
 any_of : {X : Type 0} (p : X → Bool) {x : X} {xs : List X} → x ∈ xs → p x ≡ true → any p xs ≡ true
-any_of p (first {x = x} {xs = xs}) h = true_left (p x) (any p xs) h
-any_of p (later {y = y} {xs = xs} m) h = true_right (p y) (any p xs) (any_of p m h)
+any_of p (first {x = x} {xs = xs}) h = or_left (p x) (any p xs) h
+any_of p (later {y = y} {xs = xs} m) h = or_right (p y) (any p xs) (any_of p m h)
 
 of_any : {X : Type 0} (p : X → Bool) (xs : List X) → any p xs ≡ true → (x : X) × (x ∈ xs) × (p x ≡ true)
 of_any p [] h = absurd (cc (h))
-of_any p (x ∷ xs) h = elim (either_true (p x) (any p xs) h) [ inl e ↦ (x, first, e) | inr k ↦ (let r = of_any p xs k in (r.0, later r.1, r.2)) ]
+of_any p (x ∷ xs) h = elim (or_cases (p x) (any p xs) h) [ inl e ↦ (x, first, e) | inr k ↦ (let r = of_any p xs k in (r.0, later r.1, r.2)) ]
 
 abbrev is_this : Owned → Name → Bool
 is_this x y = is_one y.what x
@@ -200,8 +200,8 @@ mutual
   reads_true (an_operand h) = some_true h
 
   some_true : {x : Owned} {es : Exprs} → ReadsSome x es → reads_some x es ≡ true
-  some_true {x} (the_first {e = e} {es = es} h) = true_left (reads x e) (reads_some x es) (reads_true h)
-  some_true {x} (a_later {e = e} {es = es} h) = true_right (reads x e) (reads_some x es) (some_true h)
+  some_true {x} (the_first {e = e} {es = es} h) = or_left (reads x e) (reads_some x es) (reads_true h)
+  some_true {x} (a_later {e = e} {es = es} h) = or_right (reads x e) (reads_some x es) (some_true h)
 
 abbrev form_reads : Owned → Form → Bool
 form_reads x (compute e) = reads x e
@@ -225,9 +225,9 @@ abbrev is_read : Owned → Block → Bool
 is_read x b = any (stmt_reads x) (stmts_within b)
 
 read_true : {x : Owned} {b : Block} → IsRead x b → is_read x b ≡ true
-read_true {x} (in_cell {s = s} i m h) = any_of (stmt_reads x) i (true_left (any (cell_reads x) (cells s)) (awaits x (stmt_action s)) (any_of (cell_reads x) m (reads_true h)))
+read_true {x} (in_cell {s = s} i m h) = any_of (stmt_reads x) i (or_left (any (cell_reads x) (cells s)) (awaits x (stmt_action s)) (any_of (cell_reads x) m (reads_true h)))
 read_true {x} (in_wait {at = at} {n = n} {ns = ns} {d = d} {y = y} i m e) =
-    any_of (stmt_reads x) i (true_right (any (cell_reads x) (cells (stmt at n (wait ns d)))) (any (awaited_is x) ns) (any_of (awaited_is x) m (this_one x y e)))
+    any_of (stmt_reads x) i (or_right (any (cell_reads x) (cells (stmt at n (wait ns d)))) (any (awaited_is x) ns) (any_of (awaited_is x) m (this_one x y e)))
 
 -- THE TEST
 
@@ -241,10 +241,6 @@ implied false b h k = absurd (cc (k))
 denied : (a : Bool) {A : Type 0} → not a ≡ true → a ≡ true → A
 denied true h k = absurd (cc (h))
 denied false h k = absurd (cc (k))
-
-both_are : (a b : Bool) → a ≡ true → b ≡ true → (a && b) ≡ true
-both_are true b h k = k
-both_are false b h k = absurd (cc (h))
 
 -- the branches of an `if` count alike
 abbrev branches : Owned → Action → Bool
@@ -318,10 +314,10 @@ record IsOwner (x : Owned) (b : Block) : Type 0 where
 
 owner_of : (x : Owned) (b : Block) → owner_fine x b ≡ true → IsOwner x b
 owner_of x b h =
-    let a = both (nat_lt (most x b) 2) (every (branches_fine x) (stmts_within b) && (implies (is_read x b) (named x b) && (every (loop_fine x) (stmts_within b) && not (named x b && written x b)))) h in
-    let c = both (every (branches_fine x) (stmts_within b)) (implies (is_read x b) (named x b) && (every (loop_fine x) (stmts_within b) && not (named x b && written x b))) a.1 in
-    let d = both (implies (is_read x b) (named x b)) (every (loop_fine x) (stmts_within b) && not (named x b && written x b)) c.1 in
-    let e = both (every (loop_fine x) (stmts_within b)) (not (named x b && written x b)) d.1 in
+    let a = and_parts (nat_lt (most x b) 2) (every (branches_fine x) (stmts_within b) && (implies (is_read x b) (named x b) && (every (loop_fine x) (stmts_within b) && not (named x b && written x b)))) h in
+    let c = and_parts (every (branches_fine x) (stmts_within b)) (implies (is_read x b) (named x b) && (every (loop_fine x) (stmts_within b) && not (named x b && written x b))) a.1 in
+    let d = and_parts (implies (is_read x b) (named x b)) (every (loop_fine x) (stmts_within b) && not (named x b && written x b)) c.1 in
+    let e = and_parts (every (loop_fine x) (stmts_within b)) (not (named x b && written x b)) d.1 in
     record { few = ltb-true (most x b) 2 a.0; alike = c.0; read = d.0; loops = e.0; form = e.1 }
 
 record IsGiven (x : Owned) (b : Block) : Type 0 where
@@ -331,8 +327,8 @@ record IsGiven (x : Owned) (b : Block) : Type 0 where
 
 given_of : (x : Owned) (b : Block) → given_fine x b ≡ true → IsGiven x b
 given_of x b h =
-    let a = both (nat_eq (most x b) 0) (every (loop_fine x) (stmts_within b) && not (written x b)) h in
-    let c = both (every (loop_fine x) (stmts_within b)) (not (written x b)) a.1 in
+    let a = and_parts (nat_eq (most x b) 0) (every (loop_fine x) (stmts_within b) && not (written x b)) h in
+    let c = and_parts (every (loop_fine x) (stmts_within b)) (not (written x b)) a.1 in
     record { none_at_all = eqb-true (most x b) 0 a.0; loops = c.0; form = c.1 }
 
 module _ (s : Core) (g : PassesSingle s) where
@@ -340,7 +336,7 @@ module _ (s : Core) (g : PassesSingle s) where
   owner (declared_here {b = b} {n = n} m i) =
       owner_of (local n) b (every_in (λ (n : ℕ). owner_fine (local n) b) (declared_in b) (every_in block_fine (script_blocks s) g.declared m) (flat_in declared_by (block_list b) i first))
   owner (an_output {f = f} {j = j} m l) =
-      owner_of (output j) f.body (both (owner_fine (output j) f.body) (named (output j) f.body || written (output j) f.body) (every_in (output_fine f) (below f.outputs) (every_in outputs_fine s.functions g.outputs m) (below_in j f.outputs l))).0
+      owner_of (output j) f.body (and_parts (owner_fine (output j) f.body) (named (output j) f.body || written (output j) f.body) (every_in (output_fine f) (below f.outputs) (every_in outputs_fine s.functions g.outputs m) (below_in j f.outputs l))).0
 
   of_loop : {at n v : ℕ} {a : Action} → stmt at n a ∈ script_stmts s → v ∈ roles_of a → IsGiven (local v) (loop_body a)
   of_loop {v = v} {a = a} m i = given_of (local v) (loop_body a) (every_in (λ (v : ℕ). given_fine (local v) (loop_body a)) (roles_of a) (every_in loops_given (script_stmts s) g.loops m) i)
@@ -360,8 +356,8 @@ module _ (s : Core) (g : PassesSingle s) where
 
   two_branches : (x : Owned) (d e : Block) (i j : ℕ) → (nat_eq (least x d) (most x d) && (nat_eq (most x d) (least x e) && nat_eq (least x e) (most x e))) ≡ true → Way x d i → Way x e j → i ≡ j
   two_branches x d e i j h k l =
-      let a = both (nat_eq (least x d) (most x d)) (nat_eq (most x d) (least x e) && nat_eq (least x e) (most x e)) h in
-      let b = both (nat_eq (most x d) (least x e)) (nat_eq (least x e) (most x e)) a.1 in
+      let a = and_parts (nat_eq (least x d) (most x d)) (nat_eq (most x d) (least x e) && nat_eq (least x e) (most x e)) h in
+      let b = and_parts (nat_eq (most x d) (least x e)) (nat_eq (least x e) (most x e)) a.1 in
       let p = eqb-true (least x d) (most x d) a.0 in
       let q = eqb-true (most x d) (least x e) b.0 in
       let r = eqb-true (least x e) (most x e) b.1 in
@@ -382,9 +378,9 @@ module _ (s : Core) (g : PassesSingle s) where
     alone = λ x b at n c d i o m k. (let l = eqb-true (most x d) 0 (every_in (branches_fine x) (stmts_within b) (owner o).alike m) in let u = (way_between k).1 in omega arith);
     assigned = λ x b o r. named_is x b (implied (is_read x b) (named x b) (owner o).read (read_true r));
     outside_loops = λ x b d o l n. elim o [ inl h ↦ no_loop (owner h).loops l n | inr h ↦ no_loop (given h).loops l n ];
-    one_form = λ x b o n w. denied (named x b && written x b) (owner o).form (both_are (named x b) (written x b) (named_true n) (written_true w));
+    one_form = λ x b o n w. denied (named x b && written x b) (owner o).form (and_from (named x b) (written x b) (named_true n) (written_true w));
     given_form = λ x b o w. denied (written x b) (given o).form (written_true w);
-    output_assigned = λ f j m l. elim (either_true (named (output j) f.body) (written (output j) f.body) (both (owner_fine (output j) f.body) (named (output j) f.body || written (output j) f.body) (every_in (output_fine f) (below f.outputs) (every_in outputs_fine s.functions g.outputs m) (below_in j f.outputs l))).1) [
+    output_assigned = λ f j m l. elim (or_cases (named (output j) f.body) (written (output j) f.body) (and_parts (owner_fine (output j) f.body) (named (output j) f.body || written (output j) f.body) (every_in (output_fine f) (below f.outputs) (every_in outputs_fine s.functions g.outputs m) (below_in j f.outputs l))).1) [
       | inl h ↦ inl (named_is (output j) f.body h)
       | inr h ↦ inr (written_is (output j) f.body h)
     ];

@@ -1,6 +1,7 @@
 -- What holds of each statement that a core is made of holds of all its statements: calls in expressions have one output, and whole arrays go to arrays.
 use Rattle.std.specs.Prelude.{◌≡◌, ℕ, ℤ, Bool, true, false, ◌&&◌, List, [], ◌∷◌, ◌++◌, map, Option, Some, None, refl}
 use Rattle.std.proofs.Common.{sym, subst}
+use Rattle.std.proofs.lemmas.Bool.{and_parts}
 use Rattle.language.specs.declared.tree.Shape.{Shape}
 use Rattle.language.specs.Tree as T
 use Rattle.language.specs.Tree.{Word, Node, Declaration, Expression, expression, number, text, truth, variable, element, call, prefixed, chain, Expressions, no_expressions, and_expression, expressions_of, RightSide, value, list, Calling, Over, Statement, statement, Command, choice, choice_else, loop, waits, Body, body, Statements, no_statements, and_statement, Composite, Tree, import, function, single}
@@ -8,12 +9,12 @@ use Rattle.language.specs.Core.{Name, here, Action, declare, insert, when, choos
 use Rattle.language.specs.Parts.{stmts_among, script_stmts, block_list, blocks_below, blocks_inside, blocks_of, function_blocks}
 use Rattle.language.specs.Resolved.{refers, outer, right_of, call_action, several, awaited, loop_action, stmt_of, block_of, block_in, with_statement, with_command, script_block, functions_of, core}
 use Rattle.language.specs.Table.{Table, Callee}
-use Rattle.language.proofs.Tested.{every, both}
+use Rattle.language.proofs.Tested.{every}
 use Rattle.language_laws.proofs.TreeBlocks.{right_no_block, several_no_block, call_no_block, loop_block}
 
 pub every-append : {X : Type 0} (p : X → Bool) (xs ys : List X) → every p xs ≡ true → every p ys ≡ true → every p (xs ++ ys) ≡ true
 every-append p [] ys h k = k
-every-append p (x ∷ xs) ys h k = let r = both (p x) (every p xs) h in both_are (p x) (every p (xs ++ ys)) r.0 (every-append p xs ys r.1 k)
+every-append p (x ∷ xs) ys h k = let r = and_parts (p x) (every p xs) h in both_are (p x) (every p (xs ++ ys)) r.0 (every-append p xs ys r.1 k)
   where
     both_are : (a b : Bool) → a ≡ true → b ≡ true → (a && b) ≡ true
     both_are true b h k = k
@@ -34,7 +35,7 @@ every_among p (b ∷ xs) ys h k =
   where
     every_left : (p : Stmt → Bool) (xs ys : List Stmt) → every p (xs ++ ys) ≡ true → (every p xs ≡ true) × (every p ys ≡ true)
     every_left p [] ys h = (refl, h)
-    every_left p (x ∷ xs) ys h = let r = both (p x) (every p (xs ++ ys)) h in let q = every_left p xs ys r.1 in (every_cons p x xs r.0 q.0, q.1)
+    every_left p (x ∷ xs) ys h = let r = and_parts (p x) (every p (xs ++ ys)) h in let q = every_left p xs ys r.1 in (every_cons p x xs r.0 q.0, q.1)
 
 -- what a test says of each statement that can be made
 pub record OfEach (p : Stmt → Bool) (t : Table) : Type 0 where

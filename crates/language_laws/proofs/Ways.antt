@@ -1,12 +1,12 @@
 -- Ways through blocks: each block has one, and what is assigned counts on some way.
 use Rattle.std.specs.Prelude.{◌≡◌, ◌⊎◌, ℕ, zero, suc, ◌+◌, ◌≤◌, List, [], ◌∷◌, Some, slice_get, refl}
 use Rattle.std.proofs.Common.{inl, inr, sym, ap, ◌∙◌, subst, arith}
+use Rattle.std.proofs.lemmas.Bool.{cases_eq}
 use Rattle.language.specs.Core.{Owned, local, input, output, Name, Outer, Awaited, Stmt, stmt, Action, declare, call_alone, assign, fill, insert, print, assert, when, choose, range, each, wait, Block, no_stmts, stmts}
 use Rattle.language.specs.Members.{◌∈◌, first, later}
 use Rattle.language.specs.Parts.{block_list, blocks_of, stmts_within}
 use Rattle.language.specs.Single.{Times, nowhere, here_too, not_here, Way, way_end, way_on, StmtWay, simple, taken, skipped, then_way, else_way, range_way, each_way, wait_way}
 use Rattle.language.proofs.Blocks.{inner_blocks, inner_below, of_below, below_below, among}
-use Rattle.language_laws.proofs.Declared.{nat_is}
 use Rattle.language.proofs.Members.{split_in}
 
 local_local : {m n : ℕ} → local m ≡ local n → m ≡ n
@@ -19,15 +19,15 @@ output_output : {m n : ℕ} → output m ≡ output n → m ≡ n
 output_output h = cc
 
 pub owned_is : (x y : Owned) → (x ≡ y) ⊎ (x ≡ y → ⊥)
-owned_is (local m) (local n) = elim (nat_is m n) [ inl e ↦ inl (ap local e) | inr h ↦ inr (λ e. h (local_local e)) ]
+owned_is (local m) (local n) = elim (cases_eq m n) [ inl e ↦ inl (ap local e) | inr h ↦ inr (λ e. h (local_local e)) ]
 owned_is (local m) (input n) = inr (λ e. absurd (cc (e)))
 owned_is (local m) (output n) = inr (λ e. absurd (cc (e)))
 owned_is (input m) (local n) = inr (λ e. absurd (cc (e)))
-owned_is (input m) (input n) = elim (nat_is m n) [ inl e ↦ inl (ap input e) | inr h ↦ inr (λ e. h (input_input e)) ]
+owned_is (input m) (input n) = elim (cases_eq m n) [ inl e ↦ inl (ap input e) | inr h ↦ inr (λ e. h (input_input e)) ]
 owned_is (input m) (output n) = inr (λ e. absurd (cc (e)))
 owned_is (output m) (local n) = inr (λ e. absurd (cc (e)))
 owned_is (output m) (input n) = inr (λ e. absurd (cc (e)))
-owned_is (output m) (output n) = elim (nat_is m n) [ inl e ↦ inl (ap output e) | inr h ↦ inr (λ e. h (output_output e)) ]
+owned_is (output m) (output n) = elim (cases_eq m n) [ inl e ↦ inl (ap output e) | inr h ↦ inr (λ e. h (output_output e)) ]
 
 -- COUNTS OF NAMES
 

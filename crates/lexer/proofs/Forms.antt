@@ -13,6 +13,7 @@ use Rattle.lexer.specs.Reading.{piece}
 use Rattle.lexer.proofs.Laws.{other}
 use Rattle.std.specs.List.{list_all}
 use Rattle.std.specs.Str.{bytes_eq}
+use Rattle.std.proofs.lemmas.Bool.{not-true}
 use Rattle.lexer.proofs.Pieces.{and_left, and_right, append-nil}
 use Rattle.lexer.proofs.Items.{stands_of, empty_text}
 
@@ -27,10 +28,6 @@ abbrev is_open_in : Option TokenKind → Bool
 is_open_in None = false
 is_open_in (Some k) = is_open k
 
-not_true : (b : Bool) → not b ≡ true → b ≡ false
-not_true true e = let wrong : false ≡ true = e in cc
-not_true false e = refl
-
 -- `if`s in a row, as a list
 abbrev chain : {A : Type 0} → List (Bool × A) → A → A
 chain [] d = d
@@ -43,7 +40,7 @@ if_lacks test false x y p q = q
 chain_lacks : {A : Type 0} (test : A → Bool) (es : List (Bool × A)) (d : A) → list_all (λ e. not (test e.1)) es ≡ true → test d ≡ false → test (chain es d) ≡ false
 chain_lacks test [] d all p = p
 chain_lacks test (e ∷ es) d all p =
-    if_lacks test e.0 e.1 (chain es d) (not_true (test e.1) (and_left (not (test e.1)) (list_all (λ e. not (test e.1)) es) all))
+    if_lacks test e.0 e.1 (chain es d) (not-true (test e.1) (and_left (not (test e.1)) (list_all (λ e. not (test e.1)) es) all))
     (chain_lacks test es d (and_right (not (test e.1)) (list_all (λ e. not (test e.1)) es) all) p)
 
 abbrev keyword_chain : List ℕ → List (Bool × TokenKind)

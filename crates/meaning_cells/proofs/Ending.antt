@@ -233,13 +233,6 @@ truly p = (λ e. p, λ q. refl)
 pub falsely : {P : Type 0} → (P → ⊥) → IsTrue false ↔ P
 falsely f = (λ e. absurd (cc (e)), λ q. elim (f q) [ ])
 
--- what stands in a list at a number
-pub slice_past : {X : Type 0} (xs : List X) (k : ℕ) → length xs ≤ k → slice_get xs k ≡ None
-slice_past [] zero l = refl
-slice_past [] (suc k) l = refl
-slice_past (x ∷ xs) zero l = absurd (omega (arith, l))
-slice_past (x ∷ xs) (suc k) l = slice_past xs k (omega (arith, l))
-
 pub slice_there : {X : Type 0} (xs : List X) (k : ℕ) (x : X) → k < length xs → x ≡ get_or xs k x → slice_get xs k ≡ Some x
 slice_there [] k x l e = absurd (omega (arith, l))
 slice_there {X} (y ∷ xs) zero x l e = ap (λ (z : X). Some z) (sym e)

@@ -3,6 +3,7 @@ use Rattle.std.specs.Prelude.{◌≡◌, ◌⊎◌, ℕ, ◌<◌, Bool, true, fa
 use Rattle.std.specs.HashSet.{contains}
 use Rattle.std.proofs.Common.{rules, inl, inr, sym, ap, ◌∙◌, subst}
 use Rattle.std.proofs.lemmas.Bool.{cases_Bool, eqb-true, eq-eqb}
+use Rattle.std.proofs.lemmas.Option.{none-some}
 use denote.Enum.Bare.{sameb, same_true}
 use Rattle.values.specs.declared.fault.OpFault.TheVariants as Op
 use Rattle.values.specs.declared.key.Key.{Key}
@@ -262,9 +263,6 @@ in_same x f g e None n = refl
 pub same_by : (t : Instances) {X : Type 0} (x : X) (f g : Spot → X) → ((p : Spot) → f p ≡ g p) → (q : Place) → by_place t x f q ≡ by_place t x g q
 same_by t x f g e q = in_same x f g e (at_path t q.0) q.1
 
-pub some_none : {X : Type 0} (v : X) → None ≡ Some v → ⊥
-some_none v e = absurd (cc (e))
-
 pub false_true : false ≡ true → ⊥
 false_true e = absurd (cc (e))
 
@@ -310,7 +308,7 @@ module _ (K : Knowledge) (l : Learned) (k : Facts) (h : IsTree l.instances) (c :
     where
       so : (q : Place) (u : Value) → (kept_of (with_facts l k)).value q ≡ Some u → With K (script.value (place_view l.instances.all.items p) v) (script.value q u)
       so q u e =
-          let s = looked l.instances (λ (o : Option Value). o ≡ Some u) None (value_at k) q (some_none u) e in
+          let s = looked l.instances (λ (o : Option Value). o ≡ Some u) None (value_at k) q (none-some u) e in
           elim (put_value p (record { instance = s.instance; node = q.1 }) (value_at l.facts (record { instance = s.instance; node = q.1 })) v u (sym (a.values (record { instance = s.instance; node = q.1 })) ∙ s.holds)) [
             | inl old ↦ inl (c.value_so q u (look l.instances (λ (o : Option Value). o ≡ Some u) None (value_at l.facts) q (record { instance = s.instance; found = s.found; holds = old })))
             | inr new ↦
@@ -329,7 +327,7 @@ module _ (K : Knowledge) (l : Learned) (k : Facts) (h : IsTree l.instances) (c :
 
       all : (q : Place) (u : Value) → With K (script.value (place_view l.instances.all.items p) v) (script.value q u) → (kept_of (with_facts l k)).value q ≡ Some u
       all q u (inl y) =
-          let s = looked l.instances (λ (o : Option Value). o ≡ Some u) None (value_at l.facts) q (some_none u) (c.value_all q u y) in
+          let s = looked l.instances (λ (o : Option Value). o ≡ Some u) None (value_at l.facts) q (none-some u) (c.value_all q u y) in
           look l.instances (λ (o : Option Value). o ≡ Some u) None (value_at k) q (record {
             instance = s.instance;
             found = s.found;

@@ -1,6 +1,7 @@
 -- What is told is not known yet, where what is held is what is known.
 use Rattle.std.specs.Prelude.{◌≡◌, ℕ, Bool, true, false, ◌&&◌, List, [], ◌∷◌, ◌++◌, is_some, Option, Some, None, Result, Ok, Err, refl}
 use Rattle.std.proofs.Common.{sym, ap, ◌∙◌, subst, inl, inr}
+use Rattle.std.proofs.lemmas.Option.{none-some}
 use Rattle.values.specs.declared.fault.OpFault.{OpFault}
 use Rattle.values.specs.declared.key.Key.{Key}
 use Rattle.values.specs.declared.map.Element.{Element}
@@ -24,7 +25,7 @@ use Rattle.meaning_facts.specs.Keeping.{fault_at, has_kind, kept_of, kind_of}
 use Rattle.meaning_facts.specs.Kinds.{kind_view}
 use Rattle.meaning_facts.specs.Paths.{IsTree}
 use Rattle.meaning_facts.specs.Store.{line_at}
-use Rattle.meaning_facts.proofs.Growing.{false_true, some_none}
+use Rattle.meaning_facts.proofs.Growing.{false_true}
 use Rattle.meaning_facts.proofs.Keeping.{by_located}
 use Rattle.meaning_invariants.specs.Held.{Holds}
 
@@ -59,7 +60,7 @@ module _ (s : Core) (K : Knowledge) (path : Path) (g : Sight) (m : Past) (sees :
 
   cell_fresh : (at n : ℕ) (o : Option Value) (r : Outcome) → g.cell n ≡ o → AreFresh (cell_by m path at n o r)
   cell_fresh at n (Some v) r e = none_fresh
-  cell_fresh at n None (Some (Ok v)) e = one_fresh (value (path, n) v) (λ k. some_none v (sym e ∙ sees.cell_all n v k))
+  cell_fresh at n None (Some (Ok v)) e = one_fresh (value (path, n) v) (λ k. none-some v (sym e ∙ sees.cell_all n v k))
   cell_fresh at n None (Some (Err f)) e = fault_fresh f at n
   cell_fresh at n None None e = none_fresh
 

@@ -2,7 +2,7 @@
 use Rattle.std.specs.Prelude.{◌≡◌, ℕ, ◌<◌, ◌≤◌, Bool, true, false, List, [], ◌∷◌, length, map, is_some, Option, Some, None, refl}
 use Rattle.std.specs.HashSet.{contains}
 use Rattle.std.proofs.Common.{inl, inr, sym, ap, ◌∙◌, subst, arith}
-use Rattle.std.proofs.lemmas.Bool.{cases_lt}
+use Rattle.std.proofs.lemmas.Bool.{cases_lt, false_from_ne_true}
 use Rattle.values.specs.declared.key.Key.{Key}
 use Rattle.language.specs.Facts.{Fault, line, fault, Knowledge}
 use Rattle.language.specs.Members.{◌∈◌, first, later}
@@ -21,11 +21,12 @@ use Rattle.meaning_facts.specs.Keeping.{by_place, in_instance, fault_at, has_kin
 use Rattle.meaning_facts.specs.Kinds.{kind_view}
 use Rattle.meaning_facts.specs.Paths.{at_path, IsOpen, IsTree}
 use Rattle.meaning_facts.specs.Store.{value_at, line_at, writes_at, is_written_in}
-use Rattle.meaning_facts.proofs.Growing.{found_write, in_same, some_none}
+use Rattle.meaning_facts.proofs.Growing.{found_write, in_same}
 use Rattle.meaning_facts.proofs.Keeping.{at_path_of, found_there, one_instance}
 use Rattle.meaning_facts.proofs.Tree.{path_stays}
 use Rattle.meaning_invariants.specs.Held.{AreWithin, HasLine, HasFault, Holds, Grows, with_instances}
 use Rattle.std.proofs.Common.{length-append}
+use Rattle.std.proofs.lemmas.Option.{none-some}
 
 -- one that is opened
 pub grows_by_one : (t u : Instances) (p : ℕ) (x : Step) (g : Given) → IsOpen t p x g u → Grows t.all.items u.all.items
@@ -39,10 +40,6 @@ grows_by_one t u p x g o = record {
 none_of : {X : Type 0} (o : Option X) → ((x : X) → o ≡ Some x → ⊥) → o ≡ None
 none_of (Some x) f = absurd (f x refl)
 none_of None f = refl
-
-false_of : (b : Bool) → (b ≡ true → ⊥) → b ≡ false
-false_of true f = absurd (f refl)
-false_of false f = refl
 
 empty_of : {X : Type 0} (xs : List X) → ((x : X) → x ∈ xs → ⊥) → xs ≡ []
 empty_of [] f = refl
@@ -65,13 +62,13 @@ module _ (t u : Instances) (h : IsTree t) (k : IsTree u) (g : Grows t.all.items 
       elim (cases_lt i (length t.all.items)) [
         | inl b ↦
             let there : at_path t q.0 ≡ Some i = ap (at_path t) (sym (sym (g.path_same i b) ∙ a.1)) ∙ at_path_of t h i b in
-            absurd (some_none i (sym d ∙ there))
+            absurd (none-some i (sym d ∙ there))
         | inr b ↦ z (record { instance = i; node = q.1 }) (omega (arith, b))
       ]
   stays_by x f z q None (Some j) e d =
       let b = found_there t h q.0 j d in
       let there : at_path u q.0 ≡ Some j = ap (at_path u) (sym (g.path_same j b.0 ∙ b.1)) ∙ at_path_of u k j (omega (arith, b.0, g.longer)) in
-      absurd (some_none j (sym e ∙ there))
+      absurd (none-some j (sym e ∙ there))
   stays_by x f z q None None e d = refl
 
   stays : {X : Type 0} (x : X) (f : Spot → X) → ((p : Spot) → length t.all.items ≤ p.instance → f p ≡ x) → (q : Place) → by_place u x f q ≡ by_place t x f q
@@ -120,7 +117,7 @@ module _ (K : Knowledge) (l : Learned) (u : Instances) (h : IsTree l.instances) 
   written_same a key w =
       in_same false (λ p. by_place u false (is_written_in (writes_at l.facts p) key) w) (λ p. by_place l.instances false (is_written_in (writes_at l.facts p) key) w)
       (λ p. stays l.instances u h k g false (is_written_in (writes_at l.facts p) key)
-      (λ r z. false_of (is_written_in (writes_at l.facts p) key r) (λ e. not_less count r.instance z (writer_there count (writes_at l.facts p) key r (holds.keeps.writers p) e))) w) (at_path u a.0) a.1
+      (λ r z. false_from_ne_true (is_written_in (writes_at l.facts p) key r) (λ e. not_less count r.instance z (writer_there count (writes_at l.facts p) key r (holds.keeps.writers p) e))) w) (at_path u a.0) a.1
       ∙ stays l.instances u h k g false (λ p. by_place l.instances false (is_written_in (writes_at l.facts p) key) w) (λ p z. nothing (at_path l.instances w.0) p z) a
     where
       nothing : (o : Option ℕ) (p : Spot) → count ≤ p.instance → in_instance false (is_written_in (writes_at l.facts p) key) o w.1 ≡ false
@@ -136,7 +133,7 @@ module _ (K : Knowledge) (l : Learned) (u : Instances) (h : IsTree l.instances) 
   no_kind : (o : Option FaultKind) (at : ℕ) (p : Spot) → count ≤ p.instance → has_kind l.facts o at p ≡ false
   no_kind None at p z = refl
   no_kind (Some kind) at p z =
-      false_of (contains same_fault l.facts.faults (record { kind = kind; at = at; place = p })) (λ e. not_less count p.instance z (holds.within.faults (record { kind = kind; at = at; place = p }) e))
+      false_from_ne_true (contains same_fault l.facts.faults (record { kind = kind; at = at; place = p })) (λ e. not_less count p.instance z (holds.within.faults (record { kind = kind; at = at; place = p }) e))
 
   faulted_same : (f : Fault) (at : ℕ) (q : Place) → (kept_of now).faulted f at q ≡ (kept_of l).faulted f at q
   faulted_same f at q = stays l.instances u h k g false (fault_at l.facts f at) (λ p z. no_kind (kind_of f) at p z) q

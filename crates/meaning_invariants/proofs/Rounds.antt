@@ -1,6 +1,7 @@
 -- What a program holds goes from one round to the next, where it adds what the round tells.
 use Rattle.std.specs.Prelude.{◌≡◌, ◌↔◌, ◌⊎◌, ℕ, suc, Bool, false, List, [], ◌∷◌, map, Option, Some, None, is_some, refl}
 use Rattle.std.proofs.Common.{inl, inr, sym, ap, ◌∙◌, subst}
+use Rattle.std.proofs.lemmas.Option.{none-some}
 use Rattle.values.specs.declared.key.Key.{Key}
 use Rattle.language.specs.Core.{Core}
 use Rattle.language.specs.Facts as script
@@ -26,7 +27,7 @@ use Rattle.meaning_facts.specs.Growing.{fact_view, IsWithin, With, IsAgreed, wit
 use Rattle.meaning_facts.specs.Keeping.{by_place, in_instance, has_kind, kept_of, kind_of, write_view}
 use Rattle.meaning_facts.specs.Paths.{at_path, IsTree}
 use Rattle.meaning_facts.specs.Store.{value_at, line_at, writes_at, is_written_in}
-use Rattle.meaning_facts.proofs.Growing.{false_true, some_none}
+use Rattle.meaning_facts.proofs.Growing.{false_true}
 use Rattle.meaning_invariants.specs.Held.{Holds, AreAdded, no_more, one_more}
 use Rattle.meaning_invariants.proofs.Adding.{OneLine, holds_more}
 use Rattle.meaning_invariants.proofs.Lines.{one_line}
@@ -60,7 +61,7 @@ module _ (l : Learned) (e : IsNothing l.facts) where
   pub nothing_held : (s : Core) → Holds (Known s 0) l
   nothing_held s = record {
     keeps = record {
-      value_so = λ q v d. absurd (some_none v (sym (no_value q) ∙ d));
+      value_so = λ q v d. absurd (none-some v (sym (no_value q) ∙ d));
       value_all = λ q v x. absurd x;
       write_so = λ q w i. absurd (no_member ((kept_of l).writes q) (no_writes q) i);
       write_all = λ q key w v x. absurd x;
@@ -72,12 +73,12 @@ module _ (l : Learned) (e : IsNothing l.facts) where
       writers = λ a w i. absurd (no_member (writes_at l.facts a) (e.writes a) i);
     };
     within = record {
-      values = λ p v d. absurd (some_none v (sym (e.values p) ∙ d));
-      lines = λ p v d. absurd (some_none v (sym (e.lines p) ∙ d));
+      values = λ p v d. absurd (none-some v (sym (e.values p) ∙ d));
+      lines = λ p v d. absurd (none-some v (sym (e.lines p) ∙ d));
       writes = λ p w i. absurd (no_member (writes_at l.facts p) (e.writes p) i);
       faults = λ g d. absurd (false_true (sym (e.faults g) ∙ d));
     };
-    line_so = λ p bytes d. absurd (some_none bytes (sym (e.lines p) ∙ d));
+    line_so = λ p bytes d. absurd (none-some bytes (sym (e.lines p) ∙ d));
     line_all = λ q bytes x. absurd x;
     fault_so = λ g d. absurd (false_true (sym (e.faults g) ∙ d));
     fault_all = λ f at q x. absurd x;

@@ -1,6 +1,7 @@
 -- What an instance sees is what is known and taken at its path.
 use Rattle.std.specs.Prelude.{◌≡◌, ℕ, ◌<◌, Bool, true, ◌&&◌, List, [], ◌∷◌, length, map, is_some, Option, Some, None, refl}
 use Rattle.std.proofs.Common.{sym, ap, ◌∙◌, subst}
+use Rattle.std.proofs.lemmas.Bool.{and_from}
 use Rattle.language.specs.Core.{Awaited, scalar, array, Block, wait, Core}
 use Rattle.language.specs.Facts.{Knowledge, OneWriter}
 use Rattle.language.specs.Members.{◌∈◌, first, later}
@@ -43,9 +44,6 @@ pub some_is : {X : Type 0} (o : Option X) → is_some o ≡ true → (x : X) × 
 some_is (Some x) e = (x, refl)
 some_is None e = absurd (cc (e))
 
-both_true : {a b : Bool} → a ≡ true → b ≡ true → a && b ≡ true
-both_true {a} {b} p q = ap (λ (z : Bool). z && b) p ∙ q
-
 module _ (s : Core) (l : Learned) (ls : List Active) (path : Path) where
   abbrev seen : Sight
   seen = sight_by s (kept_of l) path
@@ -65,7 +63,7 @@ module _ (s : Core) (l : Learned) (ls : List Active) (path : Path) where
 
   names_all : (ns : List Awaited) → ((x : Awaited) → x ∈ ns → ComeBy s (taken_by l ls) path x) → have_come_in seen ns ≡ true
   names_all [] f = refl
-  names_all (n ∷ ns) f = both_true (one_all n (f n first)) (names_all ns (λ x m. f x (later m)))
+  names_all (n ∷ ns) f = and_from _ _ (one_all n (f n first)) (names_all ns (λ x m. f x (later m)))
 
 module _ (s : Core) (l : Learned) (ls : List Active) (placed : IsPlaced s l.instances) (i : ℕ) (within : i < length l.instances.all.items) where
   pub come_so : (ns : List Awaited) → have_come_in (sight_of l i) ns ≡ true → (x : Awaited) → x ∈ ns → ComeBy s (taken_by l ls) (path_of l.instances.all.items i) x

@@ -3,6 +3,7 @@ use Rattle.std.specs.Prelude.{◌≡◌, ℕ, ◌<◌, Bool, true, false, List, 
 use Rattle.std.proofs.Common.{sym, ap, ◌∙◌, subst, arith}
 use Rattle.std.proofs.lemmas.Bool.Decides.{nat_tests}
 use Rattle.std.proofs.lemmas.List.{append-nil, append_assoc}
+use Rattle.std.proofs.lemmas.Option.{same_Some}
 use mathlib.Core.Path.{fun_ext}
 use Rattle.values.specs.declared.key.Key.{Key}
 use Rattle.language.specs.Core as core
@@ -105,9 +106,6 @@ step_joins s n a b c p q = record { so = q.so; goes = goes_further a.learned b.l
 
 -- CALLS
 
-some_same : {X : Type 0} {x y : X} → Some x ≡ Some y → x ≡ y
-some_same h = cc
-
 -- the body of a call becomes live
 pub call_step : {A : Type 0} (s : Core) (n : ℕ) (old new : State A) (i : ℕ) (c : core.Call) (b : core.Block) (f : core.Function) (x : Step) (g : Given)
     → WellFormed s → IsGood s n old → (st : Stmt) → active i st ∈ tasks_of old → c ∈ stmt_calls st → slice_get s.functions c.function ≡ Some f → f.body ≡ b
@@ -123,7 +121,7 @@ call_step {A} s n old new i c b f x g w good st m j found body short at key ins 
 
 -- what is called: by any function that is found
 pub one_function : (s : Core) (k : ℕ) (f h : core.Function) → slice_get s.functions k ≡ Some f → slice_get s.functions k ≡ Some h → h ≡ f
-one_function s k f h p q = some_same (sym q ∙ p)
+one_function s k f h p q = same_Some _ _ (sym q ∙ p)
 
 -- TURNS
 

@@ -1,6 +1,7 @@
 -- The first so many of a list that grows.
 use Rattle.std.specs.Prelude.{◌≡◌, ◌⊎◌, ℕ, zero, suc, ◌≤◌, List, [], ◌∷◌, ◌++◌, length, take, Some, None, slice_get}
 use Rattle.std.proofs.Common.{inl, inr, subst, arith}
+use Rattle.std.proofs.lemmas.Option.{same_Some}
 use Rattle.language.specs.Members.{◌∈◌, first, later}
 use Rattle.language.proofs.Members.{split_in}
 
@@ -37,10 +38,7 @@ taken_all zero (y ∷ ys) x e m = absurd (cc (e))
 taken_all (suc k) (y ∷ ys) x e first = first
 taken_all (suc k) (y ∷ ys) x e (later m) = later (taken_all k ys x e m)
 
-some_one : {X : Type 0} {x y : X} → Some x ≡ Some y → x ≡ y
-some_one h = cc
-
 pub got_in : {X : Type 0} (k : ℕ) (xs : List X) (x : X) → slice_get xs k ≡ Some x → x ∈ xs
 got_in k [] x e = absurd (cc (e))
-got_in {X = X} zero (y ∷ ys) x e = subst (λ (z : X). z ∈ (y ∷ ys)) (some_one e) first
+got_in {X = X} zero (y ∷ ys) x e = subst (λ (z : X). z ∈ (y ∷ ys)) (same_Some _ _ e) first
 got_in (suc k) (y ∷ ys) x e = later (got_in k ys x e)

@@ -1,6 +1,7 @@
 -- The blocks of the turns of a choice, one after another.
 use Rattle.std.specs.Prelude.{◌≡◌, ◌⊎◌, ℕ, zero, suc, ◌+◌, ◌<◌, length, true, nat_le, Some, None}
 use Rattle.std.proofs.Common.{inl, inr, sym, ap, ◌∙◌, subst, arith}
+use Rattle.std.proofs.lemmas.Option.{same_Some}
 use Rattle.language.specs.Core as core
 use Rattle.language.specs.Core.{Core, Action, stmt}
 use Rattle.language.specs.Members.{◌∈◌}
@@ -23,9 +24,6 @@ below_more (suc j) (suc k) l = elim (below_more j k (omega (arith, l))) [ inl h 
 
 none_some : {X Y : Type 0} {x : X} → None ≡ Some x → Y
 none_some h = absurd (cc (h))
-
-some_one : {X : Type 0} {x y : X} → Some x ≡ Some y → x ≡ y
-some_one h = cc
 
 -- no turn yet
 pub no_turns : {A : Type 0} (s : Core) (n : ℕ) (old : State A) (i at : ℕ) (header : Action) (c : Chosen) → IsGood s n old → AreTurned s n old old i at header c 0
@@ -56,6 +54,6 @@ turn_next {A} s n old mid new i at node header c b k good there chosen block sho
       blocks = λ j d l e h. elim (below_more j k l) [
         | inl before ↦ block_stays mid.learned new.learned (tasks_of mid) (tasks_of new) now.0.goes (t.blocks j d before e h)
         | inr last ↦ subst (λ (z : ℕ). HasBlock new.learned (tasks_of new) i at (key_in c z) d) (sym last)
-            (subst (λ (z : core.Block). HasBlock new.learned (tasks_of new) i at (key_in c k) z) (some_one (sym block ∙ e)) now.1)
+            (subst (λ (z : core.Block). HasBlock new.learned (tasks_of new) i at (key_in c k) z) (same_Some _ _ (sym block ∙ e)) now.1)
       ];
     }

@@ -1,6 +1,7 @@
 -- The test for blocked statements finds just these.
 use Rattle.std.specs.Prelude.{◌≡◌, ℕ, ◌<◌, Bool, true, false, not, ◌&&◌, ◌||◌, List, [], ◌∷◌, length, is_some, Option, Some, None, refl}
 use Rattle.std.proofs.Common.{sym, ap, ◌∙◌, subst, inl, inr}
+use Rattle.std.proofs.lemmas.Bool.{and_from, or_left}
 use Rattle.values.specs.declared.key.Key.{Key}
 use Rattle.values.specs.declared.value.Scalar.{Scalar}
 use Rattle.values.specs.declared.value.Value.{Value}
@@ -84,15 +85,6 @@ not_of : (b : Bool) → (b ≡ true → ⊥) → not b ≡ true
 not_of true f = absurd (f refl)
 not_of false f = refl
 
-two : (a b : Bool) → a ≡ true → b ≡ true → a && b ≡ true
-two true true p q = refl
-two true false p q = q
-two false b p q = p
-
-or_left : (a b : Bool) → a ≡ true → a || b ≡ true
-or_left true b e = refl
-or_left false b e = absurd (cc (e))
-
 kind_among : (k : FaultKind) → k ∈ all_kinds
 kind_among Kind.Overflow = first
 kind_among Kind.DivideByZero = later first
@@ -168,7 +160,7 @@ module _ (s : Core) (K : Knowledge) (l : Learned) (tree : IsTree l.instances) (h
 
     come_all : (ns : List Awaited) → ((x : Awaited) → x ∈ ns → Come s K path x) → have_come_in (sight_of l i) ns ≡ true
     come_all [] f = refl
-    come_all (y ∷ ns) f = two (has_come_in (sight_of l i) y) (have_come_in (sight_of l i) ns) (come_one y (f y first)) (come_all ns (λ x m. f x (later m)))
+    come_all (y ∷ ns) f = and_from (has_come_in (sight_of l i) y) (have_come_in (sight_of l i) ns) (come_one y (f y first)) (come_all ns (λ x m. f x (later m)))
 
     names_of : {ns : List Awaited} {b : Block} {vs : List Value} → Ready s K path (wait ns b) vs → (x : Awaited) → x ∈ ns → Come s K path x
     names_of (cells_known k d) = elim d [ ]
@@ -263,8 +255,8 @@ module _ (s : Core) (K : Knowledge) (l : Learned) (tree : IsTree l.instances) (h
 
     pub stuck_all : (at n : ℕ) (a : Action) → Stuck s K path at n a → is_stuck_in l i (stmt at n a) ≡ true
     stuck_all at n a h =
-        two (not (has_fact l i n a)) (not (some_fault_at l.facts at (here_at n)) && not (fails_among l i at (outer_cells a)))
+        and_from (not (has_fact l i n a)) (not (some_fault_at l.facts at (here_at n)) && not (fails_among l i at (outer_cells a)))
         (not_of (has_fact l i n a) (λ e. h.no_fact (counted_so n a h.counts e)))
-        (two (not (some_fault_at l.facts at (here_at n))) (not (fails_among l i at (outer_cells a)))
+        (and_from (not (some_fault_at l.facts at (here_at n))) (not (fails_among l i at (outer_cells a)))
         (not_of (some_fault_at l.facts at (here_at n)) (λ e. let r = fault_so at n e in h.no_fault r.0 r.1))
         (not_of (fails_among l i at (outer_cells a)) (λ e. let r = among_so at (outer_cells a) e in h.no_cell_fault r.0 r.1 r.2 r.3)))

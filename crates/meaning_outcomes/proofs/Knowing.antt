@@ -2,6 +2,7 @@
 use Rattle.std.proofs.Common.{◌≡◌, ℕ, suc, ◌<◌, Bool, true, false, List, [], ◌∷◌, ◌++◌, length, map, take, refl, sym, ap, ◌∙◌, subst, inl, inr}
 use Rattle.std.specs.Prelude.{◌↔◌, ◌⊎◌, nat_eq}
 use Rattle.std.proofs.lemmas.Bool.{eq-eqb, eqb-true}
+use Rattle.std.proofs.lemmas.List.{nil_from_length}
 use Rattle.language.specs.Core.{Core, Action, Stmt, stmt}
 use Rattle.language.specs.Facts as script
 use Rattle.language.specs.Meaning.{Known, IsFinished, LiveStmt}
@@ -43,7 +44,7 @@ use Rattle.meaning_faults.specs.Viewed.{facts_view}
 use Rattle.meaning_facts.proofs.Keeping.{name_located}
 use Rattle.meaning_round.proofs.Going.{nothing_told, round_goes}
 use Rattle.meaning_round.proofs.Heard.{heard_first}
-use Rattle.meaning_round.proofs.Listed.{none_of_few, not_both}
+use Rattle.meaning_round.proofs.Listed.{not_both}
 use Rattle.meaning_round.proofs.Round.{told_so}
 use Rattle.meaning_outcomes.specs.declared.knowledge.Knowledge.{Knowledge}
 use Rattle.meaning_outcomes.specs.declared.knowledge.Stuck.{Stuck}
@@ -204,7 +205,7 @@ same_stuck l m ls ms e f = ap (λ (z : Learned). stuck_among z ls) e ∙ ap (stu
 -- WHETHER A LIST IS EMPTY
 
 pub empty_so : {X : Type 0} (xs : List X) (b : Bool) → b ≡ nat_eq (length xs) 0 → b ≡ true → xs ≡ []
-empty_so xs b e f = none_of_few xs (eqb-true (length xs) 0 (sym e ∙ f))
+empty_so xs b e f = nil_from_length xs (eqb-true (length xs) 0 (sym e ∙ f))
 
 pub not_empty : {X : Type 0} (xs : List X) (b : Bool) → b ≡ nat_eq (length xs) 0 → b ≡ false → xs ≡ [] → ⊥
 not_empty xs b e f q = not_both (sym (e ∙ eq-eqb (length xs) 0 (ap length q)) ∙ f)

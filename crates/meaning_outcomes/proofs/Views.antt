@@ -3,6 +3,7 @@ use Rattle.std.proofs.Common.{◌≡◌, ℕ, Bool, true, false, ◌||◌, List,
 use Rattle.std.specs.Prelude.{◌&&◌, ◌⊎◌, nat_eq, reverse}
 use Rattle.std.specs.HashSet.{contains, keys}
 use Rattle.std.specs.List.{list_any}
+use Rattle.std.proofs.lemmas.Bool.{and_from}
 use denote.Enum.Bare.{sameb}
 use Rattle.language.specs.Core.{Core}
 use Rattle.language.specs.Facts as script
@@ -76,12 +77,8 @@ same_kind Kind.TooDeep = refl
 same_kind Kind.NotANumber = refl
 same_kind Kind.AssertFailed = refl
 
-both_true : (a b : Bool) → a ≡ true → b ≡ true → (a && b) ≡ true
-both_true true b h k = k
-both_true false b h k = absurd (cc (h))
-
 fault_own : (g : FaultFact) → keeping.same_fault g g ≡ true
-fault_own g = both_true (sameb kinds.the_type g.kind g.kind) _ (same_kind g.kind) (both_true (nat_eq g.at g.at) (same_place g.place g.place) (number_own g.at) (place_same g.place))
+fault_own g = and_from (sameb kinds.the_type g.kind g.kind) _ (same_kind g.kind) (and_from (nat_eq g.at g.at) (same_place g.place g.place) (number_own g.at) (place_same g.place))
 
 held_in : (k : Facts) (g : FaultFact) → g ∈ keys k.faults → contains keeping.same_fault k.faults g ≡ true
 held_in k g i = in_any (keeping.same_fault g) (keys k.faults) g i (fault_own g)

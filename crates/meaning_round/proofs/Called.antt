@@ -4,7 +4,7 @@ use Rattle.std.specs.HashMap.{get}
 use Rattle.std.specs.List.{list_any}
 use Rattle.std.specs.HashSet.{HashSet, contains}
 use Rattle.std.proofs.Common.{inl, inr, sym, ap, ◌∙◌, subst, get_or, arith}
-use Rattle.std.proofs.lemmas.Bool.{cases_Bool, eq-eqb, eqb-true}
+use Rattle.std.proofs.lemmas.Bool.{cases_Bool, eq-eqb, eqb-true, and_from, or_left, or_right}
 use Rattle.std.proofs.lemmas.List.{append_assoc, append-nil, take_more}
 use Rattle.language.specs.Members.{◌∈◌}
 use Rattle.language.proofs.Members.{either, split_in}
@@ -18,23 +18,11 @@ both : (a b : Bool) → a && b ≡ true → (a ≡ true) × (b ≡ true)
 both true b h = (refl, h)
 both false b h = absurd (cc (h))
 
-and_so : (a b : Bool) → a ≡ true → b ≡ true → a && b ≡ true
-and_so true b e f = f
-and_so false b e f = e
-
-or_left : (a b : Bool) → a ≡ true → a || b ≡ true
-or_left true b e = refl
-or_left false b e = absurd (cc (e))
-
-or_right : (a b : Bool) → b ≡ true → a || b ≡ true
-or_right true b e = refl
-or_right false b e = e
-
 number_self : (n : ℕ) → nat_eq n n ≡ true
 number_self n = eq-eqb n n refl
 
 event_self : (p : ℕ × ℕ × ℕ) → same_event p p ≡ true
-event_self p = and_so (nat_eq p.0 p.0 && nat_eq p.1 p.1) (nat_eq p.2 p.2) (and_so (nat_eq p.0 p.0) (nat_eq p.1 p.1) (number_self p.0) (number_self p.1)) (number_self p.2)
+event_self p = and_from (nat_eq p.0 p.0 && nat_eq p.1 p.1) (nat_eq p.2 p.2) (and_from (nat_eq p.0 p.0) (nat_eq p.1 p.1) (number_self p.0) (number_self p.1)) (number_self p.2)
 
 event_same : (p q : ℕ × ℕ × ℕ) → same_event p q ≡ true → p ≡ q
 event_same p q h =
@@ -80,7 +68,7 @@ next_called old mid new number es i d h calls fresh awake asleep a = record {
     now e q =
         calls e number
         ∙ or_left (same_event (event_key (get_or es i d)) (event_key e) && nat_eq number number) (is_called mid e number)
-        (and_so (same_event (event_key (get_or es i d)) (event_key e)) (nat_eq number number)
+        (and_from (same_event (event_key (get_or es i d)) (event_key e)) (nat_eq number number)
         (ap (λ (z : Event). same_event (event_key (get_or es i d)) (event_key z)) q ∙ event_self (event_key (get_or es i d))) (number_self number))
 
 pub all_asleep : (old mid new : Tellers) (number : ℕ) (events : List Event) → AreCalled old mid number events → new.fresh ≡ mid.fresh → new.awake.items ≡ mid.awake.items → new.called ≡ mid.called

@@ -4,6 +4,7 @@ use Rattle.std.specs.HashMap.{get}
 use Rattle.std.specs.HashSet.{contains}
 use Rattle.std.proofs.Common.{inl, inr, sym, ap, ◌∙◌, subst, arith}
 use Rattle.std.proofs.lemmas.Bool.{cases_lt, eq-eqb}
+use Rattle.std.proofs.lemmas.Option.{same_Some, slice_get_within}
 use Rattle.language.specs.Members.{◌∈◌, first, later}
 use Rattle.language.specs.Parts.{stmt_action}
 use Rattle.language.proofs.Members.{either, split_in, to_left, to_right}
@@ -26,17 +27,9 @@ use Rattle.meaning_round.proofs.Still.{silence_stays}
 
 -- LISTS
 
-some_one : {X : Type 0} {x y : X} → Some x ≡ Some y → x ≡ y
-some_one h = cc
-
-got_below : {X : Type 0} (xs : List X) (k : ℕ) (x : X) → slice_get xs k ≡ Some x → k < length xs
-got_below [] k x e = absurd (cc (e))
-got_below (y ∷ ys) zero x e = omega arith
-got_below (y ∷ ys) (suc k) x e = let h = got_below ys k x e in omega (arith, h)
-
 pub got_in : {X : Type 0} (k : ℕ) (xs : List X) (x : X) → slice_get xs k ≡ Some x → x ∈ xs
 got_in k [] x e = absurd (cc (e))
-got_in {X = X} zero (y ∷ ys) x e = subst (λ (z : X). z ∈ (y ∷ ys)) (some_one e) first
+got_in {X = X} zero (y ∷ ys) x e = subst (λ (z : X). z ∈ (y ∷ ys)) (same_Some _ _ e) first
 got_in (suc k) (y ∷ ys) x e = later (got_in k ys x e)
 
 -- where it stands
@@ -184,7 +177,7 @@ module _ (l : Learned) (ls : List Active) where
   heard_taken old new asked numbers fresh asleep called h = record {
     fresh = omega (arith, fresh);
     each = λ k a e. elim (h.each k a e) [
-      | inl awake ↦ inr (inl (subst (λ (z : List ℕ). k ∈ z) (sym numbers) (asked_of old (length ls) k (got_below ls k a e) awake)))
+      | inl awake ↦ inr (inl (subst (λ (z : List ℕ). k ∈ z) (sym numbers) (asked_of old (length ls) k (slice_get_within ls k a e) awake)))
       | inr rest ↦ elim rest [
         | inl i ↦ absurd (no_one i)
         | inr x ↦ inr (inr (
@@ -260,7 +253,7 @@ module _ (l : Learned) (ls : List Active) where
 
       now : (k : ℕ) (a : Active) → k ≡ n → slice_get ls k ≡ Some a → (is_asleep new k ≡ true) × Sleeps l new k a
       now k a q e =
-          let is : a ≡ b = some_one (sym e ∙ ap (slice_get ls) q ∙ there) in (
+          let is : a ≡ b = same_Some _ _ (sym e ∙ ap (slice_get ls) q ∙ there) in (
             falls.asleep k ∙ or_first (nat_eq n k) (is_asleep old k) (eq-eqb n k (sym q)),
             subst (λ (z : ℕ). Sleeps l new z a) (sym q) (subst (λ (z : Active). Sleeps l new n z) (sym is) one),
           )
@@ -288,7 +281,7 @@ module _ (l : Learned) (ls : List Active) where
     quiet = λ a i. (
         let s = stands_at ls a i in
         elim (h.each s.number a s.is) [
-          | inl awake ↦ inl (pick_in ls (numbers_of t (length ls)) s.number a (asked_of t (length ls) s.number (got_below ls s.number a s.is) awake) s.is)
+          | inl awake ↦ inl (pick_in ls (numbers_of t (length ls)) s.number a (asked_of t (length ls) s.number (slice_get_within ls s.number a s.is) awake) s.is)
           | inr rest ↦ elim rest [ inl j ↦ absurd (no_one j) | inr x ↦ inr (sleeps_silent l t s.number a x.1) ]
         ]
         );

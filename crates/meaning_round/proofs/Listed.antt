@@ -20,9 +20,5 @@ pub mapped_in : {X Y : Type 0} (f : X → Y) (xs : List X) {x : X} → x ∈ xs 
 mapped_in f xs (first {xs = ys}) = first
 mapped_in f xs (later {xs = ys} i) = later (mapped_in f ys i)
 
-pub none_of_few : {X : Type 0} (xs : List X) → length xs ≡ 0 → xs ≡ []
-none_of_few [] h = refl
-none_of_few (x ∷ xs) h = absurd (omega (arith, h))
-
 pub not_both : true ≡ false → ⊥
 not_both e = absurd (cc (e))

@@ -1,6 +1,7 @@
 -- Writes under a key.
 use Rattle.std.specs.Prelude.{◌≡◌, Bool, true, false, List, [], ◌∷◌, map, if◌then◌else◌, refl}
 use Rattle.std.proofs.Common.{inl, inr, sym, ap, ◌∙◌}
+use Rattle.std.proofs.lemmas.Bool.{false_from_ne_true}
 use Rattle.values.specs.declared.key.Key.{Key}
 use Rattle.values.specs.declared.map.Element.{Element}
 use Rattle.values.specs.declared.value.Scalar.{Scalar}
@@ -59,12 +60,8 @@ nothing : (vs : List Scalar) → some_in vs ≡ false → vs ≡ []
 nothing [] h = refl
 nothing (v ∷ vs) h = absurd (true_false h)
 
-bool_false : (b : Bool) → (b ≡ true → ⊥) → b ≡ false
-bool_false true h = absurd (h refl)
-bool_false false h = refl
-
 pub none_all : (ws : List Write) (k : Key) → ((u : Write) → u ∈ ws → u.key ≡ k → ⊥) → values_under ws k ≡ []
-none_all ws k h = nothing (values_under ws k) (bool_false (some_in (values_under ws k)) (λ e. (let r = some_so ws k e in h r.0 r.1 r.2)))
+none_all ws k h = nothing (values_under ws k) (false_from_ne_true (some_in (values_under ws k)) (λ e. (let r = some_so ws k e in h r.0 r.1 r.2)))
 
 -- the one write of a key
 pub record OneOf (ws : List Write) (k : Key) (v : Scalar) : Type 0 where

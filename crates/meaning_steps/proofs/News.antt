@@ -1,6 +1,8 @@
 -- What a round tells of the live statements is just what is new.
 use Rattle.std.specs.Prelude.{◌≡◌, ◌≢◌, ◌⊎◌, ℕ, zero, suc, ◌<◌, ℤ, pos, Bool, true, false, ◌&&◌, List, [], ◌∷◌, ◌++◌, map, length, Option, Some, None, Result, Ok, Err, refl}
 use Rattle.std.proofs.Common.{inl, inr, sym, ap, ◌∙◌, subst, arith}
+use Rattle.std.proofs.lemmas.Bool.{and_from}
+use Rattle.std.proofs.lemmas.Option.{same_Some}
 use Rattle.values.specs.declared.fault.OpFault.{OpFault}
 use Rattle.values.specs.declared.key.Key.{Key}
 use Rattle.values.specs.declared.map.Element.{Element}
@@ -23,18 +25,12 @@ use Rattle.meaning_steps.proofs.Sights.{outcome_so, outcome_is}
 
 -- LISTS AND TESTS
 
-some_same : {X : Type 0} {x y : X} → Some x ≡ Some y → x ≡ y
-some_same h = cc
-
 ok_values : {v u : Value} → ◌≡◌ {A = Result Value Fault} (Ok v) (Ok u) → v ≡ u
 ok_values h = cc
 
 both_true : (a b : Bool) → a && b ≡ true → (a ≡ true) × (b ≡ true)
 both_true true b h = (refl, h)
 both_true false b h = absurd (cc (h))
-
-and_true : {a b : Bool} → a ≡ true → b ≡ true → a && b ≡ true
-and_true {a} {b} h k = ap (λ (z : Bool). z && b) h ∙ k
 
 unless_in : (b : Bool) (f x : Fact) → x ∈ unless b f → x ≡ f
 unless_in true f x i = elim i [ ]
@@ -152,8 +148,8 @@ opens_found (item i) = item_some i
 -- VALUES OF A KIND
 
 key_there : (o : Option Value) (k : Key) → key_in o ≡ Some k → (u : Value) × (o ≡ Some u) × IsKey u k
-key_there (Some (One (Scalar.Number z))) k h = (One (Scalar.Number z), refl, subst (λ (j : Key). IsKey (One (Scalar.Number z)) j) (some_same h) a_number)
-key_there (Some (One (Scalar.Text t))) k h = (One (Scalar.Text t), refl, subst (λ (j : Key). IsKey (One (Scalar.Text t)) j) (some_same h) a_text)
+key_there (Some (One (Scalar.Number z))) k h = (One (Scalar.Number z), refl, subst (λ (j : Key). IsKey (One (Scalar.Number z)) j) (same_Some _ _ h) a_number)
+key_there (Some (One (Scalar.Text t))) k h = (One (Scalar.Text t), refl, subst (λ (j : Key). IsKey (One (Scalar.Text t)) j) (same_Some _ _ h) a_text)
 key_there (Some (One (Scalar.Truth t))) k h = absurd (cc (h))
 key_there (Some (Many es)) k h = absurd (cc (h))
 key_there None k h = absurd (cc (h))
@@ -163,12 +159,12 @@ key_found a_number = refl
 key_found a_text = refl
 
 one_there : (o : Option Value) (v : Scalar) → one_in o ≡ Some v → o ≡ Some (One v)
-one_there (Some (One u)) v h = ap (λ (z : Scalar). Some (One z)) (some_same h)
+one_there (Some (One u)) v h = ap (λ (z : Scalar). Some (One z)) (same_Some _ _ h)
 one_there (Some (Many es)) v h = absurd (cc (h))
 one_there None v h = absurd (cc (h))
 
 text_there : (o : Option Value) (bytes : List ℕ) → text_in o ≡ Some bytes → o ≡ Some (One (Scalar.Text bytes))
-text_there (Some (One (Scalar.Text t))) bytes h = ap (λ (z : List ℕ). Some (One (Scalar.Text z))) (some_same h)
+text_there (Some (One (Scalar.Text t))) bytes h = ap (λ (z : List ℕ). Some (One (Scalar.Text z))) (same_Some _ _ h)
 text_there (Some (One (Scalar.Number z))) bytes h = absurd (cc (h))
 text_there (Some (One (Scalar.Truth t))) bytes h = absurd (cc (h))
 text_there (Some (Many es)) bytes h = absurd (cc (h))
@@ -178,8 +174,8 @@ module _ (s : Core) (K : Knowledge) (path : Path) (g : Sight) (m : Past) (h : Se
   -- CELLS, SOUND
 
   come_so : (c : Cell) (v : Value) (o : Option Value) (x : Outcome) → g.cell c.node ≡ o → outcome g c.form ≡ x → come_by o x ≡ Some v → Comes s K path c v
-  come_so c v (Some u) x e d q = before (subst (λ (z : Value). K (value (path, c.node) z)) (some_same q) (h.cell_so c.node u e))
-  come_so c v None (Some (Ok u)) e d q = now (subst (λ (z : Value). Gives s K path c.form (Ok z)) (some_same q) (outcome_so s K path g h c.form (Ok u) d))
+  come_so c v (Some u) x e d q = before (subst (λ (z : Value). K (value (path, c.node) z)) (same_Some _ _ q) (h.cell_so c.node u e))
+  come_so c v None (Some (Ok u)) e d q = now (subst (λ (z : Value). Gives s K path c.form (Ok z)) (same_Some _ _ q) (outcome_so s K path g h c.form (Ok u) d))
   come_so c v None (Some (Err f)) e d q = absurd (cc (q))
   come_so c v None None e d q = absurd (cc (q))
 
@@ -187,11 +183,11 @@ module _ (s : Core) (K : Knowledge) (path : Path) (g : Sight) (m : Past) (h : Se
   comes_so c v q = come_so c v (g.cell c.node) (outcome g c.form) refl refl q
 
   comes_all_so : (cs : List Cell) (vs : List Value) → comes_all g cs ≡ Some vs → ComeAll s K path cs vs
-  comes_all_so [] vs q = subst (λ (z : List Value). ComeAll s K path [] z) (some_same q) none_comes
+  comes_all_so [] vs q = subst (λ (z : List Value). ComeAll s K path [] z) (same_Some _ _ q) none_comes
   comes_all_so (c ∷ cs) vs q = by (comes g c) (comes_all g cs) refl q (λ us e. comes_all_so cs us e)
     where
       by : (o : Option Value) (os : Option (List Value)) → comes g c ≡ o → with_value o os ≡ Some vs → ((us : List Value) → os ≡ Some us → ComeAll s K path cs us) → ComeAll s K path (c ∷ cs) vs
-      by (Some v) (Some us) e p f = subst (λ (z : List Value). ComeAll s K path (c ∷ cs) z) (some_same p) (next_comes (comes_so c v e) (f us refl))
+      by (Some v) (Some us) e p f = subst (λ (z : List Value). ComeAll s K path (c ∷ cs) z) (same_Some _ _ p) (next_comes (comes_so c v e) (f us refl))
       by (Some v) None e p f = absurd (cc (p))
       by None os e p f = absurd (cc (p))
 
@@ -255,7 +251,7 @@ module _ (s : Core) (K : Knowledge) (path : Path) (g : Sight) (m : Past) (h : Se
 
   bounds_bad : (at n x : ℕ) (lo hi : Outer) (st : Option Outer) (t : Option ℕ) (b : Block) (vs : List Value) (e : OpFault) (o : Option Bounds) → bounds vs ≡ o → count_of o ≡ Some (Err e)
       → LiveStmt s K path (stmt at n (range lo hi st x t b)) → ComeAll s K path (outer_cells (range lo hi st x t b)) vs → New s K (fault (operation e) at (path, n))
-  bounds_bad at n x lo hi st t b vs e (Some z) d q l y = bad_range l y d (some_same q)
+  bounds_bad at n x lo hi st t b vs e (Some z) d q l y = bad_range l y d (same_Some _ _ q)
   bounds_bad at n x lo hi st t b vs e None d q l y = absurd (cc (q))
 
   range_bad : (at n x : ℕ) (lo hi : Outer) (st : Option Outer) (t : Option ℕ) (b : Block) (f : Fact) (o : Option (List Value)) → LiveStmt s K path (stmt at n (range lo hi st x t b))
@@ -462,7 +458,7 @@ module _ (s : Core) (K : Knowledge) (path : Path) (g : Sight) (m : Past) (h : Se
         → (fault too_deep at (path, n) ∈ deep_told m path at n a (comes_all g (outer_cells a))) ⊎ K (fault too_deep at (path, n))
     values_deep at n a vs l x o e =
         subst (λ (z : Option (List Value)). (fault too_deep at (path, n) ∈ deep_told m path at n a z) ⊎ K (fault too_deep at (path, n))) (sym (comes_all_is l (outermost at n a) x))
-        (deep_or at n (m.deep && opens_some a vs) (and_true (r.deep_all e) o))
+        (deep_or at n (m.deep && opens_some a vs) (and_from _ _ (r.deep_all e) o))
 
     ready_values : {a : Action} {vs : List Value} {A : Type 0} → ComeAll s K path (outer_cells a) vs ⊎ Ready s K path a vs → ((b : Name) (x : ℕ) (t : Option ℕ) (d : Block) → a ≡ each b x t d → A)
         → (ComeAll s K path (outer_cells a) vs → A) → A
@@ -477,7 +473,7 @@ module _ (s : Core) (K : Knowledge) (path : Path) (g : Sight) (m : Past) (h : Se
     items_or at n a x t b vs l (source_closed {es = es} c q) o e =
         let F : Bool → List Element → Type 0 = λ z us. (fault too_deep at (path, n) ∈ items_told m path at n z (each a x t b) us) ⊎ K (fault too_deep at (path, n)) in
         subst (λ (z : Bool). F z (g.elements a)) (sym (h.closed_all a c))
-        (subst (λ (us : List Element). F true us) (h.elements_all a es c q) (deep_or at n (m.deep && some_item es) (and_true (r.deep_all e) o)))
+        (subst (λ (us : List Element). F true us) (h.elements_all a es c q) (deep_or at n (m.deep && some_item es) (and_from _ _ (r.deep_all e) o)))
 
     header_or : (at n : ℕ) (a : Action) (vs : List Value) (k : Key) (b : Block) → LiveStmt s K path (stmt at n a) → ComeAll s K path (outer_cells a) vs ⊎ Ready s K path a vs → Opens a vs k b → length path ≡ most_steps
         → (fault too_deep at (path, n) ∈ own_told s g m path at n a) ⊎ K (fault too_deep at (path, n))
@@ -525,7 +521,7 @@ module _ (s : Core) (K : Knowledge) (path : Path) (g : Sight) (m : Past) (h : Se
         (λ e. (let z = r.lined_so n e in subst (λ (b : List ℕ). K (line (path, n) b)) (sym (y.print_same path at n p c bytes z.0 l q z.1)) z.1))))
 
     call_or : (st : Stmt) (c : Call) → c ∈ stmt_calls st → length path ≡ most_steps → (fault too_deep (stmt_at st) (path, stmt_node st) ∈ news s g m path st) ⊎ K (fault too_deep (stmt_at st) (path, stmt_node st))
-    call_or (stmt at n a) c i e = of_calls at n a (fault too_deep at (path, n)) (deep_or at n (m.deep && some_call (stmt_calls (stmt at n a))) (and_true (r.deep_all e) (call_some i)))
+    call_or (stmt at n a) c i e = of_calls at n a (fault too_deep at (path, n)) (deep_or at n (m.deep && some_call (stmt_calls (stmt at n a))) (and_from _ _ (r.deep_all e) (call_some i)))
 
 module _ (s : Core) (K : Knowledge) (g : Path → Sight) (m : Path → Past) (sees : (path : Path) → Sees s K path (g path)) (recalls : (path : Path) → Recalls s K path (m path)) (y : IsSteady s K) where
   told_at : {path : Path} {st : Stmt} {f : Fact} → LiveStmt s K path st → (f ∈ news s (g path) (m path) path st) ⊎ K f → ToldOf s K g m f ⊎ K f

@@ -2,6 +2,7 @@
 use Rattle.std.specs.Prelude.{◌≡◌, true, [], ◌∷◌, length, map, Option, Some, None, refl}
 use Rattle.std.proofs.Common.{inl, inr, sym, ap, ◌∙◌, subst}
 use Rattle.std.proofs.lemmas.Bool.{eqb-true, eq-eqb}
+use Rattle.std.proofs.lemmas.Option.{same_Some}
 use Rattle.values.specs.declared.key.Key.{Key}
 use Rattle.values.specs.declared.value.Scalar.{Scalar}
 use Rattle.values.specs.declared.value.Value.{Value}
@@ -17,12 +18,9 @@ use Rattle.meaning_steps.specs.Kept.{Write, Kept, Keeps, scalar_by, values_under
 use Rattle.meaning_steps.proofs.Written.{elements, elements_one}
 use Rattle.meaning_steps.proofs.Lists.{none_so, none_all, one_so, one_all, two_so, two_all}
 
-some_same : {X : Type 0} {x y : X} → Some x ≡ Some y → x ≡ y
-some_same h = cc
-
 module _ (s : Core) (K : Knowledge) (k : Kept) (h : Keeps s K k) (one : (p : Place) (v u : Scalar) → HasValue s K p v → HasValue s K p u → v ≡ u) where
   scalar_so : (p : Place) (o : Option Value) (v : Scalar) → k.value p ≡ o → scalar_by o (k.turn p) ≡ Some v → HasValue s K p v
-  scalar_so p (Some (One u)) v e q = subst (λ (z : Scalar). HasValue s K p z) (some_same q) (stored (h.value_so p (One u) e))
+  scalar_so p (Some (One u)) v e q = subst (λ (z : Scalar). HasValue s K p z) (same_Some _ _ q) (stored (h.value_so p (One u) e))
   scalar_so p (Some (Many es)) v e q = h.turn_so p v q
   scalar_so p None v e q = h.turn_so p v q
 

@@ -1,6 +1,7 @@
 -- What expressions and cells come to by what is seen is just what the meaning's rules give them.
 use Rattle.std.specs.Prelude.{◌≡◌, ℕ, Bool, true, false, List, [], ◌∷◌, Option, Some, None, Result, Ok, Err, refl}
 use Rattle.std.proofs.Common.{sym, ap, ◌∙◌, subst}
+use Rattle.std.proofs.lemmas.Option.{same_Some}
 use Rattle.values.specs.declared.fault.OpFault.{OpFault}
 use Rattle.values.specs.declared.key.Key.{Key}
 use Rattle.values.specs.declared.map.Element.{Element}
@@ -14,39 +15,36 @@ use Rattle.language.specs.Meaning.{ValueUnder, of_literal, of_name, of_array, of
 use Rattle.language.specs.Places.{Path}
 use Rattle.meaning_steps.specs.Environment.{Sight, Sees, Come, one_come, many_come, with_come, operated, worked, worked_all, as_outcome, element_come, read_come, outcome}
 
-some_same : {X : Type 0} {x y : X} → Some x ≡ Some y → x ≡ y
-some_same h = cc
-
 module _ (s : Core) (K : Knowledge) (path : Path) (g : Sight) (h : Sees s K path g) where
   name_so : (x : Name) (o : Option Scalar) (r : Result Value OpFault) → g.scalar x ≡ o → one_come o ≡ Some r → ValueUnder s K path (name x) r
-  name_so x (Some v) r e q = subst (λ (z : Result Value OpFault). ValueUnder s K path (name x) z) (some_same q) (of_name (h.scalar_so x v e))
+  name_so x (Some v) r e q = subst (λ (z : Result Value OpFault). ValueUnder s K path (name x) z) (same_Some _ _ q) (of_name (h.scalar_so x v e))
   name_so x None r e q = absurd (cc (q))
 
   whole_so : (a : Name) (c : Bool) (r : Result Value OpFault) → g.closed a ≡ c → many_come c (g.elements a) ≡ Some r → ValueUnder s K path (whole a) r
-  whole_so a true r e q = subst (λ (z : Result Value OpFault). ValueUnder s K path (whole a) z) (some_same q) (of_array (h.closed_so a e) (h.elements_so a (h.closed_so a e)))
+  whole_so a true r e q = subst (λ (z : Result Value OpFault). ValueUnder s K path (whole a) z) (same_Some _ _ q) (of_array (h.closed_so a e) (h.elements_so a (h.closed_so a e)))
   whole_so a false r e q = absurd (cc (q))
 
   operator_so : (o : Operation) (es : Exprs) (c : Option (List (Result Value OpFault))) (r : Result Value OpFault) → operated o c ≡ Some r
       → ((rs : List (Result Value OpFault)) → c ≡ Some rs → ValuesUnder s K path es rs) → ValueUnder s K path (operator o es) r
-  operator_so o es (Some rs) r q f = of_operator (f rs refl) (some_same q)
+  operator_so o es (Some rs) r q f = of_operator (f rs refl) (same_Some _ _ q)
   operator_so o es None r q f = absurd (cc (q))
 
   also_so : (e : Expr) (es : Exprs) (c : Come) (d : Option (List (Result Value OpFault))) (rs : List (Result Value OpFault)) → with_come c d ≡ Some rs
       → ((r : Result Value OpFault) → c ≡ Some r → ValueUnder s K path e r) → ((us : List (Result Value OpFault)) → d ≡ Some us → ValuesUnder s K path es us)
       → ValuesUnder s K path (also e es) rs
-  also_so e es (Some r) (Some us) rs q f k = subst (λ (z : List (Result Value OpFault)). ValuesUnder s K path (also e es) z) (some_same q) (operand (f r refl) (k us refl))
+  also_so e es (Some r) (Some us) rs q f k = subst (λ (z : List (Result Value OpFault)). ValuesUnder s K path (also e es) z) (same_Some _ _ q) (operand (f r refl) (k us refl))
   also_so e es (Some r) None rs q f k = absurd (cc (q))
   also_so e es None d rs q f k = absurd (cc (q))
 
   mutual
     pub worked_so : (e : Expr) (r : Result Value OpFault) → worked g e ≡ Some r → ValueUnder s K path e r
-    worked_so (literal v) r q = subst (λ (z : Result Value OpFault). ValueUnder s K path (literal v) z) (some_same q) of_literal
+    worked_so (literal v) r q = subst (λ (z : Result Value OpFault). ValueUnder s K path (literal v) z) (same_Some _ _ q) of_literal
     worked_so (name x) r q = name_so x (g.scalar x) r refl q
     worked_so (whole a) r q = whole_so a (g.closed a) r refl q
     worked_so (operator o es) r q = operator_so o es (worked_all g es) r q (λ rs e. worked_all_so es rs e)
 
     pub worked_all_so : (es : Exprs) (rs : List (Result Value OpFault)) → worked_all g es ≡ Some rs → ValuesUnder s K path es rs
-    worked_all_so none rs q = subst (λ (z : List (Result Value OpFault)). ValuesUnder s K path none z) (some_same q) no_operand
+    worked_all_so none rs q = subst (λ (z : List (Result Value OpFault)). ValuesUnder s K path none z) (same_Some _ _ q) no_operand
     worked_all_so (also e es) rs q = also_so e es (worked g e) (worked_all g es) rs q (λ r p. worked_so e r p) (λ us p. worked_all_so es us p)
 
   mutual
@@ -62,14 +60,14 @@ module _ (s : Core) (K : Knowledge) (path : Path) (g : Sight) (h : Sees s K path
         ap (λ (z : Come). with_come z (worked_all g es)) (worked_is k) ∙ ap (with_come (Some r)) (worked_all_is ks)
 
   compute_so : (e : Expr) (c : Come) (r : Result Value Fault) → worked g e ≡ c → as_outcome c ≡ Some r → Gives s K path (compute e) r
-  compute_so e (Some (Ok v)) r k q = subst (λ (z : Result Value Fault). Gives s K path (compute e) z) (some_same q) (computed (worked_so e (Ok v) k))
-  compute_so e (Some (Err f)) r k q = subst (λ (z : Result Value Fault). Gives s K path (compute e) z) (some_same q) (faulty (worked_so e (Err f) k))
+  compute_so e (Some (Ok v)) r k q = subst (λ (z : Result Value Fault). Gives s K path (compute e) z) (same_Some _ _ q) (computed (worked_so e (Ok v) k))
+  compute_so e (Some (Err f)) r k q = subst (λ (z : Result Value Fault). Gives s K path (compute e) z) (same_Some _ _ q) (faulty (worked_so e (Err f) k))
   compute_so e None r k q = absurd (cc (q))
 
   element_so : (a : Name) (i : ℕ) (u : Value) (key : Key) (ws : List Scalar) (c : Bool) (r : Result Value Fault) → g.cell i ≡ Some u → IsKey u key → g.writes a key ≡ ws → g.closed a ≡ c
       → element_come ws c ≡ Some r → Gives s K path (read a i) r
-  element_so a i u key (v ∷ []) c r k is w d q = subst (λ (y : Result Value Fault). Gives s K path (read a i) y) (some_same q) (found (h.cell_so i u k) is (h.once_so a key v w))
-  element_so a i u key [] true r k is w d q = subst (λ (y : Result Value Fault). Gives s K path (read a i) y) (some_same q) (missing (h.cell_so i u k) is (h.closed_so a d) (h.never_so a key w))
+  element_so a i u key (v ∷ []) c r k is w d q = subst (λ (y : Result Value Fault). Gives s K path (read a i) y) (same_Some _ _ q) (found (h.cell_so i u k) is (h.once_so a key v w))
+  element_so a i u key [] true r k is w d q = subst (λ (y : Result Value Fault). Gives s K path (read a i) y) (same_Some _ _ q) (missing (h.cell_so i u k) is (h.closed_so a d) (h.never_so a key w))
   element_so a i u key [] false r k is w d q = absurd (cc (q))
   element_so a i u key (v ∷ x ∷ vs) c r k is w d q = absurd (cc (q))
 

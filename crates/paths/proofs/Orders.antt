@@ -1,6 +1,7 @@
 -- Orders by one thing and then by another, and of lists.
 use Rattle.std.proofs.Common.{◌≡◌, ◌⊎◌, inl, inr, ℕ, ◌<◌, Bool, true, false, ◌&&◌, ◌||◌, List, [], ◌∷◌, drop, length, zero, suc, refl, sym, ◌∙◌, subst, arith}
 use Rattle.std.specs.Prelude.{nat_eq, nat_lt}
+use Rattle.std.proofs.lemmas.Bool.{and_from, or_cases, or_parts, or_left, or_right, and_parts}
 use Rattle.values.specs.Keys.{key_below, same_key}
 use Rattle.values.proofs.Keys.{key_below-irreflexive, key_below-other, key_below-trans, same_key-eq, same_key-refl}
 use Rattle.paths.specs.declared.steps.Step.{Step}
@@ -15,30 +16,6 @@ pub record IsOrder {X : Type 0} (below same : X → X → Bool) : Type 0 where
   pub own : (x : X) → same x x ≡ true
 
 -- TESTS
-
-or_split : (a b : Bool) → (a || b) ≡ true → (a ≡ true) ⊎ (b ≡ true)
-or_split true b h = inl refl
-or_split false b h = inr h
-
-or_none : (a b : Bool) → (a || b) ≡ false → (a ≡ false) × (b ≡ false)
-or_none true b h = absurd (cc (h))
-or_none false b h = (refl, h)
-
-left : (a b : Bool) → a ≡ true → (a || b) ≡ true
-left true b h = refl
-left false b h = absurd (cc (h))
-
-right : (a b : Bool) → b ≡ true → (a || b) ≡ true
-right true b h = refl
-right false b h = h
-
-and_split : (a b : Bool) → (a && b) ≡ true → (a ≡ true) × (b ≡ true)
-and_split true b h = (refl, h)
-and_split false b h = absurd (cc (h))
-
-both : (a b : Bool) → a ≡ true → b ≡ true → (a && b) ≡ true
-both true b h k = k
-both false b h k = absurd (cc (h))
 
 and_none : (a b : Bool) → a ≡ true → (a && b) ≡ false → b ≡ false
 and_none true b h g = g
@@ -79,16 +56,16 @@ module _ {X A B : Type 0} (f : X → A) (g : X → B) (both_is : (x y : X) → f
   Either x y = (below1 (f x) (f y) ≡ true) ⊎ ((f x ≡ f y) × (below2 (g x) (g y) ≡ true))
 
   told : (x y : X) → below_by x y ≡ true → Either x y
-  told x y h = elim (or_split (below1 (f x) (f y)) _ h) [
+  told x y h = elim (or_cases (below1 (f x) (f y)) _ h) [
     | inl a ↦ inl a
-    | inr a ↦ (let p = and_split (same1 (f x) (f y)) _ a in inr (one.is (f x) (f y) p.0, p.1))
+    | inr a ↦ (let p = and_parts (same1 (f x) (f y)) _ a in inr (one.is (f x) (f y) p.0, p.1))
   ]
 
   by_first : (x y : X) → below1 (f x) (f y) ≡ true → below_by x y ≡ true
-  by_first x y h = left (below1 (f x) (f y)) _ h
+  by_first x y h = or_left (below1 (f x) (f y)) _ h
 
   by_second : (x y : X) → f x ≡ f y → below2 (g x) (g y) ≡ true → below_by x y ≡ true
-  by_second x y e h = right (below1 (f x) (f y)) _ (both (same1 (f x) (f y)) _ (subst (λ z. same1 (f x) z ≡ true) e (one.own (f x))) h)
+  by_second x y e h = or_right (below1 (f x) (f y)) _ (and_from (same1 (f x) (f y)) _ (subst (λ z. same1 (f x) z ≡ true) e (one.own (f x))) h)
 
   chained : (x y z : X) → Either x y → Either y z → below_by x z ≡ true
   chained x y z (inl a) (inl b) = by_first x z (one.chain (f x) (f y) (f z) a b)
@@ -101,7 +78,7 @@ module _ {X A B : Type 0} (f : X → A) (g : X → B) (both_is : (x y : X) → f
   not_own_by x (inr a) = two.not_own (g x) a.1
 
   other_by : (x y : X) → below_by x y ≡ false → same_by x y ≡ false → below_by y x ≡ true
-  other_by x y h k = let p = or_none (below1 (f x) (f y)) _ h in by (same1 (f x) (f y)) refl p.0 p.1
+  other_by x y h k = let p = or_parts (below1 (f x) (f y)) _ h in by (same1 (f x) (f y)) refl p.0 p.1
     where
       by : (b : Bool) → same1 (f x) (f y) ≡ b → below1 (f x) (f y) ≡ false → (same1 (f x) (f y) && below2 (g x) (g y)) ≡ false → below_by y x ≡ true
       by true e l m = by_second y x (sym (one.is (f x) (f y) e)) (two.other (g x) (g y) (and_none (same1 (f x) (f y)) _ e m) (and_none (same1 (f x) (f y)) _ e k))
@@ -112,8 +89,8 @@ module _ {X A B : Type 0} (f : X → A) (g : X → B) (both_is : (x y : X) → f
     chain = λ x y z h k. chained x y z (told x y h) (told y z k);
     not_own = λ x h. not_own_by x (told x x h);
     other = other_by;
-    is = λ x y h. (let p = and_split (same1 (f x) (f y)) _ h in both_is x y (one.is (f x) (f y) p.0) (two.is (g x) (g y) p.1));
-    own = λ x. both (same1 (f x) (f x)) _ (one.own (f x)) (two.own (g x));
+    is = λ x y h. (let p = and_parts (same1 (f x) (f y)) _ h in both_is x y (one.is (f x) (f y) p.0) (two.is (g x) (g y) p.1));
+    own = λ x. and_from (same1 (f x) (f x)) _ (one.own (f x)) (two.own (g x));
   }
 
 -- STEPS AND PATHS
@@ -127,40 +104,40 @@ path_chain [] [] [] h g = h
 path_chain [] (t ∷ q) [] h g = g
 path_chain (s ∷ p) [] r h g = absurd (cc (h))
 path_chain (s ∷ p) (t ∷ q) [] h g = g
-path_chain (s ∷ p) (t ∷ q) (u ∷ r) h g = by (path_chain p q r) (or_split (step_below s t) _ h) (or_split (step_below t u) _ g)
+path_chain (s ∷ p) (t ∷ q) (u ∷ r) h g = by (path_chain p q r) (or_cases (step_below s t) _ h) (or_cases (step_below t u) _ g)
   where
     by : (path_below p q ≡ true → path_below q r ≡ true → path_below p r ≡ true) → (step_below s t ≡ true) ⊎ ((same_step s t && path_below p q) ≡ true) → (step_below t u ≡ true) ⊎ ((same_step t u && path_below q r) ≡ true) → path_below (s ∷ p) (u ∷ r) ≡ true
-    by f (inl a) (inl b) = left (step_below s u) _ (step_order.chain s t u a b)
-    by f (inl a) (inr b) = (let x = and_split (same_step t u) _ b in left (step_below s u) _ (subst (λ z. step_below s z ≡ true) (step_order.is t u x.0) a))
-    by f (inr a) (inl b) = (let x = and_split (same_step s t) _ a in left (step_below s u) _ (subst (λ z. step_below z u ≡ true) (sym (step_order.is s t x.0)) b))
+    by f (inl a) (inl b) = or_left (step_below s u) _ (step_order.chain s t u a b)
+    by f (inl a) (inr b) = (let x = and_parts (same_step t u) _ b in or_left (step_below s u) _ (subst (λ z. step_below s z ≡ true) (step_order.is t u x.0) a))
+    by f (inr a) (inl b) = (let x = and_parts (same_step s t) _ a in or_left (step_below s u) _ (subst (λ z. step_below z u ≡ true) (sym (step_order.is s t x.0)) b))
     by f (inr a) (inr b) =
-        let x = and_split (same_step s t) _ a in
-        let y = and_split (same_step t u) _ b in
-        right (step_below s u) _ (both (same_step s u) _ (subst (λ z. same_step s z ≡ true) (step_order.is t u y.0) x.0) (f x.1 y.1))
+        let x = and_parts (same_step s t) _ a in
+        let y = and_parts (same_step t u) _ b in
+        or_right (step_below s u) _ (and_from (same_step s u) _ (subst (λ z. same_step s z ≡ true) (step_order.is t u y.0) x.0) (f x.1 y.1))
 
 path_not_own : (p : List Step) → path_below p p ≡ true → ⊥
 path_not_own [] h = absurd (cc (h))
-path_not_own (s ∷ p) h = elim (or_split (step_below s s) _ h) [ inl a ↦ step_order.not_own s a | inr a ↦ path_not_own p (and_split (same_step s s) _ a).1 ]
+path_not_own (s ∷ p) h = elim (or_cases (step_below s s) _ h) [ inl a ↦ step_order.not_own s a | inr a ↦ path_not_own p (and_parts (same_step s s) _ a).1 ]
 
 path_other : (p q : List Step) → path_below p q ≡ false → same_path p q ≡ false → path_below q p ≡ true
 path_other [] [] h g = absurd (cc (g))
 path_other [] (t ∷ q) h g = absurd (cc (h))
 path_other (s ∷ p) [] h g = refl
-path_other (s ∷ p) (t ∷ q) h g = (let x = or_none (step_below s t) _ h in by (path_other p q) (same_step s t) refl x.0 x.1)
+path_other (s ∷ p) (t ∷ q) h g = (let x = or_parts (step_below s t) _ h in by (path_other p q) (same_step s t) refl x.0 x.1)
   where
     by : (path_below p q ≡ false → same_path p q ≡ false → path_below q p ≡ true) → (b : Bool) → same_step s t ≡ b → step_below s t ≡ false → (same_step s t && path_below p q) ≡ false → path_below (t ∷ q) (s ∷ p) ≡ true
-    by f true e l k = right (step_below t s) _ (both (same_step t s) _ (subst (λ z. same_step z s ≡ true) (step_order.is s t e) (step_order.own s)) (f (and_none (same_step s t) _ e k) (and_none (same_step s t) _ e g)))
-    by f false e l k = left (step_below t s) _ (step_order.other s t l e)
+    by f true e l k = or_right (step_below t s) _ (and_from (same_step t s) _ (subst (λ z. same_step z s ≡ true) (step_order.is s t e) (step_order.own s)) (f (and_none (same_step s t) _ e k) (and_none (same_step s t) _ e g)))
+    by f false e l k = or_left (step_below t s) _ (step_order.other s t l e)
 
 path_is : (p q : List Step) → same_path p q ≡ true → p ≡ q
 path_is [] [] h = refl
 path_is [] (t ∷ q) h = absurd (cc (h))
 path_is (s ∷ p) [] h = absurd (cc (h))
-path_is (s ∷ p) (t ∷ q) h = (let x = and_split (same_step s t) _ h in let a = step_order.is s t x.0 in let b = path_is p q x.1 in λ i. a i ∷ b i)
+path_is (s ∷ p) (t ∷ q) h = (let x = and_parts (same_step s t) _ h in let a = step_order.is s t x.0 in let b = path_is p q x.1 in λ i. a i ∷ b i)
 
 path_own : (p : List Step) → same_path p p ≡ true
 path_own [] = refl
-path_own (s ∷ p) = both (same_step s s) _ (step_order.own s) (path_own p)
+path_own (s ∷ p) = and_from (same_step s s) _ (step_order.own s) (path_own p)
 
 pub path_order : IsOrder path_below same_path
 path_order = record { chain = path_chain; not_own = path_not_own; other = path_other; is = path_is; own = path_own }

@@ -3,13 +3,12 @@ use Rattle.std.proofs.Common.{◌≡◌, ◌⊎◌, ℕ, Bool, true, false, ◌&
 use Rattle.std.specs.List.{list_any}
 use Rattle.std.proofs.Math.Bool.{beq}
 use Rattle.std.proofs.Math.Dec.{eqb}
-use Rattle.std.proofs.lemmas.Bool.{and_from, eqb-true}
+use Rattle.std.proofs.lemmas.Bool.{and_from, eqb-true, and_parts}
 use Rattle.std.proofs.lemmas.Bool.Decides.{eqb_tells}
 use Rattle.indexmap.specs.IndexSet.{insert_key}
 use Rattle.dataflow.specs.System.{In}
 use Rattle.dataflow.proofs.Lists.{in_left, in_split}
 use Rattle.task_code.specs.Code.{Local, Name, Parameter, Variable}
-use Rattle.task_code.proofs.Equal.{true_and}
 use Rattle.ref_counting.specs.declared.lead.Lead.{Lead}
 use Rattle.ref_counting.proofs.Keys.{same_flag}
 use Rattle.ref_counting.specs.Leads.{AllPlain, Grows, Has, IsPlain, IsThis, name_of}
@@ -20,11 +19,11 @@ same_fields a b = eqb a.entry b.entry && (eqb a.up b.up && (beq a.local b.local 
 
 pub same_lead : (a b : Lead) → same_fields a b ≡ true → a ≡ b
 same_lead a b h =
-    let x = true_and (eqb a.entry b.entry) _ h in
-    let y = true_and (eqb a.up b.up) _ x.1 in
-    let z = true_and (beq a.local b.local) _ y.1 in
-    let w = true_and (eqb a.node b.node) _ z.1 in
-    let q = true_and (eqb a.place b.place) _ w.1 in
+    let x = and_parts (eqb a.entry b.entry) _ h in
+    let y = and_parts (eqb a.up b.up) _ x.1 in
+    let z = and_parts (beq a.local b.local) _ y.1 in
+    let w = and_parts (eqb a.node b.node) _ z.1 in
+    let q = and_parts (eqb a.place b.place) _ w.1 in
     let e : a.entry ≡ b.entry = eqb-true a.entry b.entry x.0 in
     let u : a.up ≡ b.up = eqb-true a.up b.up y.0 in
     let l : a.local ≡ b.local = same_flag a.local b.local z.0 in

@@ -3,12 +3,11 @@ use Rattle.std.proofs.Common.{◌≡◌, ◌⊎◌, inl, inr, ℕ, ◌<◌, ◌+
 use Rattle.std.specs.List.{list_any}
 use Rattle.std.proofs.Math.Bool.{beq}
 use Rattle.std.proofs.Math.Dec.{eqb}
-use Rattle.std.proofs.lemmas.Bool.{eqb-true}
+use Rattle.std.proofs.lemmas.Bool.{eqb-true, and_from, and_parts}
 use Rattle.indexmap.specs.IndexSet.{insert_key}
 use Rattle.dataflow.specs.System.{In}
 use Rattle.dataflow.proofs.Lists.{in_left, in_right, in_split}
 use Rattle.task_code.specs.Code.{Code, InPlace, Variable, body}
-use Rattle.task_code.proofs.Equal.{true_and, both_true}
 use Rattle.ref_counting.specs.declared.makes.Made.{Made}
 use Rattle.ref_counting.specs.Makes.{IsWaited, MadeUpTo, NotesMade, NotesWaited, made_by, variable_of}
 use Rattle.ref_counting.proofs.Keys.{same_flag, any_in, in_any, put_there, put_kept, put_only}
@@ -26,8 +25,8 @@ same_made a b = eqb a.body b.body && (eqb a.node b.node && beq a.array b.array)
 
 pub made_is : (a b : Made) → same_made a b ≡ true → a ≡ b
 made_is a b h =
-    let x = true_and (eqb a.body b.body) _ h in
-    let y = true_and (eqb a.node b.node) _ x.1 in
+    let x = and_parts (eqb a.body b.body) _ h in
+    let y = and_parts (eqb a.node b.node) _ x.1 in
     let e : a.body ≡ b.body = eqb-true a.body b.body x.0 in
     let n : a.node ≡ b.node = eqb-true a.node b.node y.0 in
     let r : a.array ≡ b.array = same_flag a.array b.array y.1 in
@@ -41,7 +40,7 @@ same_nat : (n : ℕ) → eqb n n ≡ true
 same_nat n = grind arith
 
 pub made_self : (a : Made) → same_made a a ≡ true
-made_self a = both_true (eqb a.body a.body) _ (same_nat a.body) (both_true (eqb a.node a.node) _ (same_nat a.node) (same_bool a.array))
+made_self a = and_from (eqb a.body a.body) _ (same_nat a.body) (and_from (eqb a.node a.node) _ (same_nat a.node) (same_bool a.array))
 
 pub declared_yes : (m : Made) (ms : List Made) → list_any (same_made m) ms ≡ true → In m ms
 declared_yes m ms h = any_in same_made made_is m ms h

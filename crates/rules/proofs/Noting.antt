@@ -1,7 +1,7 @@
 -- Slots that are noted, and slots that shrink.
 use Rattle.std.proofs.Common.{arith, ◌≡◌, ◌≢◌, ◌⊎◌, inl, inr, ℕ, suc, zero, ◌+◌, ◌*◌, ◌<◌, ◌≤◌, ◌%◌, ◌^◌, ◌==◌, ◌||◌, Bool, true, false, not, cond, nat_eq, count_by, is_some, List, [], ◌∷◌, length, filter, take, get_or, Option, Some, None, refl, sym, ap, subst, ◌∙◌, Contains}
 use Rattle.std.specs.List.{list_any}
-use Rattle.std.proofs.lemmas.Bool.{cases_eq, cases_lt, cases_Bool, or_cases, and_parts}
+use Rattle.std.proofs.lemmas.Bool.{cases_eq, cases_lt, cases_Bool, or_cases, and_parts, or_parts, or_left, or_right}
 use Rattle.std.proofs.lemmas.List.{get_or_past}
 use Rattle.std.proofs.lemmas.List.Folds.{list_any_more}
 use Rattle.std.proofs.lemmas.List.Sums.{sum_by-cons}
@@ -16,13 +16,6 @@ use Rattle.rules.specs.Places.{Noted, IsKept, Grows, IsNoted, IsFound, IsAt, is_
 
 pub true_false : true ≡ false → ⊥
 true_false e = cc
-
-or_first : (x y : Bool) → x ≡ true → (x || y) ≡ true
-or_first x y e = rw e refl
-
-or_second : (x y : Bool) → y ≡ true → (x || y) ≡ true
-or_second true y e = refl
-or_second false y e = e
 
 pub nat_sound : (m n : ℕ) → nat_eq m n ≡ true → m ≡ n
 nat_sound m n h = grind arith
@@ -114,21 +107,17 @@ equal_at a b e = subst (λ m. nat_eq m a ≡ true) e (nat_itself a)
 
 -- who misses what an input covers is noted at that input's address
 pub covers_at : (i j : Input) → covers i j ≡ true → is_at (address i) j ≡ true
-covers_at (Whole a) (Whole b) h = or_first _ _ (equal_at (a % 2 ^ 32) (b % 2 ^ 32) (ap (λ d. d % 2 ^ 32) (nat_sound a b h)))
-covers_at (Whole a) (Element b k) h = or_second _ _ (equal_at (a % 2 ^ 32) (b % 2 ^ 32) (ap (λ d. d % 2 ^ 32) (nat_sound a b h)))
+covers_at (Whole a) (Whole b) h = or_left _ _ (equal_at (a % 2 ^ 32) (b % 2 ^ 32) (ap (λ d. d % 2 ^ 32) (nat_sound a b h)))
+covers_at (Whole a) (Element b k) h = or_right _ _ (equal_at (a % 2 ^ 32) (b % 2 ^ 32) (ap (λ d. d % 2 ^ 32) (nat_sound a b h)))
 covers_at (Element a k) (Whole b) h = absurd (true_false (sym h))
 covers_at (Element a k) (Element b l) h =
     let parts = and_parts (nat_eq a b) (nat_eq k l) h in
-    or_first _ _ (equal_at (address (Element a k)) (address (Element b l)) (λ i. address (Element (nat_sound a b parts.0 i) (nat_sound k l parts.1 i))))
-
-or_false : (x y : Bool) → (x || y) ≡ false → (x ≡ false) × (y ≡ false)
-or_false true y h = absurd (true_false h)
-or_false false y h = (refl, h)
+    or_left _ _ (equal_at (address (Element a k)) (address (Element b l)) (λ i. address (Element (nat_sound a b parts.0 i) (nat_sound k l parts.1 i))))
 
 kept_all : (i : Input) (js : List Input) → list_any (is_at (address i)) js ≡ false → filter (λ j. not (covers i j)) js ≡ js
 kept_all i [] h = refl
 kept_all i (j ∷ js) h =
-    let parts = or_false (is_at (address i) j) (list_any (is_at (address i)) js) h in
+    let parts = or_parts (is_at (address i) j) (list_any (is_at (address i)) js) h in
     elim (cases_Bool (covers i j)) [
       | inl hit ↦ absurd (true_false (sym (covers_at i j hit) ∙ parts.0))
       | inr lacks ↦ rw lacks (ap (λ l. j ∷ l) (kept_all i js parts.1))
@@ -158,10 +147,10 @@ any_filter p q [] h = h
 any_filter p q (j ∷ js) h =
     elim (q j) as (λ b. list_any p (cond b (j ∷ filter q js) (filter q js)) ≡ true → (p j || list_any p js) ≡ true) [
       | true ↦ λ e. elim (or_cases (p j) (list_any p (filter q js)) e) [
-        | inl here ↦ or_first (p j) (list_any p js) here
-        | inr later ↦ or_second (p j) (list_any p js) (any_filter p q js later)
+        | inl here ↦ or_left (p j) (list_any p js) here
+        | inr later ↦ or_right (p j) (list_any p js) (any_filter p q js later)
       ]
-      | false ↦ λ e. or_second (p j) (list_any p js) (any_filter p q js e)
+      | false ↦ λ e. or_right (p j) (list_any p js) (any_filter p q js e)
     ] h
 
 -- an item that has learnt is to be noted nowhere else

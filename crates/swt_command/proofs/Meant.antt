@@ -3,14 +3,14 @@ use Rattle.std.proofs.Common.{◌≡◌, ◌∙◌, sym, ap, refl, inl, inr, ◌
 use Rattle.std.specs.Prelude.{IsSorted, nat_eq, nat_lt, reverse}
 use Rattle.std.specs.Cmp.Lexicographic.{slice_cmp}
 use Rattle.std.specs.Ordering.{nat_cmp}
+use Rattle.std.proofs.lemmas.Bool.{and_from, or_cases, and_parts}
 use Rattle.language.specs.Core.{Core}
 use Rattle.language.specs.Facts as Facts
 use Rattle.language.specs.Meaning.{Known}
 use Rattle.language.specs.Outcomes.{Blocked, Faults, Lines}
 use Rattle.language.specs.Places.{Path}
 use Rattle.task_code.specs.Places as Places
-use Rattle.task_code.proofs.Checked.{or_true, true_or}
-use Rattle.task_code.proofs.Equal.{both_true, true_and}
+use Rattle.task_code.proofs.Checked.{true_or}
 use Rattle.headline.specs.Headline.{script_fault, script_path}
 use Rattle.code_rules.proofs.Members.{from_in, to_in}
 use Rattle.board.specs.Blocked.{InTextOrder, comes_before, path_of}
@@ -48,11 +48,11 @@ same_paths p q h = ap (λ (z : List Step). reverse (path_view z)) (path_order.is
 -- STATEMENTS
 
 before_of : (a b : Statement) → statement_below a b ≡ true → comes_before a b
-before_of a b h = by (or_true (path_below a.path.items b.path.items) (same_path a.path.items b.path.items && nat_lt a.at b.at) h)
+before_of a b h = by (or_cases (path_below a.path.items b.path.items) (same_path a.path.items b.path.items && nat_lt a.at b.at) h)
   where
     by : (path_below a.path.items b.path.items ≡ true) ⊎ ((same_path a.path.items b.path.items && nat_lt a.at b.at) ≡ true) → comes_before a b
     by (inl l) = inl l
-    by (inr m) = let r = true_and (same_path a.path.items b.path.items) (nat_lt a.at b.at) m in inr (same_paths a.path.items b.path.items r.0, r.1)
+    by (inr m) = let r = and_parts (same_path a.path.items b.path.items) (nat_lt a.at b.at) m in inr (same_paths a.path.items b.path.items r.0, r.1)
 
 in_order : (bs : List Statement) → IsInOrder statement_below bs → InTextOrder bs
 in_order [] o = tt
@@ -71,7 +71,7 @@ same_kind Kind.NotANumber = refl
 same_kind Kind.AssertFailed = refl
 
 fault_before_of : (f g : Fault) → fault_below f g ≡ true → fault_before f g
-fault_before_of f g h = by (or_true (statement_below f.statement g.statement) (same_statement f.statement g.statement && nat_lt (fault_number f.kind) (fault_number g.kind)) h)
+fault_before_of f g h = by (or_cases (statement_below f.statement g.statement) (same_statement f.statement g.statement && nat_lt (fault_number f.kind) (fault_number g.kind)) h)
   where
     by_place : comes_before f.statement g.statement → fault_before f g
     by_place (inl l) = inl l
@@ -80,9 +80,9 @@ fault_before_of f g h = by (or_true (statement_below f.statement g.statement) (s
     by : (statement_below f.statement g.statement ≡ true) ⊎ ((same_statement f.statement g.statement && nat_lt (fault_number f.kind) (fault_number g.kind)) ≡ true) → fault_before f g
     by (inl l) = by_place (before_of f.statement g.statement l)
     by (inr m) =
-        let r = true_and (same_statement f.statement g.statement) (nat_lt (fault_number f.kind) (fault_number g.kind)) m in
-        let w = true_and (same_path f.statement.path.items g.statement.path.items) (nat_eq f.statement.at g.statement.at) r.0 in
-        inr (same_paths f.statement.path.items g.statement.path.items w.0, true_or (nat_lt f.statement.at g.statement.at) _ (inr (both_true (nat_eq f.statement.at g.statement.at) _ w.1 r.1)))
+        let r = and_parts (same_statement f.statement g.statement) (nat_lt (fault_number f.kind) (fault_number g.kind)) m in
+        let w = and_parts (same_path f.statement.path.items g.statement.path.items) (nat_eq f.statement.at g.statement.at) r.0 in
+        inr (same_paths f.statement.path.items g.statement.path.items w.0, true_or (nat_lt f.statement.at g.statement.at) _ (inr (and_from (nat_eq f.statement.at g.statement.at) _ w.1 r.1)))
 
 faults_in_order : (fs : List Fault) → IsInOrder fault_below fs → InFaultOrder fs
 faults_in_order [] o = tt

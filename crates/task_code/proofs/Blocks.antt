@@ -1,6 +1,7 @@
 -- The blocked statements of a quiet state are those of the code's meaning.
 use Rattle.std.proofs.Common.{◌≡◌, ◌⊎◌, inl, inr, ℕ, Bool, true, List, [], ◌∷◌, refl, sym, ap, subst}
 use Rattle.std.specs.List.{list_all, list_any}
+use Rattle.std.proofs.lemmas.Bool.{or_cases, and_parts}
 use Rattle.dataflow.specs.System.{In, Input}
 use Rattle.dataflow.specs.Facts.{Live, Known, Ever, EverGiven}
 use Rattle.dataflow.specs.Machine.{IsKnown}
@@ -15,13 +16,12 @@ use Rattle.task_code.specs.System.{inputs_at, code_system}
 use Rattle.task_code.specs.Whole.{IsCode}
 use Rattle.task_code.specs.Machine.{CodeItem, CodeState}
 use Rattle.task_code.specs.Runs.{IsHeaderKnown, FirstUnknown, IsBlockedAt, Blocked, EverBlocked}
-use Rattle.task_code.proofs.Equal.{every_in, true_and, name_sound}
-use Rattle.task_code.proofs.Checked.{or_true}
+use Rattle.task_code.proofs.Equal.{every_in, name_sound}
 use Rattle.task_code.proofs.Counted.{gather_in}
 
 any_in : {X : Type 0} (f : X → Bool) (xs : List X) → list_any f xs ≡ true → (x : X) × In x xs × (f x ≡ true)
 any_in f [] h = absurd (cc)
-any_in {X} f (y ∷ ys) h = by (or_true (f y) (list_any f ys) h) (any_in f ys)
+any_in {X} f (y ∷ ys) h = by (or_cases (f y) (list_any f ys) h) (any_in f ys)
   where
     by : (f y ≡ true) ⊎ (list_any f ys ≡ true) → (list_any f ys ≡ true → (x : X) × In x ys × (f x ≡ true)) → (x : X) × In x (y ∷ ys) × (f x ≡ true)
     by (inl p) r = (y, inl refl, p)
@@ -42,7 +42,7 @@ plain_sound (AtKey a k) m h = absurd (cc)
 -- what the headers wait for, the wait needs
 header_needs : (hs : List Header) (ns : List Need) → has_headers hs ns ≡ true → (h : Header) (n : Need) → In h hs → In n h.needs → In n ns
 header_needs hs ns t h n ih i =
-    let x = true_and (list_all (λ h. list_all (λ n. list_any (is_same_plain n) ns) h.needs) hs) _ t in
+    let x = and_parts (list_all (λ h. list_all (λ n. list_any (is_same_plain n) ns) h.needs) hs) _ t in
     let y = every_in (λ h. list_all (λ n. list_any (is_same_plain n) ns) h.needs) hs x.0 h ih in
     let z = any_in (is_same_plain n) ns (every_in (λ n. list_any (is_same_plain n) ns) h.needs y n i) in
     subst (λ (m : Need). In m ns) (sym (plain_sound n z.0 z.2)) z.1
@@ -78,7 +78,7 @@ module _ (C : Code) where
 
   module _ (I : IsCode C) (s : CodeState) (full : Complete (code_system C) s) where
     shape : (i : ℕ) → has_shape (entry C i).act (entry C i).needs ≡ true
-    shape i = (true_and (list_all fits_kinds (entry C i).needs) _ (I.shape i)).1
+    shape i = (and_parts (list_all fits_kinds (entry C i).needs) _ (I.shape i)).1
 
     module _ (item : CodeItem) (there : In item s.items) (i c : ℕ) (p : List Step) (is : item.task ≡ Item i p c) where
       input_there : (n : Need) (x : Input Place Key) → In n (entry C i).needs → In x (inputs_at C p n) → In x ((code_system C).inputs item.task)

@@ -3,7 +3,8 @@ use Rattle.std.proofs.Common.{◌≡◌, ◌⊎◌, inl, inr, ℕ, zero, suc, Bo
 use Rattle.std.specs.Prelude.{nat_eq, nat_lt, ◌<◌, length}
 use Rattle.dataflow.specs.System.{Distinct, In}
 use Rattle.std.specs.List.{list_all}
-use Rattle.task_code.proofs.Equal.{every_in, name_same, name_sound, nat_same, nat_sound, true_and, variable_same, variable_sound}
+use Rattle.std.proofs.lemmas.Bool.{or_cases, and_parts}
+use Rattle.task_code.proofs.Equal.{every_in, name_same, name_sound, nat_same, nat_sound, variable_same, variable_sound}
 use Rattle.task_code.specs.Check.{distinct_numbers, distinct_variables, every_at, has_outputs, is_body, is_code, is_covered, is_declared, is_entry, is_fit, is_fit_if_loop, is_fit_loop, is_fixed, is_inside, is_main, is_opened_by, is_script, is_seen, name_in, number_in, outputs_apart, reads_covered, same_argument, variable_in}
 use Rattle.task_code.specs.Code.{Argument, Body, ByCalls, ByMain, ByStep, ByWait, Calling, Code, Entry, Fixed, InPlace, Local, Loop, Name, Named, Need, Opener, Owned, Parameter, Through, Variable, Way, argument, blank_body, blank_entry, body, call_at, entry, here, is_array_name, loop_of, loop_variables, needed, nth, targets, ways}
 use Rattle.task_code.specs.Places.{name_eq, variable_eq}
@@ -12,10 +13,6 @@ use Rattle.task_code.specs.Whole.{Declared, Fits, FitsLoop, Fixes, IsCode, Opene
 
 below_sound : (a b : ℕ) → nat_lt a b ≡ true → a < b
 below_sound a b h = grind arith
-
-pub or_true : (a b : Bool) → (a || b) ≡ true → (a ≡ true) ⊎ (b ≡ true)
-or_true true b h = inl refl
-or_true false b h = inr h
 
 pub true_or : (a b : Bool) → (a ≡ true) ⊎ (b ≡ true) → (a || b) ≡ true
 true_or true b h = refl
@@ -31,7 +28,7 @@ not_both a h k = (let n : true ≡ false = sym h ∙ k in absurd (cc))
 
 pub name_in_sound : (r : Name) (rs : List Name) → name_in r rs ≡ true → In r rs
 name_in_sound r [] h = absurd (cc)
-name_in_sound r (s ∷ ss) h = elim (or_true (name_eq r s) (name_in r ss) h) [ inl p ↦ inl (name_sound r s p) | inr q ↦ inr (name_in_sound r ss q) ]
+name_in_sound r (s ∷ ss) h = elim (or_cases (name_eq r s) (name_in r ss) h) [ inl p ↦ inl (name_sound r s p) | inr q ↦ inr (name_in_sound r ss q) ]
 
 pub in_name_in : (r : Name) (rs : List Name) → In r rs → name_in r rs ≡ true
 in_name_in r [] h = absurd h
@@ -40,7 +37,7 @@ in_name_in r (s ∷ ss) h =
 
 pub variable_in_sound : (v : Variable) (vs : List Variable) → variable_in v vs ≡ true → In v vs
 variable_in_sound v [] h = absurd (cc)
-variable_in_sound v (w ∷ ws) h = elim (or_true (variable_eq v w) (variable_in v ws) h) [ inl p ↦ inl (variable_sound v w p) | inr q ↦ inr (variable_in_sound v ws q) ]
+variable_in_sound v (w ∷ ws) h = elim (or_cases (variable_eq v w) (variable_in v ws) h) [ inl p ↦ inl (variable_sound v w p) | inr q ↦ inr (variable_in_sound v ws q) ]
 
 pub in_variable_in : (v : Variable) (vs : List Variable) → In v vs → variable_in v vs ≡ true
 in_variable_in v [] h = absurd h
@@ -55,19 +52,19 @@ in_number_in n (m ∷ ms) h =
 distinct_numbers_sound : (ns : List ℕ) → distinct_numbers ns ≡ true → Distinct ns
 distinct_numbers_sound [] h = tt
 distinct_numbers_sound (n ∷ ns) h =
-    let x = true_and (not (number_in n ns)) (distinct_numbers ns) h in
+    let x = and_parts (not (number_in n ns)) (distinct_numbers ns) h in
     (λ i. not_true (number_in n ns) x.0 (in_number_in n ns i), distinct_numbers_sound ns x.1)
 
 distinct_variables_sound : (vs : List Variable) → distinct_variables vs ≡ true → Distinct vs
 distinct_variables_sound [] h = tt
 distinct_variables_sound (v ∷ vs) h =
-    let x = true_and (not (variable_in v vs)) (distinct_variables vs) h in
+    let x = and_parts (not (variable_in v vs)) (distinct_variables vs) h in
     (λ i. not_true (variable_in v vs) x.0 (in_variable_in v vs i), distinct_variables_sound vs x.1)
 
 pub every_at_sound : {X : Type 0} (d : X) (f : ℕ → X → Bool) (xs : List X) → every_at f xs ≡ true → (i : ℕ) → (f i (nth d xs i) ≡ true) ⊎ (nth d xs i ≡ d)
 every_at_sound d f [] h i = inr refl
-every_at_sound d f (x ∷ xs) h zero = inl (true_and (f 0 x) (every_at (λ i. f (suc i)) xs) h).0
-every_at_sound d f (x ∷ xs) h (suc i) = every_at_sound d (λ i. f (suc i)) xs (true_and (f 0 x) (every_at (λ i. f (suc i)) xs) h).1 i
+every_at_sound d f (x ∷ xs) h zero = inl (and_parts (f 0 x) (every_at (λ i. f (suc i)) xs) h).0
+every_at_sound d f (x ∷ xs) h (suc i) = every_at_sound d (λ i. f (suc i)) xs (and_parts (f 0 x) (every_at (λ i. f (suc i)) xs) h).1 i
 
 module _ (C : Code) where
   declared_named : (b up : ℕ) (x : Owned) → is_declared C b (record { up = up; owned = x }) ≡ true → Declared C b (record { up = up; owned = x })
@@ -95,7 +92,7 @@ module _ (C : Code) where
   covered_sound rights i w b h j r ij ir =
       let x = every_in (λ j. list_all (λ r. is_declared C b r || is_seen C (rights (entry C i)) (entry C i).mark w r) (rights (entry C j))) (body C b).entries h j ij in
       let y = every_in (λ r. is_declared C b r || is_seen C (rights (entry C i)) (entry C i).mark w r) (rights (entry C j)) x r ir in
-      elim (or_true (is_declared C b r) (is_seen C (rights (entry C i)) (entry C i).mark w r) y) [
+      elim (or_cases (is_declared C b r) (is_seen C (rights (entry C i)) (entry C i).mark w r) y) [
         | inl d ↦ inl (declared_sound b r d)
         | inr s ↦ inr (seen_named rights i w r.up r.owned s)
       ]
@@ -117,8 +114,8 @@ module _ (C : Code) where
       let m = (entry C i).mark in
       let x = every_in (λ j. list_all (λ r. (is_declared C b r || is_seen C (entry C i).reads m w r) || is_fixed C m w r) (entry C j).reads) (body C b).entries h j ij in
       let y = every_in (λ r. (is_declared C b r || is_seen C (entry C i).reads m w r) || is_fixed C m w r) (entry C j).reads x r ir in
-      elim (or_true (is_declared C b r || is_seen C (entry C i).reads m w r) (is_fixed C m w r) y) [
-        | inl z ↦ elim (or_true (is_declared C b r) (is_seen C (entry C i).reads m w r) z) [
+      elim (or_cases (is_declared C b r || is_seen C (entry C i).reads m w r) (is_fixed C m w r) y) [
+        | inl z ↦ elim (or_cases (is_declared C b r) (is_seen C (entry C i).reads m w r) z) [
           | inl d ↦ inl (inl (declared_sound b r d))
           | inr s ↦ inl (inr (seen_named (λ e. e.reads) i w r.up r.owned s))
         ]
@@ -155,7 +152,7 @@ module _ (C : Code) where
       let x2 = every_in (λ j'. list_all (λ r. list_all (λ s. outputs_apart C m r s) (entry C j').writes) (entry C j).writes) es x1 j' ij' in
       let x3 = every_in (λ r. list_all (λ s. outputs_apart C m r s) (entry C j').writes) (entry C j).writes x2 (record { up = 0; owned = Parameter k false }) ik in
       let x4 = every_in (λ s. outputs_apart C m (record { up = 0; owned = Parameter k false }) s) (entry C j').writes x3 (record { up = 0; owned = Parameter k' false }) ik' in
-      elim (or_true (nat_eq k k') (not (same_argument (argument C m k false) (argument C m k' false))) x4) [
+      elim (or_cases (nat_eq k k') (not (same_argument (argument C m k false) (argument C m k' false))) x4) [
         | inl p ↦ nat_sound k k' p
         | inr n ↦ absurd (not_true (same_argument (argument C m k false) (argument C m k' false)) n (subst (λ (o : Option Argument). same_argument o (argument C m k' false) ≡ true) (sym ak) (subst (λ (o : Option Argument). same_argument (Some (Named r)) o ≡ true) (sym ak') (name_same r))))
       ]
@@ -163,10 +160,10 @@ module _ (C : Code) where
   fits_sound : (i : ℕ) (w : Way) (b : ℕ) → is_fit C i (entry C i) (w, b) ≡ true → Fits C i w b
   fits_sound i w b h =
       let e = entry C i in
-      let x = true_and (is_opened_by C i e w (body C b).opener) _ h in
-      let y = true_and (reads_covered C e w b) _ x.1 in
-      let z = true_and (is_covered C (λ e. e.writes) e w b) _ y.1 in
-      let u = true_and (is_inside C e w b) (has_outputs C e w b) z.1 in
+      let x = and_parts (is_opened_by C i e w (body C b).opener) _ h in
+      let y = and_parts (reads_covered C e w b) _ x.1 in
+      let z = and_parts (is_covered C (λ e. e.writes) e w b) _ y.1 in
+      let u = and_parts (is_inside C e w b) (has_outputs C e w b) z.1 in
       record {
         opened = opened_sound i w (body C b).opener x.0;
         reads = reads_sound i w b y.0;
@@ -177,9 +174,9 @@ module _ (C : Code) where
 
   loop_sound : (i : ℕ) (l : Loop) → is_fit_loop C (entry C i) l ≡ true → FitsLoop C i l
   loop_sound i l h =
-      let x = true_and (list_all is_array_name (entry C i).writes) _ h in
-      let y = true_and (list_all (λ v. variable_in v (body C l.body).makes) (loop_variables l)) _ x.1 in
-      let z = true_and (distinct_variables (loop_variables l)) _ y.1 in
+      let x = and_parts (list_all is_array_name (entry C i).writes) _ h in
+      let y = and_parts (list_all (λ v. variable_in v (body C l.body).makes) (loop_variables l)) _ x.1 in
+      let z = and_parts (distinct_variables (loop_variables l)) _ y.1 in
       record {
         arrays = λ r ir sc. not_both (is_array_name r) (every_in is_array_name (entry C i).writes x.0 r ir) sc;
         made = λ v iv. variable_in_sound v (body C l.body).makes (every_in (λ v. variable_in v (body C l.body).makes) (loop_variables l) y.0 v iv);
@@ -196,14 +193,14 @@ module _ (C : Code) where
   module _ (h : is_code C ≡ true) where
     parts : (is_script C ≡ true) × (every_at (is_entry C) C.entries ≡ true) × (every_at (is_body C) C.bodies ≡ true)
     parts =
-        let x = true_and (is_script C) _ h in
-        let y = true_and (every_at (is_entry C) C.entries) (every_at (is_body C) C.bodies) x.1 in
+        let x = and_parts (is_script C) _ h in
+        let y = and_parts (every_at (is_entry C) C.entries) (every_at (is_body C) C.bodies) x.1 in
         (x.0, y.0, y.1)
 
     script : (is_main (body C 0).opener ≡ true) × (list_all (λ j. list_all (is_declared C 0) (entry C j).reads) (body C 0).entries ≡ true) × (list_all (λ j. list_all (is_declared C 0) (entry C j).writes) (body C 0).entries ≡ true)
     script =
-        let x = true_and (is_main (body C 0).opener) _ parts.0 in
-        let y = true_and (list_all (λ j. list_all (is_declared C 0) (entry C j).reads) (body C 0).entries) _ x.1 in
+        let x = and_parts (is_main (body C 0).opener) _ parts.0 in
+        let y = and_parts (list_all (λ j. list_all (is_declared C 0) (entry C j).reads) (body C 0).entries) _ x.1 in
         (x.0, y.0, y.1)
 
     entry_is : (i : ℕ) → (is_entry C i (entry C i) ≡ true) ⊎ (entry C i ≡ blank_entry)
@@ -217,7 +214,7 @@ module _ (C : Code) where
       where
         by : (is_entry C i (entry C i) ≡ true) ⊎ (entry C i ≡ blank_entry) → In r (entry C i).reads
         by (inl t) =
-            let x = true_and (list_all (λ n. list_all (λ r. name_in r (entry C i).reads) (needed n)) (entry C i).needs) _ (true_and (is_shaped (entry C i)) _ t).1 in
+            let x = and_parts (list_all (λ n. list_all (λ r. name_in r (entry C i).reads) (needed n)) (entry C i).needs) _ (and_parts (is_shaped (entry C i)) _ t).1 in
             name_in_sound r (entry C i).reads (every_in (λ r. name_in r (entry C i).reads) (needed n) (every_in (λ n. list_all (λ r. name_in r (entry C i).reads) (needed n)) (entry C i).needs x.0 n ni) r ri)
         by (inr e) = absurd (subst (λ (x : Entry). In n x.needs) e ni)
 
@@ -225,7 +222,7 @@ module _ (C : Code) where
     shape i = by (entry_is i)
       where
         by : (is_entry C i (entry C i) ≡ true) ⊎ (entry C i ≡ blank_entry) → is_shaped (entry C i) ≡ true
-        by (inl t) = (true_and (is_shaped (entry C i)) _ t).0
+        by (inl t) = (and_parts (is_shaped (entry C i)) _ t).0
         by (inr e) = subst (λ (x : Entry). is_shaped x ≡ true) (sym e) refl
 
     there : (b j : ℕ) → In j (body C b).entries → j < length C.entries
@@ -235,8 +232,8 @@ module _ (C : Code) where
         by (inr e) = absurd (subst (λ (x : Body). In j x.entries) e ij)
         by (inl t) =
             let es = (body C b).entries in
-            let x = true_and (distinct_numbers es && list_all (λ j. nat_lt j (length C.entries)) es) _ t in
-            let y = true_and (distinct_numbers es) _ x.0 in
+            let x = and_parts (distinct_numbers es && list_all (λ j. nat_lt j (length C.entries)) es) _ t in
+            let y = and_parts (distinct_numbers es) _ x.0 in
             let z = every_in (λ j. nat_lt j (length C.entries)) es y.1 j ij in
             below_sound j (length C.entries) z
 
@@ -245,8 +242,8 @@ module _ (C : Code) where
       where
         by : (is_entry C i (entry C i) ≡ true) ⊎ (entry C i ≡ blank_entry) → In r (entry C i).writes
         by (inl t) =
-            let x = true_and (list_all (λ n. list_all (λ r. name_in r (entry C i).reads) (needed n)) (entry C i).needs) _ (true_and (is_shaped (entry C i)) _ t).1 in
-            let y = true_and (list_all (λ r. name_in r (entry C i).writes) (targets (entry C i))) _ x.1 in
+            let x = and_parts (list_all (λ n. list_all (λ r. name_in r (entry C i).reads) (needed n)) (entry C i).needs) _ (and_parts (is_shaped (entry C i)) _ t).1 in
+            let y = and_parts (list_all (λ r. name_in r (entry C i).writes) (targets (entry C i))) _ x.1 in
             name_in_sound r (entry C i).writes (every_in (λ r. name_in r (entry C i).writes) (targets (entry C i)) y.0 r ri)
         by (inr e) = absurd (subst (λ (x : Entry). In r (targets x)) e ri)
 
@@ -255,9 +252,9 @@ module _ (C : Code) where
       where
         by : (is_entry C i (entry C i) ≡ true) ⊎ (entry C i ≡ blank_entry) → Fits C i w b
         by (inl t) =
-            let x = true_and (list_all (λ n. list_all (λ r. name_in r (entry C i).reads) (needed n)) (entry C i).needs) _ (true_and (is_shaped (entry C i)) _ t).1 in
-            let y = true_and (list_all (λ r. name_in r (entry C i).writes) (targets (entry C i))) _ x.1 in
-            let z = true_and (list_all (is_fit C i (entry C i)) (ways (entry C i).act)) _ y.1 in
+            let x = and_parts (list_all (λ n. list_all (λ r. name_in r (entry C i).reads) (needed n)) (entry C i).needs) _ (and_parts (is_shaped (entry C i)) _ t).1 in
+            let y = and_parts (list_all (λ r. name_in r (entry C i).writes) (targets (entry C i))) _ x.1 in
+            let z = and_parts (list_all (is_fit C i (entry C i)) (ways (entry C i).act)) _ y.1 in
             fits_sound i w b (every_in (is_fit C i (entry C i)) (ways (entry C i).act) z.0 (w, b) iw)
         by (inr e) = absurd (subst (λ (x : Entry). In (w, b) (ways x.act)) e iw)
 
@@ -266,9 +263,9 @@ module _ (C : Code) where
       where
         by : (is_entry C i (entry C i) ≡ true) ⊎ (entry C i ≡ blank_entry) → FitsLoop C i l
         by (inl t) =
-            let x = true_and (list_all (λ n. list_all (λ r. name_in r (entry C i).reads) (needed n)) (entry C i).needs) _ (true_and (is_shaped (entry C i)) _ t).1 in
-            let y = true_and (list_all (λ r. name_in r (entry C i).writes) (targets (entry C i))) _ x.1 in
-            let z = true_and (list_all (is_fit C i (entry C i)) (ways (entry C i).act)) (is_fit_if_loop C (entry C i) (loop_of (entry C i).act)) y.1 in
+            let x = and_parts (list_all (λ n. list_all (λ r. name_in r (entry C i).reads) (needed n)) (entry C i).needs) _ (and_parts (is_shaped (entry C i)) _ t).1 in
+            let y = and_parts (list_all (λ r. name_in r (entry C i).writes) (targets (entry C i))) _ x.1 in
+            let z = and_parts (list_all (is_fit C i (entry C i)) (ways (entry C i).act)) (is_fit_if_loop C (entry C i) (loop_of (entry C i).act)) y.1 in
             loop_sound i l (subst (λ (o : Option Loop). is_fit_if_loop C (entry C i) o ≡ true) el z.1)
         by (inr e) = (let n : ◌≡◌ {A = Option Loop} None (Some l) = sym (ap (λ (x : Entry). loop_of x.act) e) ∙ el in absurd (cc))
 
@@ -276,7 +273,7 @@ module _ (C : Code) where
     distinct b = by (body_is b)
       where
         by : (is_body C b (body C b) ≡ true) ⊎ (body C b ≡ blank_body) → Distinct (body C b).entries
-        by (inl t) = distinct_numbers_sound (body C b).entries (true_and (distinct_numbers (body C b).entries) _ (true_and (distinct_numbers (body C b).entries && list_all (λ j. nat_lt j (length C.entries)) (body C b).entries) _ t).0).0
+        by (inl t) = distinct_numbers_sound (body C b).entries (and_parts (distinct_numbers (body C b).entries) _ (and_parts (distinct_numbers (body C b).entries && list_all (λ j. nat_lt j (length C.entries)) (body C b).entries) _ t).0).0
         by (inr e) = subst (λ (x : Body). Distinct x.entries) (sym e) tt
 
     one_assigner : (b j j' : ℕ) (r : Name) → In j (body C b).entries → In j' (body C b).entries → In r (entry C j).writes → In r (entry C j').writes → is_array_name r ≡ false → j ≡ j'
@@ -286,14 +283,14 @@ module _ (C : Code) where
         by (inr e) = absurd (subst (λ (x : Body). In j x.entries) e ij)
         by (inl t) =
             let es = (body C b).entries in
-            let x = true_and (distinct_numbers es && list_all (λ j. nat_lt j (length C.entries)) es) _ t in
-            let y = true_and (list_all (λ j. list_all (λ j'. list_all (λ r. nat_eq j j' || (is_array_name r || not (name_in r (entry C j').writes))) (entry C j).writes) es) es) _ x.1 in
+            let x = and_parts (distinct_numbers es && list_all (λ j. nat_lt j (length C.entries)) es) _ t in
+            let y = and_parts (list_all (λ j. list_all (λ j'. list_all (λ r. nat_eq j j' || (is_array_name r || not (name_in r (entry C j').writes))) (entry C j).writes) es) es) _ x.1 in
             let x1 = every_in (λ j. list_all (λ j'. list_all (λ r. nat_eq j j' || (is_array_name r || not (name_in r (entry C j').writes))) (entry C j).writes) es) es y.0 j ij in
             let x2 = every_in (λ j'. list_all (λ r. nat_eq j j' || (is_array_name r || not (name_in r (entry C j').writes))) (entry C j).writes) es x1 j' ij' in
             let x3 = every_in (λ r. nat_eq j j' || (is_array_name r || not (name_in r (entry C j').writes))) (entry C j).writes x2 r ir in
-            elim (or_true (nat_eq j j') (is_array_name r || not (name_in r (entry C j').writes)) x3) [
+            elim (or_cases (nat_eq j j') (is_array_name r || not (name_in r (entry C j').writes)) x3) [
               | inl p ↦ nat_sound j j' p
-              | inr q ↦ elim (or_true (is_array_name r) (not (name_in r (entry C j').writes)) q) [
+              | inr q ↦ elim (or_cases (is_array_name r) (not (name_in r (entry C j').writes)) q) [
                 | inl a ↦ absurd (not_both (is_array_name r) a sc)
                 | inr n ↦ absurd (not_true (name_in r (entry C j').writes) n (in_name_in r (entry C j').writes ir'))
               ]
@@ -309,17 +306,17 @@ module _ (C : Code) where
         by_other : (test b (body C b) b' (body C b') ≡ true) ⊎ (body C b' ≡ blank_body) → (b ≡ b') ⊎ ((list_all (λ v. not (variable_in v (body C b').makes)) (body C b).makes ≡ true) × (list_all (λ j. not (number_in j (body C b').entries)) (body C b).entries ≡ true)) ⊎ ((body C b ≡ blank_body) ⊎ (body C b' ≡ blank_body))
         by_other (inr e) = inr (inr (inr e))
         by_other (inl t) =
-            elim (or_true (nat_eq b b') _ t) [
+            elim (or_cases (nat_eq b b') _ t) [
               | inl p ↦ inl (nat_sound b b' p)
-              | inr q ↦ inr (inl (true_and (list_all (λ v. not (variable_in v (body C b').makes)) (body C b).makes) _ q))
+              | inr q ↦ inr (inl (and_parts (list_all (λ v. not (variable_in v (body C b').makes)) (body C b).makes) _ q))
             ]
 
         by : (is_body C b (body C b) ≡ true) ⊎ (body C b ≡ blank_body) → (b ≡ b') ⊎ ((list_all (λ v. not (variable_in v (body C b').makes)) (body C b).makes ≡ true) × (list_all (λ j. not (number_in j (body C b').entries)) (body C b).entries ≡ true)) ⊎ ((body C b ≡ blank_body) ⊎ (body C b' ≡ blank_body))
         by (inr e) = inr (inr (inl e))
         by (inl t) =
             let es = (body C b).entries in
-            let x = true_and (distinct_numbers es && list_all (λ j. nat_lt j (length C.entries)) es) _ t in
-            let y = true_and (list_all (λ j. list_all (λ j'. list_all (λ r. nat_eq j j' || (is_array_name r || not (name_in r (entry C j').writes))) (entry C j).writes) es) es) _ x.1 in
+            let x = and_parts (distinct_numbers es && list_all (λ j. nat_lt j (length C.entries)) es) _ t in
+            let y = and_parts (list_all (λ j. list_all (λ j'. list_all (λ r. nat_eq j j' || (is_array_name r || not (name_in r (entry C j').writes))) (entry C j).writes) es) es) _ x.1 in
             by_other (every_at_sound blank_body (test b (body C b)) C.bodies y.1 b')
 
     makes_once : (b b' : ℕ) (v : Variable) → In v (body C b).makes → In v (body C b').makes → b ≡ b'

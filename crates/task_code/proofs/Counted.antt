@@ -1,5 +1,5 @@
 -- The items of code are counted by its live blocks and loops.
-use Rattle.std.proofs.lemmas.List.{length-map}
+use Rattle.std.proofs.lemmas.List.{length-map, length-drop}
 use Rattle.std.proofs.lemmas.List.Concat.{length-flat_map}
 use Rattle.std.proofs.lemmas.List.Sums.{sum_by-cons}
 use Rattle.std.proofs.Common.{◌≡◌, ◌⊎◌, inl, inr, ℕ, zero, suc, ◌+◌, ◌-◌, ◌*◌, ◌<◌, ◌≤◌, Bool, true, false, List, [], ◌∷◌, ◌++◌, map, refl, sym, ap, ◌∙◌, subst, Option, None, Some, length, arith, length-append}
@@ -39,15 +39,10 @@ gather_in {A} f (z ∷ xs) x y h i =
       | inr j ↦ in_right y (f z) (flat_map f xs) (gather_in f xs x y j i)
     ]
 
-length_dropped : {X : Type 0} (n : ℕ) (xs : List X) → length (drop n xs) ≡ length xs - n
-length_dropped zero xs = omega arith
-length_dropped (suc n) [] = omega arith
-length_dropped (suc n) (x ∷ xs) = let h = length_dropped n xs in omega arith
-
 left_long : {X : Type 0} (c : ℕ) (xs : List X) → is_some_list (left_at c xs) ≡ true → chunk_size * c < length xs
 left_long zero [] h = absurd (cc)
 left_long zero (x ∷ xs) h = omega arith
-left_long (suc c) xs h = let l = left_long c (drop chunk_size xs) h in let d = length_dropped chunk_size xs in omega arith
+left_long (suc c) xs h = let l = left_long c (drop chunk_size xs) h in let d = length-drop chunk_size xs in omega arith
 
 few_rests : (c m : ℕ) → chunk_size * suc c < m → suc c ≤ rests_of m
 few_rests c m h = grind arith

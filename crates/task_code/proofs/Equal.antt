@@ -5,6 +5,7 @@ use Rattle.std.specs.Prelude.{ℤ, nat_eq, ◌==◌}
 use Rattle.dataflow.specs.System.{Distinct, In}
 use Rattle.std.specs.List.{list_all}
 use Rattle.std.specs.Ordering.{int_eq}
+use Rattle.std.proofs.lemmas.Bool.{and_from, and_parts}
 use Rattle.task_code.specs.Code.{Local, Name, Owned, Parameter, Variable}
 use Rattle.task_code.specs.Compute.{Elements, in_key_order}
 use Rattle.task_code.specs.Effects.{Item, Main, Task}
@@ -18,14 +19,6 @@ use Rattle.values.specs.declared.value.Value.TheVariants.{One}
 use lib.Pointwise.{pointwise}
 use Rattle.values.proofs.Keys.{key_below-irreflexive, key_below-trans, same_key-refl, same_key-eq}
 use Rattle.dataflow.proofs.Lists.{in_map, in_unmap}
-
-pub true_and : (a b : Bool) → (a && b) ≡ true → (a ≡ true) × (b ≡ true)
-true_and true b h = (refl, h)
-true_and false b h = absurd (cc)
-
-pub both_true : (a b : Bool) → a ≡ true → b ≡ true → (a && b) ≡ true
-both_true true b h k = k
-both_true false b h k = absurd (cc)
 
 pub nat_sound : (a b : ℕ) → nat_eq a b ≡ true → a ≡ b
 nat_sound a b h = grind arith
@@ -51,8 +44,8 @@ path_sound [] [] h = refl
 path_sound [] (t ∷ q) h = absurd (cc)
 path_sound (s ∷ p) [] h = absurd (cc)
 path_sound (s ∷ p) (t ∷ q) h =
-    let x = true_and (nat_eq s.offset t.offset) (same_key s.key t.key && path_eq p q) h in
-    let y = true_and (same_key s.key t.key) (path_eq p q) x.1 in
+    let x = and_parts (nat_eq s.offset t.offset) (same_key s.key t.key && path_eq p q) h in
+    let y = and_parts (same_key s.key t.key) (path_eq p q) x.1 in
     let a = nat_sound s.offset t.offset x.0 in
     let b = key_sound s.key t.key y.0 in
     let c = path_sound p q y.1 in
@@ -60,17 +53,17 @@ path_sound (s ∷ p) (t ∷ q) h =
 
 path_same : (p : List Step) → path_eq p p ≡ true
 path_same [] = refl
-path_same (s ∷ p) = both_true (nat_eq s.offset s.offset) _ (nat_same s.offset) (both_true (same_key s.key s.key) _ (same_key-refl s.key) (path_same p))
+path_same (s ∷ p) = and_from (nat_eq s.offset s.offset) _ (nat_same s.offset) (and_from (same_key s.key s.key) _ (same_key-refl s.key) (path_same p))
 
 pub variable_sound : (v w : Variable) → variable_eq v w ≡ true → v ≡ w
 variable_sound v w h =
-    let x = true_and (nat_eq v.node w.node) (same_truth v.array w.array) h in
+    let x = and_parts (nat_eq v.node w.node) (same_truth v.array w.array) h in
     let a = nat_sound v.node w.node x.0 in
     let b = bool_sound v.array w.array x.1 in
     λ i. record { node = a i; array = b i }
 
 pub variable_same : (v : Variable) → variable_eq v v ≡ true
-variable_same v = both_true (nat_eq v.node v.node) _ (nat_same v.node) (bool_same v.array)
+variable_same v = and_from (nat_eq v.node v.node) _ (nat_same v.node) (bool_same v.array)
 
 int_sound : (a b : ℤ) → int_eq a b ≡ true → a ≡ b
 int_sound a b h = grind (arith, ints)
@@ -83,14 +76,14 @@ bytes_sound [] [] h = refl
 bytes_sound [] (n ∷ ns) h = absurd (cc)
 bytes_sound (m ∷ ms) [] h = absurd (cc)
 bytes_sound (m ∷ ms) (n ∷ ns) h =
-    let x = true_and (m == n) (pointwise ◌==◌ ms ns) h in
+    let x = and_parts (m == n) (pointwise ◌==◌ ms ns) h in
     let a : m ≡ n = grind (arith, x.0) in
     let b = bytes_sound ms ns x.1 in
     λ i. a i ∷ b i
 
 bytes_same : (ns : List ℕ) → pointwise ◌==◌ ns ns ≡ true
 bytes_same [] = refl
-bytes_same (n ∷ ns) = let a : (n == n) ≡ true = grind arith in both_true (n == n) _ a (bytes_same ns)
+bytes_same (n ∷ ns) = let a : (n == n) ≡ true = grind arith in and_from (n == n) _ a (bytes_same ns)
 
 scalar_sound : (v w : Scalar) → same (One v) (One w) ≡ true → v ≡ w
 scalar_sound (Number x) (Number y) h = ap Number (int_sound x y h)
@@ -110,7 +103,7 @@ scalar_same (Truth b) = bool_same b
 
 pub place_sound : (a b : Place) → place_eq a b ≡ true → a ≡ b
 place_sound (Datum p v) (Datum q w) h =
-    let x = true_and (path_eq p q) (variable_eq v w) h in
+    let x = and_parts (path_eq p q) (variable_eq v w) h in
     let a = path_sound p q x.0 in
     let b = variable_sound v w x.1 in
     λ i. Datum (a i) (b i)
@@ -124,7 +117,7 @@ place_sound Nowhere (Constant w) h = absurd (cc)
 place_sound Nowhere Nowhere h = refl
 
 pub place_same : (a : Place) → place_eq a a ≡ true
-place_same (Datum p v) = both_true (path_eq p p) _ (path_same p) (variable_same v)
+place_same (Datum p v) = and_from (path_eq p p) _ (path_same p) (variable_same v)
 place_same (Constant v) = scalar_same v
 place_same Nowhere = refl
 
@@ -133,24 +126,24 @@ owned_sound (Local v) (Local w) h = ap Local (variable_sound v w h)
 owned_sound (Local v) (Parameter l d) h = absurd (cc)
 owned_sound (Parameter k b) (Local w) h = absurd (cc)
 owned_sound (Parameter k b) (Parameter l d) h =
-    let x = true_and (nat_eq k l) (same_truth b d) h in
+    let x = and_parts (nat_eq k l) (same_truth b d) h in
     let a = nat_sound k l x.0 in
     let c = bool_sound b d x.1 in
     λ i. Parameter (a i) (c i)
 
 owned_same : (x : Owned) → owned_eq x x ≡ true
 owned_same (Local v) = variable_same v
-owned_same (Parameter k b) = both_true (nat_eq k k) _ (nat_same k) (bool_same b)
+owned_same (Parameter k b) = and_from (nat_eq k k) _ (nat_same k) (bool_same b)
 
 pub name_sound : (r s : Name) → name_eq r s ≡ true → r ≡ s
 name_sound r s h =
-    let x = true_and (nat_eq r.up s.up) (owned_eq r.owned s.owned) h in
+    let x = and_parts (nat_eq r.up s.up) (owned_eq r.owned s.owned) h in
     let a = nat_sound r.up s.up x.0 in
     let b = owned_sound r.owned s.owned x.1 in
     λ i. record { up = a i; owned = b i }
 
 pub name_same : (r : Name) → name_eq r r ≡ true
-name_same r = both_true (nat_eq r.up r.up) _ (nat_same r.up) (owned_same r.owned)
+name_same r = and_from (nat_eq r.up r.up) _ (nat_same r.up) (owned_same r.owned)
 
 task_eq : Task → Task → Bool
 task_eq Main Main = true
@@ -164,8 +157,8 @@ task_sound Main Main h = refl
 task_sound Main (Item j q d) h = absurd (cc)
 task_sound (Item i p c) Main h = absurd (cc)
 task_sound (Item i p c) (Item j q d) h =
-    let x = true_and (nat_eq i j) (path_eq p q && nat_eq c d) h in
-    let y = true_and (path_eq p q) (nat_eq c d) x.1 in
+    let x = and_parts (nat_eq i j) (path_eq p q && nat_eq c d) h in
+    let y = and_parts (path_eq p q) (nat_eq c d) x.1 in
     let a = nat_sound i j x.0 in
     let b = path_sound p q y.0 in
     let e = nat_sound c d y.1 in
@@ -174,7 +167,7 @@ task_sound (Item i p c) (Item j q d) h =
 task_same : (t : Task) → task_eq t t ≡ true
 unfolding task_eq
 task_same Main = refl
-task_same (Item i p c) = both_true (nat_eq i i) _ (nat_same i) (both_true (path_eq p p) _ (path_same p) (nat_same c))
+task_same (Item i p c) = and_from (nat_eq i i) _ (nat_same i) (and_from (path_eq p p) _ (path_same p) (nat_same c))
 
 -- a sound test decides
 decide : {A : Type 0} (f : A → A → Bool) → ((a b : A) → f a b ≡ true → a ≡ b) → ((a : A) → f a a ≡ true) → (a b : A) → (a ≡ b) ⊎ (a ≡ b → ⊥)
@@ -196,12 +189,12 @@ key_is = decide same_key key_sound same_key-refl
 pub every_in : {X : Type 0} (f : X → Bool) (xs : List X) → list_all f xs ≡ true → (x : X) → In x xs → f x ≡ true
 every_in f [] h x i = absurd i
 every_in {X} f (y ∷ ys) h x i =
-    let t = true_and (f y) (list_all f ys) h in
+    let t = and_parts (f y) (list_all f ys) h in
     elim i [ inl p ↦ subst (λ (z : X). f z ≡ true) (sym p) t.0 | inr j ↦ every_in f ys t.1 x j ]
 
 pub in_every : {X : Type 0} (f : X → Bool) (xs : List X) → ((x : X) → In x xs → f x ≡ true) → list_all f xs ≡ true
 in_every f [] h = refl
-in_every f (y ∷ ys) h = both_true (f y) (list_all f ys) (h y (inl refl)) (in_every f ys (λ x i. h x (inr i)))
+in_every f (y ∷ ys) h = and_from (f y) (list_all f ys) (h y (inl refl)) (in_every f ys (λ x i. h x (inr i)))
 
 -- rising keys
 pub key_again : (a b c : Key) → key_below a b ≡ true → key_below b c ≡ true → key_below a c ≡ true
@@ -212,12 +205,12 @@ key_not_below a h = (let n : true ≡ false = sym h ∙ key_below-irreflexive a 
 
 pub rising_tail : (e : Key × Scalar) (es : Elements) → in_key_order (e ∷ es) ≡ true → in_key_order es ≡ true
 rising_tail e [] h = refl
-rising_tail e (x ∷ es) h = (true_and (key_below e.0 x.0) (in_key_order (x ∷ es)) h).1
+rising_tail e (x ∷ es) h = (and_parts (key_below e.0 x.0) (in_key_order (x ∷ es)) h).1
 
 pub head_below : (e : Key × Scalar) (es : Elements) → in_key_order (e ∷ es) ≡ true → (x : Key × Scalar) → In x es → key_below e.0 x.0 ≡ true
 head_below e [] h x i = absurd i
 head_below e (y ∷ es) h x i =
-    let t = true_and (key_below e.0 y.0) (in_key_order (y ∷ es)) h in
+    let t = and_parts (key_below e.0 y.0) (in_key_order (y ∷ es)) h in
     elim i [
       | inl p ↦ subst (λ (z : Key × Scalar). key_below e.0 z.0 ≡ true) (sym p) t.0
       | inr j ↦ key_again e.0 y.0 x.0 t.0 (head_below y es t.1 x j)

@@ -2,6 +2,7 @@
 use Rattle.std.proofs.Common.{◌≡◌, ◌⊎◌, inl, inr, ℕ, zero, suc, Bool, true, false, List, [], ◌∷◌, refl, sym, ap, ◌∙◌, subst, Option, None, Some, arith}
 use Rattle.std.specs.Prelude.{if◌then◌else◌, ◌&&◌}
 use Rattle.std.specs.List.{list_all, flat_map}
+use Rattle.std.proofs.lemmas.Bool.{and_parts}
 use Rattle.dataflow.specs.System.{In}
 use Rattle.dataflow.proofs.Lists.{in_split}
 use Rattle.values.specs.declared.value.Scalar.{Scalar}
@@ -10,7 +11,7 @@ use Rattle.task_code.specs.Whole.{Seen, Declared, SeenFrom, Fixes, IsCode}
 use Rattle.task_code.specs.Check.{name_in, is_declared}
 use Rattle.task_code.specs.Exact.{needs_of, Leads, itself, through, IsExact, outward, led_to, is_exact}
 use Rattle.task_code.specs.Worked.{right_without_use}
-use Rattle.task_code.proofs.Equal.{every_in, true_and}
+use Rattle.task_code.proofs.Equal.{every_in}
 use Rattle.task_code.proofs.Rights.{in_gather}
 use Rattle.task_code.proofs.Checked.{name_in_sound, every_at_sound}
 use Rattle.task_code.proofs.Decided.{declared_is}
@@ -121,7 +122,7 @@ module _ (C : Code) where
       parts : (i : ℕ) → ((list_all (λ r. name_in r (led_to C needs_of depth i)) (entry C i).reads ≡ true) × (list_all (λ r. name_in r (led_to C targets depth i)) (entry C i).writes ≡ true)) ⊎ (entry C i ≡ blank_entry)
       parts i =
           elim (every_at_sound blank_entry (λ i e. list_all (λ r. name_in r (led_to C needs_of depth i)) e.reads && list_all (λ r. name_in r (led_to C targets depth i)) e.writes) C.entries h i) [
-            | inl t ↦ inl (true_and (list_all (λ r. name_in r (led_to C needs_of depth i)) (entry C i).reads) _ t)
+            | inl t ↦ inl (and_parts (list_all (λ r. name_in r (led_to C needs_of depth i)) (entry C i).reads) _ t)
             | inr e ↦ inr e
           ]
 

@@ -1,8 +1,9 @@
 -- The elements of an array can be listed by rising keys.
 use Rattle.std.proofs.Common.{◌≡◌, ◌⊎◌, inl, inr, true, [], ◌∷◌, refl, sym, ◌∙◌, subst}
 use Rattle.std.specs.Prelude.{Bool, false}
+use Rattle.std.proofs.lemmas.Bool.{and_from}
 use Rattle.dataflow.specs.System.{In}
-use Rattle.task_code.proofs.Equal.{both_true, head_below, rising_tail}
+use Rattle.task_code.proofs.Equal.{head_below, rising_tail}
 use Rattle.task_code.specs.Compute.{Elements, in_key_order}
 use Rattle.values.specs.Keys.{key_below, same_key}
 use Rattle.values.specs.Values.{same}
@@ -20,7 +21,7 @@ key_order a b = order_or a b (same_key a b) (key_below a b) refl refl
 
 rising_cons : (y : Key × Scalar) (zs : Elements) → in_key_order zs ≡ true → ((p : Key × Scalar) → In p zs → key_below y.0 p.0 ≡ true) → in_key_order (y ∷ zs) ≡ true
 rising_cons y [] h f = refl
-rising_cons y (z ∷ zs) h f = both_true (key_below y.0 z.0) (in_key_order (z ∷ zs)) (f z (inl refl)) h
+rising_cons y (z ∷ zs) h f = and_from (key_below y.0 z.0) (in_key_order (z ∷ zs)) (f z (inl refl)) h
 
 -- with one element more
 record Inserted (e : Key × Scalar) (ys : Elements) : Type 0 where
@@ -34,7 +35,7 @@ insert e [] h same = record { list = e ∷ []; rising = refl; only = λ p i. i; 
 insert e (y ∷ ys) h same = by (key_order e.0 y.0) (insert e ys (rising_tail y ys h) (λ v i. same v (inr i)))
   where
     by : ((key_below e.0 y.0 ≡ true) ⊎ (e.0 ≡ y.0) ⊎ (key_below y.0 e.0 ≡ true)) → Inserted e ys → Inserted e (y ∷ ys)
-    by (inl b) r = record { list = e ∷ y ∷ ys; rising = both_true (key_below e.0 y.0) (in_key_order (y ∷ ys)) b h; only = λ p i. i; all = λ p i. i }
+    by (inl b) r = record { list = e ∷ y ∷ ys; rising = and_from (key_below e.0 y.0) (in_key_order (y ∷ ys)) b h; only = λ p i. i; all = λ p i. i }
     by (inr (inl k)) r =
         let v : y.1 ≡ e.1 = same y.1 (inl (λ i. (k i, y.1))) in
         let q : ◌≡◌ {A = Key × Scalar} e y = λ i. (k i, sym v i) in

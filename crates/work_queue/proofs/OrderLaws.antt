@@ -6,6 +6,7 @@ use Rattle.std.specs.declared.cmp.Ordering.{Ordering}
 use Rattle.std.specs.declared.cmp.Ordering.TheVariants.{Less, Equal, Greater}
 use Rattle.std.specs.Ordering.{is_lt, is_eq, ordering_reverse, ordering_then, nat_cmp, int_cmp, MatchOrdering}
 use Rattle.std.proofs.lemmas.List.Sorted.{ranks_by}
+use Rattle.std.proofs.lemmas.Map.Keys.{ge_from_not_lt}
 use Rattle.work_queue.specs.declared.entry.Entry.{Entry}
 use Rattle.work_queue.specs.Order.{order, precedes, same}
 use Rattle.work_queue.specs.Entries.{ComesNoLater}
@@ -61,12 +62,9 @@ tied_same x y h q =
       | Greater ↦ λ e. absurd (true_false (sym (greater_follows x y e) ∙ q))
     ] refl
 
-not_less : (m n : ℕ) → is_lt (nat_cmp m n) ≡ false → n ≤ m
-not_less m n h = grind arith
-
 by_rank : (x y : Entry) (o : Ordering) → MatchOrdering o (x.priority <ℤ y.priority) (x.priority ≡ y.priority) (y.priority <ℤ x.priority) → is_lt (ordering_then o (nat_cmp y.no x.no)) ≡ false → ComesNoLater x y
 by_rank x y Less r h = absurd (true_false h)
-by_rank x y Equal r h = inr (r, not_less y.no x.no h)
+by_rank x y Equal r h = inr (r, ge_from_not_lt y.no x.no h)
 by_rank x y Greater r h = inl r
 
 -- what the test of the order says of two entries, in plain words

@@ -66,10 +66,6 @@ pub removed_from_tree : (x : Entry) (tree run : List Entry) (spare : ℕ) → Is
 removed_from_tree x tree run spare s q l h =
     same_waiting _ _ _ _ (sym (erased_merged x tree run s q h)) (omega (arith, l))
 
-pub on_ok : {T E P Q : Type 0} (r : Result T E) → (P → Q) → OnOk r P → OnOk r Q
-on_ok (Ok x) f p = f p
-on_ok (Err e) f p = tt
-
 -- a list to which the entries of both are added
 pub listed_both : (kind : Kind) (tree run : List Entry) (old new : List (Kind × ℤ × ℕ)) → new ≡ (old ++ map (listed kind) tree) ++ map (listed kind) run → IsPermutation (old ++ map (listed kind) (merged tree run)) new
 listed_both kind tree run old new e =

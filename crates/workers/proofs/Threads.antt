@@ -1,5 +1,6 @@
 -- Runs by engines and workers, one event after the other.
 use Rattle.std.proofs.Common.{◌≡◌, ℕ, ◌+◌, ◌∷◌, [], ◌++◌, List, length, subst, sym, ap, arith, ◌∙◌, refl}
+use Rattle.std.proofs.lemmas.List.{length_push}
 use Rattle.board.specs.Board.{Accepts, Seen}
 use Rattle.board_runs.specs.Report.{Reports}
 use Rattle.board_runs.specs.declared.report.Report.{Report}
@@ -62,12 +63,8 @@ backs_more (Back w n ∷ es) e z = let r = backs_more es e z in omega (arith, r)
 pub no_back_more : (old new : Seen) (e : Event) → Accepts old e new → backs (e ∷ []) ≡ 0 → backs old.history ≡ 0 → backs new.history ≡ 0
 no_back_more old new e a z none = ap backs a.history ∙ (backs_more old.history e z ∙ none)
 
-length_more : {X : Type 0} (xs : List X) (x : X) → length (xs ++ x ∷ []) ≡ length xs + 1
-length_more [] x = refl
-length_more (y ∷ xs) x = let r = length_more xs x in omega (arith, r)
-
 pub counted_more : (old new : Seen) (e : Event) → Accepts old e new → length new.history ≡ length old.history + 1
-counted_more old new e a = ap length a.history ∙ length_more old.history e
+counted_more old new e a = ap length a.history ∙ length_push old.history e
 
 -- the steps of these events up to a state, and how often along them an item can begin after one and could not before it
 AlongTo : Code → CodeState → List Event → ℕ → CodeState → Type 0

@@ -14,8 +14,8 @@ use Rattle.assign_check.specs.Faults.{same, is_kind, is_used, other_form, form_f
 use Rattle.assign_check.specs.Breaks.{IsTarget, BreaksIn}
 use Rattle.assign_check.proofs.counting.Counts.{same_is}
 use Rattle.assign_check.proofs.like.Like.{own_is_not_given, result_is_not_given}
-use Rattle.assign_check.proofs.faults.Variables.{used_when, unused_when, and_true, not_kind, kind_or, is_target, target_true}
-use Rattle.std.proofs.lemmas.Bool.{or_parts, not-true, and_parts}
+use Rattle.assign_check.proofs.faults.Variables.{used_when, unused_when, not_kind, kind_or, is_target, target_true}
+use Rattle.std.proofs.lemmas.Bool.{or_parts, not-true, and_parts, and_from}
 
 -- LISTS
 
@@ -103,7 +103,7 @@ other_found k x (u ∷ us) f i = by (is_target x u && not (is_kind u.kind k)) re
       | inl same ↦ same
       | inr other ↦ absurd (
           let target : is_target x v ≡ true = target_true x v is (no_target_read v.kind form) in
-          let no : true ≡ false = sym (and_true target other) ∙ ap (λ (z : Use). is_target x z && not (is_kind z.kind k)) e ∙ h in
+          let no : true ≡ false = sym (and_from _ _ target other) ∙ ap (λ (z : Use). is_target x z && not (is_kind z.kind k)) e ∙ h in
           cc (no)
           )
     ]

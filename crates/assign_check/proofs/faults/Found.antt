@@ -14,9 +14,9 @@ use Rattle.assign_check.specs.Outline.{Kind, named, written, read, Use, Role, ow
 use Rattle.assign_check.specs.Faults.{same, is_kind, is_used, other_form, form_faults, never_faults, output_faults, role_faults, variable_faults, uses_in, declared_in}
 use Rattle.assign_check.specs.Breaks.{Used, IsTarget, IsNever, IsBoth, IsUnassigned}
 use Rattle.assign_check.proofs.counting.Counts.{same_is, kind_from}
-use Rattle.assign_check.proofs.faults.Variables.{and_true, used_or, not_kind, kind_or, is_target, target_true}
+use Rattle.assign_check.proofs.faults.Variables.{used_or, not_kind, kind_or, is_target, target_true}
 use Rattle.assign_check.proofs.faults.Broken.{no_target_read, target_of}
-use Rattle.std.proofs.lemmas.Bool.{and_parts}
+use Rattle.std.proofs.lemmas.Bool.{and_parts, and_from}
 
 -- LISTS
 
@@ -38,7 +38,7 @@ is_unused_when k x us h = elim (used_or k x us) [ inl p ↦ absurd (h p.0) | inr
 never_found : (s : Shape) (x : Owned) (at : Span) (us : List Use) → s ≡ Scalar → Used read x us → (Used named x us → ⊥) → NeverAssigned at ∈ never_faults s x at us
 never_found (Array κ) x at us e r n = absurd (cc (e))
 never_found Scalar x at us e r n =
-    subst (λ (b : Bool). NeverAssigned at ∈ cond b (NeverAssigned at ∷ []) []) (sym (and_true (is_used_when read x us r) (ap not (is_unused_when named x us n)))) first
+    subst (λ (b : Bool). NeverAssigned at ∈ cond b (NeverAssigned at ∷ []) []) (sym (and_from _ _ (is_used_when read x us r) (ap not (is_unused_when named x us n)))) first
 
 output_found : (x : Owned) (at : Span) (us : List Use) → (Used named x us → ⊥) → (Used written x us → ⊥) → OutputUnassigned at ∈ output_faults x at us
 output_found x at us n w =
@@ -54,7 +54,7 @@ other_there : (k : Kind) (x : Owned) (earlier behind : List Use) (u : Use) → u
     → WholeAndElements u.span ∈ other_form k x (earlier ++ u ∷ behind)
 other_there k x [] behind u is form other same_form = elim (kind_or u.kind k) [
   | inl e ↦ absurd (other e)
-  | inr e ↦ subst (λ (b : Bool). WholeAndElements u.span ∈ cond b (WholeAndElements u.span ∷ []) (other_form k x behind)) (sym (and_true (form_true x u is form) e)) first
+  | inr e ↦ subst (λ (b : Bool). WholeAndElements u.span ∈ cond b (WholeAndElements u.span ∷ []) (other_form k x behind)) (sym (and_from _ _ (form_true x u is form) e)) first
 ]
 other_there k x (v ∷ vs) behind u is form other same_form =
     subst (λ (b : Bool). WholeAndElements u.span ∈ cond b (WholeAndElements v.span ∷ []) (other_form k x (vs ++ u ∷ behind))) (sym passed)

@@ -13,13 +13,10 @@ use Rattle.assign_check.specs.Outline.{Kind, named, written, read, Use, Role, ow
 use Rattle.assign_check.specs.Faults.{same, is_kind, is_used, other_form, form_faults, never_faults, output_faults, role_faults}
 use Rattle.assign_check.specs.Breaks.{Used}
 use Rattle.assign_check.proofs.counting.Counts.{same_is, same_from, kind_is, kind_from, none_left, none_right, none_both, only_if_none, only_unless_none, false_any}
-use Rattle.std.proofs.lemmas.Bool.{and_parts}
+use Rattle.std.proofs.lemmas.Bool.{and_parts, and_from}
 
 used_later : {k : Kind} {x : Owned} {u : Use} {us : List Use} → Used k x us → Used k x (u ∷ us)
 used_later h = record { use_there = h.use_there; there = later h.there; kind = h.kind; is = h.is }
-
-pub and_true : {a b : Bool} → a ≡ true → b ≡ true → (a && b) ≡ true
-and_true {a} {b} e f = ap (λ (c : Bool). c && b) e ∙ f
 
 pub used_when : (k : Kind) (x : Owned) (us : List Use) → is_used k x us ≡ true → Used k x us
 used_when k x [] h = absurd (cc (h))
@@ -32,7 +29,7 @@ used_when k x (u ∷ us) h = by (is_kind u.kind k && same u.of x) refl h (λ g. 
 pub unused_when : (k : Kind) (x : Owned) (us : List Use) → is_used k x us ≡ false → Used k x us → ⊥
 unused_when k x us h u =
     let no = false_any (λ (z : Use). is_kind z.kind k && same z.of x) us h u.use_there u.there in
-    let yes = and_true (kind_from u.kind) (same_from u.is) in
+    let yes = and_from _ _ (kind_from u.kind) (same_from u.is) in
     let both : true ≡ false = sym yes ∙ no in
     absurd (cc (both))
 
@@ -67,7 +64,7 @@ kind_or k j = by (is_kind k j) refl
     by false e = inr (ap not e)
 
 pub target_true : (x : Owned) (u : Use) → u.of ≡ x → (u.kind ≡ read → ⊥) → is_target x u ≡ true
-target_true x u e n = and_true (same_from e) (no_read u.kind n)
+target_true x u e n = and_from _ _ (same_from e) (no_read u.kind n)
 
 -- all targets of a variable are of this form
 abbrev Formed : Kind → Owned → List Use → Type 0
@@ -84,7 +81,7 @@ other_none k x (y ∷ us) h u i e n = by (is_target x y && not (is_kind y.kind k
     head f q = elim (kind_or u.kind k) [
       | inl s ↦ s
       | inr s ↦ absurd (
-          let yes : (is_target x u && not (is_kind u.kind k)) ≡ true = and_true (target_true x u e n) s in
+          let yes : (is_target x u && not (is_kind u.kind k)) ≡ true = and_from _ _ (target_true x u e n) s in
           let no : true ≡ false = sym yes ∙ ap (λ (z : Use). is_target x z && not (is_kind z.kind k)) q ∙ f in
           cc (no)
           )
@@ -183,7 +180,7 @@ never_none Scalar x at us h n r = elim (used_or named x us) [
   | inl p ↦ p.0
   | inr p ↦ elim (used_or read x us) [
     | inl q ↦ absurd (
-        let no : true ≡ false = sym (and_true q.1 (ap not p.1)) ∙ only_if_none (is_used read x us && not (is_used named x us)) (NeverAssigned at) h in
+        let no : true ≡ false = sym (and_from _ _ q.1 (ap not p.1)) ∙ only_if_none (is_used read x us && not (is_used named x us)) (NeverAssigned at) h in
         cc (no)
         )
     | inr q ↦ absurd (q.0 r)

@@ -2,7 +2,7 @@
 use Rattle.std.specs.Prelude.{◌≡◌, ℕ, zero, suc, ◌+◌, ◌≤◌, Bool, true, false, not, ◌&&◌, List, [], ◌∷◌, ◌++◌, nat_eq, refl}
 use Rattle.std.specs.List.{flat_map}
 use Rattle.std.proofs.Common.{inl, inr, ap, ◌∙◌, arith}
-use Rattle.std.proofs.lemmas.Bool.{eqb-true}
+use Rattle.std.proofs.lemmas.Bool.{eqb-true, or_cases}
 use Rattle.language.specs.Members.{◌∈◌, first, later}
 use Rattle.language.specs.Numbered.{numbered, tree_size}
 use Rattle.language.specs.Numbers.{word_numbers, expression_numbers, calling_numbers, option_numbers, over_numbers, statement_numbers, command_numbers, body_numbers, statements_numbers, declaration_numbers, part_numbers, numbers, numbers_from}
@@ -11,7 +11,6 @@ use Rattle.language.specs.Tree.{Statement, statement, Command, assign, write, as
 use Rattle.language.proofs.Numbers.{numbers-numbered}
 use Rattle.language.proofs.Rows.{row_distinct}
 use Rattle.language.proofs.TreeNumbers.{times, times-append, in_times, distinct_few}
-use Rattle.language.proofs.Tested.{either_true}
 use Rattle.language.specs.Distinct.{has, distinct}
 use Rattle.assign_check.proofs.outlines.Built.{inner_statement, inner_command, inner_body, inner_statements, own_statement, own_command, own_body, own_statements}
 use Rattle.assign_check.proofs.outlines.Pairs.{inner_tree, own_tree}

@@ -1,5 +1,6 @@
 use Rattle.std.proofs.Common.{◌≡◌, ◌<◌, ◌≤◌, ◌+◌, ℕ, suc, [], sym, ap, ◌∙◌, subst, rules, arith}
 use Rattle.std.specs.Prelude.{nat_eq}
+use Rattle.std.proofs.lemmas.List.{nil_from_length}
 use Rattle.language.specs.Core.{Core}
 use Rattle.language.specs.Resolved.{core}
 use Rattle.language_accepted.proofs.Accepted.{accepted_formed}
@@ -8,7 +9,7 @@ use Rattle.flow.specs.View.{core_of}
 use Rattle.meaning_invariants.proofs.Offsets.{offsets_apart}
 use Rattle.meaning_round.specs.Going.{IsBetween}
 use Rattle.meaning_round.specs.Made.{tasks_of, telling_of}
-use Rattle.meaning_round.proofs.Listed.{none_of_few, not_both}
+use Rattle.meaning_round.proofs.Listed.{not_both}
 use Rattle.meaning_openings.proofs.Larger.{answer_passes, memory_is_small}
 use Rattle.meaning_outcomes.proofs.Knowing.{empty_so, finished_so, is_known, next_between, not_empty, same_stuck, starts_between, unfinished_so, IsAsking, IsLearning}
 use Rattle.meaning.proofs.rounds_within.Goals as goal
@@ -66,7 +67,7 @@ returns-then-is_empty g c =
     let k = c.in_ok-known.known in
     let made = c.in_ok-known.ensures in
     let below : n < c.args.limit = search rules in
-    let empty : c.in_ok-news.news.items ≡ [] = none_of_few c.in_ok-news.news.items (search rules) in
+    let empty : c.in_ok-news.news.items ≡ [] = nil_from_length c.in_ok-news.news.items (search rules) in
     record {
       known = λ bytes t tree r w single e. (
           let s = core t tree in

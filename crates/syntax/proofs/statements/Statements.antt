@@ -1,6 +1,7 @@
 -- The laws of statements and blocks.
 use Rattle.std.specs.Prelude.{ℤ, not, ◌||◌}
 use Rattle.std.proofs.Common.{◌≡◌, ℕ, zero, suc, List, [], ◌∷◌, Option, Some, None, Bool, true, false, refl, ap, sym, ◌∙◌, subst}
+use Rattle.std.proofs.lemmas.Bool.{cond-true}
 use mathlib.Core.Path.{fun_ext}
 use Rattle.language.specs.Tree.{RightSide, Calling, Statement, no_statements, and_statement, declare, assign, write, assign_all, calls, loop, waits, Body, body, statements_of}
 use Rattle.language.specs.Tree.{choice_of}
@@ -12,7 +13,7 @@ use Rattle.language.specs.Rules.{Place, behind, Rule, The, ◌⋆◌, ◌▹◌,
 use Rattle.language.specs.Grammar.{first_of, does, or_zero, IsName, IsExpr, IsDecl, AreNames, IsCall, IsRight, IsPriority, IsSource, IsElse, a_block, an_if, IsStmtOver, a_declaration, an_assignment, a_write, many_assigned, a_call, a_foreach, a_wait, IsBlockOver, IsStmt, IsBlock}
 use Rattle.syntax.specs.Readers.{Read, refused, got, Reader, ◌>>=◌, kind_of, kind_at, second_at, at, second, cond, the, ◌◂◌, made, stop_at, nested, tight, many, deeper}
 use Rattle.syntax.specs.Reading.{at_type, read_declaration, read_assignment, read_write, read_many, read_calling, else_over, if_over, foreach_over, wait_over, stmt_over, block_over, read_stmt, read_stmts, read_block, read_else, read_if, read_foreach, read_wait, read_named_stmt, read_command}
-use Rattle.syntax.proofs.combining.Combine.{Law, Any, Tests, Begins, Stops, Sound, kind_the, kind_same, same_kind, the_law, both_law, both_last_law, drop_law, keep_law, made_law, before_law, same_law, tight_law, tight_stays, nested_law, sound_as, sound_never, sound_choose, sound_test, cond_first, choose_first, choose_second, begins_the, not_kind, maybe_law, many_law, tests_at, opened_deep, opened_zero}
+use Rattle.syntax.proofs.combining.Combine.{Law, Any, Tests, Begins, Stops, Sound, kind_the, kind_same, same_kind, the_law, both_law, both_last_law, drop_law, keep_law, made_law, before_law, same_law, tight_law, tight_stays, nested_law, sound_as, sound_never, sound_choose, sound_test, choose_first, choose_second, begins_the, not_kind, maybe_law, many_law, tests_at, opened_deep, opened_zero}
 use Rattle.syntax.proofs.expressions.Expressions.{Ends, ends_of, name_law, expr_law, second_the}
 use Rattle.syntax.proofs.statements.Declarations.{names_type, tests_type, decl_law, decl_begins, names_law, index_law, test_law, call_law, right_law, priority_law, priority_begins, source_law}
 
@@ -209,7 +210,7 @@ unfolding at second at_type
 stmt_is depth block stmt s = refl
 
 by_type : (depth : ℕ) (block : Reader Body) (stmt : Reader Statement) (s : Place) → names_type (kind_at s) ≡ true → stmt_over depth block stmt s ≡ read_declaration depth s
-by_type depth block stmt s is = cond_first (at_type s) (read_declaration depth s) _ (tests_type.is s ∙ is)
+by_type depth block stmt s is = cond-true (at_type s) (read_declaration depth s) _ (tests_type.is s ∙ is)
 
 by_kind : (depth : ℕ) (block : Reader Body) (stmt : Reader Statement) (s : Place) (k : TokenKind) → kind_at s ≡ k → stmt_over depth block stmt s ≡ stmt_by depth block stmt k (second_at s) s
 by_kind depth block stmt s k is = stmt_is depth block stmt s ∙ ap (λ x. stmt_by depth block stmt x (second_at s) s) is

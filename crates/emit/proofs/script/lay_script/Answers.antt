@@ -1,9 +1,9 @@
 use Rattle.std.proofs.Common.{◌∷◌, [], length, map, sym, refl, ap, ◌∙◌}
 use Rattle.std.proofs.lemmas.List.{length-map, map-append}
+use Rattle.std.proofs.lemmas.Bool.{and_parts}
 use Rattle.flow.specs.Shapes.{block_declared, functions_declared, kinds_of}
 use Rattle.flow.specs.View.{core_of, function_view}
 use Rattle.task_code.specs.View.{body_view}
-use Rattle.task_code.proofs.Equal.{true_and}
 use Rattle.wait_merge.specs.Merged.{block_seen, functions_merged}
 use Rattle.emit.specs.Emits.{roots_of}
 use Rattle.emit.proofs.Marking.{all_marked}
@@ -15,7 +15,7 @@ returns-clause-laid g c can merged =
     let A = g.row.A.Denot in
     let flow = c.args.flow.now in
     let functions = flow.functions.items in
-    let both = true_and (block_seen {A = A} flow.body).merged (functions_merged {A = A} functions) merged in
+    let both = and_parts (block_seen {A = A} flow.body).merged (functions_merged {A = A} functions) merged in
     let start = c.new-emitter.result in
     let first = c.root.new.self in
     let last = c.each_function.new.self in

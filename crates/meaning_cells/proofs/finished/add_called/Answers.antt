@@ -1,15 +1,16 @@
 use Rattle.std.proofs.Common.{rules, ◌≡◌, ◌++◌, List, subst, Some, None, pos, slice_get}
+use Rattle.std.proofs.lemmas.Option.{slice_get_past}
 use Rattle.values.specs.declared.key.Key.{Key}
 use Rattle.flow.specs.declared.script.Function.{Function}
 use Rattle.flow.specs.View.{block_view, call_view, names_view, owned_view}
 use Rattle.meaning_cells.specs.Ending.{goals_of, output_goals}
 use Rattle.meaning_facts.specs.Paths.{child_at}
-use Rattle.meaning_cells.proofs.Ending.{called_none, called_lost, called_found, slice_past, slice_there}
+use Rattle.meaning_cells.proofs.Ending.{called_none, called_lost, called_found, slice_there}
 use Rattle.meaning_cells.proofs.finished.add_called.Goals as goal
 
 pub returns-in_default : goal.returns-in_default
 returns-in_default g c =
-    let none : slice_get c.args.flow.now.functions.items c.args.call.now.function ≡ None = subst (λ (z : List (Function g.row.A.Denot)). slice_get z c.args.call.now.function ≡ None) c.deref.ensures.value (slice_past c.deref.result.now c.args.call.now.function c.in_default.ensures.lookup.3) in
+    let none : slice_get c.args.flow.now.functions.items c.args.call.now.function ≡ None = subst (λ (z : List (Function g.row.A.Denot)). slice_get z c.args.call.now.function ≡ None) c.deref.ensures.value (slice_get_past c.deref.result.now c.args.call.now.function c.in_default.ensures.lookup.3) in
     called_none {A = g.row.A.Denot} c.args.learned.now c.args.instance (owned_view c.args.what) (call_view {A = g.row.A.Denot} c.args.call.now) c.args.flow.now.functions.items (goals_of {A = g.row.A.Denot} c.args.tasks.now.items) c.is_deep.result none c.is_deep.ensures
 
 pub returns-in_default-child : goal.returns-in_default-child

@@ -7,8 +7,8 @@ use Rattle.meaning_round.specs.Made.{tasks_of}
 use Rattle.meaning_round.specs.Standing.{active_of}
 use Rattle.meaning_round.specs.declared.state.Task.{Task}
 use Rattle.meaning_invariants.specs.Active.{Active}
-use Rattle.std.proofs.lemmas.Option.{slice_get-map}
-use Rattle.meaning_cells.proofs.Ending.{slice_past, slice_there}
+use Rattle.std.proofs.lemmas.Option.{slice_get-map, slice_get_past}
+use Rattle.meaning_cells.proofs.Ending.{slice_there}
 use Rattle.meaning_openings.proofs.Entering.{more_joins}
 use Rattle.meaning_openings.proofs.Larger.{answer_passes}
 use Rattle.meaning_openings.proofs.Passing.{pass_all, pass_first, pass_next}
@@ -54,7 +54,7 @@ returns-in_default-clause-so g c =
     let old = c.args.state.now in
     let mid = c.loop-i.state in
     let past : slice_get c.loop-i.state.tasks.items c.loop-i.i ≡ None =
-    subst (λ (z : List (Task g.row.A.Denot)). slice_get z c.loop-i.i ≡ None) c.deref.ensures.value (slice_past c.deref.result.now c.loop-i.i c.in_default.ensures.lookup.3) in
+    subst (λ (z : List (Task g.row.A.Denot)). slice_get z c.loop-i.i ≡ None) c.deref.ensures.value (slice_get_past c.deref.result.now c.loop-i.i c.in_default.ensures.lookup.3) in
     let none = slice_get-map (active_of {A = A}) mid.tasks.items c.loop-i.i ∙ ap (option_map (active_of {A = A})) past in
     λ s n e w offsets good passed live. (
     let p = pass_all {A = A} s n old mid c.loop-i.i (c.loop-i.invariant.so s n e w offsets good passed live) none in

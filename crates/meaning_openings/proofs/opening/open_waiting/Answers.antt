@@ -1,10 +1,10 @@
 use Rattle.std.proofs.Common.{rules, ◌≡◌, ◌∷◌, List, length, map, ap, subst, sym, ◌∙◌}
 use Rattle.std.specs.Vec.Iter.{into_iter_items}
+use Rattle.std.proofs.lemmas.List.{nil_from_length}
 use Rattle.language.specs.Members.{◌∈◌, first, later}
 use Rattle.meaning_invariants.specs.Active.{Active}
 use Rattle.meaning_round.specs.declared.state.Task.{Task}
 use Rattle.meaning_round.specs.Standing.{active_of}
-use Rattle.meaning_round.proofs.Listed.{none_of_few}
 use Rattle.meaning_openings.specs.Opening.{AreWoken}
 use Rattle.meaning_openings.proofs.Entering.{more_joins}
 use Rattle.meaning_openings.proofs.Larger.{answer_passes}
@@ -36,7 +36,7 @@ pub returns-clause-so : goal.returns-clause-so
 returns-clause-so g c =
     let A = g.row.A.Denot in
     let few : length (into_iter_items c.loop-task.task-iterator) ≡ 0 = search rules in
-    let none = none_of_few (into_iter_items c.loop-task.task-iterator) few in
+    let none = nil_from_length (into_iter_items c.loop-task.task-iterator) few in
     λ s n w offsets good live. subst (λ (z : List (Task A)). AreWoken {A = A} s n c.args.state.now c.loop-task.state (map (active_of {A = A}) z)) none (c.loop-task.invariant.so s n w offsets good live)
 
 pub returns-in_err-hold-clause-large : goal.returns-in_err-hold-clause-large

@@ -1,8 +1,8 @@
 use Rattle.std.proofs.Common.{◌≡◌, Some, None, map, slice_get, ap, ◌∙◌}
-use Rattle.std.proofs.lemmas.Option.{slice_get-map}
+use Rattle.std.proofs.lemmas.Option.{slice_get-map, slice_get_past}
 use Rattle.std.proofs.lemmas.Result.{on_ok_weaker}
 use Rattle.std.specs.Prelude.{option_map}
-use Rattle.meaning_cells.proofs.Ending.{slice_past, slice_there}
+use Rattle.meaning_cells.proofs.Ending.{slice_there}
 use Rattle.meaning_faults.specs.Viewed.{facts_view}
 use Rattle.meaning_round.specs.Standing.{active_of}
 use Rattle.meaning_round.proofs.Asking.{nobody_tells, one_tells, places_one}
@@ -13,7 +13,7 @@ pub returns-in_default-clause-told : goal.returns-in_default-clause-told
 returns-in_default-clause-told g c =
     let A = g.row.A.Denot in
     let l = c.args.learned.now in
-    let past : slice_get c.args.tasks.now c.args.number ≡ None = slice_past c.args.tasks.now c.args.number c.in_default.ensures.lookup.3 in
+    let past : slice_get c.args.tasks.now c.args.number ≡ None = slice_get_past c.args.tasks.now c.args.number c.in_default.ensures.lookup.3 in
     nobody_tells l (map (active_of {A = A}) c.args.tasks.now) c.args.number (facts_view l.instances.all.items c.args.news.now.items)
     (slice_get-map (active_of {A = A}) c.args.tasks.now c.args.number ∙ ap (option_map (active_of {A = A})) past)
 
@@ -23,7 +23,7 @@ returns-in_default-clause-inside g c = λ h a. a
 pub returns-in_default-clause-heard : goal.returns-in_default-clause-heard
 returns-in_default-clause-heard g c =
     let A = g.row.A.Denot in
-    let past : slice_get c.args.tasks.now c.args.number ≡ None = slice_past c.args.tasks.now c.args.number c.in_default.ensures.lookup.3 in
+    let past : slice_get c.args.tasks.now c.args.number ≡ None = slice_get_past c.args.tasks.now c.args.number c.in_default.ensures.lookup.3 in
     λ places asked h. heard_nobody c.args.learned.now (map (active_of {A = A}) c.args.tasks.now) c.args.tellers.now c.args.number asked
     (slice_get-map (active_of {A = A}) c.args.tasks.now c.args.number ∙ ap (option_map (active_of {A = A})) past) h
 

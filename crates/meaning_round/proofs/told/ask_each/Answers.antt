@@ -1,11 +1,11 @@
 use Rattle.std.proofs.Common.{rules, ◌≡◌, ◌∷◌, ◌++◌, List, ℕ, length, map, subst}
 use Rattle.std.specs.Vec.Iter.{into_iter_items}
+use Rattle.std.proofs.lemmas.List.{nil_from_length}
 use Rattle.meaning_faults.specs.Viewed.{facts_view}
 use Rattle.meaning_round.specs.Hearing.{AreHeard}
 use Rattle.meaning_round.specs.Made.{picks}
 use Rattle.meaning_round.specs.Standing.{active_of, actives_news, HavePlaces}
 use Rattle.meaning_round.proofs.Asking.{asked_last, asked_next, places_next}
-use Rattle.meaning_round.proofs.Listed.{none_of_few}
 use Rattle.meaning_round.proofs.told.ask_each.Goals as goal
 
 pub loop-number-preserved : goal.loop-number-preserved
@@ -34,7 +34,7 @@ returns g c =
     let l = c.args.learned.now in
     let ls = map (active_of {A = A}) c.args.tasks.now in
     let few : length (into_iter_items c.loop-number.number-iterator) ≡ 0 = search rules in
-    let none = none_of_few (into_iter_items c.loop-number.number-iterator) few in
+    let none = nil_from_length (into_iter_items c.loop-number.number-iterator) few in
     record {
       told = asked_last l ls (into_iter_items c.loop-number.number-iterator) (facts_view l.instances.all.items c.loop-number.news.items) (actives_news l (picks ls c.args.numbers.items)) none c.loop-number.invariant.told;
       inside = λ h. (c.loop-number.invariant.inside h).0;

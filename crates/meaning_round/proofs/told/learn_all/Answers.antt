@@ -1,8 +1,8 @@
 use Rattle.std.proofs.Common.{rules, ◌≡◌, ◌∷◌, ◌∙◌, List, length, subst, sym}
 use Rattle.std.specs.Vec.Iter.{into_iter_items}
+use Rattle.std.proofs.lemmas.List.{nil_from_length}
 use Rattle.meaning_facts.specs.declared.facts.Fact.{Fact}
 use Rattle.meaning_invariants.specs.Held.{AreAdded, no_more, one_more}
-use Rattle.meaning_round.proofs.Listed.{none_of_few}
 use Rattle.meaning_round.proofs.told.learn_all.Goals as goal
 
 pub loop-fact-preserved : goal.loop-fact-preserved
@@ -20,7 +20,7 @@ returns c =
     let few : length (into_iter_items c.loop-fact.fact-iterator) ≡ 0 = search rules in
     record {
       facts = c.loop-fact.invariant.facts c.loop-fact.learned.facts
-          (subst (λ (left : List Fact). AreAdded c.loop-fact.learned.facts left c.loop-fact.learned.facts) (sym (none_of_few (into_iter_items c.loop-fact.fact-iterator) few)) no_more);
+          (subst (λ (left : List Fact). AreAdded c.loop-fact.learned.facts left c.loop-fact.learned.facts) (sym (nil_from_length (into_iter_items c.loop-fact.fact-iterator) few)) no_more);
       heard = c.loop-fact.invariant.heard;
       instances = c.loop-fact.invariant.instances;
       closed = c.loop-fact.invariant.closed;

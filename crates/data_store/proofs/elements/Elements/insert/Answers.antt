@@ -1,9 +1,10 @@
 use Rattle.std.proofs.Common.{◌∙◌, w64, to_z, of_z, rules, refl}
 use Rattle.std.specs.Prelude.{ℤ}
 use Rattle.std.proofs.lemmas.Int.{to_z-of_z}
+use Rattle.std.proofs.lemmas.Result.{on_ok_weaker}
 use Rattle.values.specs.declared.key.Key.TheVariants.{Number, Text}
 use Rattle.data_store.specs.Arrays.{table_of, with_entry, AreParted, Table}
-use Rattle.data_store.proofs.Parted.{either_way, if_ok, kind_inserted, number_got, number_put, text_got, text_put}
+use Rattle.data_store.proofs.Parted.{either_way, kind_inserted, number_got, number_put, text_got, text_put}
 use Rattle.data_store.proofs.elements.Elements.insert.Goals as goal
 
 pub insert_number-requires : goal.insert_number-requires
@@ -35,12 +36,12 @@ invariant_of-self-in-Text c =
 pub returns-in-Number-clause-ok : goal.returns-in-Number-clause-ok
 returns-in-Number-clause-ok c =
     let k : ℤ = to_z w64 (of_z w64 c.in-Number.n) in
-    rw (← c.self.view_is) (if_ok c.insert_number.result
+    rw (← c.self.view_is) (on_ok_weaker c.insert_number.result
     (number_put c.args.key c.in-Number.n k c.args.value (table_of c.insert_number.new.numbers) (table_of c.self.inside.numbers) (table_of c.self.inside.texts) c.in-Number.is (to_z-of_z w64 c.in-Number.n (search rules)) c.self.invariant.texts)
     c.insert_number.ensures.ok)
 
 pub returns-in-Text-clause-ok : goal.returns-in-Text-clause-ok
 returns-in-Text-clause-ok c =
-    rw (← c.self.view_is) (if_ok c.insert_text.result
+    rw (← c.self.view_is) (on_ok_weaker c.insert_text.result
     (text_put c.args.key c.in-Text.text c.args.value (table_of c.self.inside.numbers) (table_of c.insert_text.new.texts) (table_of c.self.inside.texts) c.in-Text.is c.self.invariant.numbers)
     c.insert_text.ensures.ok)

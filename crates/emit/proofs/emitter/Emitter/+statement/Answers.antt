@@ -2,6 +2,7 @@ use Rattle.std.proofs.Common.{length, get_or, subst, ◌+◌, ◌*◌, ◌<◌, 
 use Rattle.std.specs.Prelude.{option_to_list}
 use Rattle.std.proofs.lemmas.Grind.{common_steps}
 use Rattle.std.proofs.lemmas.Result.{on_ok_weaker}
+use Rattle.std.proofs.lemmas.Bool.{and_parts}
 use Rattle.language.specs.Core as core
 use Rattle.flow.specs.Shapes.{action_declared, block_declared, is_array, kinds_of_function}
 use Rattle.flow.specs.View.{action_view, awaited_view, block_view, name_view, outer_view, waits_around}
@@ -22,7 +23,6 @@ use Rattle.emit.proofs.Branching.{branch-emits, branches-emit}
 use Rattle.emit.proofs.Looping.{each-emits, range-emits}
 use Rattle.emit.proofs.Waiting.{wait-emits}
 use Rattle.emit.proofs.Views.{lone_and, see_declare}
-use Rattle.task_code.proofs.Equal.{true_and}
 use Rattle.wait_merge.specs.Merged.{block_seen}
 use Rattle.emit.proofs.emitter.Emitter.+statement.Goals as goal
 
@@ -73,7 +73,7 @@ choose-returns-clause-laid g t c =
     let o = outer_view {A = A} c.args.condition.now in
     let b = block_view {A = A} c.args.then.now in
     let d = block_view {A = A} c.args.other.now in
-    let both = true_and (block_seen {A = A} c.args.then.now).merged (block_seen {A = A} c.args.other.now).merged in
+    let both = and_parts (block_seen {A = A} c.args.then.now).merged (block_seen {A = A} c.args.other.now).merged in
     on_ok_weaker c.add_body-2.result
     (λ made. λ merged. λ priority.
     branches-emit fs (roots_of c.args.functions.now.items) s.inputs s.at n o b d (block_declared {A = A} c.args.then.now) (block_declared {A = A} c.args.other.now)
