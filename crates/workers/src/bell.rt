@@ -5,17 +5,26 @@ use std::sync::{Condvar, Wait};
 use std::time::Duration;
 use std::{cmp, hint};
 
-/// So often a thread that rests looks before it sleeps.
-const LOOKS: u32 = 400;
+/// So often a thread that rests looks at most before it sleeps.
+const LOOKS: u32 = 1000;
 
-/// So often it has to see one and the same word, by which something can begin and nobody has the lock, before it joins: what others run
-/// takes long then.
-const STILL: u32 = 40;
+/// It joins where so many of its looks are hits: something can begin, nobody has the lock, and the word stood still. What others run takes
+/// long then.
+const HITS: u32 = LOOKS / 2;
+
+/// So many looks in turn have to see one and the same word before one is a hit.
+const STILL: u32 = 16;
+
+/// After a sleep it sleeps again once so many more looks missed than hit.
+const MISSES: u32 = 64;
 
 /// The shortest and the longest sleep, in microseconds.
 const SHORTEST: u64 = 50;
 
 const LONGEST: u64 = 1000;
+
+/// How long a thread naps for which there is nothing to do but to open more, in microseconds.
+const NAP: u64 = 100;
 
 /// The bits of the word: somebody has the lock, something can begin, nothing is left to be done. The bits above count the times that the lock
 /// was let go.
@@ -66,23 +75,25 @@ impl Bell {
         self.word.load(Ordering::SeqCst)
     }
 
-    /// Looks so often. Whether the thread is to join.
-    fn watch(&self, looks: u32) -> bool {
+    /// Looks until the thread is to join, or so many more looks missed than hit. Whether it is to join.
+    fn watch(&self, misses: u32) -> bool {
         let mut seen = self.word();
         let mut still = 0u32;
-        for _ in 0..looks {
+        let mut hits = 0u32;
+        for look in 0..LOOKS {
             let word = self.word();
-            if word & OVER != 0 {
+            if word & OVER != 0 || hits >= HITS {
                 return true;
             }
             if word != seen {
                 seen = word;
                 still = 0;
-            } else if word & (HELD | READY) == READY {
-                still = still.saturating_add(1);
-                if still > STILL {
-                    return true;
-                }
+            }
+            still = still.saturating_add(1);
+            if still > STILL && word & (HELD | READY) == READY {
+                hits = hits.saturating_add(1);
+            } else if look >= hits.saturating_mul(2).saturating_add(misses) {
+                return false;
             }
             hint::spin_loop();
         }
@@ -91,7 +102,7 @@ impl Bell {
 
     /// Rests until the thread is to join: awake for a while, and then asleep for longer and longer, with a look after each sleep.
     pub fn rest<R: Wait>(&self, rt: &R) {
-        if self.watch(LOOKS) {
+        if self.watch(HITS) {
             return;
         }
         let mut nap = SHORTEST;
@@ -101,10 +112,18 @@ impl Bell {
                 return;
             }
             self.sleepers.sleep(rt, heard, Duration::from_micros(nap));
-            if self.watch(STILL.saturating_mul(2)) {
+            if self.watch(MISSES) {
                 return;
             }
             nap = cmp::min(nap.saturating_mul(2), LONGEST);
+        }
+    }
+
+    /// Sleeps for a little, or until nothing is left to be done.
+    pub fn nap<R: Wait>(&self, rt: &R) {
+        let heard = self.sleepers.notifications();
+        if self.word() & OVER == 0 {
+            self.sleepers.sleep(rt, heard, Duration::from_micros(NAP));
         }
     }
 }

@@ -8,6 +8,12 @@ use task_code::entry::Kind;
 /// So many items one thread begins in one hold of the lock at most.
 const BATCH: usize = 64;
 
+/// Where more items wait or are ready for workers, control items begin one at a time.
+const ENOUGH: u64 = 1024;
+
+/// Where so many are ready for workers, and enough are there, who opens more of a script can wait.
+const PLENTY: usize = 256;
+
 /// The numbers of one kind, and the items for them.
 #[derive(Clone, Copy, Drop)]
 pub struct Crowd {
@@ -32,14 +38,13 @@ impl Crowd {
         self.ready = self.ready.saturating_sub(1);
     }
 
-    /// How many items one thread begins in one hold: where there are more numbers, some are left for the others.
-    pub fn share(&self) -> usize {
-        let part = if self.numbers < 2 {
+    /// How many items one thread may begin in one hold: where there are more numbers that others may have, some are left for them.
+    fn part(&self, alone: bool) -> usize {
+        if alone || self.numbers < 2 {
             self.ready
         } else {
             self.ready / self.numbers / 2
-        };
-        cmp::max(cmp::min(part, BATCH), 1)
+        }
     }
 }
 
@@ -52,6 +57,8 @@ pub struct Crowds {
     made: u64,
     running: u64,
     ended: u64,
+    /// How many control items began.
+    opened: u64,
 }
 
 impl Crowds {
@@ -63,6 +70,7 @@ impl Crowds {
             made: 1,
             running: 0,
             ended: 0,
+            opened: 0,
         }
     }
 
@@ -70,6 +78,50 @@ impl Crowds {
     pub fn begins(&mut self, kind: Kind) {
         self.of(kind).loses();
         self.running = self.running.saturating_add(1);
+        if kind == Kind::Control {
+            self.opened = self.opened.saturating_add(1);
+        }
+    }
+
+    /// How many items were made.
+    pub fn made(&self) -> u64 {
+        self.made
+    }
+
+    /// How many items wait for inputs.
+    fn waiting(&self) -> u64 {
+        let ready = self.engines.ready.saturating_add(self.workers.ready) as u64;
+        let active = self
+            .ended
+            .saturating_add(self.running)
+            .saturating_add(ready);
+        self.made.saturating_sub(active)
+    }
+
+    /// Whether so many items wait or are ready for workers that no more are wanted.
+    fn has_enough(&self) -> bool {
+        self.waiting().saturating_add(self.workers.ready as u64) > ENOUGH
+    }
+
+    /// Whether there are enough, of which the workers have plenty to begin.
+    pub fn has_plenty(&self) -> bool {
+        self.workers.ready >= PLENTY && self.has_enough()
+    }
+
+    /// How many control items make one batch of items: each makes as many as those before it did, about.
+    fn openings(&self) -> usize {
+        let each = self.made / cmp::max(self.opened, 1);
+        BATCH / cmp::max(cmp::min(each, BATCH as u64), 1) as usize
+    }
+
+    /// How many items of a kind one thread begins in one hold of the lock. Where no other thread has something to run it is alone.
+    pub fn share(&self, kind: Kind, alone: bool) -> usize {
+        let part = match kind {
+            Kind::Leaf => cmp::min(self.workers.part(false), BATCH),
+            Kind::Control if self.has_enough() => 1,
+            Kind::Control => cmp::min(self.engines.part(alone), self.openings()),
+        };
+        cmp::max(part, 1)
     }
 
     /// An item ended, and the board has those that this made: they have the next numbers.
@@ -87,16 +139,11 @@ impl Crowds {
 
     /// How far a run is, of which there were so many events and lines.
     pub fn progress(&self, events: usize, lines: usize) -> Progress {
-        let ready = self.engines.ready.saturating_add(self.workers.ready) as u64;
-        let active = self
-            .ended
-            .saturating_add(self.running)
-            .saturating_add(ready);
         Progress {
             events,
-            ready,
+            ready: self.engines.ready.saturating_add(self.workers.ready) as u64,
             running: self.running,
-            waiting: self.made.saturating_sub(active),
+            waiting: self.waiting(),
             lines,
         }
     }

@@ -23,7 +23,7 @@ pub struct Floor<J: Job, E: Ledger, N: Ledger> {
 #[derive(Clone, Copy, Drop)]
 pub struct Shift {
     /// So many threads have something to run.
-    pub busy: usize,
+    busy: usize,
     /// So often the lock was let go.
     times: u64,
     /// Whether those who rest see that something can begin.
@@ -38,6 +38,11 @@ impl Shift {
             times: 0,
             shows: false,
         }
+    }
+
+    /// Whether another thread has something to run than one that has it, or has not.
+    pub fn has_others(&self, had: bool) -> bool {
+        self.busy > had as usize
     }
 
     /// A thread that had something to run, or had not, has something to run now, or has not.
@@ -78,9 +83,14 @@ impl<J: Job, E: Ledger, N: Ledger> Floor<J, E, N> {
         self.wants(Kind::Leaf) || self.wants(Kind::Control)
     }
 
-    /// How many items one thread begins at once.
-    pub fn share(&mut self, kind: Kind) -> usize {
-        self.crowds.of(kind).share()
+    /// How many items of a kind one thread begins at once, which had something to run, or had not.
+    pub fn share(&self, kind: Kind, had: bool) -> usize {
+        self.crowds.share(kind, !self.shift.has_others(had))
+    }
+
+    /// Whether a thread that has no leaf item to begin leaves the control items for a while: others run something, and there is plenty.
+    pub fn has_plenty(&self, had: bool) -> bool {
+        self.shift.has_others(had) && self.crowds.has_plenty()
     }
 
     /// How far the run is.

@@ -18,7 +18,10 @@ use std::thread::{JoinHandle, Threads};
 use task_code::entry::Kind;
 
 /// So much more often than free a thread finds the lock taken before it rests.
-const CROWDED: u32 = 4;
+const CROWDED: u32 = 8;
+
+/// So much of that counts against a thread that joins: who has rested leaves first.
+const JOINED: u32 = 4;
 
 /// A thread draws a number each time that it has computed items so often.
 const DRAWS: u32 = 8;
@@ -30,6 +33,8 @@ enum Next {
     Works,
     /// It waits for an item.
     Rests,
+    /// It could open more of the script, of which there is plenty.
+    Naps,
     Stops,
 }
 
@@ -44,6 +49,18 @@ struct Member<J: Job, E: Ledger, N: Ledger> {
     crowded: u32,
     /// How often it computed items.
     rounds: u32,
+}
+
+impl<J: Job, E: Ledger, N: Ledger> Member<J, E, N> {
+    /// One that runs nothing yet.
+    fn new(crowded: u32) -> Member<J, E, N> {
+        Member {
+            hand: None,
+            busy: false,
+            crowded,
+            rounds: 0,
+        }
+    }
 }
 
 /// The run is to stop, and all wake to see it.
@@ -66,10 +83,11 @@ fn halt<J: Job, E: Ledger, N: Ledger, R: Wait>(
 fn begin_some<J: Job, E: Ledger, N: Ledger>(
     under: &mut Floor<J, E, N>,
     hand: &mut Hand<J, E, N>,
+    busy: bool,
     drawn: Option<u64>,
 ) -> Next {
     let mut drawn = drawn;
-    for _ in 0..under.share(hand.kind) {
+    for _ in 0..under.share(hand.kind, busy) {
         let number = match under.recent.take(hand.kind) {
             Some(number) => Some(number),
             None => drawn.take(),
@@ -108,7 +126,7 @@ fn take_up<J: Job, E: Ledger, N: Ledger>(
     let Some(mut hand) = under.idle.take(kind) else {
         return Next::Rests;
     };
-    let then = begin_some(under, &mut *hand, drawn);
+    let then = begin_some(under, &mut *hand, member.busy, drawn);
     if then == Next::Works {
         member.hand = Some(hand);
     } else {
@@ -125,13 +143,14 @@ fn of_kind(drawn: Option<(Kind, u64)>, kind: Kind) -> Option<u64>
     if found == kind { Some(number) } else { None }
 }
 
-/// Begins items that can, leaf items first.
+/// Begins items that can, leaf items first. Where there is plenty, no more of the script is opened for a while.
 fn take_some<J: Job, E: Ledger, N: Ledger>(
     under: &mut Floor<J, E, N>,
     member: &mut Member<J, E, N>,
     drawn: Option<(Kind, u64)>,
 ) -> Next {
     match take_up(under, member, Kind::Leaf, of_kind(drawn, Kind::Leaf)) {
+        Next::Rests if under.has_plenty(member.busy) => Next::Naps,
         Next::Rests => take_up(under, member, Kind::Control, of_kind(drawn, Kind::Control)),
         then => then,
     }
@@ -188,8 +207,9 @@ fn lay_down<J: Job, E: Ledger, N: Ledger>(
     let Some(mut hand) = member.hand.take() else {
         return true;
     };
+    let made = under.crowds.made();
     let went_on = end_all(under, &mut *hand);
-    under.recent.add_all(hand.offers.list.as_slice());
+    under.recent.add_all(hand.offers.list.as_slice(), made);
     under.idle.lay(hand);
     went_on
 }
@@ -203,8 +223,8 @@ fn turn<J: Job, E: Ledger, N: Ledger>(
     if !lay_down(under, member) || under.desk.is_over() {
         return Next::Stops;
     }
-    if member.busy && member.crowded >= CROWDED && under.shift.busy > 1 {
-        member.crowded = 0;
+    if member.busy && member.crowded >= CROWDED && under.shift.has_others(true) {
+        member.crowded = JOINED;
         return Next::Rests;
     }
     take_some(under, member, drawn)
@@ -330,26 +350,26 @@ fn step<J: Job, E: Ledger, N: Ledger, R: Wait, G: Gate>(
     }
 }
 
-/// Runs items until nothing is left to be done.
+/// Runs items until nothing is left to be done. A thread that was started for it rests first.
 fn work<J: Job, E: Ledger, N: Ledger, R: Wait, G: Gate>(
     rt: &R,
     floor: &Mutex<Floor<J, E, N>>,
     bell: &Bell,
     pool: &Pool,
     gate: &G,
+    started: bool,
 )
     requires { pool_id pool.now ≡ J.pool }
 {
-    let mut member = Member {
-        hand: None,
-        busy: false,
-        crowded: 0,
-        rounds: 0,
-    };
+    let mut member = Member::new(if started { JOINED } else { 0 });
+    if started {
+        bell.rest(rt);
+    }
     for _ in rt.forever() {
         match step(rt, floor, bell, pool, gate, &mut member) {
             Next::Works => {}
             Next::Rests => bell.rest(rt),
+            Next::Naps => bell.nap(rt),
             Next::Stops => break,
         }
     }
@@ -415,12 +435,12 @@ pub fn crew<
             for _ in 1..count {
                 let job = move || -> ()
                     requires { pool_id pool.now ≡ J.pool }
-                { work(rt, floor, bell, pool, gate) };
+                { work(rt, floor, bell, pool, gate, true) };
                 if !one_more(rt, floor, bell, scope.spawn(job).ok(), &mut running) {
                     break;
                 }
             }
-            work(rt, floor, bell, pool, gate);
+            work(rt, floor, bell, pool, gate, false);
             join_all(rt, running);
         },
     );
