@@ -11,9 +11,6 @@ const BATCH: usize = 64;
 /// Where more items wait or are ready for workers, control items begin one at a time.
 const ENOUGH: u64 = 1024;
 
-/// Where so many are ready for workers, and enough are there, who opens more of a script can wait.
-const PLENTY: usize = 256;
-
 /// The numbers of one kind, and the items for them.
 #[derive(Clone, Copy, Drop)]
 pub struct Crowd {
@@ -99,13 +96,8 @@ impl Crowds {
     }
 
     /// Whether so many items wait or are ready for workers that no more are wanted.
-    fn has_enough(&self) -> bool {
+    pub fn has_enough(&self) -> bool {
         self.waiting().saturating_add(self.workers.ready as u64) > ENOUGH
-    }
-
-    /// Whether there are enough, of which the workers have plenty to begin.
-    pub fn has_plenty(&self) -> bool {
-        self.workers.ready >= PLENTY && self.has_enough()
     }
 
     /// How many control items make one batch of items: each makes as many as those before it did, about.

@@ -90,6 +90,11 @@ impl Recent {
         }
     }
 
+    /// Whether a control item is among them that had waited.
+    pub fn has_woken_control(&self) -> bool {
+        !self.controls.woken.is_empty()
+    }
+
     /// The number of the kind that is to be taken first.
     pub fn take(&mut self, kind: Kind) -> Option<u64> {
         if self.ranked {

@@ -33,7 +33,7 @@ enum Next {
     Works,
     /// It waits for an item.
     Rests,
-    /// It could open more of the script, of which there is plenty.
+    /// It opens more of the script, of which there is enough, after a little.
     Naps,
     Stops,
 }
@@ -49,6 +49,8 @@ struct Member<J: Job, E: Ledger, N: Ledger> {
     crowded: u32,
     /// How often it computed items.
     rounds: u32,
+    /// Whether it has napped since it had something to run.
+    napped: bool,
 }
 
 impl<J: Job, E: Ledger, N: Ledger> Member<J, E, N> {
@@ -59,6 +61,7 @@ impl<J: Job, E: Ledger, N: Ledger> Member<J, E, N> {
             busy: false,
             crowded,
             rounds: 0,
+            napped: false,
         }
     }
 }
@@ -143,14 +146,14 @@ fn of_kind(drawn: Option<(Kind, u64)>, kind: Kind) -> Option<u64>
     if found == kind { Some(number) } else { None }
 }
 
-/// Begins items that can, leaf items first. Where there is plenty, no more of the script is opened for a while.
+/// Begins items that can, leaf items first. Where there are enough, more of the script is opened after a nap.
 fn take_some<J: Job, E: Ledger, N: Ledger>(
     under: &mut Floor<J, E, N>,
     member: &mut Member<J, E, N>,
     drawn: Option<(Kind, u64)>,
 ) -> Next {
     match take_up(under, member, Kind::Leaf, of_kind(drawn, Kind::Leaf)) {
-        Next::Rests if under.has_plenty(member.busy) => Next::Naps,
+        Next::Rests if !member.napped && under.has_enough(member.busy) => Next::Naps,
         Next::Rests => take_up(under, member, Kind::Control, of_kind(drawn, Kind::Control)),
         then => then,
     }
@@ -258,6 +261,7 @@ fn turn_seen<J: Job, E: Ledger, N: Ledger>(
     under.shift.opens(bell);
     let then = turn(under, member, drawn);
     let busy = then == Next::Works;
+    member.napped = then == Next::Naps;
     under.shift.turns(member.busy, busy);
     member.busy = busy;
     let wanted = under.wants_any();
