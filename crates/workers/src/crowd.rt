@@ -102,8 +102,12 @@ impl Crowds {
 
     /// How many control items make one batch of items: each makes as many as those before it did, about.
     fn openings(&self) -> usize {
-        let each = self.made / cmp::max(self.opened, 1);
-        BATCH / cmp::max(cmp::min(each, BATCH as u64), 1) as usize
+        let each = if self.opened == 0 {
+            1
+        } else {
+            (self.made / self.opened) as usize
+        };
+        if each < 2 { BATCH } else { BATCH / each }
     }
 
     /// How many items of a kind one thread begins in one hold of the lock. Where no other thread has something to run it is alone.
