@@ -24,6 +24,7 @@ use board_instances::item::{Job, Mark, item_of};
 use board_items::items::order_of;
 use board_program::program::Program;
 use board_work::work::{Done, Job as Task, Work};
+use packed_events::PackedEvent;
 use paths::{Fault, Statement};
 use rules::input::Input;
 use std::alloc::{AllocError, Global};
@@ -41,7 +42,7 @@ pub struct Board {
     most_names: usize,
     limit: u32,
     core: Core,
-    history: Vec<Event>,
+    history: Vec<PackedEvent>,
     /// What an End makes known, until that is told. It means nothing between two calls.
     known: Vec<Input>,
     /// The list of the answers of work that has ended, for those of the next. It means nothing.
@@ -84,7 +85,7 @@ impl Model for Board {
 pub struct Remains {
     pub program: Program,
     /// The events, from the first on.
-    pub history: Vec<Event>,
+    pub history: Vec<PackedEvent>,
     /// The lines that were printed, in their order.
     pub lines: Vec<Scalar>,
 }
@@ -151,7 +152,8 @@ impl Board {
             return Err(Refusal::Memory);
         };
         self.core.begin(&self.program, worker, item, job);
-        self.history.push_reserved(Event::Begin { worker, item });
+        self.history
+            .push_reserved(PackedEvent::new(Event::Begin { worker, item }));
         Ok(work)
     }
 
@@ -234,7 +236,8 @@ impl Board {
         else {
             return Err((done, Refusal::Memory));
         };
-        self.history.push_reserved(Event::End { worker, item });
+        self.history
+            .push_reserved(PackedEvent::new(Event::End { worker, item }));
         self.answers = done.into_list();
         Ok(())
     }
@@ -270,7 +273,8 @@ impl Board {
             return Err(Refusal::Memory);
         };
         self.core.begin(&self.program, worker, item, job);
-        self.history.push_reserved(Event::Begin { worker, item });
+        self.history
+            .push_reserved(PackedEvent::new(Event::Begin { worker, item }));
         if !self.is_going() {
             return Ok(false);
         }
@@ -285,7 +289,8 @@ impl Board {
         else {
             return Err(Refusal::Memory);
         };
-        self.history.push_reserved(Event::End { worker, item });
+        self.history
+            .push_reserved(PackedEvent::new(Event::End { worker, item }));
         Ok(true)
     }
 
@@ -308,7 +313,8 @@ impl Board {
             return Err(Refusal::NotYours);
         };
         self.core.back(&self.program, item, job);
-        self.history.push_reserved(Event::Back { worker, item });
+        self.history
+            .push_reserved(PackedEvent::new(Event::Back { worker, item }));
         Ok(())
     }
 
@@ -337,7 +343,7 @@ impl Board {
     }
 
     /// The events so far. They lead to the state, name the workers 0 to 63 alone, and items by numbers above 0.
-    pub fn history(&self) -> &Vec<Event>
+    pub fn history(&self) -> &Vec<PackedEvent>
         ensures events { map event_view result.now.items ≡ self.now.history }
         ensures replays { Run self.now.code self.now.history self.now.state }
         ensures within { length self.now.history ≤ self.now.limit }

@@ -5,8 +5,8 @@ ghost use Rattle.board_runs.specs.Report.{AreBlockedAt, AreTallies, EndsAs, IsOv
 use crate::tally::tallies;
 use board::{Board, Fault, Remains, Statement, Step};
 use board_program::program::Program;
+use packed_events::PackedEvent;
 use std::alloc::{AllocError, Global};
-use task_code::event::Event;
 use values::text::Text;
 use values::value::Scalar;
 
@@ -25,7 +25,7 @@ pub enum End {
 pub struct Report {
     pub program: Program,
     /// The events, in the order in which they happened.
-    pub history: Vec<Event>,
+    pub history: Vec<PackedEvent>,
     /// The lines, in the order in which they were printed.
     pub lines: Vec<Text>,
     pub end: End,
@@ -74,7 +74,7 @@ fn shown_by(alloc: Global, board: &Board) -> Result<Shown, AllocError>
 }
 
 /// What is said of a run of this program, with its events and lines.
-fn reported(shown: Shown, program: Program, history: Vec<Event>, lines: Vec<Text>) -> Report
+fn reported(shown: Shown, program: Program, history: Vec<PackedEvent>, lines: Vec<Text>) -> Report
     ensures shown { (result.end ≡ shown.end) × (result.blocked ≡ shown.blocked) × (result.tallies ≡ shown.tallies) }
     ensures rest { (result.program ≡ program) × (result.history ≡ history) × (result.lines ≡ lines) }
 {

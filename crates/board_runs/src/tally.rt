@@ -4,13 +4,14 @@ ghost use Rattle.task_code.specs.View.{event_view};
 ghost use Rattle.dataflow.specs.Events.{worker_of};
 ghost use Rattle.board_runs.specs.Report.{AreTallies};
 
+use packed_events::PackedEvent;
 use task_code::event::Event;
 
 /// Workers are numbered from 0 on.
 const WORKERS: usize = 64;
 
 /// The number of events of each worker. None is greater than the number of all events.
-pub(crate) fn tallies(history: &Vec<Event>) -> [u32; WORKERS]
+pub(crate) fn tallies(history: &Vec<PackedEvent>) -> [u32; WORKERS]
     requires { length history.now.items ≤ u32.MAX }
     ensures { AreTallies (map event_view history.now.items) result }
 {
@@ -32,12 +33,12 @@ fn count(tallies: &mut [u32; WORKERS], worker: usize)
 }
 
 /// The worker that an event names.
-fn worker_of_event(event: &Event) -> usize
+fn worker_of_event(event: &PackedEvent) -> usize
     ensures { result ≡ worker_of (event_view event.now) }
 {
-    match event {
-        Event::Begin { worker, .. } => *worker as usize,
-        Event::End { worker, .. } => *worker as usize,
-        Event::Back { worker, .. } => *worker as usize,
+    match event.event() {
+        Event::Begin { worker, .. } => worker as usize,
+        Event::End { worker, .. } => worker as usize,
+        Event::Back { worker, .. } => worker as usize,
     }
 }

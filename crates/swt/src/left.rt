@@ -8,6 +8,7 @@ use compile::compile::compile;
 use compile::fault::CompileFault;
 use explain_faults::limits::Left;
 use explain_faults::traces::{NoStep, WhyNot};
+use packed_events::PackedEvent;
 use std::alloc::{AllocError, Global};
 use swt_trace::ending::Ending;
 use swt_trace::fault::TraceFault;
@@ -142,11 +143,12 @@ fn why_not(board: &Board, event: Event) -> WhyNot {
 }
 
 /// The last of the events of this item.
-fn last_of(events: &[Event], wanted: u64) -> Option<Event> {
+fn last_of(events: &[PackedEvent], wanted: u64) -> Option<Event> {
     let mut last = None;
-    for event in events {
-        if item_of(*event) == wanted {
-            last = Some(*event);
+    for packed in events {
+        let event = packed.event();
+        if item_of(event) == wanted {
+            last = Some(event);
         }
     }
     last

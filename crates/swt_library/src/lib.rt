@@ -21,6 +21,7 @@ pub use flow::script::Flow;
 pub use lexer::fault::LexFault;
 pub use lexer::token::Span;
 pub use meaning_outcomes::knowledge::Knowledge;
+pub use packed_events::PackedEvent;
 pub use swt_arguments::fault::LineFault;
 pub use swt_arguments::line::Line;
 pub use swt_trace::fault::{ReplayFault, WriteFault};

@@ -10,6 +10,7 @@ use crate::fault::WriteFault;
 use arrayvec::ArrayString;
 use board_runs::report::{End, Report};
 use itoa::Buffer;
+use packed_events::PackedEvent;
 use pages::Page;
 use task_code::event::Event;
 use values::sink::{Sink, SinkFault, write_all};
@@ -35,7 +36,7 @@ pub fn write_trace<W: Sink>(report: &Report, sink: &mut W) -> Result<(), WriteFa
 }
 
 /// Writes the first line, and the lines of the events.
-fn write_events<W: Sink>(events: &[Event], sink: &mut W) -> Result<(), SinkFault>
+fn write_events<W: Sink>(events: &[PackedEvent], sink: &mut W) -> Result<(), SinkFault>
     requires { W.failures sink.old < u64.MAX }
     ensures ok { OnOk result (W.taken sink.new ≡ W.taken sink.old ++ (first_line ended ++ event_lines events.now [])) }
     ensures err { OnErr result (Beginning (W.taken sink.old) (first_line ended ++ event_lines events.now []) (W.taken sink.new)) }
@@ -44,8 +45,8 @@ fn write_events<W: Sink>(events: &[Event], sink: &mut W) -> Result<(), SinkFault
 {
     let mut page = Page::new();
     page.put(sink, b"swt-trace 2\n")?;
-    for event in events {
-        put_event(event, &mut page, sink)?;
+    for packed in events {
+        put_event(packed.event(), &mut page, sink)?;
     }
     page.empty(sink)?;
     Ok(())
@@ -63,17 +64,17 @@ fn write_ending<W: Sink>(end: &End, sink: &mut W) -> Result<(), SinkFault>
 }
 
 /// Puts an event's line behind what waits.
-fn put_event<W: Sink>(event: &Event, page: &mut Page, sink: &mut W) -> Result<(), SinkFault>
+fn put_event<W: Sink>(event: Event, page: &mut Page, sink: &mut W) -> Result<(), SinkFault>
     requires { W.failures sink.old < u64.MAX }
-    ensures ok { OnOk result (OnPage (W.taken sink.old) (W.taken sink.new) page.new (page.old ++ event_line event.now [])) }
-    ensures err { OnErr result (Beginning (W.taken sink.old) (page.old ++ event_line event.now []) (W.taken sink.new)) }
+    ensures ok { OnOk result (OnPage (W.taken sink.old) (W.taken sink.new) page.new (page.old ++ event_line event [])) }
+    ensures err { OnErr result (Beginning (W.taken sink.old) (page.old ++ event_line event []) (W.taken sink.new)) }
     ensures failed { OnErr result (W.failures sink.old < W.failures sink.new) }
     ensures none_failed { OnOk result (W.failures sink.new ≡ W.failures sink.old) }
 {
     let (letter, worker, item) = match event {
-        Event::Begin { worker, item } => ("B ", *worker, *item),
-        Event::End { worker, item } => ("E ", *worker, *item),
-        Event::Back { worker, item } => ("K ", *worker, *item),
+        Event::Begin { worker, item } => ("B ", worker, item),
+        Event::End { worker, item } => ("E ", worker, item),
+        Event::Back { worker, item } => ("K ", worker, item),
     };
     let line = line_of(letter, worker, item);
     page.put(sink, line.as_str().as_bytes())

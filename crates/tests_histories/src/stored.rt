@@ -4,6 +4,7 @@ use crate::sink::Kept;
 use board_program::program::Program;
 use board_runs::one::run_one;
 use board_runs::report::Report;
+use packed_events::PackedEvent;
 use std::alloc::{AllocError, Global};
 use swt_trace::fault::TraceFault;
 use swt_trace::read::read_trace;
@@ -43,13 +44,26 @@ pub fn compare(
         return Ok(Some(Difference::Unreadable));
     };
     let report = run_one(alloc, program, choices, limit)?;
-    if report.history.as_slice() != events.as_slice() {
+    if !are_alike(report.history.as_slice(), events.as_slice()) {
         return Ok(Some(Difference::Events));
     }
     if !is_told(alloc, &report, wanted.as_bytes())? {
         return Ok(Some(Difference::Report));
     }
     Ok(None)
+}
+
+/// Whether a history has these events.
+fn are_alike(history: &[PackedEvent], events: &[Event]) -> bool {
+    if history.len() != events.len() {
+        return false;
+    }
+    for (packed, event) in history.iter().zip(events) {
+        if packed.event() != *event {
+            return false;
+        }
+    }
+    true
 }
 
 /// The events of a trace. None where it is none.

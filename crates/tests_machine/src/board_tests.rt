@@ -1,7 +1,7 @@
 //! Runs of small codes, call by call, and results that are handed in where they do not belong.
 ghost use Rattle.board.specs.Board.{IsWorker};
 
-use crate::asserts::is_equal;
+use crate::asserts::{are_events, is_equal, last_of};
 use board::refusal::Refusal;
 use board::{Board, Done, Remains, Work};
 use board_program::program::Program;
@@ -120,7 +120,7 @@ fn has_one_left(rt: &impl Abort, board: &Board) {
 fn is_over(rt: &impl Abort, board: &Board) {
     assert!(rt; board.is_quiet() && board.fault().is_none() && prints_hello(board));
     let last = Event::End { worker: 2, item: 2 };
-    is_equal(rt, board.history().last(), Some(&last));
+    is_equal(rt, last_of(board.history()), Some(last));
 }
 
 #[test]
@@ -140,7 +140,7 @@ fn has_opened(rt: &impl Abort, board: &Board) {
         Event::Begin { worker: 3, item: 1 },
         Event::End { worker: 3, item: 1 },
     ];
-    assert!(rt; board.history().as_slice() == events.as_slice());
+    assert!(rt; are_events(board.history(), &events));
     is_equal(rt, (board.kind(1), board.kind(2)), (None, Some(Kind::Leaf)));
 }
 

@@ -12,6 +12,8 @@ mod board_work_tests;
 #[cfg(test)]
 mod given_back_tests;
 #[cfg(test)]
+mod packed_events_tests;
+#[cfg(test)]
 mod ref_counting_tests;
 #[cfg(test)]
 mod runs_tests;

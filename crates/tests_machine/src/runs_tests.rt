@@ -1,6 +1,6 @@
 //! Runs of `printf("hello");`: whole ones, ones that the limit cuts, and a turn taken by hand.
 
-use crate::asserts::is_equal;
+use crate::asserts::{is_equal, last_of};
 use board::Board;
 use board_program::program::Program;
 use board_runs::one::run_one;
@@ -42,7 +42,7 @@ fn is_quiet(rt: &impl Abort, report: &Report) {
 fn has_all_events(rt: &impl Abort, report: &Report) {
     is_equal(rt, report.history.len(), 4);
     let last = Event::End { worker: 1, item: 2 };
-    is_equal(rt, report.history.last(), Some(&last));
+    is_equal(rt, last_of(&report.history), Some(last));
     assert!(rt; matches!(report.tallies.as_slice(), [2, 2, ..]));
 }
 
@@ -58,7 +58,7 @@ fn is_cut(rt: &impl Abort, report: &Report) {
     assert!(rt; matches!(report.end, End::Limit));
     assert!(rt; report.lines.is_empty());
     let last = Event::Begin { worker: 1, item: 2 };
-    is_equal(rt, report.history.last(), Some(&last));
+    is_equal(rt, last_of(&report.history), Some(last));
 }
 
 #[test]

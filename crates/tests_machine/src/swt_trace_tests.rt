@@ -6,6 +6,7 @@ use crate::asserts::is_equal;
 use board::{Fault, FaultKind, Statement, Step};
 use board_program::program::Program;
 use board_runs::report::{End, Report};
+use packed_events::PackedEvent;
 use std::alloc::Global;
 use std::process::Abort;
 use swt_trace::ending::Ending;
@@ -202,6 +203,32 @@ fn two_lines(rt: &impl Abort, alloc: Global) -> Vec<Text> {
     lines
 }
 
+/// The event as a board keeps it, where its worker is one of 0 to 63.
+fn packed(event: Event) -> Option<PackedEvent> {
+    match event {
+        Event::Begin { worker, item } if worker < 64 => {
+            Some(PackedEvent::new(Event::Begin { worker, item }))
+        }
+        Event::End { worker, item } if worker < 64 => {
+            Some(PackedEvent::new(Event::End { worker, item }))
+        }
+        Event::Back { worker, item } if worker < 64 => {
+            Some(PackedEvent::new(Event::Back { worker, item }))
+        }
+        _ => None,
+    }
+}
+
+/// These events of workers 0 to 63 as a board keeps them.
+fn history_of(rt: &impl Abort, alloc: Global, events: &[Event]) -> Vec<PackedEvent> {
+    let mut history = Vec::new(alloc);
+    for event in events {
+        let packed = packed(*event).expect(rt, "a worker");
+        history.push(packed).expect(rt, "memory");
+    }
+    history
+}
+
 /// A report of these events, with those two lines.
 fn report_with(
     rt: &impl Abort,
@@ -210,7 +237,7 @@ fn report_with(
     end: End,
     blocked: Vec<Statement>,
 ) -> Report {
-    let history = Vec::from_slice(alloc, events).expect(rt, "memory");
+    let history = history_of(rt, alloc, events);
     Report {
         program: Program::new(alloc, empty(alloc)).expect(rt, "memory"),
         history,

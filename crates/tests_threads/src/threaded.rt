@@ -5,6 +5,7 @@ use crate::asserts::{boxed, holds, is_equal};
 use board_program::program::Program;
 use board_runs::report::{End, Report};
 use compile::compile::compile;
+use packed_events::PackedEvent;
 use std::alloc::Global;
 use std::process::Abort;
 use std::sync::Wait;
@@ -101,10 +102,23 @@ fn again(rt: &impl Abort, alloc: Global, report: &Report) -> Box<Report> {
     boxed(rt, alloc, again)
 }
 
+/// Whether two histories have the same events.
+fn are_alike(again: &[PackedEvent], history: &[PackedEvent]) -> bool {
+    if again.len() != history.len() {
+        return false;
+    }
+    for (one, other) in again.iter().zip(history) {
+        if one.event() != other.event() {
+            return false;
+        }
+    }
+    true
+}
+
 /// Whether two reports tell the same.
 fn tells_same(rt: &impl Abort, alloc: Global, again: &Report, report: &Report) -> bool {
     again.tallies.as_slice() == report.tallies.as_slice()
-        && again.history == report.history
+        && are_alike(&again.history, &report.history)
         && has_same_text(rt, alloc, again, report)
 }
 

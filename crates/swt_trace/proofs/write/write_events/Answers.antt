@@ -17,8 +17,8 @@ returns-in_err-put-clause-err g c =
     (subst (λ (page : List ℕ). Beginning old (page ++ first_line ended) new) c.new-page.ensures c.in_err-put.ensures.err) in
     search (rules, b)
 
-pub loop-event-init : goal.loop-event-init
-loop-event-init g c =
+pub loop-packed-init : goal.loop-packed-init
+loop-packed-init g c =
     let old = g.W.Sink.taken c.args.sink.now in let new = g.W.Sink.taken c.put.new.sink in
     let at_first : OnPage old new c.put.new.self (first_line ended) =
     subst (λ (page : List ℕ). OnPage old new c.put.new.self (page ++ first_line ended)) c.new-page.ensures c.in_ok-put.ensures.ok in
@@ -29,31 +29,31 @@ loop-event-init g c =
 
 pub returns-in_err-put_event-clause-err : goal.returns-in_err-put_event-clause-err
 returns-in_err-put_event-clause-err g c =
-    let es = c.args.events.now in let i = c.loop-event.event-index in
+    let es = c.args.events.now in let i = c.loop-packed.packed-index in
     let old = g.W.Sink.taken c.args.sink.now in let new = g.W.Sink.taken c.put_event.new.sink in
     let b : Beginning old (first_line ended ++ event_lines es []) new =
-    in_front_lines es i (Begin 0 0) old new c.loop-event-test.true
-    (lost_behind old (g.W.Sink.taken c.loop-event.sink) new c.loop-event.page (first_line ended ++ event_lines (take i es) []) _ c.loop-event.invariant.on_page
+    in_front_lines es i (Begin 0 0) old new c.loop-packed-test.true
+    (lost_behind old (g.W.Sink.taken c.loop-packed.sink) new c.loop-packed.page (first_line ended ++ event_lines (take i es) []) _ c.loop-packed.invariant.on_page
     c.in_err-put_event.ensures.err) in
     search (rules, b)
 
-pub loop-event-preserved : goal.loop-event-preserved
-loop-event-preserved g c =
-    let es = c.args.events.now in let i = c.loop-event.event-index in
+pub loop-packed-preserved : goal.loop-packed-preserved
+loop-packed-preserved g c =
+    let es = c.args.events.now in let i = c.loop-packed.packed-index in
     let old = g.W.Sink.taken c.args.sink.now in let new = g.W.Sink.taken c.put_event.new.sink in
     record {
-      on_page = subst (λ (t : List ℕ). OnPage old new c.put_event.new.page t) (lines_so_far es i (Begin 0 0) c.loop-event-test.true)
-          (more_on_page old (g.W.Sink.taken c.loop-event.sink) new c.loop-event.page c.put_event.new.page (first_line ended ++ event_lines (take i es) []) _
-          c.loop-event.invariant.on_page c.in_ok-put_event.ensures.ok);
-      failures = c.in_ok-put_event.ensures.none_failed ∙ c.loop-event.invariant.failures;
+      on_page = subst (λ (t : List ℕ). OnPage old new c.put_event.new.page t) (lines_so_far es i (Begin 0 0) c.loop-packed-test.true)
+          (more_on_page old (g.W.Sink.taken c.loop-packed.sink) new c.loop-packed.page c.put_event.new.page (first_line ended ++ event_lines (take i es) []) _
+          c.loop-packed.invariant.on_page c.in_ok-put_event.ensures.ok);
+      failures = c.in_ok-put_event.ensures.none_failed ∙ c.loop-packed.invariant.failures;
     }
 
 pub returns-in_err-empty-clause-err : goal.returns-in_err-empty-clause-err
 returns-in_err-empty-clause-err g c =
-    let es = c.args.events.now in let i = c.loop-event.event-index in
+    let es = c.args.events.now in let i = c.loop-packed.packed-index in
     let old = g.W.Sink.taken c.args.sink.now in let new = g.W.Sink.taken c.empty.new.sink in
     let all : take i es ≡ es = grind (arith, common_steps) in
     let b : Beginning old (first_line ended ++ event_lines es []) new =
     subst (λ (xs : List Event). Beginning old (first_line ended ++ event_lines xs []) new) all
-    (lost old (g.W.Sink.taken c.loop-event.sink) new c.loop-event.page (first_line ended ++ event_lines (take i es) []) c.loop-event.invariant.on_page c.in_err-empty.ensures.err) in
+    (lost old (g.W.Sink.taken c.loop-packed.sink) new c.loop-packed.page (first_line ended ++ event_lines (take i es) []) c.loop-packed.invariant.on_page c.in_err-empty.ensures.err) in
     search (rules, b)

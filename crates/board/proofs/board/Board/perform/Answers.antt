@@ -65,7 +65,7 @@ pub returns-in_default-end_from-clause-refused : goal.returns-in_default-end_fro
 returns-in_default-end_from-clause-refused c = inr (unended_accepts (begun (goal.at.returns-in_default-end_from-clause-refused c).After-push_reserved) c.as_slice.ensures.value c.end_from.new.known c.in_default-end_from.ensures.same, refl)
 
 pub invariant_of-self-3 : goal.invariant_of-self-3
-invariant_of-self-3 c = ended_sound (begun (goal.at.invariant_of-self-3 c).After-push_reserved) c.as_slice.ensures.value c.end_from.new.known c.in-Ok-end_from.ensures.ended (search rules) c.push_reserved-2.new.self c.push_reserved-2.ensures.items c.push_reserved-2.ensures.capacity c.requires (search rules)
+invariant_of-self-3 c = ended_sound (begun (goal.at.invariant_of-self-3 c).After-push_reserved) c.as_slice.ensures.value c.end_from.new.known c.in-Ok-end_from.ensures.ended (search rules) c.push_reserved-2.new.self (search rules) c.push_reserved-2.ensures.capacity c.requires (search rules)
 
 pub returns-clause-performed : goal.returns-clause-performed
-returns-clause-performed c = (_, (begun (goal.at.returns-clause-performed c).After-push_reserved).accepts, ended_accepts (begun (goal.at.returns-clause-performed c).After-push_reserved) c.as_slice.ensures.value c.end_from.new.known c.in-Ok-end_from.ensures.ended (search rules) c.push_reserved-2.new.self c.push_reserved-2.ensures.items)
+returns-clause-performed c = (_, (begun (goal.at.returns-clause-performed c).After-push_reserved).accepts, ended_accepts (begun (goal.at.returns-clause-performed c).After-push_reserved) c.as_slice.ensures.value c.end_from.new.known c.in-Ok-end_from.ensures.ended (search rules) c.push_reserved-2.new.self (search rules))
