@@ -17,11 +17,16 @@ pub fn nested(text: &[u8], around: &Around<'_>) -> Option<Advice> {
         return None;
     }
     let (before, behind) = text.split_at(around.found.span.from.min(text.len()));
-    if count_of(b'/', b'*', before) > count_of(b'*', b'/', before) && ends_comment(behind) {
+    if begins_more(before) && ends_comment(behind) {
         Advice::here(NESTED)
     } else {
         None
     }
+}
+
+/// Whether a text begins more comments than it ends.
+pub fn begins_more(text: &[u8]) -> bool {
+    count_of(b'/', b'*', text) > count_of(b'*', b'/', text)
 }
 
 /// How often two bytes stand in a text one behind the other.
