@@ -1,6 +1,6 @@
 //! Faults, as a person reads of them.
 
-use crate::hints::say_hint;
+use crate::hints::say_hint_behind;
 use crate::near_keys::say_near_key;
 use crate::printed::Printed;
 use crate::reasons::{say_plain, say_reason};
@@ -141,7 +141,8 @@ fn add_fault<'t, 'a, A: Allocator>(
     if say_near_key(scene, out, fact)? {
         return Ok(());
     }
-    say_hint(out, scene.lines.text(), fact.kind, fact.at)
+    let steps = scene.known.learned.instances.path(fact.place.instance);
+    say_hint_behind(scene, out, fact.kind, fact.at, steps)
 }
 
 /// What is marked of a fault: its cell where that is on the line of the statement, and else the statement.
@@ -177,5 +178,5 @@ fn add_plain<'t, 'a, A: Allocator>(
         say_steps(scene, out, usize::MAX, inner.as_slice())?;
         say(out, "\n")?;
     }
-    say_hint(out, scene.lines.text(), printed.kind, printed.at)
+    say_hint_behind(scene, out, printed.kind, printed.at, inner.as_slice())
 }

@@ -1,5 +1,6 @@
 //! Bytes that begin no token.
 
+use crate::comments::{NESTED, begins_more};
 use crate::literals::last_sign;
 use std::alloc::{AllocError, Global};
 
@@ -187,6 +188,7 @@ fn on_sign(before: &[u8], byte: u8, rest: &[u8]) -> Option<&'static str> {
             Some("a comment begins with //, and a string stands between \"")
         }
         b'~' if rest.starts_with(b"~=") => Some("unequal is !="),
+        b'/' if before.ends_with(b"*") && begins_more(before) => Some(NESTED),
         b'/' => Some(
             "whole numbers are divided by %/, and %% is the remainder; a comment begins with //",
         ),

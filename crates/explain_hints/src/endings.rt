@@ -19,7 +19,7 @@ pub fn ending(around: &Around<'_>) -> Option<Advice> {
         );
     }
     if is_priority(around) {
-        return Advice::here("@prio=5 before a call is the one thing that an @ begins");
+        return Advice::here(priority(around));
     }
     if is_value(around) {
         return Advice::here(
@@ -50,6 +50,18 @@ pub fn ending(around: &Around<'_>) -> Option<Advice> {
         );
     }
     called(around)
+}
+
+/// What is said of something else before a call than its priority.
+fn priority(around: &Around<'_>) -> &'static str {
+    let is_value = around.third.kind == TokenKind::Assign
+        && around.third.span == around.last.span
+        && matches!(around.found.kind, TokenKind::Name | TokenKind::OpenRound);
+    if is_value && around.second.text == b"prio".as_slice() {
+        "a priority is a number that stands there: @prio=5 or @prio=-5 before a call"
+    } else {
+        "@prio=5 before a call is the one thing that an @ begins"
+    }
 }
 
 /// Whether something else stands before a call than its priority.

@@ -1,4 +1,4 @@
-//! Functions and variables that other languages have.
+//! Functions that other languages have.
 
 use crate::bytes::{Row, row_of};
 
@@ -15,7 +15,9 @@ const STRINGS: &str = "strings are joined by + and compared by ==, and nothing t
 const RECKONED: &str =
     "write it as a function: (int r) max(int a, int b) { if (a > b) { r = a; } else { r = b; } }";
 
-const OUTSIDE: &str = "a script reads no files, words or settings: what it is to know stands in it";
+/// That nothing is known from outside of a script.
+pub(crate) const OUTSIDE: &str =
+    "a script reads no files, words or settings: what it is to know stands in it";
 
 const CHECKED: &str = "assert tells what has to hold: assert(x == 1, \"x is 1\");";
 
@@ -29,8 +31,27 @@ const GROWN: &str = "an element is written by its key: A[i] = 3;";
 const ORDERED: &str =
     "all that can run runs at once, and what has to come after x stands in wait (x) { .. }";
 
+const THERE: &str = "an element that is read has to be there: keep in a second array which are";
+
+const SEEDED: &str =
+    "every run of a script comes to the same: reckon numbers from a seed, (seed * 75 + 74) %% 65537";
+
+const ENDED: &str = "a run ends when all is done, or at an assert that is not true";
+
+const MAPPED: &str = "write it as a loop: foreach v, i in A { B[i] = v * 2; }";
+
+const DECLARED: &str = "an array is declared by int A[]; and has what is written to it";
+
+const CHOSEN: &str = "write if (x > 0) { y = 1; } else { y = 2; }";
+
+const MAGNITUDE: &str =
+    "write it as a function: (int r) abs(int n) { if (n < 0) { r = -n; } else { r = n; } }";
+
+const WHOLE: &str =
+    "there are whole numbers alone: scale them, as 1500 for 1.5, and write what reckons with them as a function";
+
 /// Functions that are not there, and what is there instead.
-static FUNCTIONS: [Row; 158] = [
+static FUNCTIONS: [Row; 177] = [
     Row {
         word: "trace",
         words: PRINTED,
@@ -177,7 +198,7 @@ static FUNCTIONS: [Row; 158] = [
     },
     Row {
         word: "abs",
-        words: RECKONED,
+        words: MAGNITUDE,
     },
     Row {
         word: "pow",
@@ -193,11 +214,11 @@ static FUNCTIONS: [Row; 158] = [
     },
     Row {
         word: "contains",
-        words: "an element that is read has to be there: keep in a second array which are",
+        words: THERE,
     },
     Row {
         word: "exists",
-        words: "an element that is read has to be there: keep in a second array which are",
+        words: THERE,
     },
     Row {
         word: "range",
@@ -233,11 +254,11 @@ static FUNCTIONS: [Row; 158] = [
     },
     Row {
         word: "exit",
-        words: "a run ends when all is done, or at an assert that is not true",
+        words: ENDED,
     },
     Row {
         word: "random",
-        words: "every run of a script comes to the same: reckon numbers from a seed, (seed * 75 + 74) %% 65537",
+        words: SEEDED,
     },
     Row {
         word: "tracef",
@@ -417,39 +438,39 @@ static FUNCTIONS: [Row; 158] = [
     },
     Row {
         word: "rand",
-        words: "every run of a script comes to the same: reckon numbers from a seed, (seed * 75 + 74) %% 65537",
+        words: SEEDED,
     },
     Row {
         word: "randint",
-        words: "every run of a script comes to the same: reckon numbers from a seed, (seed * 75 + 74) %% 65537",
+        words: SEEDED,
     },
     Row {
         word: "seed",
-        words: "every run of a script comes to the same: reckon numbers from a seed, (seed * 75 + 74) %% 65537",
+        words: SEEDED,
     },
     Row {
         word: "quit",
-        words: "a run ends when all is done, or at an assert that is not true",
+        words: ENDED,
     },
     Row {
         word: "stop",
-        words: "a run ends when all is done, or at an assert that is not true",
+        words: ENDED,
     },
     Row {
         word: "abort",
-        words: "a run ends when all is done, or at an assert that is not true",
+        words: ENDED,
     },
     Row {
         word: "error",
-        words: "a run ends when all is done, or at an assert that is not true",
+        words: ENDED,
     },
     Row {
         word: "throw",
-        words: "a run ends when all is done, or at an assert that is not true",
+        words: ENDED,
     },
     Row {
         word: "raise",
-        words: "a run ends when all is done, or at an assert that is not true",
+        words: ENDED,
     },
     Row {
         word: "assertEqual",
@@ -501,7 +522,7 @@ static FUNCTIONS: [Row; 158] = [
     },
     Row {
         word: "array",
-        words: "an array is declared by int A[]; and has what is written to it",
+        words: DECLARED,
     },
     Row {
         word: "zeros",
@@ -521,11 +542,11 @@ static FUNCTIONS: [Row; 158] = [
     },
     Row {
         word: "list",
-        words: "an array is declared by int A[]; and has what is written to it",
+        words: DECLARED,
     },
     Row {
         word: "vector",
-        words: "an array is declared by int A[]; and has what is written to it",
+        words: DECLARED,
     },
     Row {
         word: "sleep",
@@ -621,19 +642,19 @@ static FUNCTIONS: [Row; 158] = [
     },
     Row {
         word: "reverse",
-        words: "write it as a loop: foreach v, i in A { B[i] = v * 2; }",
+        words: MAPPED,
     },
     Row {
         word: "map",
-        words: "write it as a loop: foreach v, i in A { B[i] = v * 2; }",
+        words: MAPPED,
     },
     Row {
         word: "filter",
-        words: "write it as a loop: foreach v, i in A { B[i] = v * 2; }",
+        words: MAPPED,
     },
     Row {
         word: "reduce",
-        words: "write it as a loop: foreach v, i in A { B[i] = v * 2; }",
+        words: MAPPED,
     },
     Row {
         word: "keys",
@@ -641,148 +662,107 @@ static FUNCTIONS: [Row; 158] = [
     },
     Row {
         word: "has",
-        words: "an element that is read has to be there: keep in a second array which are",
+        words: THERE,
     },
     Row {
         word: "isset",
-        words: "an element that is read has to be there: keep in a second array which are",
+        words: THERE,
     },
     Row {
         word: "has_key",
-        words: "an element that is read has to be there: keep in a second array which are",
+        words: THERE,
     },
     Row {
         word: "if_else",
-        words: "write if (x > 0) { y = 1; } else { y = 2; }",
+        words: CHOSEN,
     },
     Row {
         word: "iff",
-        words: "write if (x > 0) { y = 1; } else { y = 2; }",
+        words: CHOSEN,
     },
     Row {
         word: "ifelse",
-        words: "write if (x > 0) { y = 1; } else { y = 2; }",
+        words: CHOSEN,
+    },
+    Row {
+        word: "not",
+        words: "not is !: !(x > 0)",
+    },
+    Row {
+        word: "and",
+        words: "and is &&: x > 0 && y > 0",
+    },
+    Row {
+        word: "or",
+        words: "or is ||: x > 0 || y > 0",
+    },
+    Row {
+        word: "abs_integer",
+        words: MAGNITUDE,
+    },
+    Row {
+        word: "fabs",
+        words: MAGNITUDE,
+    },
+    Row {
+        word: "max_integer",
+        words: RECKONED,
+    },
+    Row {
+        word: "min_integer",
+        words: RECKONED,
+    },
+    Row {
+        word: "pow_integer",
+        words: RECKONED,
+    },
+    Row {
+        word: "factorial",
+        words: RECKONED,
+    },
+    Row {
+        word: "sign",
+        words: RECKONED,
+    },
+    Row {
+        word: "sin",
+        words: WHOLE,
+    },
+    Row {
+        word: "cos",
+        words: WHOLE,
+    },
+    Row {
+        word: "tan",
+        words: WHOLE,
+    },
+    Row {
+        word: "log10",
+        words: WHOLE,
+    },
+    Row {
+        word: "ln",
+        words: WHOLE,
+    },
+    Row {
+        word: "itof",
+        words: WHOLE,
+    },
+    Row {
+        word: "float",
+        words: WHOLE,
+    },
+    Row {
+        word: "ord",
+        words: STRINGS,
+    },
+    Row {
+        word: "chr",
+        words: STRINGS,
     },
 ];
 
 /// What is there instead of a function of another language.
 pub fn on_function(name: &[u8]) -> Option<&'static str> {
     row_of(&FUNCTIONS, name)
-}
-
-/// Variables that are not there, and what is there instead.
-static VARIABLES: [Row; 27] = [
-    Row {
-        word: "True",
-        words: "write true",
-    },
-    Row {
-        word: "TRUE",
-        words: "write true",
-    },
-    Row {
-        word: "False",
-        words: "write false",
-    },
-    Row {
-        word: "FALSE",
-        words: "write false",
-    },
-    Row {
-        word: "null",
-        words: "every variable has a value: take one that stands for none, as -1 or \"\"",
-    },
-    Row {
-        word: "NULL",
-        words: "every variable has a value: take one that stands for none, as -1 or \"\"",
-    },
-    Row {
-        word: "nil",
-        words: "every variable has a value: take one that stands for none, as -1 or \"\"",
-    },
-    Row {
-        word: "None",
-        words: "every variable has a value: take one that stands for none, as -1 or \"\"",
-    },
-    Row {
-        word: "yes",
-        words: "write true",
-    },
-    Row {
-        word: "on",
-        words: "write true",
-    },
-    Row {
-        word: "no",
-        words: "write false",
-    },
-    Row {
-        word: "off",
-        words: "write false",
-    },
-    Row {
-        word: "undefined",
-        words: "every variable has a value: take one that stands for none, as -1 or \"\"",
-    },
-    Row {
-        word: "nan",
-        words: "every variable has a value: take one that stands for none, as -1 or \"\"",
-    },
-    Row {
-        word: "NaN",
-        words: "every variable has a value: take one that stands for none, as -1 or \"\"",
-    },
-    Row {
-        word: "argc",
-        words: OUTSIDE,
-    },
-    Row {
-        word: "argv",
-        words: OUTSIDE,
-    },
-    Row {
-        word: "args",
-        words: OUTSIDE,
-    },
-    Row {
-        word: "stdin",
-        words: OUTSIDE,
-    },
-    Row {
-        word: "PI",
-        words: "there are whole numbers alone: scale them, as 31416 for 3.1416",
-    },
-    Row {
-        word: "pi",
-        words: "there are whole numbers alone: scale them, as 31416 for 3.1416",
-    },
-    Row {
-        word: "ture",
-        words: "write true",
-    },
-    Row {
-        word: "treu",
-        words: "write true",
-    },
-    Row {
-        word: "tru",
-        words: "write true",
-    },
-    Row {
-        word: "flase",
-        words: "write false",
-    },
-    Row {
-        word: "fasle",
-        words: "write false",
-    },
-    Row {
-        word: "fals",
-        words: "write false",
-    },
-];
-
-/// What is there instead of a variable of another language.
-pub fn on_variable(name: &[u8]) -> Option<&'static str> {
-    row_of(&VARIABLES, name)
 }

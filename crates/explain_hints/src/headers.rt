@@ -5,9 +5,13 @@ use crate::around::Around;
 use crate::kinds::{
     begins_statement, closes, ends_expression, is_arithmetic, is_plain, is_type, is_word,
 };
+use lexer::lexer::Lexer;
 use lexer::token::TokenKind;
 
 const HEAD: &str = "a function begins with its outputs: (int r) f(int n) { r = n; }";
+
+const OUTPUTS: &str =
+    "a function's outputs stand before it in brackets, and it assigns them: (int r) f(int n) { r = n; }";
 
 const BODY: &str = "a function has its block right behind its inputs: (int r) f(int n) { r = n; }";
 
@@ -158,7 +162,7 @@ pub fn function(around: &Around<'_>) -> Option<Advice> {
     {
         let is_head = is_type(around.next.kind) || around.next.kind == TokenKind::CloseRound;
         return Advice::here(if is_head {
-            "a function's outputs stand before it in brackets, and it assigns them: (int r) f(int n) { r = n; }"
+            OUTPUTS
         } else {
             "an array is declared by int A[];, and a value stands behind a =: int x = 3;"
         });
@@ -179,6 +183,32 @@ pub fn function(around: &Around<'_>) -> Option<Advice> {
         return Advice::here(HEAD);
     }
     None
+}
+
+/// Where the output of a function is declared before it, without brackets: a type, a name, and behind that the name of a function with its inputs.
+pub fn declared_output(text: &[u8], around: &Around<'_>) -> Option<Advice> {
+    let is_declared = is_type(around.first.kind)
+        && (around.second.span == around.last.span || around.last.kind == TokenKind::CloseSquare);
+    if is_declared && around.found.kind == TokenKind::Name && has_inputs(text, around) {
+        Advice::here(OUTPUTS)
+    } else {
+        None
+    }
+}
+
+/// Whether inputs stand behind the token, or brackets without any before a block.
+fn has_inputs(text: &[u8], around: &Around<'_>) -> bool {
+    if around.next.kind != TokenKind::OpenRound {
+        return false;
+    }
+    let mut lexer = Lexer::behind(text, around.next.span.to.min(text.len()));
+    match lexer.next() {
+        Some(Ok(token)) if token.kind == TokenKind::CloseRound => {
+            matches!(lexer.next(), Some(Ok(token)) if token.kind == TokenKind::OpenCurly)
+        }
+        Some(Ok(token)) => is_type(token.kind),
+        _ => false,
+    }
 }
 
 /// Whether a statement begins as a call, and goes on as a function would.

@@ -44,9 +44,14 @@ pub fn last_sign(text: &[u8]) -> u8 {
     last
 }
 
-/// What to write instead of a string that its line leaves open.
-pub fn on_string() -> &'static str {
-    "a string ends on its line with a \": \\n in it ends a line, and strings are joined by +"
+/// What to write instead of a string that its line leaves open up to an offset of a text.
+pub fn on_string(text: &[u8], to: usize) -> &'static str {
+    match text.get(to) {
+        Some(b'\t') => "a tab in a string is written \\t",
+        _ => {
+            "a string ends on its line with a \": \\n in it ends a line, and strings are joined by +"
+        }
+    }
 }
 
 /// What to write instead of an escape.

@@ -3,7 +3,7 @@
 use crate::advice::Advice;
 use crate::around::Around;
 use crate::keywords::near_keyword;
-use crate::{brackets, endings, headers, marks, missing, words};
+use crate::{brackets, comments, endings, headers, marks, missing, words};
 use std::alloc::{AllocError, Global};
 
 /// What to write instead of the token that begins at an offset of a text, or that is missing at its end.
@@ -24,7 +24,9 @@ pub fn on_unexpected(alloc: Global, text: &[u8], at: usize) -> Result<Option<Adv
 
 /// By words.
 fn by_words(text: &[u8], around: &Around<'_>) -> Option<Advice> {
-    words::first_word(text, around)
+    comments::nested(text, around)
+        .or(headers::declared_output(text, around))
+        .or(words::first_word(text, around))
         .or(headers::import(around))
         .or(words::other_operator(around))
         .or(words::other_type(around))

@@ -238,19 +238,57 @@ fn told_of_both<A: Allocator>(
 ) -> Result<Explanation, AllocError> {
     let name = bytes_at(refused.text, at);
     let mentions = mentions_around(refused.alloc, at.from, refused.script)?;
-    let (wanted, words, note) = match kind_at(mentions.as_slice(), at) {
-        Some(Kind::Written) => (
-            Lookup::Assignment,
+    let is_element = kind_at(mentions.as_slice(), at) == Some(Kind::Written);
+    let wanted = if is_element {
+        Lookup::Assignment
+    } else {
+        Lookup::Element
+    };
+    let first = last_before(refused.text, mentions.as_slice(), wanted, name, at.from);
+    match first {
+        Some(first) if first.kind == Kind::Given => told_of_input(refused, name, first.at),
+        _ => told_of_forms(refused, name, is_element, place_of(first)),
+    }
+}
+
+/// The place of a mention, where there is one.
+fn place_of(mention: Option<Mention>) -> Option<Span> {
+    Some(mention?.at)
+}
+
+/// What is said of an array that is an input, which is declared at a place, and of which an element is written.
+fn told_of_input<A: Allocator>(
+    refused: &Refused<'_, A>,
+    name: &[u8],
+    declared: Span,
+) -> Result<Explanation, AllocError> {
+    let words = "is an input, and has all of its elements already";
+    let note = note_of("declared at", Some(declared));
+    let hint = Hint::plain(
+        refused.alloc,
+        "an input is read alone: a function gives the array that it writes as an output, (int B[]) f(int A[]) { foreach v, i in A { B[i] = v; } }",
+    )?;
+    Ok(Explanation::of(refused.alloc, name, words, note)?.with(hint))
+}
+
+/// What is said of an array that is assigned by an element here and was assigned whole at a place before, or the other way round.
+fn told_of_forms<A: Allocator>(
+    refused: &Refused<'_, A>,
+    name: &[u8],
+    is_element: bool,
+    first: Option<Span>,
+) -> Result<Explanation, AllocError> {
+    let (words, note) = if is_element {
+        (
             "is assigned whole already, and has no further elements",
             "assigned whole at",
-        ),
-        _ => (
-            Lookup::Element,
+        )
+    } else {
+        (
             "is assigned whole here, and elsewhere by elements",
             "an element is written at",
-        ),
+        )
     };
-    let first = place_before(refused, at, wanted, at.from)?;
     let hint = Hint::named(
         refused.alloc,
         "an array is written whole, or by its elements alone: ",

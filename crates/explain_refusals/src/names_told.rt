@@ -3,8 +3,9 @@
 use crate::calls::is_read_behind;
 use crate::declared::{rest_of_statement, say_declaration, sort_behind};
 use crate::told::{Explanation, Hint, Note, note_of};
-use explain_hints::functions::{on_function, on_variable};
+use explain_hints::functions::on_function;
 use explain_hints::nearest::{Near, nearer};
+use explain_hints::variables::on_variable;
 use explain_names::lookup::{Lookup, bytes_at, kind_at, last_before, place_before};
 use explain_names::mention::{Kind, Mention, Sort};
 use explain_names::mentions::{function_around, mentions_around};

@@ -32,6 +32,8 @@ pub enum Wish {
     Loop,
     /// An array whose elements are counted.
     Size,
+    /// The name of an array, where another expression that is one stands.
+    Named,
     /// A scalar that is compared.
     Compared,
 }
@@ -309,7 +311,16 @@ fn judge<A: Allocator>(
     if let Some(sort) = sort_of(search, value) {
         if sort != wanted {
             note(found, sort, Wish::Sort(wanted));
+        } else if sort.shape != Shape::Scalar {
+            want_name(value, sort, found);
         }
+    }
+}
+
+/// Takes down that an array does not go by its name.
+fn want_name<A: Allocator>(value: &Expr<A>, array: Sort, found: &mut Option<Mismatch>) {
+    if !matches!(&value.kind, ExprKind::Variable(_)) {
+        note(found, array, Wish::Named);
     }
 }
 
@@ -440,6 +451,8 @@ fn judge_counted<A: Allocator>(search: &Search<A>, value: &Expr<A>, found: &mut 
     if let Some(sort) = sort_of(search, value) {
         if sort.shape == Shape::Scalar {
             note(found, sort, Wish::Size);
+        } else {
+            want_name(value, sort, found);
         }
     }
 }

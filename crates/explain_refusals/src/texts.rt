@@ -43,7 +43,7 @@ fn hint_of_token(alloc: Global, text: &[u8], fault: LexFault) -> Result<Option<H
             Some(words) => Ok(Some(Hint { words, at: None })),
         },
         LexFault::BadNumber(at) => Hint::plain(alloc, on_number(text, bytes_at(text, at), at.from)),
-        LexFault::OpenString(_) => Hint::plain(alloc, on_string()),
+        LexFault::OpenString(at) => Hint::plain(alloc, on_string(text, at.to)),
         LexFault::OpenComment(_) => {
             Hint::plain(alloc, "close it by */, or begin each of its lines with //")
         }

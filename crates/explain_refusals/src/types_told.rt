@@ -95,6 +95,7 @@ fn add_wish(out: &mut Vec<u8>, text: &[u8], wanted: Wish) -> Result<(), AllocErr
             out.extend_from_slice(words_of_keys(keys_of(array)).as_bytes())
         }
         Wish::Element | Wish::Size => out.extend_from_slice(b"wanted is an array"),
+        Wish::Named => out.extend_from_slice(b"wanted is the name of an array"),
         Wish::Loop => out.extend_from_slice(b"wanted is an array or a range"),
         Wish::Compared => out.extend_from_slice(b"arrays can not be compared"),
     }
@@ -113,23 +114,41 @@ fn hint_of_mismatch<A: Allocator>(
     mismatch: Mismatch,
     at: Span,
 ) -> Result<Option<Hint>, AllocError> {
-    let is_printed = is_printed(refused.alloc, refused.text, at.from)?;
     let words = match mismatch.wanted {
         Wish::Key(array, name) => return hint_of_key(refused, mismatch.found, array, name),
+        Wish::Sort(wanted) => return hint_of_sort(refused, mismatch.found, wanted, at),
+        Wish::Literal(wanted) => hint_of_literal(wanted),
         Wish::Element => "an array alone has elements: int A[]; A[0] = 1;",
         Wish::Loop => "foreach goes over a range, as [1:n], or over an array by its name",
         Wish::Size => "size counts the elements of an array; a string has no length",
+        Wish::Named => "give the array a name first: int A[] = f(3); and then size(A) or g(A)",
         Wish::Compared => "compare their elements, one by one: A[i] == B[i]",
-        Wish::Literal(wanted) if wanted.shape == Shape::Scalar => {
-            "brackets stand behind the name of an array: int A[] = [1, 2];"
-        }
-        Wish::Literal(_) => {
+    };
+    Hint::plain(refused.alloc, words)
+}
+
+/// What to write instead of a literal of an array where a value of this type is wanted.
+fn hint_of_literal(wanted: Sort) -> &'static str {
+    match wanted.shape {
+        Shape::Scalar => "brackets stand behind the name of an array: int A[] = [1, 2];",
+        Shape::Array(_) => {
             "the values of a literal have the keys 0, 1, 2: write the elements, each under its text: A[\"a\"] = 1;"
         }
-        Wish::Sort(wanted) if is_printed && are_printed(mismatch.found, wanted) => {
-            "%i prints a number, and %s a string"
-        }
-        Wish::Sort(wanted) => hint_of_sorts(mismatch.found, wanted),
+    }
+}
+
+/// What to write instead of an expression at a place, which may be an argument of `printf`, where another type is wanted.
+fn hint_of_sort<A: Allocator>(
+    refused: &Refused<'_, A>,
+    found: Sort,
+    wanted: Sort,
+    at: Span,
+) -> Result<Option<Hint>, AllocError> {
+    let is_printed = is_printed(refused.alloc, refused.text, at.from)?;
+    let words = if is_printed && are_printed(found, wanted) {
+        "%i prints a number, and %s a string"
+    } else {
+        hint_of_sorts(found, wanted)
     };
     Hint::plain(refused.alloc, words)
 }
