@@ -1,3 +1,4 @@
 mod Added
 mod Marking
+mod Told
 mod Views

@@ -1,3 +1,4 @@
 pub mod Marks
 pub mod Mentions
+pub mod OddityNames
 pub mod Warnings

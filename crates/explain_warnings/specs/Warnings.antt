@@ -1,8 +1,10 @@
 -- What is odd in a script: variables that are never used or never read, and loops that have no turn.
-use Rattle.std.specs.Prelude.{ℕ, ◌+◌, Bool, List, [], ◌∷◌, ◌++◌, Option, Some, None, if◌then◌else◌, ◌||◌}
+use Rattle.std.specs.Prelude.{◌≡◌, ◌⊎◌, ℕ, ◌+◌, Bool, List, [], ◌∷◌, ◌++◌, Option, Some, None, if◌then◌else◌, ◌||◌}
 use Rattle.lexer.specs.declared.token.Span.{Span}
+use Rattle.language.specs.Reads.{Reads}
 use Rattle.language.specs.Table.{Table}
 use Rattle.language.specs.Tree.{Declaration, Composite, Part, Tree, import, function, single}
+use Rattle.language.specs.Typing.{WellTyped}
 use Rattle.explain_warnings.specs.declared.mention.Kind.{Kind}
 use Rattle.explain_warnings.specs.declared.mention.Kind.TheVariants as Is
 use Rattle.explain_warnings.specs.declared.mention.Mention.{Mention}
@@ -57,3 +59,19 @@ parts_warnings t read written (p ∷ ps) = part_warnings t read written p ++ par
 -- all that is said of a script, in the order of its text
 abbrev pub warnings : Table → Tree → List Warning
 warnings t tree = parts_warnings t (uses_local t Is.Read (tree_mentions tree)) (uses_local t Is.Written (tree_mentions tree)) tree
+
+-- it reads as a tree that is well typed by this table of its names, and these are the warnings of the tree
+pub record AreOfTree (src : List ℕ) (found : List Warning) : Type 0 where
+  pub tree : Tree
+  pub table : Table
+  pub reads : Reads src tree
+  pub typed : WellTyped tree table
+  pub are : found ≡ warnings table tree
+
+-- it reads as no tree that is well typed
+abbrev pub IsUntyped : List ℕ → Type 0
+IsUntyped src = (tree : Tree) (t : Table) → Reads src tree → ¬ WellTyped tree t
+
+-- all that is said of a text: the warnings of its tree where that is well typed, and nothing where there is no such tree
+abbrev pub AreWarnings : List ℕ → List Warning → Type 0
+AreWarnings src found = AreOfTree src found ⊎ (IsUntyped src × (found ≡ []))

@@ -1,4 +1,7 @@
 //! What is said to a person of warnings.
+ghost use Rattle.std.specs.Prelude.{◌≡◌, [], IfOk, IsErr, IsOkAnd, MatchOption};
+ghost use Rattle.explain_warnings.specs.OddityNames.{oddity_name};
+ghost use Rattle.explain_warnings.specs.Warnings.{AreWarnings};
 
 use crate::warning::{Oddity, Warning, warnings};
 use explain_text::lines::Lines;
@@ -12,7 +15,9 @@ use syntax::parser::parse;
 /// # Errors
 ///
 /// `AllocError` where memory that was asked for was refused.
-pub fn warnings_of(alloc: Global, text: &[u8]) -> Result<Vec<Warning>, AllocError> {
+pub fn warnings_of(alloc: Global, text: &[u8]) -> Result<Vec<Warning>, AllocError>
+    ensures { IfOk result (λ found. AreWarnings text.now found.items) }
+{
     let script = match parse(alloc, text) {
         Ok(script) => script,
         Err(fault) => return none_at(alloc, fault.span()),
@@ -24,7 +29,9 @@ pub fn warnings_of(alloc: Global, text: &[u8]) -> Result<Vec<Warning>, AllocErro
 }
 
 /// No warnings, where a text is refused at a place; want of memory has none.
-fn none_at(alloc: Global, at: Option<Span>) -> Result<Vec<Warning>, AllocError> {
+fn none_at(alloc: Global, at: Option<Span>) -> Result<Vec<Warning>, AllocError>
+    ensures { MatchOption at (IsErr result) (λ _. IsOkAnd result (λ found. found.items ≡ [])) }
+{
     match at {
         None => Err(AllocError),
         Some(_) => Ok(Vec::new(alloc)),
@@ -68,7 +75,9 @@ pub fn hint_of(oddity: Oddity) -> &'static str {
 }
 
 /// What it is called, in one word.
-pub fn name_of(oddity: Oddity) -> &'static str {
+pub fn name_of(oddity: Oddity) -> &'static str
+    ensures { result.now ≡ oddity_name oddity }
+{
     match oddity {
         Oddity::NeverUsed => "NeverUsed",
         Oddity::NeverRead => "NeverRead",

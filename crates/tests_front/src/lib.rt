@@ -30,4 +30,6 @@ mod values_tests;
 #[cfg(test)]
 mod wait_merge_tests;
 #[cfg(test)]
+mod warnings_tests;
+#[cfg(test)]
 mod whole_flow_tests;

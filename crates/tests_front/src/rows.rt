@@ -1,5 +1,7 @@
 //! Tables of texts, a row a line: the answer that is wanted, ` | `, and the text.
 
+use explain_warnings::told::{name_of, warnings_of};
+use explain_warnings::warning::Warning;
 use lexer::token::Span;
 use std::alloc::{AllocError, Global};
 use std::fmt::Display;
@@ -52,6 +54,29 @@ fn judgement(alloc: Global, text: &[u8]) -> Result<String, AllocError> {
     }
 }
 
+/// A warning's name, and the bytes where its place begins and ends, behind what is said before.
+fn add_warning(alloc: Global, warning: Warning, said: &mut String) -> Result<(), AllocError> {
+    if !said.is_empty() {
+        said.push_str(", ")?;
+    }
+    let name = name_of(warning.oddity);
+    let words = format!(in alloc; "{name} {} {}", warning.at.from, warning.at.to)?;
+    said.push_str(words.as_str())
+}
+
+/// What is odd in a text, in the order of the text.
+fn oddities(alloc: Global, text: &[u8]) -> Result<String, AllocError> {
+    let warnings = warnings_of(alloc, text)?;
+    if warnings.is_empty() {
+        return String::from_str(alloc, "none");
+    }
+    let mut said = String::new(alloc);
+    for warning in &warnings {
+        add_warning(alloc, *warning, &mut said)?;
+    }
+    Ok(said)
+}
+
 /// What a row wants, and its text.
 fn parts<'a>(rt: &impl Abort, row: &'a str) -> (&'a str, &'a [u8]) {
     let (wanted, text) = row.split_once(" | ").expect(rt, "a row has two parts");
@@ -77,5 +102,13 @@ pub fn are_judged(rt: &impl Abort, alloc: Global, rows: &str) {
     for row in rows.lines() {
         let (wanted, text) = parts(rt, row);
         is_answered(rt, judgement(alloc, text), wanted, row);
+    }
+}
+
+/// In the text of each row just this is odd.
+pub fn are_warned(rt: &impl Abort, alloc: Global, rows: &str) {
+    for row in rows.lines() {
+        let (wanted, text) = parts(rt, row);
+        is_answered(rt, oddities(alloc, text), wanted, row);
     }
 }
