@@ -1,7 +1,6 @@
-use Rattle.std.proofs.Common.{arith, ◌<◌, ◌∙◌, ap, List, take, get_or, length}
+use Rattle.std.proofs.Common.{arith, ◌≡◌, ◌<◌, ◌∙◌, ap, take, get_or, length}
 use Rattle.std.proofs.lemmas.List.{length-map, length-take}
 use Rattle.task_code.specs.declared.event.Event.{Event}
-use Rattle.task_code.specs.declared.event.Event.TheVariants.{Begin}
 use Rattle.task_code.specs.View.{event_view}
 use Rattle.dataflow.specs.Events.{worker_of}
 use Rattle.board_runs.proofs.Tallies.{counted_at, none_counted, tally_small}
@@ -18,6 +17,7 @@ count-requires c =
 pub loop-event-preserved : goal.loop-event-preserved
 loop-event-preserved c =
     let l : c.loop-event.event-index < length c.args.history.now.items = rw (← c.deref-event-items.ensures.value) c.loop-event-test.true in
-    counted_at c.args.history.now.items c.loop-event.event-index (Begin 0 0) c.loop-event.tallies c.count.new.tallies c.worker_of_event.result l c.loop-event.invariant
-    (c.worker_of_event.ensures ∙ ap (λ (xs : List Event). worker_of (event_view (get_or xs c.loop-event.event-index (Begin 0 0)))) c.deref-event-items.ensures.value)
+    let is : c.event-item.result ≡ get_or c.args.history.now.items c.loop-event.event-index c.event-item.result = cc in
+    counted_at c.args.history.now.items c.loop-event.event-index c.event-item.result c.loop-event.tallies c.count.new.tallies c.worker_of_event.result l c.loop-event.invariant
+    (c.worker_of_event.ensures ∙ ap (λ (e : Event). worker_of (event_view e)) is)
     c.count.ensures

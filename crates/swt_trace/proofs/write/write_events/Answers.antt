@@ -1,11 +1,10 @@
-use Rattle.std.proofs.Common.{rules, ◌≡◌, ◌++◌, ◌∙◌, [], refl, sym, subst, ℕ, List, append-nil, take, arith}
+use Rattle.std.proofs.Common.{rules, ◌≡◌, ◌++◌, ◌∙◌, [], refl, sym, subst, ap, ℕ, List, append-nil, get_or, take, arith}
 use Rattle.std.proofs.lemmas.Grind.{common_steps}
 use Rattle.task_code.specs.declared.event.Event.{Event}
-use Rattle.task_code.specs.declared.event.Event.TheVariants.{Begin}
 use Rattle.values.specs.Sinks.{Beginning}
 use Rattle.pages.specs.Pages.{OnPage}
 use Rattle.pages.proofs.Beginnings.{lost, lost_behind, more_on_page}
-use Rattle.swt_trace.specs.Trace.{ended, event_lines, first_line}
+use Rattle.swt_trace.specs.Trace.{ended, event_line, event_lines, first_line}
 use Rattle.swt_trace.proofs.Pieces.{beginning_in, in_front_lines, lines_so_far}
 use Rattle.swt_trace.proofs.write.write_events.Goals as goal
 
@@ -30,19 +29,22 @@ loop-packed-init g c =
 pub returns-in_err-put_event-clause-err : goal.returns-in_err-put_event-clause-err
 returns-in_err-put_event-clause-err g c =
     let es = c.args.events.now in let i = c.loop-packed.packed-index in
+    let is : c.event.result ≡ get_or es i c.packed-item.result = cc in
     let old = g.W.Sink.taken c.args.sink.now in let new = g.W.Sink.taken c.put_event.new.sink in
     let b : Beginning old (first_line ended ++ event_lines es []) new =
-    in_front_lines es i (Begin 0 0) old new c.loop-packed-test.true
+    in_front_lines es i c.packed-item.result old new c.loop-packed-test.true
+    (subst (λ (e : Event). Beginning old ((first_line ended ++ event_lines (take i es) []) ++ event_line e []) new) is
     (lost_behind old (g.W.Sink.taken c.loop-packed.sink) new c.loop-packed.page (first_line ended ++ event_lines (take i es) []) _ c.loop-packed.invariant.on_page
-    c.in_err-put_event.ensures.err) in
+    c.in_err-put_event.ensures.err)) in
     search (rules, b)
 
 pub loop-packed-preserved : goal.loop-packed-preserved
 loop-packed-preserved g c =
     let es = c.args.events.now in let i = c.loop-packed.packed-index in
+    let is : c.event.result ≡ get_or es i c.packed-item.result = cc in
     let old = g.W.Sink.taken c.args.sink.now in let new = g.W.Sink.taken c.put_event.new.sink in
     record {
-      on_page = subst (λ (t : List ℕ). OnPage old new c.put_event.new.page t) (lines_so_far es i (Begin 0 0) c.loop-packed-test.true)
+      on_page = subst (λ (t : List ℕ). OnPage old new c.put_event.new.page t) (ap (λ (e : Event). (first_line ended ++ event_lines (take i es) []) ++ event_line e []) is ∙ lines_so_far es i c.packed-item.result c.loop-packed-test.true)
           (more_on_page old (g.W.Sink.taken c.loop-packed.sink) new c.loop-packed.page c.put_event.new.page (first_line ended ++ event_lines (take i es) []) _
           c.loop-packed.invariant.on_page c.in_ok-put_event.ensures.ok);
       failures = c.in_ok-put_event.ensures.none_failed ∙ c.loop-packed.invariant.failures;
