@@ -1,4 +1,4 @@
-use Rattle.explain_warnings.proofs.Told.{silent_unread}
+use Rattle.explain_warnings.proofs.Texts.{silent_unread}
 use Rattle.explain_warnings.proofs.told.warnings_of.Goals as goal
 
 pub returns-in-Err : goal.returns-in-Err
