@@ -1,4 +1,4 @@
 mod Added
 mod Marking
-mod Told
+mod Texts
 mod Views

@@ -15,6 +15,7 @@ use syntax::parser::parse;
 /// # Errors
 ///
 /// `AllocError` where memory that was asked for was refused.
+#[tactic(auto, using(crate::proofs::Texts::silent_untyped, crate::proofs::Texts::said_of_tree))]
 pub fn warnings_of(alloc: Global, text: &[u8]) -> Result<Vec<Warning>, AllocError>
     ensures { IfOk result (λ found. AreWarnings text.now found.items) }
 {
