@@ -10,7 +10,7 @@ use lexer::token::Span;
 use std::alloc::{AllocError, Global};
 use syntax::parser::parse;
 
-/// What is odd in a text that is accepted, in the order of the text; nothing of a text that is no well typed script.
+/// What is odd in a text that is a well typed script, in the order of the text; nothing of any other.
 ///
 /// # Errors
 ///
