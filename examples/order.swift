@@ -1,4 +1,4 @@
-// A statement runs when its inputs are known, not where it stands. Prints: 3
+// A statement runs when its inputs are known, wherever it is written. Prints: 3
 int x;
 int y;
 x = y + 1;

@@ -1,4 +1,4 @@
-// A composite function calls itself; both calls run at once. Prints: 55
+// A composite function calls itself; both calls may run at the same time. Prints: 55
 (int r) fib(int n) {
   if (n < 2) {
     r = n;

@@ -1,4 +1,3 @@
-import io;
 (int r) square(int n) {
     r = n * n;
 }

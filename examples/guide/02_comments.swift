@@ -1,4 +1,4 @@
-// Comments, and imports, which name nothing that is not there. Prints: seen
+// Comments and imports; an import has no effect. Prints: seen
 import io;
 /* All of this
    is a comment. */

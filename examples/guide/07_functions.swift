@@ -1,4 +1,4 @@
-// A composite function has outputs, a name and inputs, and runs as soon as it is called. Prints: 10
+// A composite function has outputs, a name and inputs; a call opens its body without waiting for the arguments. Prints: 10
 (int r) twice(int n) {
   r = n + n;
 }

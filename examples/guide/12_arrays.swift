@@ -1,4 +1,4 @@
-// An array, written by elements and read by them; size waits until nothing can write it any more. Prints: 5 of 2
+// An array that is written and read by elements; size waits until no remaining statement can write it. Prints: 5 of 2
 int A[];
 A[0] = 2;
 A[1] = A[0] + 3;

@@ -1,4 +1,4 @@
-// Arrays are sparse; a loop over one runs when nothing can write it any more. Prints: -2 holds 5 | 10 holds 7 | 2 elements
+// Arrays are sparse; a loop over an array opens its turns when no remaining statement can write it. Prints: -2 holds 5 | 10 holds 7 | 2 elements
 int A[];
 A[10] = 7;
 A[-2] = 5;

@@ -1,4 +1,4 @@
-// Each turn waits for the element that the one before it writes. Prints: 32
+// Each turn waits for the element that the previous turn writes. Prints: 32
 int A[];
 A[0] = 1;
 foreach i in [1:5] {

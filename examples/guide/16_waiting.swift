@@ -1,4 +1,4 @@
-// The content of a wait starts when the names are known. Prints: done with 42
+// A wait opens its block when the variables in its parentheses are known. Prints: done with 42
 int answer;
 int doubled = answer * 2;
 answer = 42;

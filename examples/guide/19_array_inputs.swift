@@ -1,4 +1,4 @@
-// An array as an argument is used as it fills. Prints: 6
+// A call does not wait for an array argument; the body reads each element when it is written. Prints: 6
 (int r) third(int B[]) {
   r = B[2] * 2;
 }

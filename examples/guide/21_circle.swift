@@ -1,4 +1,4 @@
-// Two variables that wait for each other: nothing runs, and the program says which statements are blocked. Prints: swt: blocked 191 / | swt: blocked 198 / | swt: blocked 205 /
+// Two variables that wait for each other: no statement can run, and the run reports the blocked statements. Prints: swt: blocked 192 / | swt: blocked 199 / | swt: blocked 206 /
 int x;
 int y;
 x = y;

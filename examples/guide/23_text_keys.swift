@@ -1,4 +1,4 @@
-// An array may be keyed by text, and a loop over it has these texts as its keys. Prints: bob 41 | ada 36 | ada is 36, one of 2
+// An array may be keyed by strings; the keys of a loop over it are then strings. Prints: bob 41 | ada 36 | ada is 36, one of 2
 int age[string];
 age["bob"] = 41;
 age["ada"] = 36;

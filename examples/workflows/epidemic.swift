@@ -1,5 +1,5 @@
-// An epidemic in a town of 10,000, for seven rates of contact: who is healthy and who is ill, day by day; the worst day of each; and the
-// highest rate for which the beds of the hospital are enough. The runs know nothing of each other, so they run at once. Numbers are
+// An epidemic in a town of 10,000, for seven contact rates: the numbers of healthy and ill people, day by day; the worst day of each run;
+// and the highest rate for which the hospital has enough beds. The runs are independent, so they can run at the same time. Numbers are
 // whole, so people are counted in thousandths until they are printed.
 int people = 10000 * 1000;
 int days = 300;
@@ -13,7 +13,7 @@ int beds = 900;
   }
 }
 
-// One run: in a day `rate` of 1000 meetings of a healthy and an ill one hand the illness on, and a tenth of the ill get over it.
+// One run: each day, `rate` of 1000 meetings of a healthy and an ill person transmit the illness, and a tenth of the ill recover.
 (int peak, int at, int spared) outbreak(int people, int days, int rate) {
   int healthy[];
   int ill[];
@@ -25,7 +25,7 @@ int beds = 900;
     healthy[d] = healthy[d - 1] - caught;
     ill[d] = ill[d - 1] + caught - over;
   }
-  // The most ill up to each day, and the day of that.
+  // The largest number of ill people up to each day, and its day.
   int most[];
   int day[];
   most[0] = ill[0];
@@ -57,7 +57,7 @@ foreach rate in [120:360:40] {
   row[rate] = fromint(rate) + "\t" + fromint(peak) + "\t" + fromint(at) + "\t" + fromint(left);
 }
 
-// The table in order, whichever run ends first.
+// The table in the order of the rates, whichever run ends first.
 string table[];
 table[80] = "rate\tmost ill\ton day\tspared";
 foreach rate in [120:360:40] {
@@ -65,7 +65,7 @@ foreach rate in [120:360:40] {
 }
 printf("%s", table[360]);
 
-// The highest rate whose peak the beds hold, and a check over all runs.
+// The highest rate whose peak is within the number of beds, and a check of all runs.
 int enough[];
 enough[80] = 0;
 foreach rate in [120:360:40] {

@@ -1,6 +1,6 @@
-// What a treatment does to eight genes: how often each was read in an untreated and in a treated sample, per million reads of the sample;
-// which are read at least twice as often, or half as often at most; and how many of these each pathway has. A column of the table is an
-// array that is keyed by the name of a gene: its elements stand in any order, and each is looked up by its name.
+// The effect of a treatment on eight genes: the reads of each gene in an untreated and in a treated sample, per million reads of the sample;
+// the genes that are read at least twice as often, or at most half as often; and the number of these in each pathway. A column of the table
+// is an array that is keyed by the names of the genes: its elements are written in any order and read by name.
 string names[] = ["ATM", "BAX", "BRCA1", "CCNB1", "CDK1", "CDKN1A", "GAPDH", "MDM2"];
 
 int untreated[string];
@@ -33,7 +33,7 @@ pathway["CCNB1"] = "cycle";
 pathway["CDK1"] = "cycle";
 pathway["GAPDH"] = "upkeep";
 
-// How many reads a sample has, added up along the names.
+// The total reads of a sample, added up along the names.
 (int all) reads(int column[string], string names[]) {
   int sum[];
   sum[-1] = 0;
@@ -43,7 +43,7 @@ pathway["GAPDH"] = "upkeep";
   all = sum[size(names) - 1];
 }
 
-// A column per million reads of its sample. Its turns are the genes.
+// A column per million reads of its sample, with a turn for each gene.
 (int scaled[string]) per_million(int column[string], string names[]) {
   int all = reads(column, names);
   foreach n, name in column {
@@ -56,13 +56,13 @@ int after[string];
 before = per_million(untreated, names);
 after = per_million(treated, names);
 
-// In hundredths: how often a gene is read after the treatment for once before.
+// The ratio of reads after the treatment to reads before it, in hundredths.
 int ratio[string];
 foreach b, name in before {
   ratio[name] = after[name] * 100 %/ b;
 }
 
-// The genes that change, each under its name, with the word for it.
+// The genes that change, keyed by name, each with a word for its change.
 string changed[string];
 foreach r, name in ratio {
   if (r >= 200) {
@@ -73,7 +73,7 @@ foreach r, name in ratio {
   }
 }
 
-// The table in the order of the names. A gene that does not change has no element in `changed`, so its column is worked out here.
+// The table in the order of the names. A gene that does not change has no element in `changed`, so its column is computed here.
 string row[];
 row[-1] = "gene\tbefore\tafter\tratio";
 foreach name, i in names {
@@ -87,7 +87,7 @@ foreach name, i in names {
 }
 printf("%s", row[size(names) - 1]);
 
-// How many genes of each pathway change: the names of the pathways are keys in their turn.
+// The number of genes of each pathway that change, keyed by the names of the pathways.
 int genes[string];
 string kinds[] = ["arrest", "cycle", "death", "repair", "upkeep"];
 foreach kind in kinds {

@@ -1,5 +1,5 @@
 // Heat in a rod: a cold rod of 24 cells is held at 1000 degrees at its left end and at 0 at its right end. How warm is each cell
-// after so many steps, and when does the middle first reach 200 degrees? Degrees are counted in thousandths, since numbers are whole.
+// after 400 steps, and when does the middle first reach 200 degrees? Degrees are counted in thousandths, since numbers are whole.
 int cells = 24;
 int steps = 400;
 int degree = 1000;
@@ -14,8 +14,8 @@ foreach i in [0:cells - 1] {
   }
 }
 
-// A cell moves toward the mean of its neighbours. Each waits for three cells of the step before, and for nothing else: so the cells of
-// a step run at once, and the left end of the rod may be some steps ahead of the right one.
+// A cell moves toward the mean of its neighbours. It waits only for three cells of the step before, so the cells of a step can run at the
+// same time, and the left end of the rod may be some steps ahead of the right end.
 (int after) flow(int left, int here, int right) {
   after = here + (left - 2 * here + right) * 2 %/ 5;
 }
@@ -29,7 +29,7 @@ foreach t in [1:steps] {
   }
 }
 
-// The first step at which the middle is warm: found[t] is that step, or -1 while it has not come.
+// The first step at which the middle is warm: found[t] is that step, or -1 if it is later than t.
 int found[];
 found[0] = -1;
 foreach t in [1:steps] {
@@ -40,7 +40,7 @@ foreach t in [1:steps] {
   }
 }
 
-// A bar of a mark for each 25 degrees, and the rod from left to right as one text, so that its lines stay in order.
+// A bar with one mark for each 25 degrees, and the rod from left to right as one string, so that its lines stay in order.
 (string s) bar(int marks) {
   if (marks < 1) {
     s = "";
@@ -56,7 +56,7 @@ foreach i in [0:cells - 1] {
 }
 printf("%safter %i steps; the middle reached 200 degrees at step %i", rod[cells - 1], steps, found[steps]);
 
-// Heat flows from left to right, so no cell is warmer than the one before it.
+// Heat flows from left to right, so no cell is warmer than the cell before it.
 foreach i in [1:cells - 1] {
   assert(T[steps * cells + i] <= T[steps * cells + i - 1], "the rod cools from left to right");
 }

@@ -1,4 +1,4 @@
--- Which rule of single assignment is broken where: what each fault says of the script, at its place. States docs/LANGUAGE.md: Single assignment.
+-- Meaning of each rule of single assignment at a place of a script. States docs/LANGUAGE.md: Single assignment.
 use Rattle.std.specs.Prelude.{◌≡◌, ◌⊎◌, ℕ, ◌≤◌, true, List, ◌∷◌, ◌++◌}
 use Rattle.lexer.specs.declared.token.Span.{Span}
 use Rattle.language.specs.declared.tree.Shape.TheVariants.{Scalar}
@@ -14,7 +14,7 @@ use Rattle.assign_check.specs.Outline.{Kind, named, written, read, Use, result, 
 use Rattle.assign_check.specs.Faults.{is_before, uses_in, declared_in}
 use Rattle.assign_check.specs.Through.{Within, Counts, OnWay, Reaches}
 
--- a variable is used so
+-- a use of this kind of a variable
 pub record Used (k : Kind) (x : Owned) (us : List Use) : Type 0 where
   pub use_there : Use
   pub there : use_there ∈ us
@@ -25,7 +25,8 @@ pub record Used (k : Kind) (x : Owned) (us : List Use) : Type 0 where
 abbrev pub IsTarget : Use → Type 0
 IsTarget u = (u.kind ≡ named) ⊎ (u.kind ≡ written)
 
--- S1: some way assigns the variable, and then by name here; or it counts as assigned at its declaration
+-- S1: some control path assigns the variable, and then by name here; or the variable counts as assigned at its
+-- declaration
 pub record IsTwice (o : Outline) (at : Span) : Type 0 where
   pub target : Use
   pub is_named : target.kind ≡ named
@@ -34,13 +35,13 @@ pub record IsTwice (o : Outline) (at : Span) : Type 0 where
   pub reached : Reaches target.of target o before
   pub assigned : 1 ≤ before
 
--- on some way through the one block, and on no way through the other, the variable is assigned so often
+-- a number of assignments to a variable on some control path through the one block, and on none through the other
 pub record OnOne (x : Owned) (one other : Outline) : Type 0 where
   pub so_often : ℕ
   pub there : OnWay x one so_often
   pub nowhere : OnWay x other so_often → ⊥
 
--- S2: of a variable from outside of an `if`, one branch has a number of assignments that the other does not have
+-- S2: for a variable from outside an `if`, one branch has a number of assignments that the other does not have
 pub record IsPartly (o : Outline) (at : Span) : Type 0 where
   pub number : ℕ
   pub branch : Outline
@@ -60,7 +61,7 @@ pub record IsNever (o : Outline) (at : Span) : Type 0 where
   pub is_read : Used read variable.what (uses_in o)
   pub not_named : Used named variable.what (uses_in o) → ⊥
 
--- S4: a variable from outside of a loop is assigned by name in it
+-- S4: a variable from outside a loop is assigned by name in it
 pub record IsOuter (o : Outline) (at : Span) : Type 0 where
   pub number : ℕ
   pub loop : Outline
@@ -71,8 +72,8 @@ pub record IsOuter (o : Outline) (at : Span) : Type 0 where
   pub place : target.span ≡ at
   pub outside : is_before number target.of ≡ true
 
--- S5: a target of the other form than all targets of the variable before it, of which there is one; or of a variable that counts as
--- assigned whole the first that writes an element
+-- S5: a target whose form differs from all targets of the variable before it, of which there is one; for a variable
+-- that counts as assigned whole, the first target that writes an element
 pub record IsBoth (o : Outline) (at : Span) : Type 0 where
   pub variable : Declared
   pub declared : variable ∈ declared_in o
@@ -95,7 +96,7 @@ pub record IsUnassigned (o : Outline) (at : Span) : Type 0 where
   pub not_named : Used named variable.what (uses_in o) → ⊥
   pub not_written : Used written variable.what (uses_in o) → ⊥
 
--- the fault of a block that stands in no other
+-- the meaning of a fault in an outline of the script
 abbrev pub BreaksIn : Outline → AssignFault → Type 0
 BreaksIn o (AssignedTwice at) = IsTwice o at
 BreaksIn o (PartlyAssigned at) = IsPartly o at
@@ -105,7 +106,7 @@ BreaksIn o (WholeAndElements at) = IsBoth o at
 BreaksIn o (OutputUnassigned at) = IsUnassigned o at
 BreaksIn o Memory = ⊥
 
--- a fault names a rule that the script breaks at its place
+-- the fault names a rule that the script breaks at its place
 pub record Breaks (t : Table) (tree : Tree) (f : AssignFault) : Type 0 where
   pub block : Outline
   pub there : block ∈ outlines t tree

@@ -1,4 +1,4 @@
--- The number and the name of each rule of single assignment. Want of memory is no refusal and has no number.
+-- Number and name of each rule of single assignment. An allocation failure is not a refusal and has no number.
 use Rattle.std.specs.Prelude.{ℕ, List, codes}
 use Rattle.assign_check.specs.declared.fault.AssignFault.{AssignFault}
 use Rattle.assign_check.specs.declared.fault.AssignFault.TheVariants as Assign

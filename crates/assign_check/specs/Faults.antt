@@ -23,7 +23,7 @@ abbrev pub one_if : Bool → ℕ
 one_if true = 1
 one_if false = 0
 
--- how often a variable stands among others
+-- the number of occurrences of a variable in a list
 abbrev pub times : Owned → List Owned → ℕ
 times x [] = 0
 times x (y ∷ ys) = one_if (same y x) + times x ys
@@ -31,18 +31,19 @@ times x (y ∷ ys) = one_if (same y x) + times x ys
 abbrev pub is_among : Owned → List Owned → Bool
 is_among x ys = list_any (λ y. same y x) ys
 
--- a variable is declared before the statement of a number: numbers are in reading order, and inputs and outputs stand before all
+-- a variable is declared before the statement with this number: numbers are in reading order, and inputs and outputs
+-- precede all
 abbrev pub is_before : ℕ → Owned → Bool
 is_before n (local m) = nat_lt m n
 is_before n (input i) = true
 is_before n (output i) = true
 
--- in a loop, a variable that is not declared inside it; the loop by its number
+-- in a loop, a variable that is declared outside it; the loop is given by its number
 abbrev pub is_outer : Option ℕ → Owned → Bool
 is_outer None x = false
 is_outer (Some n) x = is_before n x
 
--- WAYS
+-- CONTROL PATHS
 
 abbrev pub named_by : Option ℕ → Kind → Owned → List Owned
 named_by l named x = cond (is_outer l x) [] (x ∷ [])
@@ -54,8 +55,8 @@ given_by given x = x ∷ []
 given_by own x = []
 given_by result x = []
 
--- the variables that some way assigns by name, or that count as assigned where they are declared; the innermost loop's outer variables do
--- not count
+-- the variables that some control path assigns by name, or that count as assigned at their declaration; assignments to
+-- outer variables of the innermost loop do not count
 abbrev mutual
   pub way : Option ℕ → Outline → List Owned
   way l nothing = []
@@ -70,13 +71,13 @@ abbrev mutual
 
 -- FAULTS OF TARGETS
 
--- a target, where these are assigned on some way before it
+-- the fault of a target, if these variables are assigned on some control path before it
 abbrev pub target_faults : Option ℕ → List Owned → Kind → Owned → Span → List AssignFault
 target_faults l before named x at = cond (is_outer l x) (OuterInLoop at ∷ []) (cond (is_among x before) (AssignedTwice at ∷ []) [])
 target_faults l before written x at = []
 target_faults l before read x at = []
 
--- the faults of targets in a block inside a loop or none, where these are assigned on some way before it
+-- the faults of targets in a block, in a loop or none, if these variables are assigned on some control path before it
 abbrev mutual
   pub way_faults : Option ℕ → List Owned → Outline → List AssignFault
   way_faults l before nothing = []
@@ -91,12 +92,13 @@ abbrev mutual
 
 -- NUMBERS OF ASSIGNMENTS
 
--- each number of one list and each of another, added
+-- the sum of each number of one list and each of the other
 abbrev pub sums : List ℕ → List ℕ → List ℕ
 sums [] ns = []
 sums (m ∷ ms) ns = map (λ n. m + n) ns ++ sums ms ns
 
--- how often each way assigns a variable by name, the innermost loop's outer variables never
+-- the numbers of assignments by name to a variable, over all control paths; outer variables of the innermost loop have
+-- none
 abbrev mutual
   pub counts : Option ℕ → Owned → Outline → List ℕ
   counts l x nothing = 0 ∷ []
@@ -112,20 +114,20 @@ abbrev mutual
 abbrev pub is_in : ℕ → List ℕ → Bool
 is_in n ns = list_any (nat_eq n) ns
 
--- a number of the one list is not in the other
+-- some number of the one list is not in the other
 abbrev pub has_more : List ℕ → List ℕ → Bool
 has_more ms ns = list_any (λ m. not (is_in m ns)) ms
 
 -- FAULTS OF BRANCHES
 
--- a variable from outside of an `if` has other numbers of assignments in the one branch than in the other
+-- a variable from outside an `if` has other numbers of assignments in the one branch than in the other
 abbrev pub is_uneven : Option ℕ → ℕ → Outline → Outline → Owned → Bool
 is_uneven l n o p x = is_before n x && (has_more (counts l x o) (counts l x p) || has_more (counts l x p) (counts l x o))
 
 abbrev pub branch_faults : Option ℕ → ℕ → Span → Outline → Outline → List AssignFault
 branch_faults l n at o p = cond (list_any (is_uneven l n o p) (way l o ++ way l p)) (PartlyAssigned at ∷ []) []
 
--- the faults of the `if`s in a block inside a loop or none
+-- the faults of the `if`s in a block, in a loop or none
 abbrev mutual
   pub split_faults : Option ℕ → Outline → List AssignFault
   split_faults l nothing = []
@@ -140,7 +142,7 @@ abbrev mutual
 
 -- FAULTS OF A VARIABLE
 
--- all uses in a block and inside it, and all declarations
+-- all uses in a block and its nested blocks, and all declarations
 abbrev mutual
   pub uses_in : Outline → List Use
   uses_in nothing = []
@@ -171,11 +173,11 @@ is_kind written written = true
 is_kind read read = true
 is_kind _ _ = false
 
--- a variable is used so
+-- a variable has a use of this kind
 abbrev pub is_used : Kind → Owned → List Use → Bool
 is_used k x us = list_any (λ u. is_kind u.kind k && same u.of x) us
 
--- the first target of the other form, where an earlier target or the declaration gave the first form
+-- the first target of the other form, if an earlier target or the declaration has the first form
 abbrev pub other_form : Kind → Owned → List Use → List AssignFault
 other_form k x [] = []
 other_form k x (u ∷ us) = cond (same u.of x && not (is_kind u.kind read) && not (is_kind u.kind k)) (WholeAndElements u.span ∷ []) (other_form k x us)
@@ -202,15 +204,15 @@ variable_faults us d = role_faults d.role d.shape d.what d.span us
 
 -- ALL FAULTS
 
--- of a block that stands in no other
+-- the faults of an outline
 abbrev pub faults_of : Outline → List AssignFault
 faults_of o = way_faults None [] o ++ split_faults None o ++ flat_map (variable_faults (uses_in o)) (declared_in o)
 
--- of a script
+-- the faults of a script
 abbrev pub faults : Table → Tree → List AssignFault
 faults t tree = flat_map faults_of (outlines t tree)
 
--- THE ANSWER
+-- THE REPORTED FAULT
 
 abbrev pub place : AssignFault → ℕ
 place (AssignedTwice at) = at.from
@@ -221,7 +223,7 @@ place (WholeAndElements at) = at.from
 place (OutputUnassigned at) = at.from
 place Memory = 0
 
--- the number behind the letter of a code
+-- the number of the rule
 abbrev pub code : AssignFault → ℕ
 code (AssignedTwice at) = 1
 code (PartlyAssigned at) = 2
@@ -231,7 +233,7 @@ code (WholeAndElements at) = 5
 code (OutputUnassigned at) = 6
 code Memory = 0
 
--- a fault is answered before another: it begins first, or at one place its code is the smaller
+-- one fault takes precedence over another: it begins first, or they begin together and its code is smaller
 abbrev pub precedes : AssignFault → AssignFault → Bool
 precedes f g = nat_lt (place f) (place g) || (nat_eq (place f) (place g) && nat_lt (code f) (code g))
 
@@ -239,7 +241,7 @@ abbrev pub earlier : Option AssignFault → AssignFault → Option AssignFault
 earlier None g = Some g
 earlier (Some f) g = cond (precedes g f) (Some g) (Some f)
 
--- the fault that is answered: one that no other precedes
+-- the reported fault, which no other one precedes
 abbrev pub first_among : Option AssignFault → List AssignFault → Option AssignFault
 first_among best [] = best
 first_among best (f ∷ fs) = first_among (earlier best f) fs

@@ -1,5 +1,5 @@
--- What single assignment sees of a script's blocks: declarations, the uses of variables, and the statements with blocks inside them,
--- in the order of the text.
+-- Outlines of a script's blocks: declarations, uses of variables, and statements with nested blocks, in the order of
+-- the text.
 use Rattle.std.specs.Prelude.{ℕ, ◌+◌, List, [], ◌∷◌, ◌++◌, map, Option, Some, None}
 use Rattle.lexer.specs.declared.token.Span.{Span}
 use Rattle.language.specs.declared.tree.Shape.{Shape}
@@ -9,7 +9,7 @@ use Rattle.language.specs.Table.{Table}
 use Rattle.language.specs.Tree as T
 use Rattle.language.specs.Tree.{Word, Node, Expression, expression, number, text, truth, variable, element, call, prefixed, chain, Expressions, no_expressions, and_expression, expressions_of, Declaration, RightSide, value, list, Calling, Over, array, range, Statement, statement, Command, declare, assign, write, assign_all, calls, choice, choice_else, loop, waits, Body, body, Statements, no_statements, and_statement, Composite, Tree, import, function, single}
 
--- a variable is assigned by its name, an element of it is written, or a scalar's name is read
+-- an assignment of a variable by its name, a write of an element, or a read of a scalar by its name
 pub data Kind : Type 0 where
   named written read : Kind
 
@@ -18,7 +18,8 @@ pub record Use : Type 0 where
   pub of : Owned
   pub span : Span
 
--- a variable that a statement declares, an output, or one that counts as assigned whole at its declaration: an input or a loop variable
+-- a variable that a statement declares, an output, or one that counts as assigned whole at its declaration: an input or
+-- a loop variable
 pub data Role : Type 0 where
   own result given : Role
 
@@ -28,7 +29,8 @@ pub record Declared : Type 0 where
   pub role : Role
   pub span : Span
 
--- a block: a declaration, a use, an `if` of a number with both branches, a loop of a number with its body, or a block that a `wait` encloses
+-- a block, as a list of steps: a declaration, a use, an `if` with its number and both branches, a loop with its number
+-- and its body, or the block of a `wait`
 mutual
   pub data Outline : Type 0 where
     nothing : Outline
@@ -41,7 +43,7 @@ mutual
     repeats : (number : ℕ) → Outline → Step
     encloses : Outline → Step
 
--- a list of steps as it stands in a block
+-- a list of steps as a block
 abbrev pub outlined : List Step → Outline
 outlined [] = nothing
 outlined (s ∷ ss) = followed s (outlined ss)
@@ -51,7 +53,7 @@ outlined (s ∷ ss) = followed s (outlined ss)
 abbrev pub use_of : Table → Kind → Word → Step
 use_of t k w = uses (record { kind = k; of = (t.name_of w.number).what; span = w.span })
 
--- an array's name as it stands is no read of a scalar
+-- the name of an array by itself is not a read of a scalar
 abbrev pub reading : Shape → Table → Word → List Step
 reading Scalar t w = use_of t read w ∷ []
 reading (Array κ) t w = []
@@ -140,12 +142,12 @@ abbrev mutual
 
 -- SCRIPTS
 
--- outputs or inputs, each by its place
+-- outputs or inputs, each with its position
 abbrev pub parameters : Role → (ℕ → Owned) → ℕ → List Declaration → List Step
 parameters r owned i [] = []
 parameters r owned i (d ∷ ds) = declared_as r (owned i) d ∷ parameters r owned (i + 1) ds
 
--- a function's body, behind its outputs and inputs
+-- the body of a function, after its outputs and inputs
 abbrev pub function_steps : Table → Composite → List Step
 function_steps t f = parameters result output 0 f.outputs ++ parameters given input 0 f.inputs ++ body_steps t f.body
 
@@ -162,6 +164,6 @@ function_outlines t (import sp ∷ ps) = function_outlines t ps
 function_outlines t (function f ∷ ps) = outlined (function_steps t f) ∷ function_outlines t ps
 function_outlines t (single s ∷ ps) = function_outlines t ps
 
--- the outlines of a script: its own block's, and those of its functions' bodies
+-- the outlines of a script: that of its own block, and those of its functions' bodies
 abbrev pub outlines : Table → Tree → List Outline
 outlines t tree = outlined (script_steps t tree) ∷ function_outlines t tree

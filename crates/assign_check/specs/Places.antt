@@ -1,4 +1,4 @@
--- Where a fault against single assignment lies.
+-- Places of faults of single assignment.
 use Rattle.std.specs.Prelude.{Option, Some, None}
 use Rattle.lexer.specs.declared.token.Span.{Span}
 use Rattle.assign_check.specs.declared.fault.AssignFault.{AssignFault}

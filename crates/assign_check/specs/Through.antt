@@ -1,16 +1,17 @@
--- Blocks inside an outline, and the ways through it: an `if` takes one branch, a loop counts by its own rule. States docs/LANGUAGE.md: Single assignment.
+-- Nested blocks of an outline, and the control paths through it: an `if` takes one branch, and a loop contributes no
+-- assignment. States docs/LANGUAGE.md: Single assignment.
 use Rattle.std.specs.Prelude.{◌≡◌, ℕ, ◌+◌, false}
 use Rattle.lexer.specs.declared.token.Span.{Span}
 use Rattle.language.specs.Core.{Owned}
 use Rattle.assign_check.specs.Outline.{named, Use, given, Declared, Outline, nothing, followed, Step, declares, uses, splits, repeats, encloses}
 use Rattle.assign_check.specs.Faults.{is_before}
 
--- a step of a block, in no block inside it
+-- a step of a block, not of a block nested in it
 pub data HasStep (s : Step) : Outline → Type 0 where
   first_step : {o : Outline} → HasStep s (followed s o)
   later_step : {s' : Step} {o : Outline} → HasStep s o → HasStep s (followed s' o)
 
--- a block is this one or stands inside it
+-- a block is this one or nested in it
 mutual
   pub data BlockIn (b : Outline) : Outline → Type 0 where
     the_block : BlockIn b b
@@ -22,13 +23,13 @@ mutual
     in_loop : {n : ℕ} {o : Outline} → BlockIn b o → BlockOf b (repeats n o)
     in_wait : {o : Outline} → BlockIn b o → BlockOf b (encloses o)
 
--- a step in a block or inside it
+-- a step in a block or in a nested one
 pub record Within (s : Step) (o : Outline) : Type 0 where
   pub block : Outline
   pub there : BlockIn block o
   pub has : HasStep s block
 
--- a step in a block or inside it, in no loop there inside which the variable is not declared
+-- a step in a block or in a nested one, where the variable is declared inside each loop on the way to the step
 mutual
   pub data Counts (x : Owned) (s : Step) : Outline → Type 0 where
     in_this_step : {s' : Step} {o : Outline} → CountsIn x s s' → Counts x s (followed s' o)
@@ -42,7 +43,7 @@ mutual
     in_the_block : {o : Outline} → Counts x s o → CountsIn x s (encloses o)
 
 mutual
-  -- some way through a block assigns the variable so often
+  -- some control path through a block assigns the variable n times
   pub data OnWay (x : Owned) : Outline → ℕ → Type 0 where
     at_end : OnWay x nothing 0
     and_then : {s : Step} {o : Outline} {m n k : ℕ} → OnStep x s m → OnWay x o n → k ≡ m + n → OnWay x (followed s o) k
@@ -58,8 +59,8 @@ mutual
     a_wait : {m : ℕ} {o : Outline} → OnWay x o m → OnStep x (encloses o) m
 
 mutual
-  -- some way from the beginning of a block up to a use assigns the variable so often before it, where the declaration of one that counts
-  -- as assigned there is an assignment; in no loop inside which the variable is not declared
+  -- some control path from the beginning of a block to a use assigns the variable n times before it; the variable is
+  -- declared inside each loop on the way, and a declaration at which it counts as assigned is an assignment
   pub data Reaches (x : Owned) (u : Use) : Outline → ℕ → Type 0 where
     at_a_step : {s : Step} {o : Outline} {n : ℕ} → ReachesIn x u s n → Reaches x u (followed s o) n
     behind_a_step : {s : Step} {o : Outline} {m n k : ℕ} → OnStep x s m → Reaches x u o n → k ≡ m + n → Reaches x u (followed s o) k

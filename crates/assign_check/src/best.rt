@@ -1,10 +1,12 @@
-//! The fault that is answered, of several.
+//! Selection of the fault that is reported, if a script has several.
+//!
+//! The fault whose place begins first is reported; of several at one place, the one with the smallest number.
 ghost use Rattle.std.specs.Prelude.{◌≡◌};
 ghost use Rattle.assign_check.specs.Faults as faults;
 
 use crate::fault::AssignFault;
 
-/// Where a fault's place begins.
+/// Returns the byte offset at which the place of a fault begins.
 fn place(fault: AssignFault) -> usize
     ensures { result ≡ faults.place fault }
 {
@@ -19,7 +21,7 @@ fn place(fault: AssignFault) -> usize
     }
 }
 
-/// The number behind the letter of a fault's code.
+/// Returns the number of the rule: 1 for S1 and so on, or 0 for `Memory`.
 fn code(fault: AssignFault) -> u8
     ensures { result ≡ faults.code fault }
 {
@@ -34,7 +36,8 @@ fn code(fault: AssignFault) -> u8
     }
 }
 
-/// Whether a fault is answered before another: it begins first, or at one place its code is the smaller.
+/// Returns true if the first fault takes precedence: its place begins earlier, or the places begin together and its
+/// code is smaller.
 fn precedes(one: AssignFault, other: AssignFault) -> bool
     ensures { result ≡ faults.precedes one other }
 {
@@ -42,7 +45,7 @@ fn precedes(one: AssignFault, other: AssignFault) -> bool
     from < behind || from == behind && code(one) < code(other)
 }
 
-/// Takes a fault, if it is answered before the one that is there.
+/// Replaces the best fault so far if the new one takes precedence, or if there is none yet.
 pub fn note(best: &mut Option<AssignFault>, fault: AssignFault)
     ensures { best.new ≡ faults.earlier best.old fault }
 {

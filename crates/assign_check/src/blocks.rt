@@ -1,4 +1,4 @@
-//! From statements to the steps that single assignment sees.
+//! Conversion of statements to the steps of an outline.
 ghost use Rattle.std.specs.Prelude.{◌≡◌, ◌++◌, ◌∷◌, [], ℕ, OnOk, IfOk, map, option_map};
 ghost use Rattle.syntax_trees.specs.View.{word_of, words_view, expression_view, declaration_of, right_of, calling_of, over_of, statement_view, command_view, body_view};
 ghost use Rattle.language.specs.Tree.{choice_of};
@@ -7,24 +7,24 @@ ghost use Rattle.types.specs.Typed.{table_of, owned_name};
 ghost use Rattle.assign_check.specs.Outline as outline;
 ghost use Rattle.assign_check.specs.View.{steps_view, role_of, kind_of};
 
-use crate::outline::{Declared, Kind, Role, Step, Use};
+use crate::outline::{DeclRole, Declaration, OutlineStep, UseKind, UseSite};
 use crate::reads::{add_use, read, read_call, read_names, read_right, read_source};
 use lexer::token::Span;
 use std::alloc::{AllocError, Allocator, Global};
 use syntax_trees::tree::{Block, Call, Decl, Expr, Name, Right, Shape, Source, Stmt, StmtKind};
-use types::typed::{Owned, Typed};
+use types::typed::{Binding, Typed};
 
-/// Adds a declaration.
+/// Appends a declaration.
 pub fn add_declared<A: Allocator>(
-    role: Role,
-    what: Owned,
+    role: DeclRole,
+    what: Binding,
     decl: &Decl<A>,
-    steps: &mut Vec<Step>,
+    steps: &mut Vec<OutlineStep>,
 ) -> Result<(), AllocError>
     ensures { OnOk result (steps_view steps.new.items
         ≡ steps_view steps.old.items ++ outline.declared_as (role_of role) (owned_name what) (declaration_of decl.now) ∷ []) }
 {
-    steps.push(Step::Declares(Declared {
+    steps.push(OutlineStep::Declares(Declaration {
         what,
         shape: decl.shape,
         role,
@@ -33,49 +33,52 @@ pub fn add_declared<A: Allocator>(
     Ok(())
 }
 
-/// Adds a declaration that is a statement; one with a right side assigns the variable whole.
+/// Appends a declaration that is a statement. One with a right side also assigns the variable whole.
 fn declaration<A: Allocator>(
     typed: &Typed,
     decl: &Decl<A>,
     right: &Option<Right<A>>,
-    steps: &mut Vec<Step>,
+    steps: &mut Vec<OutlineStep>,
 ) -> Result<(), AllocError>
     ensures { OnOk result (steps_view steps.new.items
         ≡ steps_view steps.old.items ++ outline.declaration_steps (table_of typed.now) (declaration_of decl.now) (option_map right_of right.now)) }
 {
-    let of = Owned::Local(decl.name.number);
-    add_declared(Role::Own, of, decl, steps)?;
+    let of = Binding::Local(decl.name.number);
+    add_declared(DeclRole::Own, of, decl, steps)?;
     match right {
         None => Ok(()),
         Some(right) => {
-            let one = Use {
-                kind: Kind::Named,
+            let one = UseSite {
+                kind: UseKind::Named,
                 of,
                 span: decl.name.span,
             };
-            steps.push(Step::Uses(one))?;
+            steps.push(OutlineStep::Uses(one))?;
             read_right(typed, right, steps)
         }
     }
 }
 
-/// Adds a variable of a loop.
-fn loop_variable<A: Allocator>(name: &Name<A>, steps: &mut Vec<Step>) -> Result<(), AllocError>
+/// Appends the declaration of a loop variable, which counts as assigned there.
+fn loop_variable<A: Allocator>(
+    name: &Name<A>,
+    steps: &mut Vec<OutlineStep>,
+) -> Result<(), AllocError>
     ensures { OnOk result (steps_view steps.new.items ≡ steps_view steps.old.items ++ outline.loop_variable (word_of name.now) ∷ []) }
 {
-    steps.push(Step::Declares(Declared {
-        what: Owned::Local(name.number),
+    steps.push(OutlineStep::Declares(Declaration {
+        what: Binding::Local(name.number),
         shape: Shape::Scalar,
-        role: Role::Given,
+        role: DeclRole::Given,
         span: name.span,
     }))?;
     Ok(())
 }
 
-/// Adds the key of a loop, where it has one.
+/// Appends the declaration of the key variable of a loop, if it has one.
 fn key_variable<A: Allocator>(
     key: &Option<Name<A>>,
-    steps: &mut Vec<Step>,
+    steps: &mut Vec<OutlineStep>,
 ) -> Result<(), AllocError>
     ensures { OnOk result (steps_view steps.new.items ≡ steps_view steps.old.items ++ outline.key_variable (option_map word_of key.now)) }
 {
@@ -85,52 +88,52 @@ fn key_variable<A: Allocator>(
     }
 }
 
-/// Adds a target for each name.
+/// Appends an assignment for each name, in order.
 fn targets<A: Allocator>(
     typed: &Typed,
     names: &Vec<Name<A>, A>,
-    steps: &mut Vec<Step>,
+    steps: &mut Vec<OutlineStep>,
 ) -> Result<(), AllocError>
     ensures { OnOk result (steps_view steps.new.items
         ≡ steps_view steps.old.items ++ map (outline.use_of (table_of typed.now) outline.named) (words_view names.now)) }
 {
     for name in names {
-        add_use(typed, Kind::Named, name, steps)?;
+        add_use(typed, UseKind::Named, name, steps)?;
     }
     Ok(())
 }
 
-/// Adds the write of an element.
+/// Appends the write of an array element, and the reads of its index and its value.
 fn write<A: Allocator>(
     typed: &Typed,
     name: &Name<A>,
     index: &Expr<A>,
     value: &Expr<A>,
-    steps: &mut Vec<Step>,
+    steps: &mut Vec<OutlineStep>,
 ) -> Result<(), AllocError>
     ensures { OnOk result (steps_view steps.new.items
         ≡ steps_view steps.old.items ++ outline.use_of (table_of typed.now) outline.written (word_of name.now) ∷
         (outline.read_in (table_of typed.now) (expression_view index.now) ++ outline.read_in (table_of typed.now) (expression_view value.now))) }
 {
-    add_use(typed, Kind::Written, name, steps)?;
+    add_use(typed, UseKind::Written, name, steps)?;
     read(typed, index, steps)?;
     read(typed, value, steps)
 }
 
-/// Adds the steps of a statement.
+/// Appends the steps of a statement.
 #[cycle(stmt)]
 pub fn statement<A: Allocator>(
     alloc: Global,
     typed: &Typed,
     stmt: &Stmt<A>,
-    steps: &mut Vec<Step>,
+    steps: &mut Vec<OutlineStep>,
 ) -> Result<(), AllocError>
     ensures { OnOk result (steps_view steps.new.items ≡ steps_view steps.old.items ++ outline.steps_of (table_of typed.now) (statement_view stmt.now)) }
 {
     command(alloc, typed, stmt.number, stmt.first, &stmt.kind, steps)
 }
 
-/// Adds the steps of a form of statement, of a number and with its first token at a place.
+/// Appends the steps of a statement by its form. `number`: its node number, `at`: its first token.
 #[cycle(stmt)]
 fn command<A: Allocator>(
     alloc: Global,
@@ -138,7 +141,7 @@ fn command<A: Allocator>(
     number: u32,
     at: Span,
     kind: &StmtKind<A>,
-    steps: &mut Vec<Step>,
+    steps: &mut Vec<OutlineStep>,
 ) -> Result<(), AllocError>
     ensures { OnOk result ((to : ℕ) → steps_view steps.new.items
         ≡ steps_view steps.old.items ++ outline.command_steps (table_of typed.now) (record { number = number; first = at; to = to }) (command_view kind.now)) }
@@ -146,7 +149,7 @@ fn command<A: Allocator>(
     match kind {
         StmtKind::Declare(decl, right) => declaration(typed, decl, right, steps),
         StmtKind::Assign(name, right) => {
-            add_use(typed, Kind::Named, name, steps)?;
+            add_use(typed, UseKind::Named, name, steps)?;
             read_right(typed, right, steps)
         }
         StmtKind::Write(name, index, value) => write(typed, name, index, value, steps),
@@ -162,7 +165,7 @@ fn command<A: Allocator>(
                 None => Vec::new(alloc),
                 Some(other) => inner(alloc, typed, other)?,
             };
-            steps.push(Step::Splits(number, at, first, other))?;
+            steps.push(OutlineStep::Splits(number, at, first, other))?;
             Ok(())
         }
         StmtKind::Foreach(header, body) => {
@@ -171,25 +174,25 @@ fn command<A: Allocator>(
             loop_variable(&header.value, &mut within)?;
             key_variable(&header.key, &mut within)?;
             block(alloc, typed, body, &mut within)?;
-            steps.push(Step::Repeats(number, within))?;
+            steps.push(OutlineStep::Repeats(number, within))?;
             Ok(())
         }
         StmtKind::Wait(names, body) => {
             read_names(typed, names, steps)?;
             let within = inner(alloc, typed, body)?;
-            steps.push(Step::Encloses(within))?;
+            steps.push(OutlineStep::Encloses(within))?;
             Ok(())
         }
     }
 }
 
-/// The steps of a block.
+/// Converts a block to a new list of steps.
 #[cycle(stmt)]
 fn inner<A: Allocator>(
     alloc: Global,
     typed: &Typed,
     body: &Block<A>,
-) -> Result<Vec<Step>, AllocError>
+) -> Result<Vec<OutlineStep>, AllocError>
     ensures { IfOk result (λ steps. steps_view steps.items ≡ outline.body_steps (table_of typed.now) (body_view body.now)) }
 {
     let mut steps = Vec::new(alloc);
@@ -197,26 +200,26 @@ fn inner<A: Allocator>(
     Ok(steps)
 }
 
-/// Adds the steps of a block.
+/// Appends the steps of a block.
 #[cycle(stmt)]
 pub fn block<A: Allocator>(
     alloc: Global,
     typed: &Typed,
     body: &Block<A>,
-    steps: &mut Vec<Step>,
+    steps: &mut Vec<OutlineStep>,
 ) -> Result<(), AllocError>
     ensures { OnOk result (steps_view steps.new.items ≡ steps_view steps.old.items ++ outline.body_steps (table_of typed.now) (body_view body.now)) }
 {
     each(alloc, typed, &body.statements, steps)
 }
 
-/// Adds the steps of statements, one after another.
+/// Appends the steps of statements in order.
 #[cycle(stmt)]
 fn each<A: Allocator>(
     alloc: Global,
     typed: &Typed,
     statements: &Vec<Stmt<A>, A>,
-    steps: &mut Vec<Step>,
+    steps: &mut Vec<OutlineStep>,
 ) -> Result<(), AllocError>
     ensures { OnOk result (steps_view steps.new.items
         ≡ steps_view steps.old.items ++ outline.all_steps (table_of typed.now) (trees.statements_of (map statement_view statements.now.items))) }

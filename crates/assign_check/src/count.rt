@@ -1,4 +1,8 @@
-//! The faults of branches: how often the ways through each of them assign a variable.
+//! Faults of branches (S2): the numbers of assignments that the control paths through a block can make.
+//!
+//! A recursive walk computes for each variable the set of these numbers. Consecutive steps add their sets, the branches
+//! of an `if` unite them, and a loop contributes nothing to the block around it. An `if` is a fault if the sets of its
+//! branches differ for a variable that is declared before it.
 ghost use Rattle.std.specs.Prelude.{◌≡◌, ◌++◌, ◌∷◌, [], OnOk, IfOk, false, cond, ◌||◌};
 ghost use Rattle.std.specs.List.{list_any};
 ghost use Rattle.language.specs.Core as core;
@@ -8,42 +12,44 @@ ghost use Rattle.assign_check.specs.Sets.{Same, numbers, set_at, are_empty, name
 ghost use Rattle.assign_check.specs.View.{outline_view, step_view, use_view};
 
 use crate::best::note;
+use crate::control_path::is_before;
 use crate::fault::AssignFault;
 use crate::numbers::{differ, once, sum, union};
-use crate::outline::{Kind, Step, Use};
-use crate::sets::Sets;
-use crate::walk::is_outer;
-use crate::way::is_before;
+use crate::outline::{OutlineStep, UseKind, UseSite};
+use crate::sets::CountSets;
+use crate::target_faults::is_outer;
 use lexer::token::Span;
 use std::alloc::{AllocError, Global};
-use types::typed::Owned;
+use types::typed::Binding;
 
-/// A variable, with how often a part of a block assigns it: one of these numbers on each way.
+/// A variable with the set of numbers of assignments that part of a block makes: one of these numbers on each control
+/// path.
 #[derive(Drop)]
-pub struct Part {
-    pub of: Owned,
+pub struct AssignCounts {
+    pub of: Binding,
     pub set: Vec<bool>,
 }
 
-/// For each variable how often the branches of an `if` assign it, while they are compared.
+/// Scratch tables for the comparison of the branches of an `if`: for each variable, the set of each branch. They are
+/// empty between two comparisons.
 #[derive(Drop)]
-pub struct Branches {
-    pub one: Sets,
-    pub other: Sets,
+pub struct BranchCounts {
+    pub one: CountSets,
+    pub other: CountSets,
 }
 
-/// No branches yet.
-pub fn no_branches(alloc: Global) -> Branches
+/// Creates empty scratch tables.
+pub fn no_branches(alloc: Global) -> BranchCounts
     ensures { are_empty result }
 {
-    Branches {
-        one: Sets::new(alloc),
-        other: Sets::new(alloc),
+    BranchCounts {
+        one: CountSets::new(alloc),
+        other: CountSets::new(alloc),
     }
 }
 
-/// Adds for each variable how often the parts assign it.
-fn add_all(alloc: Global, sets: &mut Sets, parts: &[Part]) -> Result<(), AllocError>
+/// Adds the counts of the parts to the sets of their variables.
+fn add_all(alloc: Global, sets: &mut CountSets, parts: &[AssignCounts]) -> Result<(), AllocError>
     ensures sums { OnOk result ((of : core.Owned) → Same (numbers (set_at sets.new of)) (faults.sums (numbers (set_at sets.old of)) (part_sums of parts.now))) }
     ensures kept { OnOk result ((of : core.Owned) → faults.is_among of (names parts.now) ≡ false → set_at sets.new of ≡ set_at sets.old of) }
 {
@@ -54,8 +60,9 @@ fn add_all(alloc: Global, sets: &mut Sets, parts: &[Part]) -> Result<(), AllocEr
     Ok(())
 }
 
-/// Whether the two sets of one of the variables differ, where it is declared before the statement of a number.
-fn differs(number: u32, parts: &[Part], one: &Sets, other: &Sets) -> bool
+/// Returns true if the two sets differ for one of these variables that is declared before the statement with this
+/// number.
+fn differs(number: u32, parts: &[AssignCounts], one: &CountSets, other: &CountSets) -> bool
     ensures { result ≡ list_any (is_apart number one.now other.now) (names parts.now) }
 {
     for part in parts {
@@ -66,13 +73,13 @@ fn differs(number: u32, parts: &[Part], one: &Sets, other: &Sets) -> bool
     false
 }
 
-/// Hands the numbers of both sets of the variables up, as parts, and empties the sets.
+/// Appends the union of both sets of each of these variables to `up`, and resets the sets in both tables.
 fn hand_up(
     alloc: Global,
-    parts: &[Part],
-    one: &mut Sets,
-    other: &mut Sets,
-    up: &mut Vec<Part>,
+    parts: &[AssignCounts],
+    one: &mut CountSets,
+    other: &mut CountSets,
+    up: &mut Vec<AssignCounts>,
 ) -> Result<(), AllocError>
     ensures sums { OnOk result ((of : core.Owned) → Same
         (faults.sums (part_sums of up.new.items) (numbers (set_at one.new of) ++ numbers (set_at other.new of)))
@@ -82,21 +89,23 @@ fn hand_up(
 {
     for part in parts {
         let set = union(alloc, one.get(part.of), other.get(part.of))?;
-        up.push(Part { of: part.of, set })?;
+        up.push(AssignCounts { of: part.of, set })?;
         one.set(alloc, part.of, Vec::new(alloc))?;
         other.set(alloc, part.of, Vec::new(alloc))?;
     }
     Ok(())
 }
 
-/// Whether the branches of an `if` of a number differ; what either of them assigns is handed up as parts.
+/// Compares the branches of the `if` with this number, and appends the united counts of both to `up`.
+///
+/// Returns true if the branches differ for a variable that is declared before the `if`.
 fn join(
     alloc: Global,
     number: u32,
-    first: &[Part],
-    second: &[Part],
-    branches: &mut Branches,
-    up: &mut Vec<Part>,
+    first: &[AssignCounts],
+    second: &[AssignCounts],
+    branches: &mut BranchCounts,
+    up: &mut Vec<AssignCounts>,
 ) -> Result<bool, AllocError>
     requires { are_empty branches.old }
     ensures uneven { IfOk result (λ uneven. uneven ≡ list_any (parts_apart number first.now second.now) (names first.now ++ names second.now)) }
@@ -113,37 +122,37 @@ fn join(
     Ok(either(uneven, also))
 }
 
-/// Whether one of two is true.
+/// Returns true if one of two values is true.
 fn either(one: bool, other: bool) -> bool
     ensures { result ≡ (one || other) }
 {
     one || other
 }
 
-/// The part of a use: a target by name assigns its variable once, but for one from outside of the loop.
+/// Appends the count of a use: 1 for an assignment by name, unless its variable is declared outside the innermost loop.
 fn target(
     alloc: Global,
     inside: Option<u32>,
-    one: Use,
-    parts: &mut Vec<Part>,
+    one: UseSite,
+    parts: &mut Vec<AssignCounts>,
 ) -> Result<(), AllocError>
     ensures { OnOk result ((of : core.Owned) → Same (part_sums of parts.new.items)
         (faults.sums (part_sums of parts.old.items) (faults.times of (faults.named_by inside (use_view one).kind (use_view one).of) ∷ []))) }
 {
     match one.kind {
-        Kind::Written | Kind::Read => Ok(()),
-        Kind::Named => {
+        UseKind::Written | UseKind::Read => Ok(()),
+        UseKind::Named => {
             if is_outer(inside, one.of) {
                 return Ok(());
             }
             let set = once(alloc)?;
-            parts.push(Part { of: one.of, set })?;
+            parts.push(AssignCounts { of: one.of, set })?;
             Ok(())
         }
     }
 }
 
-/// The fault of an `if` that begins at a place, where its branches differ.
+/// Records the fault of an `if` whose branches differ. `at`: its first token.
 fn note_uneven(uneven: bool, at: Span, best: &mut Option<AssignFault>)
     ensures { best.new ≡ faults.first_among best.old (cond uneven (AssignFault.PartlyAssigned at ∷ []) []) }
 {
@@ -152,14 +161,16 @@ fn note_uneven(uneven: bool, at: Span, best: &mut Option<AssignFault>)
     }
 }
 
-/// The parts of a block, behind others; the innermost loop round it by its number. The sets are empty before it and behind it.
+/// Appends the counts of a block to `parts`, and records the faults of its `if`s.
+///
+/// `inside` is the number of the innermost enclosing loop. The scratch tables are empty before and after the call.
 #[cycle(count)]
 pub fn count(
     alloc: Global,
     inside: Option<u32>,
-    steps: &Vec<Step>,
-    branches: &mut Branches,
-    parts: &mut Vec<Part>,
+    steps: &Vec<OutlineStep>,
+    branches: &mut BranchCounts,
+    parts: &mut Vec<AssignCounts>,
     best: &mut Option<AssignFault>,
 ) -> Result<(), AllocError>
     requires { are_empty branches.old }
@@ -178,9 +189,9 @@ pub fn count(
 fn count_step(
     alloc: Global,
     inside: Option<u32>,
-    step: &Step,
-    branches: &mut Branches,
-    parts: &mut Vec<Part>,
+    step: &OutlineStep,
+    branches: &mut BranchCounts,
+    parts: &mut Vec<AssignCounts>,
     best: &mut Option<AssignFault>,
 ) -> Result<(), AllocError>
     requires { are_empty branches.old }
@@ -190,9 +201,9 @@ fn count_step(
     ensures empty { OnOk result (are_empty branches.new) }
 {
     match step {
-        Step::Declares(_) => Ok(()),
-        Step::Uses(it) => target(alloc, inside, *it, parts),
-        Step::Splits(number, at, first, second) => {
+        OutlineStep::Declares(_) => Ok(()),
+        OutlineStep::Uses(it) => target(alloc, inside, *it, parts),
+        OutlineStep::Splits(number, at, first, second) => {
             let mut one = Vec::new(alloc);
             let mut other = Vec::new(alloc);
             count(alloc, inside, first, branches, &mut one, best)?;
@@ -208,10 +219,10 @@ fn count_step(
             note_uneven(uneven, *at, best);
             Ok(())
         }
-        Step::Repeats(number, body) => {
+        OutlineStep::Repeats(number, body) => {
             let mut within = Vec::new(alloc);
             count(alloc, Some(*number), body, branches, &mut within, best)
         }
-        Step::Encloses(body) => count(alloc, inside, body, branches, parts, best),
+        OutlineStep::Encloses(body) => count(alloc, inside, body, branches, parts, best),
     }
 }

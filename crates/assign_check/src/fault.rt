@@ -1,4 +1,4 @@
-//! Why a script is not singly assigned.
+//! Assignment faults: the rules S1 to S6, with the place of the violation.
 ghost use Rattle.std.specs.Prelude.{◌≡◌, ◌≤◌, length};
 ghost use Rattle.assign_check.specs.FaultNames.{assign_name};
 ghost use Rattle.assign_check.specs.Places.{span_of};
@@ -8,27 +8,28 @@ use std::alloc::{AllocError, AllocFailed};
 use std::error::Error;
 use std::fmt;
 
-/// The broken rule of single assignment that is answered, with the place where it is broken.
+/// The rule of single assignment that a script breaks, with the place of the violation, or an allocation failure.
 #[derive(Clone, Copy, PartialEq, Eq, Debug, Drop)]
 pub enum AssignFault {
-    /// A way assigns a variable twice, at the first target that is the second on some way.
+    /// A second assignment to a variable on some control path; the place is that target.
     AssignedTwice(Span),
-    /// The branches of an `if` assign a variable differently often, at the `if`.
+    /// An `if` whose branches assign a variable different numbers of times; the place is the `if`.
     PartlyAssigned(Span),
-    /// A scalar that is read and never assigned, at its declared name.
+    /// A scalar that is read and never assigned; the place is its declared name.
     NeverAssigned(Span),
-    /// A variable that is assigned by its name in a loop inside which it is not declared, at the target.
+    /// An assignment by name, in a loop, to a variable that is declared outside the loop; the place is the target.
     OuterInLoop(Span),
-    /// An array that is assigned both whole and by elements, at the first target of the other form than the first.
+    /// An array that is assigned both whole and by elements; the place is the first target whose form differs from the
+    /// first one.
     WholeAndElements(Span),
-    /// An output that is never assigned, neither by name nor by an element, at its declared name.
+    /// An output that is never assigned, neither by name nor by an element; the place is its declared name.
     OutputUnassigned(Span),
-    /// Memory that was asked for was refused.
+    /// An allocation failed.
     Memory,
 }
 
 impl AssignFault {
-    /// The place of the broken rule. Want of memory has none.
+    /// Returns the place of the violation, or `None` for an allocation failure.
     pub fn span(self) -> Option<Span>
         ensures { result ≡ span_of self }
     {
@@ -43,7 +44,7 @@ impl AssignFault {
         }
     }
 
-    /// Its number and its name.
+    /// Returns the number and the name of the rule, or "no memory" for an allocation failure.
     pub fn name(self) -> &'static str
         ensures text { result.now ≡ assign_name self }
         ensures short { length result.now ≤ 20 }

@@ -1,8 +1,15 @@
-//! Whether each variable of a script is assigned at most once, and where it has to be.
+//! Single-assignment check: verifies that each variable is assigned at most once on every control path, and is assigned
+//! where it has to be.
+//!
+//! There are six rules; the first broken one is reported with its place. The script's own block and each function body
+//! are reduced to an outline: a tree of declarations, uses, `if`s, loops and `wait`s. Three passes over each outline
+//! find the faults, in `target_faults`, `count` and `use_summary`. The check runs on a well typed script, with the
+//! table of its names.
 #![tactic(auto)]
 
 mod best;
 mod blocks;
+mod control_path;
 mod count;
 pub mod fault;
 pub mod laws;
@@ -13,8 +20,7 @@ mod reads;
 mod script;
 mod sets;
 mod table;
-mod tally;
-mod walk;
-mod way;
+mod target_faults;
+mod use_summary;
 
 pub use script::check;

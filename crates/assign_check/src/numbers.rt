@@ -1,13 +1,13 @@
-//! Sets of numbers: how often the ways through a block assign a variable.
+//! Sets of numbers of assignments, as bit vectors.
 //!
-//! A set is a list of truths, and has the numbers of the places where it is true. A list without places is the set of 0 alone.
+//! The set contains each index at which the vector is true. As an exception, the empty vector is the set of 0 alone.
 ghost use Rattle.std.specs.Prelude.{◌≡◌, ◌++◌, ◌∷◌, [], ◌≤◌, ◌<◌, ◌^◌, IfOk, true, false, length};
 ghost use Rattle.assign_check.specs.Faults as faults;
 ghost use Rattle.assign_check.specs.Sets as sets;
 
 use std::alloc::{AllocError, Global};
 
-/// Whether a number is in a set.
+/// Returns true if a set contains a number.
 fn has(set: &[bool], number: usize) -> bool
     ensures { result ≡ sets.has set.now number }
 {
@@ -20,14 +20,14 @@ fn has(set: &[bool], number: usize) -> bool
     }
 }
 
-/// The set of 1 alone.
+/// Creates the set of 1 alone.
 pub fn once(alloc: Global) -> Result<Vec<bool>, AllocError>
     ensures { IfOk result (λ set. set.items ≡ false ∷ true ∷ []) }
 {
     Ok(Vec::from_array(alloc, [false, true])?)
 }
 
-/// Whether a number is the sum of one of each set.
+/// Returns true if a number is the sum of a number of each set.
 fn adds_up(one: &[bool], other: &[bool], number: usize) -> bool
     ensures { result ≡ faults.is_in number (faults.sums (sets.numbers one.now) (sets.numbers other.now)) }
 {
@@ -39,7 +39,7 @@ fn adds_up(one: &[bool], other: &[bool], number: usize) -> bool
     false
 }
 
-/// The sums of one number of each set.
+/// Returns the set of all sums of one number of each set.
 pub fn sum(alloc: Global, one: &[bool], other: &[bool]) -> Result<Vec<bool>, AllocError>
     ensures { IfOk result (λ set. sets.Same (sets.numbers set.items) (faults.sums (sets.numbers one.now) (sets.numbers other.now))) }
 {
@@ -56,7 +56,7 @@ pub fn sum(alloc: Global, one: &[bool], other: &[bool]) -> Result<Vec<bool>, All
     Ok(set)
 }
 
-/// The numbers of both sets.
+/// Returns the union of two sets.
 pub fn union(alloc: Global, one: &[bool], other: &[bool]) -> Result<Vec<bool>, AllocError>
     ensures { IfOk result (λ set. sets.Same (sets.numbers set.items) (sets.numbers one.now ++ sets.numbers other.now)) }
 {
@@ -67,7 +67,7 @@ pub fn union(alloc: Global, one: &[bool], other: &[bool]) -> Result<Vec<bool>, A
     Ok(set)
 }
 
-/// A number of places that neither of two lists has more than.
+/// Returns the length of the longer vector.
 fn longer(one: &[bool], other: &[bool]) -> usize
     ensures one { length one.now ≤ result }
     ensures other { length other.now ≤ result }
@@ -80,7 +80,7 @@ fn longer(one: &[bool], other: &[bool]) -> usize
     }
 }
 
-/// Whether one of two sets has a number that the other has not.
+/// Returns true if two sets differ.
 pub fn differ(one: &[bool], other: &[bool]) -> bool
     ensures { result ≡ sets.differ (sets.numbers one.now) (sets.numbers other.now) }
 {

@@ -1,34 +1,34 @@
-//! What single assignment sees of a block: declarations, uses of variables, and the statements with blocks inside them.
+//! Outlines of blocks: the declarations, the uses of variables and the nested blocks that single assignment depends on.
 
 use language::tree::Shape;
 use lexer::token::Span;
-use types::typed::Owned;
+use types::typed::Binding;
 
-/// How a variable is used.
+/// The kind of a use of a variable.
 #[derive(Clone, Copy)]
-pub enum Kind {
-    /// It is assigned by its name.
+pub enum UseKind {
+    /// An assignment of the variable by its name.
     Named,
-    /// An element of it is written.
+    /// A write of an element of the variable.
     Written,
-    /// Its name is read, and it is a scalar.
+    /// A read of the variable by its name, if it is a scalar.
     Read,
 }
 
 /// A use of a variable, with the place of its name.
 #[derive(Clone, Copy)]
-pub struct Use {
-    pub kind: Kind,
-    pub of: Owned,
+pub struct UseSite {
+    pub kind: UseKind,
+    pub of: Binding,
     pub span: Span,
 }
 
-/// What a declaration is for.
+/// The role of a declared variable.
 #[derive(Clone, Copy)]
-pub enum Role {
+pub enum DeclRole {
     /// A variable that a statement declares.
     Own,
-    /// An output.
+    /// An output of a function.
     Output,
     /// A variable that counts as assigned whole at its declaration: an input or a loop variable.
     Given,
@@ -36,23 +36,23 @@ pub enum Role {
 
 /// A declaration, with the place of the declared name.
 #[derive(Clone, Copy)]
-pub struct Declared {
-    pub what: Owned,
+pub struct Declaration {
+    pub what: Binding,
     pub shape: Shape,
-    pub role: Role,
+    pub role: DeclRole,
     pub span: Span,
 }
 
-/// A step of a block.
+/// A step of a block: a declaration, a use, or a statement with nested blocks.
 #[cycle(step)]
 #[derive(Drop)]
-pub enum Step {
-    Declares(Declared),
-    Uses(Use),
-    /// An `if`: its number, the place of its first token, and its branches.
-    Splits(u32, Span, Vec<Step>, Vec<Step>),
+pub enum OutlineStep {
+    Declares(Declaration),
+    Uses(UseSite),
+    /// An `if`: its number, the place of its first token, and its two branches.
+    Splits(u32, Span, Vec<OutlineStep>, Vec<OutlineStep>),
     /// A loop: its number and its body.
-    Repeats(u32, Vec<Step>),
+    Repeats(u32, Vec<OutlineStep>),
     /// The block of a `wait`.
-    Encloses(Vec<Step>),
+    Encloses(Vec<OutlineStep>),
 }

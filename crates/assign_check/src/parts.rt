@@ -1,4 +1,4 @@
-//! The outlines of a script: its own block's, and those of its functions' bodies.
+//! Creation of the outlines of a script: one for its own block, and one for each function body.
 ghost use Rattle.std.specs.Prelude.{◌≡◌, ◌++◌, ◌∷◌, [], OnOk, IfOk, map};
 ghost use Rattle.language.specs.Core.{input, output};
 ghost use Rattle.syntax_trees.specs.View.{declarations_view, composite_of, part_of};
@@ -7,38 +7,44 @@ ghost use Rattle.assign_check.specs.Outline as outline;
 ghost use Rattle.assign_check.specs.View.{steps_view};
 
 use crate::blocks::{add_declared, block, statement};
-use crate::outline::{Role, Step};
+use crate::outline::{DeclRole, OutlineStep};
 use std::alloc::{AllocError, Allocator, Global};
 use syntax_trees::tree::{Decl, Function, Item};
-use types::typed::{Owned, Typed};
+use types::typed::{Binding, Typed};
 
-/// Adds outputs, each by its place.
-fn outputs<A: Allocator>(decls: &Vec<Decl<A>, A>, steps: &mut Vec<Step>) -> Result<(), AllocError>
+/// Appends the declarations of the outputs, each with its position.
+fn outputs<A: Allocator>(
+    decls: &Vec<Decl<A>, A>,
+    steps: &mut Vec<OutlineStep>,
+) -> Result<(), AllocError>
     ensures { OnOk result (steps_view steps.new.items
         ≡ steps_view steps.old.items ++ outline.parameters outline.result output 0 (declarations_view decls.now)) }
 {
     for i in 0..decls.len() {
-        add_declared(Role::Output, Owned::Output(i), &decls[i], steps)?;
+        add_declared(DeclRole::Output, Binding::Output(i), &decls[i], steps)?;
     }
     Ok(())
 }
 
-/// Adds inputs, each by its place.
-fn inputs<A: Allocator>(decls: &Vec<Decl<A>, A>, steps: &mut Vec<Step>) -> Result<(), AllocError>
+/// Appends the declarations of the inputs, each with its position.
+fn inputs<A: Allocator>(
+    decls: &Vec<Decl<A>, A>,
+    steps: &mut Vec<OutlineStep>,
+) -> Result<(), AllocError>
     ensures { OnOk result (steps_view steps.new.items ≡ steps_view steps.old.items ++ outline.parameters outline.given input 0 (declarations_view decls.now)) }
 {
     for i in 0..decls.len() {
-        add_declared(Role::Given, Owned::Input(i), &decls[i], steps)?;
+        add_declared(DeclRole::Given, Binding::Input(i), &decls[i], steps)?;
     }
     Ok(())
 }
 
-/// The steps of a function's body, behind its outputs and inputs.
+/// Creates the outline of a function: its outputs, its inputs and then its body.
 pub fn function_steps<A: Allocator>(
     alloc: Global,
     typed: &Typed,
     function: &Function<A>,
-) -> Result<Vec<Step>, AllocError>
+) -> Result<Vec<OutlineStep>, AllocError>
     ensures { IfOk result (λ steps. steps_view steps.items ≡ outline.function_steps (table_of typed.now) (composite_of function.now)) }
 {
     let mut steps = Vec::new(alloc);
@@ -48,12 +54,12 @@ pub fn function_steps<A: Allocator>(
     Ok(steps)
 }
 
-/// The steps of the statements that stand in no function.
+/// Creates the outline of the script's own block, from the statements outside functions.
 pub fn script_steps<A: Allocator>(
     alloc: Global,
     typed: &Typed,
     items: &Vec<Item<A>, A>,
-) -> Result<Vec<Step>, AllocError>
+) -> Result<Vec<OutlineStep>, AllocError>
     ensures { IfOk result (λ steps. steps_view steps.items ≡ outline.script_steps (table_of typed.now) (map part_of items.now.items)) }
 {
     let mut steps = Vec::new(alloc);
@@ -63,12 +69,12 @@ pub fn script_steps<A: Allocator>(
     Ok(steps)
 }
 
-/// Adds the steps of a part that is a statement.
+/// Appends the steps of a part if it is a statement.
 fn part<A: Allocator>(
     alloc: Global,
     typed: &Typed,
     item: &Item<A>,
-    steps: &mut Vec<Step>,
+    steps: &mut Vec<OutlineStep>,
 ) -> Result<(), AllocError>
     ensures { OnOk result (steps_view steps.new.items ≡ steps_view steps.old.items ++ outline.script_steps (table_of typed.now) (part_of item.now ∷ [])) }
 {

@@ -1,4 +1,7 @@
-//! The scalars that expressions read.
+//! Collection of the scalars that expressions read.
+//!
+//! The reads are appended to the outline in the order of the text. Names of arrays are not reads of scalars, and are
+//! left out.
 ghost use Rattle.std.specs.Prelude.{◌≡◌, ◌++◌, ◌∷◌, [], OnOk, map, option_map};
 ghost use Rattle.syntax_trees.specs.View.{word_of, words_view, expression_view, form_view, right_of, calling_of, range_of, over_of};
 ghost use Rattle.language.specs.Tree.{expressions_of};
@@ -6,50 +9,50 @@ ghost use Rattle.types.specs.Typed.{table_of};
 ghost use Rattle.assign_check.specs.Outline as outline;
 ghost use Rattle.assign_check.specs.View.{steps_view, kind_of};
 
-use crate::outline::{Kind, Step, Use};
+use crate::outline::{OutlineStep, UseKind, UseSite};
 use std::alloc::{AllocError, Allocator};
 use syntax_trees::tree::{Call, Expr, ExprKind, Name, Range, Right, Shape, Source};
 use types::typed::Typed;
 
-/// Adds a use of the variable that a name refers to.
+/// Appends a use of the variable that a name refers to.
 pub fn add_use<A: Allocator>(
     typed: &Typed,
-    kind: Kind,
+    kind: UseKind,
     name: &Name<A>,
-    steps: &mut Vec<Step>,
+    steps: &mut Vec<OutlineStep>,
 ) -> Result<(), AllocError>
     ensures { OnOk result (steps_view steps.new.items
         ≡ steps_view steps.old.items ++ outline.use_of (table_of typed.now) (kind_of kind) (word_of name.now) ∷ []) }
 {
-    let one = Use {
+    let one = UseSite {
         kind,
         of: typed.name(name.number).what,
         span: name.span,
     };
-    steps.push(Step::Uses(one))?;
+    steps.push(OutlineStep::Uses(one))?;
     Ok(())
 }
 
-/// Adds the read of a name, if it is that of a scalar.
+/// Appends the read of a name if it is that of a scalar.
 pub fn read_name<A: Allocator>(
     typed: &Typed,
     name: &Name<A>,
-    steps: &mut Vec<Step>,
+    steps: &mut Vec<OutlineStep>,
 ) -> Result<(), AllocError>
     ensures { OnOk result (steps_view steps.new.items ≡ steps_view steps.old.items ++ outline.name_read (table_of typed.now) (word_of name.now)) }
 {
     match typed.shape(name.number) {
-        Shape::Scalar => add_use(typed, Kind::Read, name, steps),
+        Shape::Scalar => add_use(typed, UseKind::Read, name, steps),
         Shape::Array(_) => Ok(()),
     }
 }
 
-/// Adds what an expression reads.
+/// Appends the reads of an expression.
 #[cycle(read)]
 pub fn read<A: Allocator>(
     typed: &Typed,
     expr: &Expr<A>,
-    steps: &mut Vec<Step>,
+    steps: &mut Vec<OutlineStep>,
 ) -> Result<(), AllocError>
     ensures { OnOk result (steps_view steps.new.items ≡ steps_view steps.old.items ++ outline.read_in (table_of typed.now) (expression_view expr.now)) }
 {
@@ -60,7 +63,7 @@ pub fn read<A: Allocator>(
 fn read_form<A: Allocator>(
     typed: &Typed,
     kind: &ExprKind<A>,
-    steps: &mut Vec<Step>,
+    steps: &mut Vec<OutlineStep>,
 ) -> Result<(), AllocError>
     ensures { OnOk result (steps_view steps.new.items ≡ steps_view steps.old.items ++ outline.read_form (table_of typed.now) (form_view kind.now)) }
 {
@@ -74,12 +77,12 @@ fn read_form<A: Allocator>(
     }
 }
 
-/// Adds what expressions read, one after another.
+/// Appends the reads of expressions in order.
 #[cycle(read)]
 pub fn read_all<A: Allocator>(
     typed: &Typed,
     exprs: &Vec<Expr<A>, A>,
-    steps: &mut Vec<Step>,
+    steps: &mut Vec<OutlineStep>,
 ) -> Result<(), AllocError>
     ensures { OnOk result (steps_view steps.new.items
         ≡ steps_view steps.old.items ++ outline.read_all (table_of typed.now) (expressions_of (map expression_view exprs.now.items))) }
@@ -90,11 +93,11 @@ pub fn read_all<A: Allocator>(
     Ok(())
 }
 
-/// Adds what a right side reads.
+/// Appends the reads of a right side.
 pub fn read_right<A: Allocator>(
     typed: &Typed,
     right: &Right<A>,
-    steps: &mut Vec<Step>,
+    steps: &mut Vec<OutlineStep>,
 ) -> Result<(), AllocError>
     ensures { OnOk result (steps_view steps.new.items ≡ steps_view steps.old.items ++ outline.read_right (table_of typed.now) (right_of right.now)) }
 {
@@ -104,22 +107,22 @@ pub fn read_right<A: Allocator>(
     }
 }
 
-/// Adds what the arguments of a call read.
+/// Appends the reads of the arguments of a call.
 pub fn read_call<A: Allocator>(
     typed: &Typed,
     call: &Call<A>,
-    steps: &mut Vec<Step>,
+    steps: &mut Vec<OutlineStep>,
 ) -> Result<(), AllocError>
     ensures { OnOk result (steps_view steps.new.items ≡ steps_view steps.old.items ++ outline.read_calling (table_of typed.now) (calling_of call.now)) }
 {
     read_all(typed, &call.arguments, steps)
 }
 
-/// Adds what the bounds of a range read; an array that a loop goes over is not read.
+/// Appends the reads of the bounds and the step of a range. The array that a loop iterates over is not a read.
 pub fn read_source<A: Allocator>(
     typed: &Typed,
     source: &Source<A>,
-    steps: &mut Vec<Step>,
+    steps: &mut Vec<OutlineStep>,
 ) -> Result<(), AllocError>
     ensures { OnOk result (steps_view steps.new.items ≡ steps_view steps.old.items ++ outline.read_over (table_of typed.now) (over_of source.now)) }
 {
@@ -132,7 +135,7 @@ pub fn read_source<A: Allocator>(
 fn read_range<A: Allocator>(
     typed: &Typed,
     range: &Range<A>,
-    steps: &mut Vec<Step>,
+    steps: &mut Vec<OutlineStep>,
 ) -> Result<(), AllocError>
     ensures { OnOk result (steps_view steps.new.items ≡ steps_view steps.old.items ++ outline.read_over (table_of typed.now) (range_of range.now)) }
 {
@@ -144,7 +147,7 @@ fn read_range<A: Allocator>(
 fn read_step<A: Allocator>(
     typed: &Typed,
     step: &Option<Expr<A>>,
-    steps: &mut Vec<Step>,
+    steps: &mut Vec<OutlineStep>,
 ) -> Result<(), AllocError>
     ensures { OnOk result (steps_view steps.new.items
         ≡ steps_view steps.old.items ++ outline.read_step (table_of typed.now) (option_map expression_view step.now)) }
@@ -155,11 +158,11 @@ fn read_step<A: Allocator>(
     }
 }
 
-/// Adds the reads of names, one after another.
+/// Appends the reads of those names that are scalars, in order.
 pub fn read_names<A: Allocator>(
     typed: &Typed,
     names: &Vec<Name<A>, A>,
-    steps: &mut Vec<Step>,
+    steps: &mut Vec<OutlineStep>,
 ) -> Result<(), AllocError>
     ensures { OnOk result (steps_view steps.new.items ≡ steps_view steps.old.items ++ outline.read_names (table_of typed.now) (words_view names.now)) }
 {

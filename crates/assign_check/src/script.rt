@@ -1,4 +1,4 @@
-//! Whether a script is singly assigned.
+//! The check of a whole script, outline by outline.
 ghost use Rattle.std.specs.Prelude.{◌≡◌, ◌≢◌, ◌∷◌, [], OnOk, IfOk, IfErr, Some, false};
 ghost use Rattle.std.specs.List.{flat_map};
 ghost use Rattle.language.specs.Core as core;
@@ -16,26 +16,27 @@ ghost use Rattle.assign_check.specs.Tallies as tallies;
 ghost use Rattle.assign_check.specs.View.{outline_view};
 ghost use Rattle.assign_check.specs.Ways.{listed};
 
-use crate::count::{Branches, count, no_branches};
+use crate::control_path::ControlPath;
+use crate::count::{BranchCounts, count, no_branches};
 use crate::fault::AssignFault;
-use crate::outline::Step;
+use crate::outline::OutlineStep;
 use crate::parts::{function_steps, script_steps};
-use crate::table::Table;
-use crate::tally::{Tally, add_all, clear, collect, note_all, unused};
-use crate::walk::walk;
-use crate::way::Way;
+use crate::table::VariableTable;
+use crate::target_faults::walk;
+use crate::use_summary::{UseSummary, add_all, clear, collect, note_all, unused};
 use std::alloc::{AllocError, Allocator, Global};
 use syntax_trees::tree::{Item, Script};
 use types::typed::Typed;
 
-/// Whether a script is singly assigned, by what the check of its types found out of its names.
+/// Checks that a script is singly assigned, with the table of its names from the type check.
 ///
-/// The clauses that speak of rules and of single assignment are of a script that is well typed by that table, with its nodes numbered in
-/// reading order; the others of every script.
+/// The clauses about rules and single assignment require a script that is well typed by that table, numbered in reading
+/// order. The other clauses hold for every script.
 ///
 /// # Errors
 ///
-/// The broken rule whose place begins first, and at one place the one of the smallest number; or `Memory`.
+/// Returns the broken rule whose place begins first, and at one place the one with the smallest number; or `Memory` if
+/// an allocation fails.
 pub fn check<A: Allocator>(
     alloc: Global,
     script: &Script<A>,
@@ -60,7 +61,7 @@ pub fn check<A: Allocator>(
     }
 }
 
-/// The fault that is answered, if there is one.
+/// Returns the fault that is reported, or `None` if there is none.
 fn answer<A: Allocator>(
     alloc: Global,
     script: &Script<A>,
@@ -68,20 +69,21 @@ fn answer<A: Allocator>(
 ) -> Result<Option<AssignFault>, AllocError>
     ensures { IfOk result (λ best. best ≡ faults.first_fault (faults.faults (table_of typed.now) (tree_of script.now))) }
 {
-    let mut way = Way::new(alloc);
+    let mut way = ControlPath::new(alloc);
     let mut branches = no_branches(alloc);
-    let mut tallied = Table::new(alloc, unused());
+    let mut tallied = VariableTable::new(alloc, unused());
     first_fault(alloc, script, typed, &mut way, &mut branches, &mut tallied)
 }
 
-/// The first fault of all blocks that stand in no other. The way, the sets of branches and the tallies are empty before it.
+/// Returns the first fault of all outlines of the script. The control path, the scratch tables and the summaries are
+/// empty before the call.
 fn first_fault<A: Allocator>(
     alloc: Global,
     script: &Script<A>,
     typed: &Typed,
-    way: &mut Way,
-    branches: &mut Branches,
-    tallied: &mut Table<Tally>,
+    way: &mut ControlPath,
+    branches: &mut BranchCounts,
+    tallied: &mut VariableTable<UseSummary>,
 ) -> Result<Option<AssignFault>, AllocError>
     requires way { listed way.old ≡ [] }
     requires branches { are_empty branches.old }
@@ -96,14 +98,14 @@ fn first_fault<A: Allocator>(
     Ok(best)
 }
 
-/// The faults of the statements that stand in no function.
+/// Records the faults of the script's own block.
 fn own_block<A: Allocator>(
     alloc: Global,
     typed: &Typed,
     script: &Script<A>,
-    way: &mut Way,
-    branches: &mut Branches,
-    tallied: &mut Table<Tally>,
+    way: &mut ControlPath,
+    branches: &mut BranchCounts,
+    tallied: &mut VariableTable<UseSummary>,
     best: &mut Option<AssignFault>,
 ) -> Result<(), AllocError>
     requires way { listed way.old ≡ [] }
@@ -119,14 +121,14 @@ fn own_block<A: Allocator>(
     outline(alloc, &steps, way, branches, tallied, best)
 }
 
-/// The faults of a part that is a function.
+/// Records the faults of a part if it is a function.
 fn part<A: Allocator>(
     alloc: Global,
     typed: &Typed,
     item: &Item<A>,
-    way: &mut Way,
-    branches: &mut Branches,
-    tallied: &mut Table<Tally>,
+    way: &mut ControlPath,
+    branches: &mut BranchCounts,
+    tallied: &mut VariableTable<UseSummary>,
     best: &mut Option<AssignFault>,
 ) -> Result<(), AllocError>
     requires way { listed way.old ≡ [] }
@@ -147,13 +149,14 @@ fn part<A: Allocator>(
     }
 }
 
-/// The faults of a block that stands in no other. The way, the sets of branches and the tallies are empty before it and behind it.
+/// Records the faults of one outline. The control path, the scratch tables and the summaries are empty before and after
+/// the call.
 fn outline(
     alloc: Global,
-    steps: &Vec<Step>,
-    way: &mut Way,
-    branches: &mut Branches,
-    tallied: &mut Table<Tally>,
+    steps: &Vec<OutlineStep>,
+    way: &mut ControlPath,
+    branches: &mut BranchCounts,
+    tallied: &mut VariableTable<UseSummary>,
     best: &mut Option<AssignFault>,
 ) -> Result<(), AllocError>
     requires way { listed way.old ≡ [] }

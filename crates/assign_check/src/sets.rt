@@ -1,4 +1,4 @@
-//! A set of numbers for each variable.
+//! A table with a set of numbers for each variable.
 ghost use Rattle.std.specs.Prelude.{◌≡◌, [], ℕ, OnOk, cond, nat_eq};
 ghost use Rattle.types.specs.Typed.{owned_name};
 ghost use Rattle.language.specs.Core as core;
@@ -6,52 +6,55 @@ ghost use Rattle.assign_check.specs.Faults as faults;
 ghost use Rattle.assign_check.specs.Sets.{set_at, set_in};
 
 use std::alloc::{AllocError, Global};
-use types::typed::Owned;
+use types::typed::Binding;
 
-/// A set for each variable: that of 0 alone, as an empty list, where no other was put.
+/// A set of numbers for each variable, as in `numbers`. A variable without an entry has the empty vector, the set of 0
+/// alone.
+///
+/// One vector for each kind of variable, indexed by node number or by position.
 #[derive(Drop)]
-pub struct Sets {
+pub struct CountSets {
     locals: Vec<Vec<bool>>,
     inputs: Vec<Vec<bool>>,
     outputs: Vec<Vec<bool>>,
 }
 
-impl Sets {
-    /// An empty list for each variable.
-    pub fn new(alloc: Global) -> Sets
+impl CountSets {
+    /// Creates a table with the empty vector for each variable.
+    pub fn new(alloc: Global) -> CountSets
         ensures { (of : core.Owned) → set_at result of ≡ [] }
     {
-        Sets {
+        CountSets {
             locals: Vec::new(alloc),
             inputs: Vec::new(alloc),
             outputs: Vec::new(alloc),
         }
     }
 
-    /// The set of a variable.
-    pub fn get(&self, of: Owned) -> &[bool]
+    /// Returns the set of a variable.
+    pub fn get(&self, of: Binding) -> &[bool]
         ensures { result.now ≡ set_at self.now (owned_name of) }
     {
         match of {
-            Owned::Local(number) => set_in_place(self.locals.as_slice(), number as usize),
-            Owned::Input(input) => set_in_place(self.inputs.as_slice(), input),
-            Owned::Output(output) => set_in_place(self.outputs.as_slice(), output),
+            Binding::Local(number) => set_in_place(self.locals.as_slice(), number as usize),
+            Binding::Input(input) => set_in_place(self.inputs.as_slice(), input),
+            Binding::Output(output) => set_in_place(self.outputs.as_slice(), output),
         }
     }
 
-    /// Puts the set of a variable.
-    pub fn set(&mut self, alloc: Global, of: Owned, set: Vec<bool>) -> Result<(), AllocError>
+    /// Stores the set of a variable.
+    pub fn set(&mut self, alloc: Global, of: Binding, set: Vec<bool>) -> Result<(), AllocError>
         ensures { OnOk result ((other : core.Owned) → set_at self.new other ≡ cond (faults.same (owned_name of) other) set.items (set_at self.old other)) }
     {
         match of {
-            Owned::Local(number) => place(alloc, &mut self.locals, number as usize, set),
-            Owned::Input(input) => place(alloc, &mut self.inputs, input, set),
-            Owned::Output(output) => place(alloc, &mut self.outputs, output, set),
+            Binding::Local(number) => place(alloc, &mut self.locals, number as usize, set),
+            Binding::Input(input) => place(alloc, &mut self.inputs, input, set),
+            Binding::Output(output) => place(alloc, &mut self.outputs, output, set),
         }
     }
 }
 
-/// The set at a number.
+/// Returns the set at an index, or the empty vector beyond the end.
 fn set_in_place(sets: &[Vec<bool>], number: usize) -> &[bool]
     ensures { result.now ≡ set_in sets.now number }
 {
@@ -61,7 +64,7 @@ fn set_in_place(sets: &[Vec<bool>], number: usize) -> &[bool]
     }
 }
 
-/// Puts a set at its number, behind as many empty ones as there must be.
+/// Stores a set at an index, and extends the table with empty vectors as far as needed.
 fn place(
     alloc: Global,
     sets: &mut Vec<Vec<bool>>,

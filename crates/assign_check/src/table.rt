@@ -1,4 +1,4 @@
-//! A value for each variable.
+//! A table with a value for each variable.
 ghost use Rattle.std.specs.Prelude.{◌≡◌, ◌≢◌, ℕ, OnOk, OnErr, slice_get, cond, nat_eq};
 ghost use Rattle.types.specs.Typed.{owned_name};
 ghost use Rattle.language.specs.Core as core;
@@ -6,24 +6,26 @@ ghost use Rattle.assign_check.specs.Faults as faults;
 ghost use Rattle.assign_check.specs.Tables.{at, or_empty};
 
 use std::alloc::{AllocError, Global};
-use types::typed::Owned;
+use types::typed::Binding;
 
-/// A value for each variable: an empty one where no other was put.
+/// A value for each variable; a variable without an entry has the value `empty`.
+///
+/// One vector for each kind of variable, indexed by node number or by position.
 #[derive(Drop)]
-pub struct Table<T: Drop> {
+pub struct VariableTable<T: Drop> {
     empty: T,
     locals: Vec<T>,
     inputs: Vec<T>,
     outputs: Vec<T>,
 }
 
-impl<T: Copy + Drop> Table<T> {
-    /// Empty for each variable.
-    pub fn new(alloc: Global, empty: T) -> Table<T>
+impl<T: Copy + Drop> VariableTable<T> {
+    /// Creates a table with the value `empty` for each variable.
+    pub fn new(alloc: Global, empty: T) -> VariableTable<T>
         ensures all { (of : core.Owned) → at result of ≡ empty }
         ensures empty { result.empty ≡ empty }
     {
-        Table {
+        VariableTable {
             empty,
             locals: Vec::new(alloc),
             inputs: Vec::new(alloc),
@@ -31,45 +33,45 @@ impl<T: Copy + Drop> Table<T> {
         }
     }
 
-    /// The value of a variable.
-    pub fn get(&self, of: Owned) -> T
+    /// Returns the value of a variable.
+    pub fn get(&self, of: Binding) -> T
         ensures { result ≡ at self.now (owned_name of) }
     {
         match of {
-            Owned::Local(number) => value_at(self.locals.as_slice(), number as usize, self.empty),
-            Owned::Input(place) => value_at(self.inputs.as_slice(), place, self.empty),
-            Owned::Output(place) => value_at(self.outputs.as_slice(), place, self.empty),
+            Binding::Local(number) => value_at(self.locals.as_slice(), number as usize, self.empty),
+            Binding::Input(place) => value_at(self.inputs.as_slice(), place, self.empty),
+            Binding::Output(place) => value_at(self.outputs.as_slice(), place, self.empty),
         }
     }
 
-    /// Puts the value of a variable.
-    pub fn set(&mut self, of: Owned, value: T) -> Result<(), AllocError>
+    /// Stores the value of a variable. If an allocation fails, the table is unchanged.
+    pub fn set(&mut self, of: Binding, value: T) -> Result<(), AllocError>
         ensures set { OnOk result ((other : core.Owned) → at self.new other ≡ cond (faults.same (owned_name of) other) value (at self.old other)) }
         ensures kept { OnErr result ((other : core.Owned) → at self.new other ≡ at self.old other) }
         ensures empty { self.new.empty ≡ self.old.empty }
     {
         match of {
-            Owned::Local(number) => place(&mut self.locals, number as usize, value, self.empty),
-            Owned::Input(input) => place(&mut self.inputs, input, value, self.empty),
-            Owned::Output(output) => place(&mut self.outputs, output, value, self.empty),
+            Binding::Local(number) => place(&mut self.locals, number as usize, value, self.empty),
+            Binding::Input(input) => place(&mut self.inputs, input, value, self.empty),
+            Binding::Output(output) => place(&mut self.outputs, output, value, self.empty),
         }
     }
 
-    /// Puts another value of a variable that has one.
-    pub fn put(&mut self, of: Owned, value: T)
+    /// Replaces the value of a variable that has a value other than `empty`. Allocates no memory.
+    pub fn put(&mut self, of: Binding, value: T)
         ensures put { at self.old (owned_name of) ≢ self.old.empty → (other : core.Owned)
             → at self.new other ≡ cond (faults.same (owned_name of) other) value (at self.old other) }
         ensures empty { self.new.empty ≡ self.old.empty }
     {
         match of {
-            Owned::Local(number) => replace(&mut self.locals, number as usize, value),
-            Owned::Input(place) => replace(&mut self.inputs, place, value),
-            Owned::Output(place) => replace(&mut self.outputs, place, value),
+            Binding::Local(number) => replace(&mut self.locals, number as usize, value),
+            Binding::Input(place) => replace(&mut self.inputs, place, value),
+            Binding::Output(place) => replace(&mut self.outputs, place, value),
         }
     }
 }
 
-/// Puts another value at its number.
+/// Replaces the value at an index. Does nothing beyond the end.
 fn replace<T: Copy + Drop>(values: &mut Vec<T>, number: usize, value: T)
     ensures { (empty : T) → or_empty empty (slice_get values.old.items number) ≢ empty → (other : ℕ)
         → or_empty empty (slice_get values.new.items other) ≡ cond (nat_eq number other) value (or_empty empty (slice_get values.old.items other)) }
@@ -79,7 +81,7 @@ fn replace<T: Copy + Drop>(values: &mut Vec<T>, number: usize, value: T)
     }
 }
 
-/// The value at a number, or the empty one where there is none.
+/// Returns the value at an index, or `empty` beyond the end.
 fn value_at<T: Copy + Drop>(values: &[T], number: usize, empty: T) -> T
     ensures { result ≡ or_empty empty (slice_get values.now number) }
 {
@@ -89,7 +91,8 @@ fn value_at<T: Copy + Drop>(values: &[T], number: usize, empty: T) -> T
     }
 }
 
-/// Puts a value at its number, behind as many empty ones as there must be.
+/// Stores a value at an index, and extends the vector with `empty` as far as needed. If an allocation fails, no value
+/// is changed.
 fn place<T: Copy + Drop>(
     values: &mut Vec<T>,
     number: usize,

@@ -3,7 +3,7 @@ ghost use Rattle.std.specs.Bool.{OnTrue};
 ghost use Rattle.data_store.specs.Stores.{IsArrayAt};
 
 use crate::watch::tell;
-use data_store::store::{DatumNo, Shape, Store};
+use data_store::store::{DatumKind, DatumNo, Store};
 use std::alloc::{AllocError, Global};
 use std::io;
 use std::time::{Clock, Instant};
@@ -14,7 +14,7 @@ use values::value::Scalar;
 fn make_all(alloc: Global, store: &mut Store, count: u64) -> Result<Vec<DatumNo>, AllocError> {
     let mut made = Vec::new(alloc);
     for _number in 0..count {
-        let d = store.new_cell(Shape::Single, 1, 0)?;
+        let d = store.new_cell(DatumKind::Single, 1, 0)?;
         let _put = store.put(d, Scalar::Number(5));
         made.push(d)?;
     }
@@ -96,12 +96,12 @@ fn free_batches(batches: &mut [Batch]) -> usize {
     left
 }
 
-/// Whether a number has an array.
+/// Returns true if a number has an array.
 fn is_array(store: &Store, d: DatumNo) -> bool
     ensures { OnTrue result (IsArrayAt store.now d) }
 {
     match store.shape(d) {
-        Some(Shape::Keyed) => true,
+        Some(DatumKind::Keyed) => true,
         _ => false,
     }
 }
@@ -116,7 +116,7 @@ fn fill_arrays(
 ) -> Result<u64, AllocError> {
     let mut inserted = 0u64;
     for _array in 0..arrays {
-        let d = store.new_cell(Shape::Keyed, 1, 1)?;
+        let d = store.new_cell(DatumKind::Keyed, 1, 1)?;
         inserted = insert_all(store, d, count, scattered).wrapping_add(inserted);
         filled.push(d)?;
     }

@@ -3,7 +3,7 @@
 ghost use Rattle.std.specs.Prelude.{◌<◌};
 ghost use Rattle.pool.specs.Seats.{IsSeatOf};
 
-use pool::{Kind, Pool, PoolSeat};
+use pool::{HoleKind, Pool, PoolSeat};
 use std::alloc::Global;
 use std::io;
 use std::time::{Clock, Instant};
@@ -18,8 +18,8 @@ fn count_taken(pool: &Pool, seat: &mut PoolSeat, class: u8) -> u64
 {
     let mut count = 0u64;
     for round in 0..ROUNDS {
-        pool.offer(seat, Kind::Leaf, class, u64::from(round) + 1);
-        if pool.take(seat, Kind::Leaf).is_some() {
+        pool.offer(seat, HoleKind::Leaf, class, u64::from(round) + 1);
+        if pool.take(seat, HoleKind::Leaf).is_some() {
             count = count.wrapping_add(1);
         }
     }

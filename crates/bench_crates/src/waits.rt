@@ -2,7 +2,7 @@
 
 use crate::watch;
 use rules::input::Input;
-use rules::listing::Rules;
+use rules::rules_table::Rules;
 use smallvec::SmallVec;
 use std::alloc::{AllocError, Global};
 use std::io;

@@ -10,10 +10,10 @@ use std::io;
 use std::sync::Wait;
 use std::thread::Threads;
 use std::time::{Clock, Instant};
-use workers::job::Open;
+use workers::gate::DirectGate;
 use workers::run::run_threads;
 
-/// How many engines and workers there are. Where there are none, one thread does it all, without a lock.
+/// Number of engines and workers. Where there are none, one thread does it all, without a lock.
 const CREWS: [(u8, u8); 4] = [(0, 0), (1, 1), (1, 3), (2, 2)];
 
 /// What a run of the program leaves, on one thread or, where there are engines, on so many engines and workers.
@@ -27,7 +27,7 @@ fn run<R: Threads + Wait + Sync>(
     if engines == 0 {
         return run_one(alloc, program, &[], u32::MAX).ok();
     }
-    match run_threads(rt, alloc, program, engines, workers, u32::MAX, &Open) {
+    match run_threads(rt, alloc, program, engines, workers, u32::MAX, &DirectGate) {
         Ok((report, _)) => Some(report),
         Err(_) => None,
     }

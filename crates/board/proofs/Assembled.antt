@@ -18,14 +18,14 @@ use Rattle.board_effects.specs.Effects.{GoesWell, IsEffect}
 use Rattle.board_effects.specs.declared.effect.Effect.{Effect}
 use Rattle.board_effects.specs.declared.effect.Effect.TheVariants as To
 use Rattle.board_instances.specs.View.{frames_view, rows_view}
-use Rattle.board_instances.specs.declared.opening.Openings.{Openings}
-use Rattle.board_instances.specs.declared.item.Item.{Item}
+use Rattle.board_instances.specs.declared.pending.PendingInstances.{PendingInstances}
+use Rattle.board_instances.specs.declared.item.ItemRecord.{ItemRecord}
 use Rattle.board_changes.proofs.Bridge.{are_blocks}
 use Rattle.board_changes.specs.Blocks.{AreBlocks}
 use Rattle.board_changes.specs.Room.{OpensWell}
 use Rattle.board_changes.specs.World.{goes_on}
-use Rattle.board_changes.specs.declared.world.Change.{Change}
-use Rattle.board_changes.specs.declared.world.Change.TheVariants as Changes
+use Rattle.board_changes.specs.declared.data_state.Change.{Change}
+use Rattle.board_changes.specs.declared.data_state.Change.TheVariants as Changes
 use Rattle.board.proofs.GoingKind.{going_kind}
 use Rattle.board.proofs.Moves.{state_is}
 use Rattle.board.proofs.OpensWell.{opens_well}
@@ -38,9 +38,9 @@ use Rattle.board.specs.Ending.{StaysSo, is_fault}
 use Rattle.board.specs.History.{state_of}
 use Rattle.board.specs.Inside.{Stand}
 use Rattle.board.specs.Rows.{RunsOn}
-use Rattle.board.specs.declared.state.Core.{Core}
+use Rattle.board.specs.declared.state.BoardState.{BoardState}
 
-pub rows_len : (is : List Item) → length (rows_view is) ≡ length is
+pub rows_len : (is : List ItemRecord) → length (rows_view is) ≡ length is
 rows_len [] = refl
 rows_len (i ∷ is) = ap suc (rows_len is)
 
@@ -62,27 +62,27 @@ rises_of (n ∷ ns) s d = (
     below (suc a) zero h f = absurd (omega (arith, h))
     below (suc a) (suc b) h f = let y = below a b (omega (arith, h)) (λ q. f (ap suc q)) in omega (arith, y)
 
-abbrev opened_in : Effect → Openings → Openings
+abbrev opened_in : Effect → PendingInstances → PendingInstances
 opened_in (To.Opens p) o = p
 opened_in e o = o
 
-abbrev opened_as : Change → Openings → Openings
+abbrev opened_as : Change → PendingInstances → PendingInstances
 opened_as (Changes.Opens p) o = p
 opened_as x o = o
 
 no_opening : {B : Type 0} → false ≡ true → B
 no_opening h = absurd (cc)
 
-module _ (C : Code) (I : IsCode C) (es : List Event) (old room : Core) (same : StaysSo C old room) (s : Stand C es old) (free : old.fault ≡ None) (w n : ℕ) (j : Job)
-    (runs : RunsOn (rows_view old.items.rows.items) w n j) (xs : List (Answer Key Scalar)) (sees : SeesAll (code_system C) (state_of C es) (task_inputs C (task_of (frames_view old.world.instances.slots) j)) xs) (e : Effect)
-    (effect : IsEffect C (frames_view old.world.instances.slots) (cells_view old.world.store.cells) j (computed_by C (task_of (frames_view old.world.instances.slots) j) xs) e) (good : is_fault e ≡ false)
-    (rows : room.items.rows.items ≡ old.items.rows.items) (frames : room.world.instances.slots ≡ old.world.instances.slots) (cells : cells_view room.world.store.cells ≡ cells_view old.world.store.cells)
-    (can : CanChange C (frames_view old.world.instances.slots) (length old.items.rows.items) j (change_of e)) where
+module _ (C : Code) (I : IsCode C) (es : List Event) (old room : BoardState) (same : StaysSo C old room) (s : Stand C es old) (free : old.fault ≡ None) (w n : ℕ) (j : Job)
+    (runs : RunsOn (rows_view old.items.rows.items) w n j) (xs : List (Answer Key Scalar)) (sees : SeesAll (code_system C) (state_of C es) (task_inputs C (task_of (frames_view old.data_state.instances.slots) j)) xs) (e : Effect)
+    (effect : IsEffect C (frames_view old.data_state.instances.slots) (cells_view old.data_state.store.cells) j (computed_by C (task_of (frames_view old.data_state.instances.slots) j) xs) e) (good : is_fault e ≡ false)
+    (rows : room.items.rows.items ≡ old.items.rows.items) (frames : room.data_state.instances.slots ≡ old.data_state.instances.slots) (cells : cells_view room.data_state.store.cells ≡ cells_view old.data_state.store.cells)
+    (can : CanChange C (frames_view old.data_state.instances.slots) (length old.items.rows.items) j (change_of e)) where
   abbrev fs : List (Option Frame)
-  fs = frames_view room.world.instances.slots
+  fs = frames_view room.data_state.instances.slots
 
   abbrev ds : List (Option Counted)
-  ds = cells_view room.world.store.cells
+  ds = cells_view room.data_state.store.cells
 
   abbrev x : Computed
   x = computed_by C (task_of fs j) xs
@@ -98,15 +98,15 @@ module _ (C : Code) (I : IsCode C) (es : List Event) (old room : Core) (same : S
 
   pub seen : SeesAll (code_system C) stood.stands.state (task_inputs C (task_of fs j)) xs
   seen = subst (λ l. SeesAll (code_system C) stood.stands.state (task_inputs C (task_of (frames_view l) j)) xs) (sym frames)
-      (subst (λ (u : CodeState). SeesAll (code_system C) u (task_inputs C (task_of (frames_view old.world.instances.slots) j)) xs) (state_is C es stood.stands.state stood.stands.reached) sees)
+      (subst (λ (u : CodeState). SeesAll (code_system C) u (task_inputs C (task_of (frames_view old.data_state.instances.slots) j)) xs) (state_is C es stood.stands.state stood.stands.reached) sees)
 
   pub does : IsEffect C fs ds j x e
   does = subst (λ l. IsEffect C (frames_view l) ds j (computed_by C (task_of (frames_view l) j) xs) e) (sym frames)
-      (subst (λ (d : List (Option Counted)). IsEffect C (frames_view old.world.instances.slots) d j (computed_by C (task_of (frames_view old.world.instances.slots) j) xs) e) (sym cells) effect)
+      (subst (λ (d : List (Option Counted)). IsEffect C (frames_view old.data_state.instances.slots) d j (computed_by C (task_of (frames_view old.data_state.instances.slots) j) xs) e) (sym cells) effect)
 
   pub can_now : CanChange C fs (length room.items.rows.items) j (change_of e)
   can_now = subst (λ l. CanChange C (frames_view l) (length room.items.rows.items) j (change_of e)) (sym frames)
-      (subst (λ l. CanChange C (frames_view old.world.instances.slots) (length l) j (change_of e)) (sym rows) can)
+      (subst (λ l. CanChange C (frames_view old.data_state.instances.slots) (length l) j (change_of e)) (sym rows) can)
 
   well : GoesWell C fs ds j x e
   well = goes_well C fs ds j x e good does
@@ -133,16 +133,16 @@ module _ (C : Code) (I : IsCode C) (es : List Event) (old room : Core) (same : S
       by (To.Inserts d ys) g c = tt
       by (To.Prints v) g c = tt
       by To.Passes g c = tt
-      by (To.Opens o) g c = opens_well C fs j x (To.Opens o) (λ p q. subst (λ (r : Openings). AreBlocks C fs j x r) (ap (λ (t : Effect). opened_in t o) q) (are_blocks C fs stood.stands.frames.depth x o j g.opens)) c.1
+      by (To.Opens o) g c = opens_well C fs j x (To.Opens o) (λ p q. subst (λ (r : PendingInstances). AreBlocks C fs j x r) (ap (λ (t : Effect). opened_in t o) q) (are_blocks C fs stood.stands.frames.depth x o j g.opens)) c.1
 
-  pub has_spare : (o : Openings) → change_of e ≡ Changes.Opens o → HasSpare C o
+  pub has_spare : (o : PendingInstances) → change_of e ≡ Changes.Opens o → HasSpare C o
   has_spare = by e well
     where
-      by : (e : Effect) → GoesWell C fs ds j x e → (o : Openings) → change_of e ≡ Changes.Opens o → HasSpare C o
+      by : (e : Effect) → GoesWell C fs ds j x e → (o : PendingInstances) → change_of e ≡ Changes.Opens o → HasSpare C o
       by (To.Fails f) g o q = absurd (cc)
       by (To.Stores d v) g o q = absurd (cc)
       by (To.Puts d k v) g o q = absurd (cc)
       by (To.Inserts d ys) g o q = absurd (cc)
       by (To.Prints v) g o q = absurd (cc)
       by To.Passes g o q = absurd (cc)
-      by (To.Opens p) g o q = subst (λ (r : Openings). HasSpare C r) (ap (λ (t : Change). opened_as t o) q) ((are_blocks C fs stood.stands.frames.depth x p j g.opens).one_body, g.opens.spare)
+      by (To.Opens p) g o q = subst (λ (r : PendingInstances). HasSpare C r) (ap (λ (t : Change). opened_as t o) q) ((are_blocks C fs stood.stands.frames.depth x p j g.opens).one_body, g.opens.spare)

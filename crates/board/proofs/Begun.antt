@@ -7,11 +7,11 @@ use Rattle.task_code.specs.View.{event_view}
 use Rattle.task_code.specs.declared.event.Event.{Event}
 use Rattle.task_code.specs.declared.event.Event.TheVariants as Events
 use Rattle.rules.specs.declared.input.Input.{Input}
-use Rattle.board_compute.specs.View.{answers_view}
-use Rattle.board_compute.specs.declared.answer.Answer.{Answer}
+use Rattle.board_work.specs.View.{answers_view}
+use Rattle.board_work.specs.declared.answer.Answer.{Answer}
 use Rattle.board_data.specs.View.{cells_view}
 use Rattle.board_instances.specs.View.{frames_view, rows_view}
-use Rattle.board_changes.specs.declared.world.World.{World}
+use Rattle.board_changes.specs.declared.data_state.DataState.{DataState}
 use Rattle.board_work.specs.Assigned.{Assigned}
 use Rattle.board.specs.Board.{Accepts, IsGoing, IsWorkOf, IsWorker, Seen}
 use Rattle.board.specs.Ending.{HasEnded, IsUnchanged, StaysIf}
@@ -21,12 +21,12 @@ use Rattle.board.specs.Marked.{HasBegun}
 use Rattle.board.specs.Rows.{IsReady, RunsOn}
 use Rattle.board.specs.Working.{IsWorkAt, answers_at, work_of}
 use Rattle.board.specs.declared.board.Board.TheInside.{Inside}
-use Rattle.board.specs.declared.state.Core.{Core}
+use Rattle.board.specs.declared.state.BoardState.{BoardState}
 use Rattle.board.proofs.Own.{accepts_on, free_core, numbered, same_on, same_seen, sound_on}
 use Rattle.board.proofs.OwnWork.{work_own}
 
 -- the board, with another core, history, inputs to tell and list of answers
-abbrev pub with_fields : Inside → Core → Vec Event Global → Vec Input Global → Vec Answer Global → Inside
+abbrev pub with_fields : Inside → BoardState → Vec Event Global → Vec Input Global → Vec Answer Global → Inside
 with_fields a core history known answers = record { program = a.program; most_names = a.most_names; limit = a.limit; core = core; history = history; known = known; answers = answers }
 
 -- the board's history with an event more
@@ -47,13 +47,13 @@ pub record Begun (old : Seen) (b : Inside) (w n : ℕ) (j : Job) : Type 0 where
   pub accepts : Accepts old (event_view (Events.Begin w n)) (seen_of b)
   pub free : b.core.fault ≡ None
   pub runs : RunsOn (rows_view b.core.items.rows.items) w n j
-  pub work : IsWorkAt b.program (frames_view b.core.world.instances.slots) (cells_view b.core.world.store.cells) j (work_in b n j)
+  pub work : IsWorkAt b.program (frames_view b.core.data_state.instances.slots) (cells_view b.core.data_state.store.cells) j (work_in b n j)
 
 -- so it is where the core, which did not change while the answers were asked for, has begun the item, and the event was noted in a
 -- history with room for two events more than items ran
-pub has_begun : {old : Seen} {a : Inside} {w n : ℕ} {j : Job} {asked core : Core} → (s : IsSound a) → seen_of a ≡ old → IsGoing old → IsWorker w
+pub has_begun : {old : Seen} {a : Inside} {w n : ℕ} {j : Job} {asked core : BoardState} → (s : IsSound a) → seen_of a ≡ old → IsGoing old → IsWorker w
     → IsReady (rows_view a.core.items.rows.items) n j → asked ≡ a.core → HasBegun a.program w n j asked core
-    → (answers : Vec Answer Global) → answers_view answers.items ≡ answers_at a.program (frames_view a.core.world.instances.slots) (cells_view a.core.world.store.cells) j
+    → (answers : Vec Answer Global) → answers_view answers.items ≡ answers_at a.program (frames_view a.core.data_state.instances.slots) (cells_view a.core.data_state.store.cells) j
     → (history : Vec Event Global) → history.items ≡ a.history.items ++ Events.Begin w n ∷ [] → vec_len a.history + (asked.items.running + 2) ≤ vec_capacity history
     → n < 2 ^ 64 → Begun old (with_fields a core history a.known answers) w n j
 has_begun {old} {a} {w} {n} {j} {asked} {core} s is going worker ready same begins answers listed history noted room few =
@@ -61,7 +61,7 @@ has_begun {old} {a} {w} {n} {j} {asked} {core} s is going worker ready same begi
     record {
       sound =
           sound_on a s b (Events.Begin w n) refl refl refl noted stand
-          (λ h. omega (arith, room, longer a history (Events.Begin w n) noted, begun.running fits, ap (λ (k : Core). k.items.running) same))
+          (λ h. omega (arith, room, longer a history (Events.Begin w n) noted, begun.running fits, ap (λ (k : BoardState). k.items.running) same))
           (within a history (Events.Begin w n) noted here) worker (numbered (rows_view a.core.items.rows.items) n _ ready, few);
       accepts = subst (λ (v : Seen). Accepts v (event_view (Events.Begin w n)) (seen_of b)) is (accepts_on a s b (Events.Begin w n) refl refl noted stand here);
       free = begun.fault ∙ free;
@@ -69,7 +69,7 @@ has_begun {old} {a} {w} {n} {j} {asked} {core} s is going worker ready same begi
       work =
           record {
             job = refl;
-            answers = subst (λ (v : World). answers_view answers.items ≡ answers_at a.program (frames_view v.instances.slots) (cells_view v.store.cells) j) (sym begun.world) listed;
+            answers = subst (λ (v : DataState). answers_view answers.items ≡ answers_at a.program (frames_view v.instances.slots) (cells_view v.store.cells) j) (sym begun.data_state) listed;
           };
     }
   where
@@ -83,18 +83,18 @@ has_begun {old} {a} {w} {n} {j} {asked} {core} s is going worker ready same begi
     fits = omega (arith, s.room free, a.history.small)
 
     begun : HasBegun a.program w n j a.core core
-    begun = subst (λ (k : Core). HasBegun a.program w n j k core) same begins
+    begun = subst (λ (k : BoardState). HasBegun a.program w n j k core) same begins
 
     stand : Stand a.program (map event_view a.history.items ++ event_view (Events.Begin w n) ∷ []) core
     stand = begun.stand (map event_view a.history.items) s.whole s.stand free ready fits
 
 -- the end of an item that has begun so, computed from the answers given
 module _ {old : Seen} {b : Inside} {w n : ℕ} {j : Job} (begun : Begun old b w n j) {given : List Answer} (same : given ≡ b.answers.items) where
-  own : IsWorkOf b.program (state_of b.program (map event_view b.history.items)) (task_of (frames_view b.core.world.instances.slots) j) (work_in b n j)
+  own : IsWorkOf b.program (state_of b.program (map event_view b.history.items)) (task_of (frames_view b.core.data_state.instances.slots) j) (work_in b n j)
   own = work_own b.program begun.sound.whole (map event_view b.history.items) b.core begun.sound.stand begun.free w n j begun.runs (work_in b n j) begun.work
 
   -- where memory is refused to it, the item runs on
-  module _ {new : Core} (known : Vec Input Global) (stays : (done : Assigned) → done.job ≡ work_of b.program j → done.answers ≡ answers_view given → StaysIf b.program n j done b.core new) where
+  module _ {new : BoardState} (known : Vec Input Global) (stays : (done : Assigned) → done.job ≡ work_of b.program j → done.answers ≡ answers_view given → StaysIf b.program n j done b.core new) where
     unchanged : IsUnchanged b.program (map event_view b.history.items) b.core new
     unchanged = stays (work_in b n j) refl (ap answers_view (sym same)) (map event_view b.history.items) w begun.sound.whole begun.sound.stand begun.free begun.runs own
 
@@ -105,7 +105,7 @@ module _ {old : Seen} {b : Inside} {w n : ℕ} {j : Job} (begun : Begun old b w 
     unended_accepts = subst (λ (v : Seen). Accepts old (event_view (Events.Begin w n)) v) (sym (same_seen b new known b.answers unchanged.newly)) begun.accepts
 
   -- else the item has ended, and the event is noted
-  module _ {new : Core} (known : Vec Input Global) (ends : (done : Assigned) → done.job ≡ work_of b.program j → done.answers ≡ answers_view given → HasEnded b.program n j done b.core new) (going : IsGoing (seen_of b)) (history : Vec Event Global) (noted : history.items ≡ b.history.items ++ Events.End w n ∷ []) where
+  module _ {new : BoardState} (known : Vec Input Global) (ends : (done : Assigned) → done.job ≡ work_of b.program j → done.answers ≡ answers_view given → HasEnded b.program n j done b.core new) (going : IsGoing (seen_of b)) (history : Vec Event Global) (noted : history.items ≡ b.history.items ++ Events.End w n ∷ []) where
     ended : HasEnded b.program n j (work_in b n j) b.core new
     ended = ends (work_in b n j) refl (ap answers_view (sym same))
 

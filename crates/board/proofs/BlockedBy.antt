@@ -14,7 +14,7 @@ use Rattle.board_data.specs.View.{cells_view}
 use Rattle.board_data.specs.Wanted.{wanted_missed}
 use Rattle.board_instances.specs.Names.{led_slot}
 use Rattle.board_instances.specs.View.{frames_view, rows_view}
-use Rattle.paths.specs.declared.statements.Statement.{Statement}
+use Rattle.paths.specs.declared.statements.StatementInstance.{StatementInstance}
 use Rattle.board_history.specs.Fields as Fields
 use Rattle.board_history.specs.Fields.{Counted, Does, Frame, Job, Over, Row, Script, Slot, is_over, row_of, slot_at, slot_for, task_of}
 use Rattle.board_history.specs.Needs.{missed}
@@ -35,7 +35,7 @@ use Rattle.board.specs.History.{state_of}
 use Rattle.board.specs.Inside.{Stand}
 use Rattle.board.specs.Stuck.{Place, at_place, blocked_job, blocked_offset, blocked_row, first_unknown, is_header_known, misses_none, place_of}
 use Rattle.board.specs.View.{fields_view}
-use Rattle.board.specs.declared.state.Core.{Core}
+use Rattle.board.specs.declared.state.BoardState.{BoardState}
 use Rattle.board.proofs.Moves.{item_there, row_there, state_is}
 use Rattle.board.proofs.Reading.{resolved}
 use Rattle.board.proofs.Stuck.{first_in, first_told}
@@ -117,12 +117,12 @@ plain_told own at = (λ h. (refl, sym (some_same h)), λ h. ap Some (sym h.1))
 never_told : {X : Type 0} (at : ℕ) → (◌≡◌ {A = Option ℕ} None (Some at)) ↔ ((false ≡ true) × X)
 never_told at = (λ h. none_some h, λ h. absurd (cc (h.0)))
 
-module _ (C : Code) (I : IsCode C) (es : List Event) (core : Core) (t : Stand C es core) where
+module _ (C : Code) (I : IsCode C) (es : List Event) (core : BoardState) (t : Stand C es core) where
   abbrev fs : List (Option Frame)
-  fs = frames_view core.world.instances.slots
+  fs = frames_view core.data_state.instances.slots
 
   abbrev cs : List (Option Counted)
-  cs = cells_view core.world.store.cells
+  cs = cells_view core.data_state.store.cells
 
   abbrev rows : List Row
   rows = rows_view core.items.rows.items
@@ -226,7 +226,7 @@ module _ (C : Code) (I : IsCode C) (es : List Event) (core : Core) (t : Stand C 
           row_at (blocked_row C fs cs) rows f.at f.row (at_place at path) f.there row
 
   -- all blocked statements
-  pub are_blocked : (ss : List Statement) → ((p : Place) → In p (map place_of ss) ↔ In p (filter_map (blocked_row C fs cs) rows)) → InTextOrder ss → AreBlocked C (state_of C es) ss
+  pub are_blocked : (ss : List StatementInstance) → ((p : Place) → In p (map place_of ss) ↔ In p (filter_map (blocked_row C fs cs) rows)) → InTextOrder ss → AreBlocked C (state_of C es) ss
   are_blocked ss same order =
       subst (λ (z : CodeState). AreBlocked C z ss) (sym (state_is C es s t.stands.reached))
       (record {
@@ -235,7 +235,7 @@ module _ (C : Code) (I : IsCode C) (es : List Event) (core : Core) (t : Stand C 
         order = order;
       })
 
-  pub blocked_told : {E A : Type 0} (r : Result (Vec Statement A) E)
+  pub blocked_told : {E A : Type 0} (r : Result (Vec StatementInstance A) E)
       → IfOk r (λ ss. (p : Place) → In p (map place_of ss.items) ↔ In p (filter_map (blocked_row C fs cs) rows))
       → IfOk r (λ ss. InTextOrder ss.items)
       → IfOk r (λ ss. AreBlocked C (state_of C es) ss.items)

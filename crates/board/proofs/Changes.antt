@@ -29,8 +29,8 @@ use Rattle.board_items.specs.View.{queue_view}
 use Rattle.board.specs.Queues.{SameNumbers, with_queue}
 use Rattle.board.specs.Rows.{IsReady, RunsOn}
 use Rattle.board.specs.View.{fields_view}
-use Rattle.board.specs.declared.state.Core.{Core}
-use Rattle.board_changes.specs.declared.world.World.{World}
+use Rattle.board.specs.declared.state.BoardState.{BoardState}
+use Rattle.board_changes.specs.declared.data_state.DataState.{DataState}
 use Rattle.board.proofs.Entries.{number_held}
 use Rattle.board.proofs.Moves.{begun, idle_ready, item_there, kind_of_job, priority_of_job, ready_item, returned, row_there}
 use Rattle.board.proofs.Orders.{IsAlone, begun_order, returned_order}
@@ -83,7 +83,7 @@ module _ (C : Code) (I : IsCode C) (L : Layout) (es : List Event) (F : Fields) (
       clash : Running w ≡ Ready → ⊥
       clash e = absurd (cc)
 
-module _ (C : Code) (I : IsCode C) (es : List Event) (old new : Core) (s : Stand C es old) (free : old.fault ≡ None) (world : new.world ≡ old.world) (lines : new.lines ≡ old.lines) (fault : new.fault ≡ old.fault) (order : StaysButOrder old.items new.items) where
+module _ (C : Code) (I : IsCode C) (es : List Event) (old new : BoardState) (s : Stand C es old) (free : old.fault ≡ None) (data_state : new.data_state ≡ old.data_state) (lines : new.lines ≡ old.lines) (fault : new.fault ≡ old.fault) (order : StaysButOrder old.items new.items) where
   x : Stands C (layout_of C) es (fields_view s.told old)
   x = s.stands
 
@@ -112,8 +112,8 @@ module _ (C : Code) (I : IsCode C) (es : List Event) (old new : Core) (s : Stand
         stands = subst (λ (F : Fields). Stands C (layout_of C) (es ++ Begin w n ∷ []) F) fields (queue_kept C (layout_of C) (es ++ Begin w n ∷ []) (begun_fields (fields_view s.told old) w n) (begun C I (layout_of C) es (fields_view s.told old) x none w n j ready) (queue_view new.items.queue) same);
         fault = noted;
         kept = record {
-          few = subst (λ (v : World). FewSlots (frames_view v.instances.slots)) (sym world) s.kept.few;
-          rising = subst (λ (v : World). AreRising v.store) (sym world) s.kept.rising;
+          few = subst (λ (v : DataState). FewSlots (frames_view v.instances.slots)) (sym data_state) s.kept.few;
+          rising = subst (λ (v : DataState). AreRising v.store) (sym data_state) s.kept.rising;
           roomy = roomy_begun C old.items new.items n w j (record { priority = job_priority C j; no = n }) s.kept.roomy ready rows queue apart (subst (λ (m : ℕ). 0 < m) (sym capacity) s.kept.roomy.noted) few;
           rises = subst (λ (ns : List ℕ). Rises ns) (sym newly) tt;
         };
@@ -147,8 +147,8 @@ module _ (C : Code) (I : IsCode C) (es : List Event) (old new : Core) (s : Stand
         stands = subst (λ (F : Fields). Stands C (layout_of C) (es ++ Back w n ∷ []) F) fields (queue_kept C (layout_of C) (es ++ Back w n ∷ []) (returned_fields (fields_view s.told old) n (job_kind C j) (job_priority C j)) (returned C I (layout_of C) es (fields_view s.told old) x none w n j runs) (queue_view new.items.queue) same);
         fault = noted;
         kept = record {
-          few = subst (λ (v : World). FewSlots (frames_view v.instances.slots)) (sym world) s.kept.few;
-          rising = subst (λ (v : World). AreRising v.store) (sym world) s.kept.rising;
+          few = subst (λ (v : DataState). FewSlots (frames_view v.instances.slots)) (sym data_state) s.kept.few;
+          rising = subst (λ (v : DataState). AreRising v.store) (sym data_state) s.kept.rising;
           roomy = roomy_back C old.items new.items n w j (record { priority = job_priority C j; no = n }) s.kept.roomy runs rows queue apart capacity;
           rises = subst (λ (ns : List ℕ). Rises ns) (sym newly) (λ m h. absurd h, tt);
         };

@@ -27,7 +27,7 @@ use Rattle.board_items.specs.Learnt.{HaveLearnt}
 use Rattle.board_items.specs.Progress.{AreOld, CanFinish, all_to_settle}
 use Rattle.board_items.specs.Room.{IsRoomy}
 use Rattle.board_items.specs.View.{queue_view, waiters_view}
-use Rattle.board_changes.specs.declared.world.World.{World}
+use Rattle.board_changes.specs.declared.data_state.DataState.{DataState}
 use Rattle.board_data.specs.Wanted.{FewSlots}
 use Rattle.work_queue.specs.Both.{Both}
 use Rattle.board_changes.proofs.Bridge.{are_blocks}
@@ -48,7 +48,7 @@ use Rattle.board.specs.Inside.{Stand}
 use Rattle.board.specs.Made.{CanNote, HasMade}
 use Rattle.board.specs.Rows.{RunsOn}
 use Rattle.board.specs.View.{fields_view}
-use Rattle.board.specs.declared.state.Core.{Core}
+use Rattle.board.specs.declared.state.BoardState.{BoardState}
 
 map_length : {X Y : Type 0} (f : X → Y) (xs : List X) → length (map f xs) ≡ length xs
 map_length f [] = refl
@@ -57,10 +57,10 @@ map_length f (x ∷ xs) = ap suc (map_length f xs)
 runs_over : {B : Type 0} (w : ℕ) → Running w ≡ Over → B
 runs_over w h = absurd (cc)
 
-module _ (C : Code) (I : IsCode C) (es : List Event) (old mid : Core) (s : Stand C es old) (free : old.fault ≡ None) (w n : ℕ) (j : Job) (runs : RunsOn (rows_view old.items.rows.items) w n j)
-    (xs : List (Answer Key Scalar)) (sees : SeesAll (code_system C) s.stands.state (task_inputs C (task_of (frames_view old.world.instances.slots) j)) xs) (e : Effect)
-    (effect : IsEffect C (frames_view old.world.instances.slots) (cells_view old.world.store.cells) j (computed_by C (task_of (frames_view old.world.instances.slots) j) xs) e) (good : is_fault e ≡ false)
-    (can : CanChange C (frames_view old.world.instances.slots) (length old.items.rows.items) j (change_of e)) (takes : TakesMore (change_of e) old.world.store) (note : CanNote old)
+module _ (C : Code) (I : IsCode C) (es : List Event) (old mid : BoardState) (s : Stand C es old) (free : old.fault ≡ None) (w n : ℕ) (j : Job) (runs : RunsOn (rows_view old.items.rows.items) w n j)
+    (xs : List (Answer Key Scalar)) (sees : SeesAll (code_system C) s.stands.state (task_inputs C (task_of (frames_view old.data_state.instances.slots) j)) xs) (e : Effect)
+    (effect : IsEffect C (frames_view old.data_state.instances.slots) (cells_view old.data_state.store.cells) j (computed_by C (task_of (frames_view old.data_state.instances.slots) j) xs) e) (good : is_fault e ≡ false)
+    (can : CanChange C (frames_view old.data_state.instances.slots) (length old.items.rows.items) j (change_of e)) (takes : TakesMore (change_of e) old.data_state.store) (note : CanNote old)
     (made : HasMade C j (change_of e) (line_of e) old mid) where
   abbrev F : Fields
   F = fields_view s.told old
@@ -72,10 +72,10 @@ module _ (C : Code) (I : IsCode C) (es : List Event) (old mid : Core) (s : Stand
   row = record { job = j; mark = Running w }
 
   abbrev gs : List (Option Frame)
-  gs = frames_view mid.world.instances.slots
+  gs = frames_view mid.data_state.instances.slots
 
   abbrev ds : List (Option Counted)
-  ds = cells_view mid.world.store.cells
+  ds = cells_view mid.data_state.store.cells
 
   abbrev rows : List Row
   rows = rows_view mid.items.rows.items
@@ -87,7 +87,7 @@ module _ (C : Code) (I : IsCode C) (es : List Event) (old mid : Core) (s : Stand
   count = map_length row_view old.items.rows.items
 
   -- the change fits
-  fits : (e : Effect) → GoesWell C F.frames F.cells j x e → CanChange C F.frames (length old.items.rows.items) j (change_of e) → ChangeFits C F j old.world.store (change_of e)
+  fits : (e : Effect) → GoesWell C F.frames F.cells j x e → CanChange C F.frames (length old.items.rows.items) j (change_of e) → ChangeFits C F j old.data_state.store (change_of e)
   fits (To.Fails f) g c = tt
   fits (To.Stores d v) g c = tt
   fits (To.Puts d k v) g c = tt
@@ -96,18 +96,18 @@ module _ (C : Code) (I : IsCode C) (es : List Event) (old mid : Core) (s : Stand
   fits To.Passes g c = tt
   fits (To.Opens o) g c = (
     record { around = c.0.around; count = c.0.slots; first = c.0.first; few = c.0.few_slots },
-    holds_fit C I es F s.stands j x old.world.store refl o (are_blocks C F.frames s.stands.frames.depth x o j g.opens) c.0.most c.0.names.reads c.0.names.writes
+    holds_fit C I es F s.stands j x old.data_state.store refl o (are_blocks C F.frames s.stands.frames.depth x o j g.opens) c.0.most c.0.names.reads c.0.names.writes
         (subst (λ k. k * c.0.most + (length o.list.items * (length (body C o.body).entries * c.0.most) + length o.list.items * (length (body C o.body).entries * c.0.most)) < 2 ^ 64) (sym count) c.0.few),
   )
 
   ended : (t : CodeState) × (replayed C (es ++ End w n ∷ []) ≡ Some t) × (t.fault ≡ None)
   ended = good_end C I es old mid s free w n j runs xs sees e effect good
 
-  can_store : CanStore (change_of e) old.world.store
-  can_store = change_takes C I es F s.stands w n ended.0 ended.1 row runs xs sees old.world.store refl e effect takes
+  can_store : CanStore (change_of e) old.data_state.store
+  can_store = change_takes C I es F s.stands w n ended.0 ended.1 row runs xs sees old.data_state.store refl e effect takes
 
   pub passed : WorldPasses C F j x gs ds rows made.news
-  passed = passes C I es F s.stands n row runs (runs_over w) x old.world.store refl s.kept.few (change_of e) j refl can_store (change_opens C F.frames F.cells j x e well) (fits e well can) (change_stores C F.frames F.cells j x e well) gs rows mid.world.store made.news made.world
+  passed = passes C I es F s.stands n row runs (runs_over w) x old.data_state.store refl s.kept.few (change_of e) j refl can_store (change_opens C F.frames F.cells j x e well) (fits e well can) (change_stores C F.frames F.cells j x e well) gs rows mid.data_state.store made.news made.data_state
 
   pub heard : HaveLearnt made.news F.waiting mid.items.rules.waiting mid.items.woken.items
   heard = made.learnt note F.waiting (nothing_learnt old.items.rules.waiting (λ v h. ((items_fit C I (layout_of C) es F s.stands).waiting v h).0))
@@ -149,13 +149,13 @@ module _ (C : Code) (I : IsCode C) (es : List Event) (old mid : Core) (s : Stand
   are_short_from first e = subst (λ (k : ℕ). AreShort C gs ds rows k mid.items.woken.items) (sym (same_first first e)) are_short
 
   -- once the items are settled, the fields stand for the next state
-  pub finished : (new : Core) (first : ℕ) → first ≡ length old.items.rows.items → new.world ≡ mid.world → new.lines ≡ mid.lines → new.fault ≡ mid.fault →
+  pub finished : (new : BoardState) (first : ℕ) → first ≡ length old.items.rows.items → new.data_state ≡ mid.data_state → new.lines ≡ mid.lines → new.fault ≡ mid.fault →
       AreSettled C gs ds rows first n (waiters_view mid.items.rules.waiting) (queue_view mid.items.queue) (all_to_settle first mid.items) (rows_view new.items.rows.items) (waiters_view new.items.rules.waiting) (queue_view new.items.queue) new.items.newly.items →
       IsRoomy C new.items → new.items.running ≡ mid.items.running - 1 → Rises new.items.newly.items → Stand C (es ++ End w n ∷ []) new
-  finished new first q world lines fault settled roomy running rises =
+  finished new first q data_state lines fault settled roomy running rises =
       passed_core C I es old new s free w n j runs xs sees e effect good (record { turns = turns_then F n x rows; fault = None })
       (ends_after C I es F s.stands w n j runs ended.0 ended.1 ended.2 xs sees gs ds rows made.news passed mid.items.rules.waiting mid.items.woken.items heard (fields_view (record { turns = turns_then F n x rows; fault = None }) new)
-      (ap (λ (v : World). frames_view v.instances.slots) world) (ap (λ (v : World). cells_view v.store.cells) world)
+      (ap (λ (v : DataState). frames_view v.instances.slots) data_state) (ap (λ (v : DataState). cells_view v.store.cells) data_state)
       (subst (λ (u : Both). AreSettled C gs ds rows (length F.rows) n (waiters_view mid.items.rules.waiting) (queue_view u) (mid.items.woken.items ++ numbers_behind (length F.rows) (length rows - length F.rows)) (rows_view new.items.rows.items) (waiters_view new.items.rules.waiting) (queue_view new.items.queue) new.items.newly.items) made.queue
       (subst (λ (k : ℕ). AreSettled C gs ds rows k n (waiters_view mid.items.rules.waiting) (queue_view mid.items.queue) (mid.items.woken.items ++ numbers_behind (length F.rows) (length rows - length F.rows)) (rows_view new.items.rows.items) (waiters_view new.items.rules.waiting) (queue_view new.items.queue) new.items.newly.items) (same_first first q)
       (subst (λ (l : List ℕ). AreSettled C gs ds rows first n (waiters_view mid.items.rules.waiting) (queue_view mid.items.queue) l (rows_view new.items.rows.items) (waiters_view new.items.rules.waiting) (queue_view new.items.queue) new.items.newly.items) (all_same first q) settled)))
@@ -165,8 +165,8 @@ module _ (C : Code) (I : IsCode C) (es : List Event) (old mid : Core) (s : Stand
       refl)
       (fault ∙ made.fault ∙ free)
       (record {
-        few = subst (λ (v : World). FewSlots (frames_view v.instances.slots)) (sym world) passed.few;
-        rising = subst (λ (v : World). AreRising v.store) (sym world) (made.rising s.kept.rising);
+        few = subst (λ (v : DataState). FewSlots (frames_view v.instances.slots)) (sym data_state) passed.few;
+        rising = subst (λ (v : DataState). AreRising v.store) (sym data_state) (made.rising s.kept.rising);
         roomy = roomy;
         rises = rises;
       })

@@ -25,7 +25,7 @@ use Rattle.board.specs.Queues.{SameNumbers, with_queue}
 use Rattle.board_items.specs.Room.{IsRoomy, apart_in}
 use Rattle.board.specs.View.{fields_view, nothing_told}
 use Rattle.board_items.specs.declared.items.Items.{Items}
-use Rattle.board.specs.declared.state.Core.{Core}
+use Rattle.board.specs.declared.state.BoardState.{BoardState}
 use Rattle.board.proofs.Queues.{queue_kept}
 
 none_rising : (s : Store) → s.cells ≡ [] → AreRising s
@@ -63,7 +63,7 @@ first_roomy C items a =
       noted = a.noted;
     }
 
-pub first_core : (core : Core) → AreFirst core.items → core.world.instances.slots ≡ [] → core.world.store.cells ≡ [] → core.lines.items ≡ [] → core.fault ≡ None → (C : Code) → Stand C [] core
+pub first_core : (core : BoardState) → AreFirst core.items → core.data_state.instances.slots ≡ [] → core.data_state.store.cells ≡ [] → core.lines.items ≡ [] → core.fault ≡ None → (C : Code) → Stand C [] core
 first_core core a slots cells lines fault C =
     record {
       told = nothing_told;
@@ -71,7 +71,7 @@ first_core core a slots cells lines fault C =
       fault = subst (λ (f : Option Fault). IsNoted C None f) (sym fault) tt;
       kept = record {
         few = subst (λ (fs : List (Option Instance)). FewSlots (frames_view fs)) (sym slots) none_few;
-        rising = none_rising core.world.store cells;
+        rising = none_rising core.data_state.store cells;
         roomy = first_roomy C core.items a;
         rises = subst (λ (ns : List ℕ). Rises ns) (sym a.newly) tt;
       };

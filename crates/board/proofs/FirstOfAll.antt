@@ -9,7 +9,7 @@ use Rattle.task_code.specs.System.{task_kind, task_priority}
 use Rattle.work_queue.specs.Both.{of}
 use Rattle.work_queue.specs.Entries.{IsForemost, first_of}
 use Rattle.work_queue.specs.Order.{precedes}
-use Rattle.work_queue.specs.declared.entry.Entry.{Entry}
+use Rattle.work_queue.specs.declared.entry.QueueEntry.{QueueEntry}
 use Rattle.work_queue.proofs.OrderLaws.{no_later, precedes_order}
 use Rattle.board.specs.Board.{IsGoing, Seen}
 use Rattle.board.specs.Inside.{IsSound, seen_of}
@@ -131,11 +131,11 @@ none_first_of b c l i ready = by (task_kind b.code i.task) refl
 
 -- an entry that is the foremost of its kind is of the next item of that kind
 module _ (a : Inside) (s : IsSound a) (going : IsGoing (seen_of a)) where
-  record Foremost (k : Kind) (e : Entry) : Type 0 where
+  record Foremost (k : Kind) (e : QueueEntry) : Type 0 where
     next : IsNext (seen_of a) k e.no
     priority_is : task_priority a.program next.item.task ≡ e.priority
 
-  foremost : (k : Kind) (e : Entry) → IsForemost e (of k a.core.items.queue).entries → Foremost k e
+  foremost : (k : Kind) (e : QueueEntry) → IsForemost e (of k a.core.items.queue).entries → Foremost k e
   foremost k e f =
       let n = next_some a s k e.no (e, refl, f) going in
       let t = stood a s k e (contains_in (of k a.core.items.queue).entries e f.0) in
@@ -144,14 +144,14 @@ module _ (a : Inside) (s : IsSound a) (going : IsGoing (seen_of a)) where
         priority_is = ap (λ (i : CodeItem). task_priority a.program i.task) (one_item a s n.item t.item n.ready t.ready (n.number_is ∙ sym t.number_is)) ∙ t.priority_is;
       }
 
-  pub kind_of_foremost : (k : Kind) (e : Entry) → IsForemost e (of k a.core.items.queue).entries → HasKind (seen_of a) e.no k
+  pub kind_of_foremost : (k : Kind) (e : QueueEntry) → IsForemost e (of k a.core.items.queue).entries → HasKind (seen_of a) e.no k
   kind_of_foremost k e f = let n = (foremost k e f).next in (n.item, n.ready.there, n.number_is, sym n.kind_is)
 
   kinds_differ : Control ≡ Leaf → ⊥
   kinds_differ e = absurd (cc)
 
   -- of the foremost of both kinds, the one that is taken first is of the first item of all
-  module _ (x y : Entry) (fx : IsForemost x a.core.items.queue.control.entries) (fy : IsForemost y a.core.items.queue.leaf.entries) where
+  module _ (x y : QueueEntry) (fx : IsForemost x a.core.items.queue.control.entries) (fy : IsForemost y a.core.items.queue.leaf.entries) where
     control : Foremost Control x
     control = foremost Control x fx
 
@@ -176,11 +176,11 @@ module _ (a : Inside) (s : IsSound a) (going : IsGoing (seen_of a)) where
         (λ p. not_before x.priority y.priority x.no y.no (no_later x y h)
         (by_precedes (seen_of a) leaf.next.item control.next.item y.priority x.priority y.no x.no (sym leaf.priority_is) (sym control.priority_is) leaf.next.number_is control.next.number_is p))
 
-  pub control_is_alone : (x : Entry) → IsForemost x a.core.items.queue.control.entries → first_of a.core.items.queue.leaf.entries ≡ None → IsFirst (seen_of a) x.no
+  pub control_is_alone : (x : QueueEntry) → IsForemost x a.core.items.queue.control.entries → first_of a.core.items.queue.leaf.entries ≡ None → IsFirst (seen_of a) x.no
   control_is_alone x f h =
       control_alone (seen_of a) x.no (foremost Control x f).next (λ i r e. next_none a s Leaf (no_number a.core.items.queue.leaf.entries h) i r e)
 
-  pub leaf_is_alone : (y : Entry) → IsForemost y a.core.items.queue.leaf.entries → first_of a.core.items.queue.control.entries ≡ None → IsFirst (seen_of a) y.no
+  pub leaf_is_alone : (y : QueueEntry) → IsForemost y a.core.items.queue.leaf.entries → first_of a.core.items.queue.control.entries ≡ None → IsFirst (seen_of a) y.no
   leaf_is_alone y f h =
       leaf_alone (seen_of a) y.no (foremost Leaf y f).next (λ i r e. next_none a s Control (no_number a.core.items.queue.control.entries h) i r e)
 

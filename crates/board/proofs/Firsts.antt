@@ -15,7 +15,7 @@ use Rattle.task_code.specs.System.{task_kind, task_priority}
 use Rattle.task_code.specs.View.{event_view}
 use Rattle.work_queue.specs.Both.{of}
 use Rattle.work_queue.specs.Entries.{ComesNoLater, IsTakenFirst, first_number, first_of}
-use Rattle.work_queue.specs.declared.entry.Entry.{Entry}
+use Rattle.work_queue.specs.declared.entry.QueueEntry.{QueueEntry}
 use Rattle.board_program.specs.Spots.{layout_of}
 use Rattle.board_instances.specs.View.{frames_view, rows_view}
 use Rattle.board_items.specs.View.{numbers_at, queue_view}
@@ -29,10 +29,10 @@ use Rattle.board.proofs.Entries.{int_same, int_sound}
 use Rattle.board.proofs.Moves.{ready_item, row_there, runs_as, waiting_item}
 use Rattle.board.proofs.Own.{free_core, free_state, some_run, state_here, theirs}
 
-abbrev entry : ℤ → ℕ → Entry
+abbrev entry : ℤ → ℕ → QueueEntry
 entry z n = record { priority = z; no = n }
 
-entry_same : (x y : Entry) → x.no ≡ y.no → x.priority ≡ y.priority → x ≡ y
+entry_same : (x y : QueueEntry) → x.no ≡ y.no → x.priority ≡ y.priority → x ≡ y
 entry_same x y e f = λ i. record { priority = f i; no = e i }
 
 in_contains : {X : Type 0} (xs : List X) (x : X) → In x xs → Contains xs x
@@ -54,7 +54,7 @@ if_some None p f = tt
 if_some (Some x) p f = f x p
 
 -- a number of a priority is that of an entry
-pub held : (z : ℤ) (n : ℕ) (ys : List Entry) → In n (numbers_at z ys) → In (record { priority = z; no = n }) ys
+pub held : (z : ℤ) (n : ℕ) (ys : List QueueEntry) → In n (numbers_at z ys) → In (record { priority = z; no = n }) ys
 held z n [] h = absurd h
 held z n (y ∷ ys) h =
     choose (λ (ns : List ℕ). In n ns → In (entry z n) (y ∷ ys)) (int_eq y.priority z) (y.no ∷ numbers_at z ys) (numbers_at z ys)
@@ -64,35 +64,35 @@ held z n (y ∷ ys) h =
     ])
     (λ b g. inr (held z n ys g)) h
 
-pub listed_at : (e : Entry) (ys : List Entry) → In e ys → In e.no (numbers_at e.priority ys)
+pub listed_at : (e : QueueEntry) (ys : List QueueEntry) → In e ys → In e.no (numbers_at e.priority ys)
 listed_at e [] h = absurd h
 listed_at e (y ∷ ys) (inl p) =
     choose (λ (ns : List ℕ). In e.no ns) (int_eq y.priority e.priority) (y.no ∷ numbers_at e.priority ys) (numbers_at e.priority ys)
-    (λ b. inl (ap (λ (x : Entry). x.no) p))
-    (λ b. yes_no (int_same y.priority e.priority (ap (λ (x : Entry). x.priority) (sym p))) b)
+    (λ b. inl (ap (λ (x : QueueEntry). x.no) p))
+    (λ b. yes_no (int_same y.priority e.priority (ap (λ (x : QueueEntry). x.priority) (sym p))) b)
 listed_at e (y ∷ ys) (inr h) =
     choose (λ (ns : List ℕ). In e.no ns) (int_eq y.priority e.priority) (y.no ∷ numbers_at e.priority ys) (numbers_at e.priority ys)
     (λ b. inr (listed_at e ys h))
     (λ b. listed_at e ys h)
 
 -- where each number stands once
-pub behind_once : (z : ℤ) (y : Entry) (ys : List Entry) → Distinct (numbers_at z (y ∷ ys)) → Distinct (numbers_at z ys)
+pub behind_once : (z : ℤ) (y : QueueEntry) (ys : List QueueEntry) → Distinct (numbers_at z (y ∷ ys)) → Distinct (numbers_at z ys)
 behind_once z y ys =
     choose (λ (ns : List ℕ). Distinct ns → Distinct (numbers_at z ys)) (int_eq y.priority z) (y.no ∷ numbers_at z ys) (numbers_at z ys)
     (λ b d. d.1)
     (λ b d. d)
 
-pub not_again : (y : Entry) (ys : List Entry) → Distinct (numbers_at y.priority (y ∷ ys)) → (e : Entry) → In e ys → e.no ≡ y.no → e.priority ≡ y.priority → ⊥
+pub not_again : (y : QueueEntry) (ys : List QueueEntry) → Distinct (numbers_at y.priority (y ∷ ys)) → (e : QueueEntry) → In e ys → e.no ≡ y.no → e.priority ≡ y.priority → ⊥
 not_again y ys d e h n p =
     choose (λ (ns : List ℕ). Distinct ns → ⊥) (int_eq y.priority y.priority) (y.no ∷ numbers_at y.priority ys) (numbers_at y.priority ys)
     (λ b c. c.0 (subst (λ (k : ℕ). In k (numbers_at y.priority ys)) n (subst (λ (z : ℤ). In e.no (numbers_at z ys)) p (listed_at e ys h))))
     (λ b c. yes_no (int_same y.priority y.priority refl) b) d
 
-pub no_number : (ys : List Entry) → first_of ys ≡ None → first_number ys ≡ None
+pub no_number : (ys : List QueueEntry) → first_of ys ≡ None → first_number ys ≡ None
 no_number [] h = refl
 no_number (y ∷ ys) h = none_some (sym h)
 
-pub none_first : (ys : List Entry) → first_number ys ≡ None → ys ≡ []
+pub none_first : (ys : List QueueEntry) → first_number ys ≡ None → ys ≡ []
 none_first [] h = refl
 none_first (y ∷ ys) h = none_some (sym h)
 
@@ -139,7 +139,7 @@ module _ (a : Inside) (s : IsSound a) where
   here : state_of a.program (map event_view a.history.items) ≡ x.state
   here = state_here a.program s.whole (map event_view a.history.items) a.core s.stand
 
-  there : (i : CodeItem) → In i (state_of a.program (map event_view a.history.items)).items → RowIs (frames_view a.core.world.instances.slots) (rows_view a.core.items.rows.items) 1 i
+  there : (i : CodeItem) → In i (state_of a.program (map event_view a.history.items)).items → RowIs (frames_view a.core.data_state.instances.slots) (rows_view a.core.items.rows.items) 1 i
   there i h = row_there a.program s.whole (layout_of a.program) (map event_view a.history.items) (fields_view s.stand.told a.core) s.stand.stands i (subst (λ (t : CodeState). In i t.items) here h)
 
   queue_is : (k : Kind) (z : ℤ) → queue_view a.core.items.queue k z ≡ numbers_at z (of k a.core.items.queue).entries
@@ -154,7 +154,7 @@ module _ (a : Inside) (s : IsSound a) where
     pub priority_is : task_priority a.program item.task ≡ z
     pub number_is : item.number ≡ n
 
-  pub stood : (k : Kind) (e : Entry) → In e (of k a.core.items.queue).entries → Stood k e.priority e.no
+  pub stood : (k : Kind) (e : QueueEntry) → In e (of k a.core.items.queue).entries → Stood k e.priority e.no
   stood k e h =
       let y = x.queue.only k e.priority e.no (subst (λ (ns : List ℕ). In e.no ns) (sym (queue_is k e.priority)) (listed_at e (of k a.core.items.queue).entries h)) in
       record {
@@ -195,7 +195,7 @@ module _ (a : Inside) (s : IsSound a) where
       let gn = g.number_is in
       let place : suc f.at ≡ suc g.at = omega arith in
       let row : f.row ≡ g.row = some_same (sym f.there ∙ ap (λ (n : ℕ). row_of (rows_view a.core.items.rows.items) n) place ∙ g.there) in
-      same i j e (f.task_is ∙ ap (λ (y : Row). task_of (frames_view a.core.world.instances.slots) y.job) row ∙ sym g.task_is) (r.idle ∙ sym q.idle)
+      same i j e (f.task_is ∙ ap (λ (y : Row). task_of (frames_view a.core.data_state.instances.slots) y.job) row ∙ sym g.task_is) (r.idle ∙ sym q.idle)
     where
       same : (i j : CodeItem) → i.number ≡ j.number → i.task ≡ j.task → i.runs ≡ j.runs → i ≡ j
       same i j e t r = λ z. record { number = e z; task = t z; runs = r z }
@@ -203,7 +203,7 @@ module _ (a : Inside) (s : IsSound a) where
   -- none waits, or the first one
   pub next_none : (k : Kind) → first_number (of k a.core.items.queue).entries ≡ None → (i : CodeItem) → IsReady (seen_of a) i → task_kind a.program i.task ≡ k → ⊥
   next_none k h i r e =
-      subst (λ (ys : List Entry). In (entry (task_priority a.program i.task) i.number) ys) (none_first (of k a.core.items.queue).entries h) (in_queue k i r e)
+      subst (λ (ys : List QueueEntry). In (entry (task_priority a.program i.task) i.number) ys) (none_first (of k a.core.items.queue).entries h) (in_queue k i r e)
 
   pub next_some : (k : Kind) (n : ℕ) → IsTakenFirst n (of k a.core.items.queue).entries → IsGoing (seen_of a) → IsNext (seen_of a) k n
   next_some k n h going =
@@ -236,7 +236,7 @@ module _ (a : Inside) (s : IsSound a) where
       by i r Control e = next_none Control control i r e
       by i r Leaf e = next_none Leaf leaf i r e
 
-      mark : (i : CodeItem) (f : RowIs (frames_view a.core.world.instances.slots) (rows_view a.core.items.rows.items) 1 i) (m : Mark) → f.row.mark ≡ m → i.runs ≡ None
+      mark : (i : CodeItem) (f : RowIs (frames_view a.core.data_state.instances.slots) (rows_view a.core.items.rows.items) 1 i) (m : Mark) → f.row.mark ≡ m → i.runs ≡ None
       mark i f Ready q = runs_as (fields_view s.stand.told a.core) i f Ready ready_item q
       mark i f Waiting q = runs_as (fields_view s.stand.told a.core) i f Waiting waiting_item q
       mark i f Over q = absurd (f.not_over q)
@@ -261,10 +261,10 @@ module _ (a : Inside) (s : IsSound a) where
           let f = x.items.running in
           absurd (no_running (some_running (rows_view a.core.items.rows.items) (omega arith)))
 
-      no_entry : (k : Kind) (ys : List Entry) → (of k a.core.items.queue).entries ≡ ys → first_number ys ≡ None
+      no_entry : (k : Kind) (ys : List QueueEntry) → (of k a.core.items.queue).entries ≡ ys → first_number ys ≡ None
       no_entry k [] e = refl
       no_entry k (y ∷ ys) e =
-          let t = stood k y (subst (λ (l : List Entry). In y l) (sym e) (inl refl)) in
+          let t = stood k y (subst (λ (l : List QueueEntry). In y l) (sym e) (inl refl)) in
           absurd (q.none_enabled t.item t.ready.there t.ready.enabled)
 
       none_is : (k : Kind) → first_number (of k a.core.items.queue).entries ≡ None

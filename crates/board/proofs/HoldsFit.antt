@@ -29,7 +29,7 @@ use Rattle.board_data.specs.View.{cell_view, cells_view}
 use Rattle.board_data.proofs.Cells.{cell_there}
 use Rattle.board_instances.specs.Made.{made_as}
 use Rattle.board_instances.specs.Openings.{Put}
-use Rattle.board_instances.specs.declared.opening.Openings.{Openings}
+use Rattle.board_instances.specs.declared.pending.PendingInstances.{PendingInstances}
 use Rattle.board_changes.proofs.Frames.{count}
 use Rattle.board_changes.proofs.MadeData.{body_is, makes_data}
 use Rattle.board_changes.specs.Blocks.{AreBlocks}
@@ -175,7 +175,7 @@ same_key : (k d : ℕ) → DatumOf k ≡ DatumOf d → k ≡ d
 same_key k d h = cc
 
 -- all names that items can have after the End are few enough
-pub holds_fit : (C : Code) → IsCode C → (es : List Event) (F : Fields) → Stands C (layout_of C) es F → (j : Job) (x : Computed) (s : Store) → F.cells ≡ cells_view s.cells → (o : Openings) → AreBlocks C F.frames j x o →
+pub holds_fit : (C : Code) → IsCode C → (es : List Event) (F : Fields) → Stands C (layout_of C) es F → (j : Job) (x : Computed) (s : Store) → F.cells ≡ cells_view s.cells → (o : PendingInstances) → AreBlocks C F.frames j x o →
     (most : ℕ) → ((i : ℕ) → length (entry C i).reads ≤ most) → ((i : ℕ) → length (entry C i).writes ≤ most) →
     length F.rows * most + (length o.list.items * (length (body C o.body).entries * most) + length o.list.items * (length (body C o.body).entries * most)) < 2 ^ 64 → HoldsFit C F j s o
 holds_fit C I es F st j x s cells o B most reads writes few hs rows stored more w stores d = by (at w.made d) refl

@@ -17,7 +17,7 @@ use Rattle.board_items.specs.Room.{IsRoomy, apart_in}
 use Rattle.board_items.specs.Settled.{StaysButRoom}
 use Rattle.board_items.specs.declared.items.Items.{Items}
 use Rattle.board_items.specs.declared.items.Counts.{Counts}
-use Rattle.board_instances.specs.declared.item.Item.{Item}
+use Rattle.board_instances.specs.declared.item.ItemRecord.{ItemRecord}
 use Rattle.data_store.specs.Stores.{Store}
 use Rattle.work_queue.specs.Both.{Both}
 use Rattle.board_items.specs.View.{numbers_at, queue_view, waiters_view}
@@ -26,23 +26,23 @@ use Rattle.board.specs.Ending.{StaysSo}
 use Rattle.board_data.specs.Data.{AreRising}
 use Rattle.board.specs.Inside.{IsNoted}
 use Rattle.board.specs.View.{Told, fields_view}
-use Rattle.board.specs.declared.state.Core.{Core}
+use Rattle.board.specs.declared.state.BoardState.{BoardState}
 
 -- nothing has changed but room
-pub record KeepsFields (C : Code) (old new : Core) : Type 0 where
-  pub frames : frames_view new.world.instances.slots ≡ frames_view old.world.instances.slots
-  pub cells : cells_view new.world.store.cells ≡ cells_view old.world.store.cells
-  pub rising : AreRising old.world.store → AreRising new.world.store
+pub record KeepsFields (C : Code) (old new : BoardState) : Type 0 where
+  pub frames : frames_view new.data_state.instances.slots ≡ frames_view old.data_state.instances.slots
+  pub cells : cells_view new.data_state.store.cells ≡ cells_view old.data_state.store.cells
+  pub rising : AreRising old.data_state.store → AreRising new.data_state.store
   pub items : StaysButRoom old.items new.items
   pub roomy : IsRoomy C old.items → IsRoomy C new.items
   pub lines : new.lines.items ≡ old.lines.items
   pub fault : new.fault ≡ old.fault
 
-queue_kept : (old new : Core) → StaysButRoom old.items new.items → (k : Kind) (z : ℤ) → queue_view old.items.queue k z ≡ queue_view new.items.queue k z
+queue_kept : (old new : BoardState) → StaysButRoom old.items new.items → (k : Kind) (z : ℤ) → queue_view old.items.queue k z ≡ queue_view new.items.queue k z
 queue_kept old new s Control z = ap (numbers_at z) (sym s.control)
 queue_kept old new s Leaf z = ap (numbers_at z) (sym s.leaf)
 
-fields_kept : (C : Code) (told : Told) (old new : Core) → KeepsFields C old new → fields_view told old ≡ fields_view told new
+fields_kept : (C : Code) (told : Told) (old new : BoardState) → KeepsFields C old new → fields_view told old ≡ fields_view told new
 fields_kept C told old new k =
     let rows : rows_view old.items.rows.items ≡ rows_view new.items.rows.items = ap rows_view (sym k.items.rows) in
     let waiting : waiters_view old.items.rules.waiting ≡ waiters_view new.items.rules.waiting = ap waiters_view (sym k.items.waiting) in
@@ -64,7 +64,7 @@ fields_kept C told old new k =
       newly = newly i;
     }
 
-pub room_kept : (C : Code) (old new : Core) → KeepsFields C old new → StaysSo C old new
+pub room_kept : (C : Code) (old new : BoardState) → KeepsFields C old new → StaysSo C old new
 room_kept C old new k =
     record {
       stand = λ es s. record {
@@ -83,7 +83,7 @@ room_kept C old new k =
       running = k.items.running;
     }
 
-pub stays_on : (C : Code) (a b c : Core) → StaysSo C a b → StaysSo C b c → StaysSo C a c
+pub stays_on : (C : Code) (a b c : BoardState) → StaysSo C a b → StaysSo C b c → StaysSo C a c
 stays_on C a b c s t =
     record {
       stand = λ es x. t.stand es (s.stand es x);
@@ -96,21 +96,21 @@ stays_on C a b c s t =
 still_roomy : (C : Code) (a b : Items) → IsRoomy C a → b.rows ≡ a.rows → b.queue ≡ a.queue → b.apart ≡ a.apart → vec_capacity a.newly ≤ vec_capacity b.newly → IsRoomy C b
 still_roomy C a b r rows queue apart capacity =
     record {
-      controls_counted = subst (λ (p : Counts). apart_in C Control (rows_view b.rows.items) ≤ p.controls) (sym apart) (subst (λ (v : Vec Item Global). apart_in C Control (rows_view v.items) ≤ a.apart.controls) (sym rows) r.controls_counted);
-      leaves_counted = subst (λ (p : Counts). apart_in C Leaf (rows_view b.rows.items) ≤ p.leaves) (sym apart) (subst (λ (v : Vec Item Global). apart_in C Leaf (rows_view v.items) ≤ a.apart.leaves) (sym rows) r.leaves_counted);
-      controls_fit = subst (λ (q : Both). apart_in C Control (rows_view b.rows.items) ≤ q.control.room) (sym queue) (subst (λ (v : Vec Item Global). apart_in C Control (rows_view v.items) ≤ a.queue.control.room) (sym rows) r.controls_fit);
-      leaves_fit = subst (λ (q : Both). apart_in C Leaf (rows_view b.rows.items) ≤ q.leaf.room) (sym queue) (subst (λ (v : Vec Item Global). apart_in C Leaf (rows_view v.items) ≤ a.queue.leaf.room) (sym rows) r.leaves_fit);
+      controls_counted = subst (λ (p : Counts). apart_in C Control (rows_view b.rows.items) ≤ p.controls) (sym apart) (subst (λ (v : Vec ItemRecord Global). apart_in C Control (rows_view v.items) ≤ a.apart.controls) (sym rows) r.controls_counted);
+      leaves_counted = subst (λ (p : Counts). apart_in C Leaf (rows_view b.rows.items) ≤ p.leaves) (sym apart) (subst (λ (v : Vec ItemRecord Global). apart_in C Leaf (rows_view v.items) ≤ a.apart.leaves) (sym rows) r.leaves_counted);
+      controls_fit = subst (λ (q : Both). apart_in C Control (rows_view b.rows.items) ≤ q.control.room) (sym queue) (subst (λ (v : Vec ItemRecord Global). apart_in C Control (rows_view v.items) ≤ a.queue.control.room) (sym rows) r.controls_fit);
+      leaves_fit = subst (λ (q : Both). apart_in C Leaf (rows_view b.rows.items) ≤ q.leaf.room) (sym queue) (subst (λ (v : Vec ItemRecord Global). apart_in C Leaf (rows_view v.items) ≤ a.queue.leaf.room) (sym rows) r.leaves_fit);
       noted = (let n = r.noted in omega arith);
     }
 
-module _ (C : Code) (old new : Core) (slots : new.world.instances.slots ≡ old.world.instances.slots) (lines : new.lines.items ≡ old.lines.items) (fault : new.fault ≡ old.fault) where
+module _ (C : Code) (old new : BoardState) (slots : new.data_state.instances.slots ≡ old.data_state.instances.slots) (lines : new.lines.items ≡ old.lines.items) (fault : new.fault ≡ old.fault) where
   -- room in instances and data, and for new items
-  pub open_kept : cells_view new.world.store.cells ≡ cells_view old.world.store.cells → (AreRising old.world.store → AreRising new.world.store) → StaysButRoom old.items new.items → (IsRoomy C old.items → IsRoomy C new.items) → StaysSo C old new
+  pub open_kept : cells_view new.data_state.store.cells ≡ cells_view old.data_state.store.cells → (AreRising old.data_state.store → AreRising new.data_state.store) → StaysButRoom old.items new.items → (IsRoomy C old.items → IsRoomy C new.items) → StaysSo C old new
   open_kept cells rising items roomy =
       room_kept C old new (record { frames = ap frames_view slots; cells = cells; rising = rising; items = items; roomy = roomy; lines = lines; fault = fault })
 
   -- room for items, and then in the lists of those that learn or can begin
-  pub more_kept : new.world.store ≡ old.world.store → (mid : Items) → StaysButRoom old.items mid → (IsRoomy C old.items → IsRoomy C mid) → new.items.rows ≡ mid.rows → new.items.rules ≡ mid.rules → new.items.queue ≡ mid.queue → new.items.apart ≡ mid.apart
+  pub more_kept : new.data_state.store ≡ old.data_state.store → (mid : Items) → StaysButRoom old.items mid → (IsRoomy C old.items → IsRoomy C mid) → new.items.rows ≡ mid.rows → new.items.rules ≡ mid.rules → new.items.queue ≡ mid.queue → new.items.apart ≡ mid.apart
       → new.items.running ≡ mid.running → new.items.newly.items ≡ mid.newly.items → new.items.woken.items ≡ mid.woken.items → vec_capacity mid.newly ≤ vec_capacity new.items.newly → StaysSo C old new
   more_kept store mid items roomy rows rules queue apart running newly woken capacity =
       room_kept C old new (record {
@@ -118,7 +118,7 @@ module _ (C : Code) (old new : Core) (slots : new.world.instances.slots ≡ old.
         cells = ap (λ (s : Store). cells_view s.cells) store;
         rising = λ h. subst (λ (s : Store). AreRising s) (sym store) h;
         items = record {
-          rows = ap (λ (v : Vec Item Global). v.items) rows ∙ items.rows;
+          rows = ap (λ (v : Vec ItemRecord Global). v.items) rows ∙ items.rows;
           waiting = ap (λ (r : Listing). r.waiting) rules ∙ items.waiting;
           control = ap (λ (q : Both). q.control.entries) queue ∙ items.control;
           leaf = ap (λ (q : Both). q.leaf.entries) queue ∙ items.leaf;
@@ -134,15 +134,15 @@ module _ (C : Code) (old new : Core) (slots : new.world.instances.slots ≡ old.
 same_roomy : (C : Code) (a b : Items) → IsRoomy C a → b.rows.items ≡ a.rows.items → b.queue ≡ a.queue → b.apart ≡ a.apart → b.newly ≡ a.newly → IsRoomy C b
 same_roomy C a b r rows queue apart newly =
     record {
-      controls_counted = subst (λ (p : Counts). apart_in C Control (rows_view b.rows.items) ≤ p.controls) (sym apart) (subst (λ (l : List Item). apart_in C Control (rows_view l) ≤ a.apart.controls) (sym rows) r.controls_counted);
-      leaves_counted = subst (λ (p : Counts). apart_in C Leaf (rows_view b.rows.items) ≤ p.leaves) (sym apart) (subst (λ (l : List Item). apart_in C Leaf (rows_view l) ≤ a.apart.leaves) (sym rows) r.leaves_counted);
-      controls_fit = subst (λ (q : Both). apart_in C Control (rows_view b.rows.items) ≤ q.control.room) (sym queue) (subst (λ (l : List Item). apart_in C Control (rows_view l) ≤ a.queue.control.room) (sym rows) r.controls_fit);
-      leaves_fit = subst (λ (q : Both). apart_in C Leaf (rows_view b.rows.items) ≤ q.leaf.room) (sym queue) (subst (λ (l : List Item). apart_in C Leaf (rows_view l) ≤ a.queue.leaf.room) (sym rows) r.leaves_fit);
+      controls_counted = subst (λ (p : Counts). apart_in C Control (rows_view b.rows.items) ≤ p.controls) (sym apart) (subst (λ (l : List ItemRecord). apart_in C Control (rows_view l) ≤ a.apart.controls) (sym rows) r.controls_counted);
+      leaves_counted = subst (λ (p : Counts). apart_in C Leaf (rows_view b.rows.items) ≤ p.leaves) (sym apart) (subst (λ (l : List ItemRecord). apart_in C Leaf (rows_view l) ≤ a.apart.leaves) (sym rows) r.leaves_counted);
+      controls_fit = subst (λ (q : Both). apart_in C Control (rows_view b.rows.items) ≤ q.control.room) (sym queue) (subst (λ (l : List ItemRecord). apart_in C Control (rows_view l) ≤ a.queue.control.room) (sym rows) r.controls_fit);
+      leaves_fit = subst (λ (q : Both). apart_in C Leaf (rows_view b.rows.items) ≤ q.leaf.room) (sym queue) (subst (λ (l : List ItemRecord). apart_in C Leaf (rows_view l) ≤ a.queue.leaf.room) (sym rows) r.leaves_fit);
       noted = subst (λ (v : Vec ℕ Global). 0 < vec_capacity v) (sym newly) r.noted;
     }
 
 -- room in instances and data, and for rows
-pub world_kept : (C : Code) (old new : Core) → OnlyRoom old.world new.world → new.items.rows.items ≡ old.items.rows.items → new.items.rules ≡ old.items.rules → new.items.queue ≡ old.items.queue → new.items.apart ≡ old.items.apart
+pub world_kept : (C : Code) (old new : BoardState) → OnlyRoom old.data_state new.data_state → new.items.rows.items ≡ old.items.rows.items → new.items.rules ≡ old.items.rules → new.items.queue ≡ old.items.queue → new.items.apart ≡ old.items.apart
     → new.items.running ≡ old.items.running → new.items.newly ≡ old.items.newly → new.items.woken ≡ old.items.woken → new.lines ≡ old.lines → new.fault ≡ old.fault → StaysSo C old new
 world_kept C old new only rows rules queue apart running newly woken lines fault =
     room_kept C old new (record {

@@ -9,15 +9,15 @@ use Rattle.board_history.proofs.Tests.{none_some, some_same}
 use Rattle.task_code.specs.Code.{Code}
 use Rattle.work_queue.specs.Both.{of, with_changed}
 use Rattle.work_queue.specs.Waiting.{with_put, without}
-use Rattle.work_queue.specs.declared.entry.Entry.{Entry}
+use Rattle.work_queue.specs.declared.entry.QueueEntry.{QueueEntry}
 use Rattle.work_queue.specs.declared.entry.Kind.{Kind}
 use Rattle.board_instances.specs.View.{row_view, rows_view}
 use Rattle.board.specs.Marked.{HasBegun, HasReturned}
 use Rattle.board_items.specs.Settled.{StaysButOrder, one_more, one_less}
-use Rattle.board.specs.declared.state.Core.{Core}
+use Rattle.board.specs.declared.state.BoardState.{BoardState}
 use Rattle.board.proofs.Changes.{back_core, back_room, begun_core, begun_there}
 
-abbrev entry : ℤ → ℕ → Entry
+abbrev entry : ℤ → ℕ → QueueEntry
 entry z n = record { priority = z; no = n }
 
 marked_here : (rows : List Row) (n : ℕ) (r : Row) (m : Mark) → row_of rows n ≡ Some r → row_of (mark_at rows n m) n ≡ Some (record { job = r.job; mark = m })
@@ -26,7 +26,7 @@ marked_here (q ∷ rows) zero r m h = none_some h
 marked_here (q ∷ rows) (suc zero) r m h = ap (λ (y : Row). Some (record { job = y.job; mark = m })) (some_same h)
 marked_here (q ∷ rows) (suc (suc n)) r m h = marked_here rows (suc n) r m h
 
-module _ (C : Code) (old new : Core) (n : ℕ) (j : Job) (world : new.world ≡ old.world) (lines : new.lines ≡ old.lines) (fault : new.fault ≡ old.fault) (order : StaysButOrder old.items new.items) where
+module _ (C : Code) (old new : BoardState) (n : ℕ) (j : Job) (data_state : new.data_state ≡ old.data_state) (lines : new.lines ≡ old.lines) (fault : new.fault ≡ old.fault) (order : StaysButOrder old.items new.items) where
   pub has_begun : (w : ℕ) (k : Kind) (z : ℤ) → k ≡ job_kind C j → z ≡ job_priority C j
       → rows_view new.items.rows.items ≡ mark_at (rows_view old.items.rows.items) n (Running w)
       → (Contains (of k old.items.queue).entries (entry z n) → new.items.queue ≡ with_changed k (without (entry z n)) old.items.queue)
@@ -35,12 +35,12 @@ module _ (C : Code) (old new : Core) (n : ℕ) (j : Job) (world : new.world ≡ 
   has_begun w k z kind priority rows queue running newly capacity apart few =
       record {
         stand = λ es I s free ready fits.
-            begun_core C I es old new s free world lines fault order w n j ready rows (taken (begun_there C I es old new s free world lines fault order n j ready)) (running fits) newly
+            begun_core C I es old new s free data_state lines fault order w n j ready rows (taken (begun_there C I es old new s free data_state lines fault order n j ready)) (running fits) newly
             (apart ∙ ap (λ (l : Kind). one_more l old.items.apart) kind) capacity (subst (λ (m : ℕ). m + 1 ≤ 2 ^ 64 - 1) (sym (length-map old.items.rows.items row_view)) few);
         running = running;
         newly = newly;
         fault = fault;
-        world = world;
+        data_state = data_state;
         runs = λ ready. ap (λ (rs : List Row). row_of rs n) rows ∙ marked_here (rows_view old.items.rows.items) n (record { job = j; mark = Ready }) (Running w) ready;
       }
     where
@@ -57,7 +57,7 @@ module _ (C : Code) (old new : Core) (n : ℕ) (j : Job) (world : new.world ≡ 
   has_returned k z kind priority rows queue running newly capacity apart =
       record {
         stand = λ es w I s free runs.
-            back_core C I es old new s free world lines fault order w n j runs rows (put (back_room C I es old new s free world lines fault order w n j runs)) running (newly s.kept.roomy.noted)
+            back_core C I es old new s free data_state lines fault order w n j runs rows (put (back_room C I es old new s free data_state lines fault order w n j runs)) running (newly s.kept.roomy.noted)
             (apart ∙ ap (λ (l : Kind). one_less l old.items.apart) kind) (let a = s.kept.roomy.noted in omega arith);
         newly = newly;
         running = running;

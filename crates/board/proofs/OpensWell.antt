@@ -4,11 +4,11 @@ use Rattle.board_history.specs.Fields.{Absent, Frame, Job, Slot}
 use Rattle.task_code.specs.Code.{Code, body}
 use Rattle.board_instances.specs.View.{opening_frame, slot_view}
 use Rattle.board_instances.specs.declared.instance.Slot.{Slot as ASlot}
-use Rattle.board_instances.specs.declared.opening.Opening.{Opening}
+use Rattle.board_instances.specs.declared.pending.PendingInstance.{PendingInstance}
 use Rattle.task_code.specs.Compute.{Computed}
 use Rattle.board_effects.specs.declared.effect.Effect.{Effect}
 use Rattle.board_effects.specs.declared.effect.Effect.TheVariants as To
-use Rattle.board_instances.specs.declared.opening.Openings.{Openings}
+use Rattle.board_instances.specs.declared.pending.PendingInstances.{PendingInstances}
 use Rattle.board_changes.proofs.Cells.{own_count_of}
 use Rattle.board_changes.specs.Blocks.{AreBlocks, handed}
 use Rattle.board_changes.specs.Filled.{HasSlots}
@@ -17,7 +17,7 @@ use Rattle.board_changes.specs.Room.{OpensWell}
 use Rattle.board_changes.specs.World.{goes_on}
 use Rattle.board.specs.Changing.{change_of}
 
-long_slots : (n : ℕ) (zs : List Slot) (one : Opening) → (opening_frame one).slots ≡ replicate n Absent ++ zs → HasSlots n one
+long_slots : (n : ℕ) (zs : List Slot) (one : PendingInstance) → (opening_frame one).slots ≡ replicate n Absent ++ zs → HasSlots n one
 long_slots n zs one e = omega (arith, views one.instance.slots.items, ap (λ (ys : List Slot). length ys) e, long n)
   where
     views : (xs : List ASlot) → length (map slot_view xs) ≡ length xs
@@ -28,7 +28,7 @@ long_slots n zs one e = omega (arith, views one.instance.slots.items, ap (λ (ys
     long zero = omega arith
     long (suc n) = omega (arith, long n)
 
-pub opens_well : (C : Code) (fs : List (Option Frame)) (j : Job) (x : Computed) (e : Effect) → ((o : Openings) → e ≡ To.Opens o → AreBlocks C fs j x o) → CanGoOn j (goes_on (change_of e)) → OpensWell C j (change_of e)
+pub opens_well : (C : Code) (fs : List (Option Frame)) (j : Job) (x : Computed) (e : Effect) → ((o : PendingInstances) → e ≡ To.Opens o → AreBlocks C fs j x o) → CanGoOn j (goes_on (change_of e)) → OpensWell C j (change_of e)
 opens_well C fs j x (To.Fails f) b g = tt
 opens_well C fs j x (To.Stores d v) b g = tt
 opens_well C fs j x (To.Puts d k v) b g = tt

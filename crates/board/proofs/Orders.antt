@@ -10,7 +10,7 @@ use Rattle.task_code.specs.Code.{Control, Kind, Leaf}
 use Rattle.work_queue.specs.Both.{Both, with_changed}
 use Rattle.work_queue.specs.Entries.{erased, inserted}
 use Rattle.work_queue.specs.Waiting as Changes
-use Rattle.work_queue.specs.declared.entry.Entry.{Entry}
+use Rattle.work_queue.specs.declared.entry.QueueEntry.{QueueEntry}
 use Rattle.board_items.specs.View.{numbers_at, queue_view}
 use Rattle.board.specs.Queues.{SameNumbers}
 use Rattle.board.proofs.Entries.{erased_gone, erased_old, erased_once, erased_only, inserted_new, inserted_old, inserted_once, inserted_only, int_same, int_sound, number_held}
@@ -28,7 +28,7 @@ record SameIn (ns ms : List ℕ) : Type 0 where
   once : Distinct ms
 
 -- in the part that has lost it
-shorter : (x : Entry) (es : List Entry) (y : ℤ) → Distinct (numbers_at x.priority es) → Distinct (numbers_at y es) → In x.no (numbers_at x.priority es) → (In x.no (numbers_at y es) → y ≡ x.priority) → SameIn (without x.no (numbers_at y es)) (numbers_at y (erased x es))
+shorter : (x : QueueEntry) (es : List QueueEntry) (y : ℤ) → Distinct (numbers_at x.priority es) → Distinct (numbers_at y es) → In x.no (numbers_at x.priority es) → (In x.no (numbers_at y es) → y ≡ x.priority) → SameIn (without x.no (numbers_at y es)) (numbers_at y (erased x es))
 shorter x es y d e there same =
     record {
       all = λ m h. let p = in_without x.no m (numbers_at y es) h in erased_old y m x es p.0 (λ a b. p.1 (sym a));
@@ -73,7 +73,7 @@ begun_order q k z n a d =
     }
 
 -- the queue with one number more
-longer : (x : Entry) (es : List Entry) (y : ℤ) → Distinct (numbers_at y es) → (In x.no (numbers_at y es) → ⊥) → SameIn (if int_eq x.priority y then x.no ∷ numbers_at y es else numbers_at y es) (numbers_at y (inserted x es))
+longer : (x : QueueEntry) (es : List QueueEntry) (y : ℤ) → Distinct (numbers_at y es) → (In x.no (numbers_at y es) → ⊥) → SameIn (if int_eq x.priority y then x.no ∷ numbers_at y es else numbers_at y es) (numbers_at y (inserted x es))
 longer x es y d not =
     record {
       all = λ m.

@@ -16,7 +16,7 @@ use Rattle.task_code.specs.View.{event_view}
 use Rattle.task_code.specs.Whole.{IsCode}
 use Rattle.task_code.specs.declared.event.Event.{Event as BoardEvent}
 use Rattle.rules.specs.declared.input.Input.{Input}
-use Rattle.board_compute.specs.declared.answer.Answer.{Answer}
+use Rattle.board_work.specs.declared.answer.Answer.{Answer}
 use Rattle.board_program.specs.Spots.{layout_of}
 use Rattle.board_instances.specs.View.{rows_view}
 use Rattle.paths.specs.declared.faults.Fault.{Fault}
@@ -35,7 +35,7 @@ use Rattle.board.specs.Rows as Rows
 use Rattle.board_effects.specs.Effects.{kind_of_fault}
 use Rattle.board.specs.View.{fields_view}
 use Rattle.board.specs.declared.board.Board.TheInside.{Inside}
-use Rattle.board.specs.declared.state.Core.{Core}
+use Rattle.board.specs.declared.state.BoardState.{BoardState}
 use Rattle.std.proofs.Common.{Vec, Global}
 use Rattle.std.proofs.lemmas.List.{map-append}
 use Rattle.board.proofs.Changes.{unmet, untold}
@@ -98,7 +98,7 @@ pub numbered : (rows : List Pure.Row) (n : ℕ) (r : Pure.Row) → Pure.row_of r
 numbered rows zero r h = no_row rows r h
 numbered rows (suc n) r h = omega arith
 
-module _ (C : Code) (I : IsCode C) (es : List Event) (core : Core) (s : Stand C es core) where
+module _ (C : Code) (I : IsCode C) (es : List Event) (core : BoardState) (s : Stand C es core) where
   abbrev pub x : Stands C (layout_of C) es (fields_view s.told core)
   x = s.stands
 
@@ -128,10 +128,10 @@ module _ (C : Code) (I : IsCode C) (es : List Event) (core : Core) (s : Stand C 
   not_theirs w n none h = let p = runs_row C I (layout_of C) es (fields_view s.told core) x w n (subst (λ (t : CodeState). RunsOn C t w n) state_here h) in none p.0 p.1
 
   -- the fields of the history with an event more show a step, and which items are newly enabled
-  pub steps_on : (e : Event) (new : Core) → Stand C (es ++ e ∷ []) new → CodeStep C (state_of C es) e (state_of C (es ++ e ∷ []))
+  pub steps_on : (e : Event) (new : BoardState) → Stand C (es ++ e ∷ []) new → CodeStep C (state_of C es) e (state_of C (es ++ e ∷ []))
   steps_on e new t = stepped C I (layout_of C) es (fields_view s.told core) x e t.stands.state t.stands.reached
 
-  pub newly_on : (e : Event) (new : Core) → Stand C (es ++ e ∷ []) new → NewlyAt (code_system C) (state_of C es) (state_of C (es ++ e ∷ [])) new.items.newly.items
+  pub newly_on : (e : Event) (new : BoardState) → Stand C (es ++ e ∷ []) new → NewlyAt (code_system C) (state_of C es) (state_of C (es ++ e ∷ [])) new.items.newly.items
   newly_on e new t =
       subst (λ (u : CodeState). NewlyAt (code_system C) (state_of C es) u new.items.newly.items) (sym (state_is C (es ++ e ∷ []) t.stands.state t.stands.reached))
       (subst (λ (u : CodeState). NewlyAt (code_system C) u t.stands.state new.items.newly.items) (sym state_here)
@@ -210,7 +210,7 @@ sound_on a s b e program most limit history stand room within worker number =
     events = ap (map event_view) history ∙ history_goes a.history.items e
 
 -- the board as it was, but for room
-pub same_on : (a : Inside) (s : IsSound a) (core : Core) (known : Vec Input Global) (answers : Vec Answer Global) → IsUnchanged a.program (map event_view a.history.items) a.core core → IsSound (record { program = a.program; most_names = a.most_names; limit = a.limit; core = core; history = a.history; known = known; answers = answers })
+pub same_on : (a : Inside) (s : IsSound a) (core : BoardState) (known : Vec Input Global) (answers : Vec Answer Global) → IsUnchanged a.program (map event_view a.history.items) a.core core → IsSound (record { program = a.program; most_names = a.most_names; limit = a.limit; core = core; history = a.history; known = known; answers = answers })
 same_on a s core known answers k =
     record {
       whole = s.whole;
@@ -223,21 +223,21 @@ same_on a s core known answers k =
       numbers = s.numbers;
     }
 
-pub same_seen : (a : Inside) (core : Core) (known : Vec Input Global) (answers : Vec Answer Global) → core.items.newly.items ≡ a.core.items.newly.items → seen_of (record { program = a.program; most_names = a.most_names; limit = a.limit; core = core; history = a.history; known = known; answers = answers }) ≡ seen_of a
+pub same_seen : (a : Inside) (core : BoardState) (known : Vec Input Global) (answers : Vec Answer Global) → core.items.newly.items ≡ a.core.items.newly.items → seen_of (record { program = a.program; most_names = a.most_names; limit = a.limit; core = core; history = a.history; known = known; answers = answers }) ≡ seen_of a
 same_seen a core known answers e = ap (λ (ns : List ℕ). record { code = a.program; limit = a.limit; state = state_of a.program (map event_view a.history.items); history = map event_view a.history.items; newly = ns }) e
 
 -- the same board
-pub sorted_sound : (a : Inside) (s : IsSound a) (core : Core) (answers : Vec Answer Global) → core ≡ a.core → (history : Vec BoardEvent Global) → history.items ≡ a.history.items → vec_len history ≡ vec_len a.history → vec_capacity a.history ≤ vec_capacity history → IsSound (record { program = a.program; most_names = a.most_names; limit = a.limit; core = core; history = history; known = a.known; answers = answers })
+pub sorted_sound : (a : Inside) (s : IsSound a) (core : BoardState) (answers : Vec Answer Global) → core ≡ a.core → (history : Vec BoardEvent Global) → history.items ≡ a.history.items → vec_len history ≡ vec_len a.history → vec_capacity a.history ≤ vec_capacity history → IsSound (record { program = a.program; most_names = a.most_names; limit = a.limit; core = core; history = history; known = a.known; answers = answers })
 sorted_sound a s core answers e history items len capacity =
     record {
       whole = s.whole;
       names = s.names;
-      stand = subst (λ (hs : List BoardEvent). Stand a.program (map event_view hs) core) (sym items) (subst (λ (k : Core). Stand a.program (map event_view a.history.items) k) (sym e) s.stand);
+      stand = subst (λ (hs : List BoardEvent). Stand a.program (map event_view hs) core) (sym items) (subst (λ (k : BoardState). Stand a.program (map event_view a.history.items) k) (sym e) s.stand);
       room = λ h.
-          let r = s.room (ap (λ (k : Core). k.fault) (sym e) ∙ h) in
-          let n = ap (λ (k : Core). k.items.running) e in
+          let r = s.room (ap (λ (k : BoardState). k.fault) (sym e) ∙ h) in
+          let n = ap (λ (k : BoardState). k.items.running) e in
           omega arith;
-      newly = subst (λ (hs : List BoardEvent). (n : ℕ) → In n core.items.newly.items → CanBegin a.program (state_of a.program (map event_view hs)) n) (sym items) (λ n i. s.newly n (subst (λ (k : Core). In n k.items.newly.items) e i));
+      newly = subst (λ (hs : List BoardEvent). (n : ℕ) → In n core.items.newly.items → CanBegin a.program (state_of a.program (map event_view hs)) n) (sym items) (λ n i. s.newly n (subst (λ (k : BoardState). In n k.items.newly.items) e i));
       within = (let w = s.within in omega arith);
       workers = subst (λ (hs : List BoardEvent). AreByWorkers (map event_view hs)) (sym items) s.workers;
       numbers = subst (λ (hs : List BoardEvent). AreNumbered (map event_view hs)) (sym items) s.numbers;

@@ -51,7 +51,7 @@ use Rattle.board.specs.declared.board.Board.TheInside.{Inside}
 use Rattle.board.specs.Rows.{RunsOn}
 use Rattle.board.specs.View.{fields_view}
 use Rattle.board.specs.Working.{IsThere, IsWorkAt, answers_at, work_of}
-use Rattle.board.specs.declared.state.Core.{Core}
+use Rattle.board.specs.declared.state.BoardState.{BoardState}
 use Rattle.board.proofs.Answering.{all_seen, need_answer, need_seen}
 use Rattle.board.proofs.Changes.{untold}
 use Rattle.board.proofs.Moves.{item_there, row_there, running_item, state_is, steps}
@@ -98,7 +98,7 @@ module _ (C : Code) (fs : List (Option Frame)) (cs : List (Option Counted)) (k b
   all_answers [] = refl
   all_answers (n ∷ ns) = let p = one_answer n in let q = all_answers ns in λ i. p i ∷ q i
 
-module _ (C : Code) (I : IsCode C) (es : List Event) (core : Core) (t : Stand C es core) (w n : ℕ) (j : Job) (runs : RunsOn (rows_view core.items.rows.items) w n j) where
+module _ (C : Code) (I : IsCode C) (es : List Event) (core : BoardState) (t : Stand C es core) (w n : ℕ) (j : Job) (runs : RunsOn (rows_view core.items.rows.items) w n j) where
   abbrev F : Fields.Fields
   F = fields_view t.told core
 
@@ -139,21 +139,21 @@ job_same : (C : Code) (fs : List (Option Frame)) (j : Job) → job_of C (task_of
 job_same C fs Script = refl
 job_same C fs (Does k e c) = refl
 
-module _ (C : Code) (I : IsCode C) (es : List Event) (core : Core) (t : Stand C es core) (free : core.fault ≡ None) (w n : ℕ) where
+module _ (C : Code) (I : IsCode C) (es : List Event) (core : BoardState) (t : Stand C es core) (free : core.fault ≡ None) (w n : ℕ) where
   none : t.stands.state.fault ≡ None
   none = sym t.stands.fault ∙ untold C t.told.fault core.fault t.fault free
 
-  pub seen_by : (j : Job) → RunsOn (rows_view core.items.rows.items) w n j → Seen C t.stands.state (frames_view core.world.instances.slots) (cells_view core.world.store.cells) j
+  pub seen_by : (j : Job) → RunsOn (rows_view core.items.rows.items) w n j → Seen C t.stands.state (frames_view core.data_state.instances.slots) (cells_view core.data_state.store.cells) j
   seen_by Script runs = record { inputs = []; known = tt; answers = refl }
   seen_by (Does k e c) runs =
       let f = t.stands.frames.there n k e c (record { job = Does k e c; mark = Running w }) runs refl (not_over C I es core t w n (Does k e c) runs) in
-      let fs = frames_view core.world.instances.slots in
-      let cs = cells_view core.world.store.cells in
+      let fs = frames_view core.data_state.instances.slots in
+      let cs = cells_view core.data_state.store.cells in
       let p = path_of fs k in
       let slot = slot_for (layout_of C) fs k f.0.body in
       let xs = known C I es core t w n (Does k e c) runs none in
       let each = all_known (code_system C) code_tests (code_told C) t.stands.state (flat_map (inputs_at C p) (entry C e).needs) xs.0 xs.1 in
-      let order = in_order core.world.store t.kept.rising in
+      let order = in_order core.data_state.store t.kept.rising in
       let res = resolved C I (layout_of C) es (fields_view t.told core) t.stands (own C I es core t w n (Does k e c) runs) (own_there C I es core t w n (Does k e c) runs) n k e c (record { job = Does k e c; mark = Running w }) f.0 refl runs refl (not_over C I es core t w n (Does k e c) runs) f.1 in
       let r = all_seen C p t.stands.state (need_answer C I (layout_of C) es (fields_view t.told core) t.stands order e p slot res) (entry C e).needs (need_seen C I (layout_of C) es (fields_view t.told core) t.stands order e p slot res) each in
       record {
@@ -165,28 +165,28 @@ module _ (C : Code) (I : IsCode C) (es : List Event) (core : Core) (t : Stand C 
       }
 
   -- so the work by the fields is the item's own, and no other is
-  pub work_own : (j : Job) → RunsOn (rows_view core.items.rows.items) w n j → (work : Assigned) → IsWorkAt C (frames_view core.world.instances.slots) (cells_view core.world.store.cells) j work → IsWorkOf C (state_of C es) (task_of (frames_view core.world.instances.slots) j) work
+  pub work_own : (j : Job) → RunsOn (rows_view core.items.rows.items) w n j → (work : Assigned) → IsWorkAt C (frames_view core.data_state.instances.slots) (cells_view core.data_state.store.cells) j work → IsWorkOf C (state_of C es) (task_of (frames_view core.data_state.instances.slots) j) work
   work_own j runs work a =
       let s = seen_by j runs in
-      subst (λ (u : CodeState). IsWorkOf C u (task_of (frames_view core.world.instances.slots) j) work) (sym (state_is C es t.stands.state t.stands.reached))
+      subst (λ (u : CodeState). IsWorkOf C u (task_of (frames_view core.data_state.instances.slots) j) work) (sym (state_is C es t.stands.state t.stands.reached))
       (record {
-        job = a.job ∙ sym (job_same C (frames_view core.world.instances.slots) j);
+        job = a.job ∙ sym (job_same C (frames_view core.data_state.instances.slots) j);
         inputs = s.inputs;
         known = s.known;
         answers = a.answers ∙ sym s.answers;
       })
 
-  pub own_work : (j : Job) → RunsOn (rows_view core.items.rows.items) w n j → (work : Assigned) → IsWorkOf C (state_of C es) (task_of (frames_view core.world.instances.slots) j) work → IsWorkAt C (frames_view core.world.instances.slots) (cells_view core.world.store.cells) j work
+  pub own_work : (j : Job) → RunsOn (rows_view core.items.rows.items) w n j → (work : Assigned) → IsWorkOf C (state_of C es) (task_of (frames_view core.data_state.instances.slots) j) work → IsWorkAt C (frames_view core.data_state.instances.slots) (cells_view core.data_state.store.cells) j work
   own_work j runs work o =
       let s = seen_by j runs in
-      let q = subst (λ (u : CodeState). IsWorkOf C u (task_of (frames_view core.world.instances.slots) j) work) (state_is C es t.stands.state t.stands.reached) o in
+      let q = subst (λ (u : CodeState). IsWorkOf C u (task_of (frames_view core.data_state.instances.slots) j) work) (state_is C es t.stands.state t.stands.reached) o in
       record {
-        job = q.job ∙ job_same C (frames_view core.world.instances.slots) j;
-        answers = q.answers ∙ ap (answers_to C (task_of (frames_view core.world.instances.slots) j)) (one_list C I es core t w n j runs q.inputs s.inputs q.known s.known) ∙ s.answers;
+        job = q.job ∙ job_same C (frames_view core.data_state.instances.slots) j;
+        answers = q.answers ∙ ap (answers_to C (task_of (frames_view core.data_state.instances.slots) j)) (one_list C I es core t w n j runs q.inputs s.inputs q.known s.known) ∙ s.answers;
       }
 
 -- the entry of a live row is there
-pub job_there : (C : Code) (I : IsCode C) (es : List Event) (core : Core) (t : Stand C es core) (n : ℕ) (j : Job) (m : Fields.Mark) → row_of (rows_view core.items.rows.items) n ≡ Some (record { job = j; mark = m }) → (m ≡ Over → ⊥) → IsThere C j
+pub job_there : (C : Code) (I : IsCode C) (es : List Event) (core : BoardState) (t : Stand C es core) (n : ℕ) (j : Job) (m : Fields.Mark) → row_of (rows_view core.items.rows.items) n ≡ Some (record { job = j; mark = m }) → (m ≡ Over → ⊥) → IsThere C j
 job_there C I es core t n Script m h live = tt
 job_there C I es core t n (Does k e c) m h live = let f = t.stands.frames.there n k e c (record { job = Does k e c; mark = m }) h refl live in I.there f.0.body e f.2
 
@@ -197,28 +197,28 @@ pub running_live : (w : ℕ) → Running w ≡ Over → ⊥
 running_live w h = absurd (cc)
 
 -- the work is the item's own
-pub own_seen : (b : Inside) (s : IsSound b) (free : b.core.fault ≡ None) (w n : ℕ) (j : Job) → RunsOn (rows_view b.core.items.rows.items) w n j → (work : Assigned) → work.item ≡ n → IsWorkAt b.program (frames_view b.core.world.instances.slots) (cells_view b.core.world.store.cells) j work → IsOwn (seen_of b) w work
+pub own_seen : (b : Inside) (s : IsSound b) (free : b.core.fault ≡ None) (w n : ℕ) (j : Job) → RunsOn (rows_view b.core.items.rows.items) w n j → (work : Assigned) → work.item ≡ n → IsWorkAt b.program (frames_view b.core.data_state.instances.slots) (cells_view b.core.data_state.store.cells) j work → IsOwn (seen_of b) w work
 own_seen b s free w n j runs work number at =
     record {
-      item = item n (task_of (frames_view b.core.world.instances.slots) j) (Some w);
-      there = subst (λ (u : CodeState). In (item n (task_of (frames_view b.core.world.instances.slots) j) (Some w)) u.items) (sym (state_is b.program (map event_view b.history.items) s.stand.stands.state s.stand.stands.reached)) (own_there b.program s.whole (map event_view b.history.items) b.core s.stand w n j runs);
+      item = item n (task_of (frames_view b.core.data_state.instances.slots) j) (Some w);
+      there = subst (λ (u : CodeState). In (item n (task_of (frames_view b.core.data_state.instances.slots) j) (Some w)) u.items) (sym (state_is b.program (map event_view b.history.items) s.stand.stands.state s.stand.stands.reached)) (own_there b.program s.whole (map event_view b.history.items) b.core s.stand w n j runs);
       number_is = sym number;
       runs = refl;
       own = work_own b.program s.whole (map event_view b.history.items) b.core s.stand free w n j runs work at;
     }
 
 -- and work that is the item's own is what the fields tell
-pub seen_own : (b : Inside) (s : IsSound b) (free : b.core.fault ≡ None) (w n : ℕ) (j : Job) → RunsOn (rows_view b.core.items.rows.items) w n j → (work : Assigned) → work.item ≡ n → IsOwn (seen_of b) w work → IsWorkAt b.program (frames_view b.core.world.instances.slots) (cells_view b.core.world.store.cells) j work
+pub seen_own : (b : Inside) (s : IsSound b) (free : b.core.fault ≡ None) (w n : ℕ) (j : Job) → RunsOn (rows_view b.core.items.rows.items) w n j → (work : Assigned) → work.item ≡ n → IsOwn (seen_of b) w work → IsWorkAt b.program (frames_view b.core.data_state.instances.slots) (cells_view b.core.data_state.store.cells) j work
 seen_own b s free w n j runs work number o =
     own_work b.program s.whole (map event_view b.history.items) b.core s.stand free w n j runs work (subst (λ (u : Task). IsWorkOf b.program (state_of b.program (map event_view b.history.items)) u work) task o.own)
   where
     there : In o.item s.stand.stands.state.items
     there = subst (λ (u : CodeState). In o.item u.items) (state_is b.program (map event_view b.history.items) s.stand.stands.state s.stand.stands.reached) o.there
 
-    task : o.item.task ≡ task_of (frames_view b.core.world.instances.slots) j
+    task : o.item.task ≡ task_of (frames_view b.core.data_state.instances.slots) j
     task =
         let f = row_there b.program s.whole (layout_of b.program) (map event_view b.history.items) (fields_view s.stand.told b.core) s.stand.stands o.item there in
         let a = f.number_is in
         let c = o.number_is in
         let place : suc f.at ≡ n = omega arith in
-        f.task_is ∙ ap (λ (r : Row). task_of (frames_view b.core.world.instances.slots) r.job) (some_same (sym f.there ∙ ap (λ (m : ℕ). row_of (rows_view b.core.items.rows.items) m) place ∙ runs))
+        f.task_is ∙ ap (λ (r : Row). task_of (frames_view b.core.data_state.instances.slots) r.job) (some_same (sym f.there ∙ ap (λ (m : ℕ). row_of (rows_view b.core.items.rows.items) m) place ∙ runs))

@@ -27,7 +27,7 @@ use Rattle.board.specs.Ending.{is_fault}
 use Rattle.board.specs.Inside.{IsKept, IsNoted, Stand}
 use Rattle.board.specs.Rows.{RunsOn}
 use Rattle.board.specs.View.{Told, fields_view}
-use Rattle.board.specs.declared.state.Core.{Core}
+use Rattle.board.specs.declared.state.BoardState.{BoardState}
 use Rattle.board.proofs.Changes.{untold}
 use Rattle.board.proofs.Moves.{ends}
 use Rattle.board_history.proofs.Tests.{none_some, yes_no}
@@ -47,21 +47,21 @@ none_noted C None None m f = tt
 none_noted C None (Some g) m f = none_some (sym f)
 none_noted C (Some k) g m f = none_some (sym m)
 
-module _ (C : Code) (I : IsCode C) (es : List Event) (old new : Core) (s : Stand C es old) (free : old.fault ≡ None) (w n : ℕ) (j : Job) (runs : RunsOn (rows_view old.items.rows.items) w n j) where
+module _ (C : Code) (I : IsCode C) (es : List Event) (old new : BoardState) (s : Stand C es old) (free : old.fault ≡ None) (w n : ℕ) (j : Job) (runs : RunsOn (rows_view old.items.rows.items) w n j) where
   none : s.told.fault ≡ None
   none = untold C s.told.fault old.fault s.fault free
 
   -- the state with the End is reached, and has no fault
-  pub good_end : (xs : List (Answer Key Scalar)) → SeesAll (code_system C) s.stands.state (task_inputs C (task_of (frames_view old.world.instances.slots) j)) xs → (e : Effect)
-      → IsEffect C (frames_view old.world.instances.slots) (cells_view old.world.store.cells) j (computed_by C (task_of (frames_view old.world.instances.slots) j) xs) e → is_fault e ≡ false
+  pub good_end : (xs : List (Answer Key Scalar)) → SeesAll (code_system C) s.stands.state (task_inputs C (task_of (frames_view old.data_state.instances.slots) j)) xs → (e : Effect)
+      → IsEffect C (frames_view old.data_state.instances.slots) (cells_view old.data_state.store.cells) j (computed_by C (task_of (frames_view old.data_state.instances.slots) j) xs) e → is_fault e ≡ false
       → (t : CodeState) × (replayed C (es ++ End w n ∷ []) ≡ Some t) × (t.fault ≡ None)
   good_end xs known e effect good =
       let p = ends C I (layout_of C) es (fields_view s.told old) s.stands none w n j runs in
-      (p.0, p.1, tells C I es (fields_view s.told old) s.stands w n p.0 p.1 (record { job = j; mark = Running w }) runs xs known e effect ∙ faultless (task_of (frames_view old.world.instances.slots) j) e good)
+      (p.0, p.1, tells C I es (fields_view s.told old) s.stands w n p.0 p.1 (record { job = j; mark = Running w }) runs xs known e effect ∙ faultless (task_of (frames_view old.data_state.instances.slots) j) e good)
 
-  pub passed_core : (xs : List (Answer Key Scalar)) → SeesAll (code_system C) s.stands.state (task_inputs C (task_of (frames_view old.world.instances.slots) j)) xs → (e : Effect)
-      → IsEffect C (frames_view old.world.instances.slots) (cells_view old.world.store.cells) j (computed_by C (task_of (frames_view old.world.instances.slots) j) xs) e → is_fault e ≡ false
-      → (told : Told) → EndsTo C (layout_of C) (fields_view s.told old) n j (computed_by C (task_of (frames_view old.world.instances.slots) j) xs) (fields_view told new) → new.fault ≡ None → IsKept C new
+  pub passed_core : (xs : List (Answer Key Scalar)) → SeesAll (code_system C) s.stands.state (task_inputs C (task_of (frames_view old.data_state.instances.slots) j)) xs → (e : Effect)
+      → IsEffect C (frames_view old.data_state.instances.slots) (cells_view old.data_state.store.cells) j (computed_by C (task_of (frames_view old.data_state.instances.slots) j) xs) e → is_fault e ≡ false
+      → (told : Told) → EndsTo C (layout_of C) (fields_view s.told old) n j (computed_by C (task_of (frames_view old.data_state.instances.slots) j) xs) (fields_view told new) → new.fault ≡ None → IsKept C new
       → Stand C (es ++ End w n ∷ []) new
   passed_core xs known e effect good told to unfaulted kept =
       let p = good_end xs known e effect good in

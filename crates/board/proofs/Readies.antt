@@ -11,7 +11,7 @@ use Rattle.task_code.specs.System.{task_kind, task_priority}
 use Rattle.work_queue.specs.Both.{of}
 use Rattle.work_queue.specs.Entries.{IsListedInOrder, entry_of, listed}
 use Rattle.work_queue.specs.Order.{precedes}
-use Rattle.work_queue.specs.declared.entry.Entry.{Entry}
+use Rattle.work_queue.specs.declared.entry.QueueEntry.{QueueEntry}
 use Rattle.work_queue.proofs.OrderLaws.{no_later, precedes_order}
 use Rattle.board_items.specs.View.{numbers_at}
 use Rattle.board_items.proofs.Lists.{distinct_moved, in_back, in_moved}
@@ -81,7 +81,7 @@ module _ (a : Inside) (s : IsSound a) where
   abbrev all : List Listed
   all = map (listed Control) a.core.items.queue.control.entries ++ map (listed Leaf) a.core.items.queue.leaf.entries
 
-  shown_in : (k : Kind) (l : Listed) → In l (map (listed k) (of k a.core.items.queue).entries) → (e : Entry) × Stood a s k e.priority e.no × (e.priority ≡ l.1) × (e.no ≡ l.2)
+  shown_in : (k : Kind) (l : Listed) → In l (map (listed k) (of k a.core.items.queue).entries) → (e : QueueEntry) × Stood a s k e.priority e.no × (e.priority ≡ l.1) × (e.no ≡ l.2)
   shown_in k l h =
       let u = in_unmap (listed k) l (of k a.core.items.queue).entries h in
       (u.0, stood a s k u.0 u.1, ap (λ (y : Listed). y.1) u.2, ap (λ (y : Listed). y.2) u.2)
@@ -93,7 +93,7 @@ module _ (a : Inside) (s : IsSound a) where
         | inr g ↦ on Leaf (shown_in Leaf l g)
       ]
     where
-      on : (k : Kind) → (e : Entry) × Stood a s k e.priority e.no × (e.priority ≡ l.1) × (e.no ≡ l.2) → Shown l
+      on : (k : Kind) → (e : QueueEntry) × Stood a s k e.priority e.no × (e.priority ≡ l.1) × (e.no ≡ l.2) → Shown l
       on k x = record { item = x.1.item; ready = x.1.ready; priority_is = x.1.priority_is ∙ x.2; number_is = x.1.number_is ∙ x.3 }
 
   -- each that can begin is listed
@@ -115,13 +115,13 @@ module _ (a : Inside) (s : IsSound a) where
       )
 
   -- each number is listed once
-  entry_named : (k : Kind) (n : ℕ) (ys : List Entry) → In n (map (λ (l : Listed). l.2) (map (listed k) ys)) → (e : Entry) × In e ys × (e.no ≡ n)
+  entry_named : (k : Kind) (n : ℕ) (ys : List QueueEntry) → In n (map (λ (l : Listed). l.2) (map (listed k) ys)) → (e : QueueEntry) × In e ys × (e.no ≡ n)
   entry_named k n ys h =
       let l = in_unmap (λ (l : Listed). l.2) n (map (listed k) ys) h in
       let e = in_unmap (listed k) l.0 ys l.1 in
       (e.0, e.1, ap (λ (y : Listed). y.2) e.2 ∙ l.2)
 
-  once : (k : Kind) (ys : List Entry) → ((z : ℤ) → Distinct (numbers_at z ys)) → ((e : Entry) → In e ys → Stood a s k e.priority e.no) → Distinct (map (λ (l : Listed). l.2) (map (listed k) ys))
+  once : (k : Kind) (ys : List QueueEntry) → ((z : ℤ) → Distinct (numbers_at z ys)) → ((e : QueueEntry) → In e ys → Stood a s k e.priority e.no) → Distinct (map (λ (l : Listed). l.2) (map (listed k) ys))
   once k [] d f = tt
   once k (y ∷ ys) d f = (
     (λ h.

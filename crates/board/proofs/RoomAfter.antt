@@ -7,24 +7,24 @@ use Rattle.board_history.specs.Fields.{Frame, Job, Row, Want}
 use Rattle.board_history.specs.Marking.{kind_eq}
 use Rattle.task_code.specs.Code.{Code, Control, Kind, Leaf, body}
 use Rattle.board_program.specs.Tables.{run_as}
-use Rattle.board_program.specs.declared.program.Own.{Own}
+use Rattle.board_program.specs.declared.program.LocalVariable.{LocalVariable}
 use Rattle.board_instances.specs.Openings.{Put, put_jobs}
 use Rattle.board_instances.specs.View.{opening_frame, rows_view}
-use Rattle.board_instances.specs.declared.opening.Opening.{Opening}
-use Rattle.board_instances.specs.declared.opening.Openings.{Openings}
+use Rattle.board_instances.specs.declared.pending.PendingInstance.{PendingInstance}
+use Rattle.board_instances.specs.declared.pending.PendingInstances.{PendingInstances}
 use Rattle.board_items.proofs.Apart.{placed_roomy}
 use Rattle.board_items.specs.Room.{IsRoomy, IsRoomyFor, apart_in}
 use Rattle.board_items.specs.declared.items.Items.{Items}
 use Rattle.board_changes.specs.Filled.{AreFilled}
 use Rattle.board_changes.specs.Opened.{AreOpened, going as going_jobs}
 use Rattle.board_changes.specs.World.{Opening as Opened, Opens, WorldEnds, goes_on}
-use Rattle.board_changes.specs.declared.filling.TurnSlots.{TurnSlots}
-use Rattle.board_changes.specs.declared.world.Change.{Change}
-use Rattle.board_changes.specs.declared.world.Change.TheVariants as Changes
+use Rattle.board_changes.specs.declared.instance_data.TurnSlots.{TurnSlots}
+use Rattle.board_changes.specs.declared.data_state.Change.{Change}
+use Rattle.board_changes.specs.declared.data_state.Change.TheVariants as Changes
 use Rattle.board.specs.Room.{going, new_controls, new_leaves}
 use Rattle.board.proofs.Apart.{apart_both, apart_control, apart_leaf}
 
-pub filled_len : (own : List Own) (at : TurnSlots) (os ps : List Opening) (s t : Store) → AreFilled own at os s ps t → length ps ≡ length os
+pub filled_len : (own : List LocalVariable) (at : TurnSlots) (os ps : List PendingInstance) (s t : Store) → AreFilled own at os s ps t → length ps ≡ length os
 filled_len own at [] [] s t f = refl
 filled_len own at [] (p ∷ ps) s t f = absurd f
 filled_len own at (o ∷ os) [] s t f = absurd f
@@ -33,14 +33,14 @@ filled_len own at (o ∷ os) (p ∷ ps) s t f = ap suc (filled_len own at os ps 
 same_rows : (C : Code) (old new : Items) → IsRoomyFor C 0 0 old → rows_view new.rows.items ≡ rows_view old.rows.items → new.queue ≡ old.queue → new.apart ≡ old.apart → new.newly ≡ old.newly → IsRoomy C new
 same_rows C old new r e q a n = placed_roomy C 0 0 old new [] r (e ∙ sym (append-nil (rows_view old.rows.items))) (omega arith) (omega arith) q a n
 
-opened_len : (C : Code) (j : Job) (o : Openings) (fs gs : List (Option Frame)) (old new : List Row) (s t : Store) (w : AreOpened C j o fs gs old new s t) → length w.placed.puts ≡ vec_len o.list
+opened_len : (C : Code) (j : Job) (o : PendingInstances) (fs gs : List (Option Frame)) (old new : List Row) (s t : Store) (w : AreOpened C j o fs gs old new s t) → length w.placed.puts ≡ vec_len o.list
 opened_len C j o fs gs old new s t w =
     sym (length-map w.placed.puts (λ (q : Put). q.frame)) ∙ ap length w.placed.frames_are ∙ length-map w.filled opening_frame ∙ filled_len _ _ o.list.items w.filled s w.made w.fills ∙ len o.list.ok.0
   where
     len : vec_len o.list ≡ length o.list.items → length o.list.items ≡ vec_len o.list
     len e = sym e
 
-pub opened_rows : (C : Code) (j : Job) (o : Openings) (fs gs : List (Option Frame)) (old new : List Row) (s t : Store) (w : Opens C j o fs gs old new s t) → new ≡ old ++ map new_row (put_jobs (body C o.body).entries w.opened.placed.puts ++ going_jobs j o.goes_on)
+pub opened_rows : (C : Code) (j : Job) (o : PendingInstances) (fs gs : List (Option Frame)) (old new : List Row) (s t : Store) (w : Opens C j o fs gs old new s t) → new ≡ old ++ map new_row (put_jobs (body C o.body).entries w.opened.placed.puts ++ going_jobs j o.goes_on)
 opened_rows C j o fs gs old new s t w =
     w.goes ∙ ap (λ (rs : List Row). rs ++ map new_row (going_jobs j o.goes_on)) w.opened.placed.rows
     ∙ append_assoc old (map new_row (put_jobs (body C o.body).entries w.opened.placed.puts)) (map new_row (going_jobs j o.goes_on))

@@ -7,7 +7,7 @@ use Rattle.board_history.specs.Marking.{kind_eq, mark_at}
 use Rattle.task_code.specs.Code.{Code, Control, Kind, Leaf}
 use Rattle.work_queue.specs.Both.{Both, of, with_changed}
 use Rattle.work_queue.specs.Waiting.{with_put, without}
-use Rattle.work_queue.specs.declared.entry.Entry.{Entry as Queued}
+use Rattle.work_queue.specs.declared.entry.QueueEntry.{QueueEntry as Queued}
 use Rattle.board_instances.specs.View.{rows_view}
 use Rattle.board_items.specs.Settled.{one_more, one_less}
 use Rattle.board_items.specs.Room.{IsRoomy, apart_in, is_apart}

@@ -14,13 +14,13 @@ use Rattle.task_code.specs.System.{task_kind, task_priority}
 use Rattle.task_code.specs.Whole.{IsCode}
 use Rattle.board_program.specs.Spots.{layout_of}
 use Rattle.board_instances.specs.View.{frames_view, mark_view, rows_view}
-use Rattle.board_instances.specs.declared.item.Mark.{Mark}
-use Rattle.board_instances.specs.declared.item.Mark.TheVariants as Marks
+use Rattle.board_instances.specs.declared.item.ItemStatus.{ItemStatus}
+use Rattle.board_instances.specs.declared.item.ItemStatus.TheVariants as Marks
 use Rattle.board.specs.History.{state_of}
 use Rattle.board.specs.Inside.{IsSound, Stand}
 use Rattle.board.specs.declared.board.Board.TheInside.{Inside}
 use Rattle.board.specs.View.{fields_view}
-use Rattle.board.specs.declared.state.Core.{Core}
+use Rattle.board.specs.declared.state.BoardState.{BoardState}
 use Rattle.board.proofs.Moves.{begins_ready, item_there, kind_of_job, priority_of_job, row_there}
 use Rattle.board.proofs.Own.{state_here}
 use Rattle.board.proofs.OwnWork.{ready_live}
@@ -30,11 +30,11 @@ in_place [] k n h = none_some h
 in_place (m ∷ ns) zero n h = inl (sym (some_same h))
 in_place (m ∷ ns) (suc k) n h = inr (in_place ns k n h)
 
-module _ (C : Code) (I : IsCode C) (es : List Event) (core : Core) (s : Stand C es core) where
+module _ (C : Code) (I : IsCode C) (es : List Event) (core : BoardState) (s : Stand C es core) where
   abbrev rows : List Row
   rows = rows_view core.items.rows.items
 
-  pub there : (i : CodeItem) → In i (state_of C es).items → RowIs (frames_view core.world.instances.slots) (rows_view core.items.rows.items) 1 i
+  pub there : (i : CodeItem) → In i (state_of C es).items → RowIs (frames_view core.data_state.instances.slots) (rows_view core.items.rows.items) 1 i
   there i h = row_there C I (layout_of C) es (fields_view s.told core) s.stands i (subst (λ (t : CodeState). In i t.items) (state_here C I es core s) h)
 
   -- no item has a number without a row, or of a row that is over
@@ -58,11 +58,11 @@ module _ (C : Code) (I : IsCode C) (es : List Event) (core : Core) (s : Stand C 
       elim (mark_is r.mark) [
         | inl over ↦ absurd (live over)
         | inr y ↦ (
-          item n (task_of (frames_view core.world.instances.slots) r.job) y.runs,
-          subst (λ (t : CodeState). In (item n (task_of (frames_view core.world.instances.slots) r.job) y.runs) t.items) (sym (state_here C I es core s)) (item_there C I (layout_of C) es (fields_view s.told core) s.stands n r h y),
+          item n (task_of (frames_view core.data_state.instances.slots) r.job) y.runs,
+          subst (λ (t : CodeState). In (item n (task_of (frames_view core.data_state.instances.slots) r.job) y.runs) t.items) (sym (state_here C I es core s)) (item_there C I (layout_of C) es (fields_view s.told core) s.stands n r h y),
           refl,
-          e ∙ sym (kind_of_job C (frames_view core.world.instances.slots) r.job),
-          p ∙ sym (priority_of_job C (frames_view core.world.instances.slots) r.job),
+          e ∙ sym (kind_of_job C (frames_view core.data_state.instances.slots) r.job),
+          p ∙ sym (priority_of_job C (frames_view core.data_state.instances.slots) r.job),
         )
       ]
 
@@ -72,10 +72,10 @@ module _ (C : Code) (I : IsCode C) (es : List Event) (core : Core) (s : Stand C 
       elim (mark_is r.mark) [
         | inl over ↦ absurd (live over)
         | inr y ↦ (
-          item n (task_of (frames_view core.world.instances.slots) r.job) y.runs,
-          subst (λ (t : CodeState). In (item n (task_of (frames_view core.world.instances.slots) r.job) y.runs) t.items) (sym (state_here C I es core s)) (item_there C I (layout_of C) es (fields_view s.told core) s.stands n r h y),
+          item n (task_of (frames_view core.data_state.instances.slots) r.job) y.runs,
+          subst (λ (t : CodeState). In (item n (task_of (frames_view core.data_state.instances.slots) r.job) y.runs) t.items) (sym (state_here C I es core s)) (item_there C I (layout_of C) es (fields_view s.told core) s.stands n r h y),
           refl,
-          e ∙ sym (kind_of_job C (frames_view core.world.instances.slots) r.job),
+          e ∙ sym (kind_of_job C (frames_view core.data_state.instances.slots) r.job),
         )
       ]
 
@@ -93,7 +93,7 @@ no_row_there a s k n h e = let r = newly_row a s k n h in none_some (sym e ∙ r
 pub row_live : (a : Inside) (s : IsSound a) (k n : ℕ) → slice_get a.core.items.newly.items k ≡ Some n → (q : Row) → row_of (rows_view a.core.items.rows.items) n ≡ Some q → q.mark ≡ Over → ⊥
 row_live a s k n h q e o = let r = newly_row a s k n h in r.2 (ap (λ (y : Row). y.mark) (some_same (sym r.1 ∙ e)) ∙ o)
 
-pub live_mark : (m : Mark) → (m ≡ Marks.Over → ⊥) → mark_view m ≡ Over → ⊥
+pub live_mark : (m : ItemStatus) → (m ≡ Marks.Over → ⊥) → mark_view m ≡ Over → ⊥
 live_mark Marks.Waiting n h = absurd (cc)
 live_mark Marks.Ready n h = absurd (cc)
 live_mark (Marks.Running w) n h = absurd (cc)

@@ -14,8 +14,8 @@ use Rattle.board_data.specs.Wanted.{FewSlots}
 use Rattle.board_instances.specs.Made.{FitsAround, made_as}
 use Rattle.board_instances.specs.Openings.{Put}
 use Rattle.board_instances.specs.View.{opening_frame, slot_view}
-use Rattle.board_instances.specs.declared.opening.Opening.{Opening}
-use Rattle.board_instances.specs.declared.opening.Openings.{Openings}
+use Rattle.board_instances.specs.declared.pending.PendingInstance.{PendingInstance}
+use Rattle.board_instances.specs.declared.pending.PendingInstances.{PendingInstances}
 use Rattle.board_changes.proofs.Frames.{frames_open}
 use Rattle.board_changes.proofs.MadeData.{one_of}
 use Rattle.board_changes.specs.Blocks.{AreBlocks}
@@ -47,7 +47,7 @@ few_made C fs gs around made o few new k g h =
     ]
 
 -- one of a list is there only where a first is
-first_there : (os : List Opening) (one : Opening) → In one os → (first : Opening) × (slice_get os 0 ≡ Some first) × In first os
+first_there : (os : List PendingInstance) (one : PendingInstance) → In one os → (first : PendingInstance) × (slice_get os 0 ≡ Some first) × In first os
 first_there [] one i = absurd i
 first_there (o ∷ os) one i = (o, refl, inl refl)
 
@@ -55,10 +55,10 @@ map_length : {X Y : Type 0} (f : X → Y) (xs : List X) → length (map f xs) �
 map_length f [] = refl
 map_length f (x ∷ xs) = ap suc (map_length f xs)
 
-module _ (C : Code) (I : IsCode C) (j : Job) (x : Computed) (o : Openings) (fs gs : List (Option Frame)) (old new : List Row) (s t : Store) (B : AreBlocks C fs j x o) (W : AreOpened C j o fs gs old new s t)
-    (n : ℕ) (first : (one : Opening) → slice_get o.list.items 0 ≡ Some one → n ≡ length one.instance.slots.items) (few : n < 2 ^ 64) where
+module _ (C : Code) (I : IsCode C) (j : Job) (x : Computed) (o : PendingInstances) (fs gs : List (Option Frame)) (old new : List Row) (s t : Store) (B : AreBlocks C fs j x o) (W : AreOpened C j o fs gs old new s t)
+    (n : ℕ) (first : (one : PendingInstance) → slice_get o.list.items 0 ≡ Some one → n ≡ length one.instance.slots.items) (few : n < 2 ^ 64) where
   -- all that are opened have as many as the first
-  as_many : (one : Opening) → In one o.list.items → length (opening_frame one).slots ≡ n
+  as_many : (one : PendingInstance) → In one o.list.items → length (opening_frame one).slots ≡ n
   as_many one i =
       let f = first_there o.list.items one i in
       ap length (B.slots one i) ∙ sym (ap length (B.slots f.0 f.2)) ∙ map_length slot_view f.0.instance.slots.items ∙ sym (first f.0 f.1)

@@ -14,15 +14,15 @@ use Rattle.task_code.specs.Code.{Code, body, entry}
 use Rattle.board_effects.specs.Openings.{IsSpare, long_needs}
 use Rattle.board_instances.specs.Openings.{Put, put_jobs}
 use Rattle.board_instances.specs.View.{opening_frame}
-use Rattle.board_instances.specs.declared.opening.Opening.{Opening}
-use Rattle.board_instances.specs.declared.opening.Openings.{Openings}
+use Rattle.board_instances.specs.declared.pending.PendingInstance.{PendingInstance}
+use Rattle.board_instances.specs.declared.pending.PendingInstances.{PendingInstances}
 use Rattle.board_items.specs.Ended.{first_needs}
 use Rattle.board_items.specs.Progress.{jobs_behind}
 use Rattle.board_items.specs.Room.{AreSpare}
 use Rattle.board_changes.specs.Opened.{going as going_jobs}
 use Rattle.board_changes.specs.World.{Opening as Opened, WorldEnds, spare_of}
-use Rattle.board_changes.specs.declared.world.Change.{Change}
-use Rattle.board_changes.specs.declared.world.Change.TheVariants as Changes
+use Rattle.board_changes.specs.declared.data_state.Change.{Change}
+use Rattle.board_changes.specs.declared.data_state.Change.TheVariants as Changes
 use Rattle.board.proofs.RoomAfter.{filled_len, opened_rows}
 
 jobs_are : (js : List Job) → map (λ (r : Row). r.job) (map new_row js) ≡ js
@@ -70,27 +70,27 @@ module _ (C : Code) where
   long_going (Does k e c) true = refl
   long_going (Does k e c) false = refl
 
-  same_long : (b : ℕ) (puts : List Put) (os : List Opening) → length puts ≡ length os → ((o : Opening) → In o os → (opening_frame o).body ≡ b) → flat_map (λ (p : Put). long_entries (body C b).entries) puts ≡ flat_map (λ (o : Opening). long_needs C (opening_frame o).body) os
+  same_long : (b : ℕ) (puts : List Put) (os : List PendingInstance) → length puts ≡ length os → ((o : PendingInstance) → In o os → (opening_frame o).body ≡ b) → flat_map (λ (p : Put). long_entries (body C b).entries) puts ≡ flat_map (λ (o : PendingInstance). long_needs C (opening_frame o).body) os
   same_long b [] [] n h = refl
   same_long b [] (o ∷ os) n h = absurd (omega (arith, n))
   same_long b (p ∷ puts) [] n h = absurd (omega (arith, n))
   same_long b (p ∷ puts) (o ∷ os) n h =
       ap (λ (l : List ℕ). long_entries (body C b).entries ++ l) (same_long b puts os (omega (arith, n)) (λ q i. h q (inr i)))
-      ∙ ap (λ (m : ℕ). long_needs C m ++ flat_map (λ (q : Opening). long_needs C (opening_frame q).body) os) (sym (h o (inl refl)))
+      ∙ ap (λ (m : ℕ). long_needs C m ++ flat_map (λ (q : PendingInstance). long_needs C (opening_frame q).body) os) (sym (h o (inl refl)))
 
 -- what is asked of what a change opens
-abbrev pub HasSpare : Code → Openings → Type 0
-HasSpare C o = ((y : Opening) → In y o.list.items → (opening_frame y).body ≡ o.body) × AllZip IsSpare (flat_map (λ (y : Opening). long_needs C (opening_frame y).body) o.list.items) o.spare.items
+abbrev pub HasSpare : Code → PendingInstances → Type 0
+HasSpare C o = ((y : PendingInstance) → In y o.list.items → (opening_frame y).body ≡ o.body) × AllZip IsSpare (flat_map (λ (y : PendingInstance). long_needs C (opening_frame y).body) o.list.items) o.spare.items
 
 pub spare_after : (C : Code) (j : Job) (x : Change) (fs gs : List (Option Frame)) (old new : List Row) (s t : Store) (known : List (Want ℕ)) → WorldEnds C j x fs gs old new s t known →
-    ((o : Openings) → x ≡ Changes.Opens o → ((y : Opening) → In y o.list.items → (opening_frame y).body ≡ o.body) × AllZip IsSpare (flat_map (λ (y : Opening). long_needs C (opening_frame y).body) o.list.items) o.spare.items) →
+    ((o : PendingInstances) → x ≡ Changes.Opens o → ((y : PendingInstance) → In y o.list.items → (opening_frame y).body ≡ o.body) × AllZip IsSpare (flat_map (λ (y : PendingInstance). long_needs C (opening_frame y).body) o.list.items) o.spare.items) →
     AreSpare C (jobs_behind (length old) new) (spare_of x)
 spare_after C j x fs gs old new s t known w has = by x w.changed.opens has
   where
     none : new ≡ old → AreSpare C (jobs_behind (length old) new) []
     none e = subst (λ (js : List Job). AreSpare C js []) (sym (ap (λ (rs : List Row). jobs_behind (length old) rs) e ∙ behind_none old)) tt
 
-    by : (x : Change) → Opened C j x fs w.middle old new w.changed.stored w.more → ((o : Openings) → x ≡ Changes.Opens o → HasSpare C o) → AreSpare C (jobs_behind (length old) new) (spare_of x)
+    by : (x : Change) → Opened C j x fs w.middle old new w.changed.stored w.more → ((o : PendingInstances) → x ≡ Changes.Opens o → HasSpare C o) → AreSpare C (jobs_behind (length old) new) (spare_of x)
     by Changes.Nothing h has = none h.rows
     by (Changes.Value d v) h has = none h.rows
     by (Changes.Element d k v) h has = none h.rows
@@ -100,6 +100,6 @@ spare_after C j x fs gs old new s t known w has = by x w.changed.opens has
         let p = h.opened.placed in
         let len : length p.puts ≡ length o.list.items = sym (length-map p.puts (λ (q : Put). q.frame)) ∙ ap length p.frames_are ∙ length-map h.opened.filled opening_frame ∙ filled_len _ _ o.list.items h.opened.filled w.changed.stored h.opened.made h.opened.fills in
         let y = has o refl in
-        let ns : long C (put_jobs es p.puts ++ going_jobs j o.goes_on) ≡ flat_map (λ (q : Opening). long_needs C (opening_frame q).body) o.list.items = long_put C es p.puts (going_jobs j o.goes_on) (long_going C j o.goes_on) ∙ same_long C o.body p.puts o.list.items len y.0 in
+        let ns : long C (put_jobs es p.puts ++ going_jobs j o.goes_on) ≡ flat_map (λ (q : PendingInstance). long_needs C (opening_frame q).body) o.list.items = long_put C es p.puts (going_jobs j o.goes_on) (long_going C j o.goes_on) ∙ same_long C o.body p.puts o.list.items len y.0 in
         subst (λ (js : List Job). AreSpare C js o.spare.items) (sym (ap (λ (rs : List Row). jobs_behind (length old) rs) (opened_rows C j o fs w.middle old new w.changed.stored w.more h) ∙ behind_are old (put_jobs es p.puts ++ going_jobs j o.goes_on)))
         (subst (λ (zs : List ℕ). AllZip (λ n (l : SmallVec Input). n ≤ l.capacity) zs o.spare.items) (sym ns) (spare_fits _ o.spare.items y.1))

@@ -23,7 +23,7 @@ use Rattle.board.specs.History.{state_of}
 use Rattle.board.specs.Inside.{Stand}
 use Rattle.board.specs.Stored.{AreSoMany}
 use Rattle.board.specs.View.{fields_view}
-use Rattle.board.specs.declared.state.Core.{Core}
+use Rattle.board.specs.declared.state.BoardState.{BoardState}
 use Rattle.board.proofs.Own.{state_here}
 
 -- one slot more
@@ -89,18 +89,18 @@ same_count [] = refl
 same_count (None ∷ cs) = no_more (cells_view cs) ∙ same_count cs ∙ sym (no_more cs)
 same_count (Some x ∷ cs) = one_more (cell_view x) (cells_view cs) ∙ ap suc (same_count cs) ∙ sym (one_more x cs)
 
-module _ (C : Code) (I : IsCode C) (es : List Event) (core : Core) (s : Stand C es core) where
+module _ (C : Code) (I : IsCode C) (es : List Event) (core : BoardState) (s : Stand C es core) where
   x : Stands C (layout_of C) es (fields_view s.told core)
   x = s.stands
 
   abbrev cells : List (Option Counted)
-  cells = cells_view core.world.store.cells
+  cells = cells_view core.data_state.store.cells
 
   named : ℕ → Place → Type 0
   named d a = In (d, a) s.stands.names
 
-  slots : Listed (cells_view core.world.store.cells) (λ d a. In (d, a) s.stands.names)
-  slots = listed (cells_view core.world.store.cells) (λ d a. In (d, a) s.stands.names) (λ d c h. s.stands.data_stand.only d c h)
+  slots : Listed (cells_view core.data_state.store.cells) (λ d a. In (d, a) s.stands.names)
+  slots = listed (cells_view core.data_state.store.cells) (λ d a. In (d, a) s.stands.names) (λ d c h. s.stands.data_stand.only d c h)
 
   there : (a : Place) → In a s.stands.state.places → In a slots.places
   there a i =
@@ -109,13 +109,13 @@ module _ (C : Code) (I : IsCode C) (es : List Event) (core : Core) (s : Stand C 
       let y = slots.all n.0 c.0 c.1 in
       subst (λ (b : Place). In b slots.places) (s.stands.data_stand.naming.one_datum n.0 y.0 a y.2 n.1) y.1
 
-  pub so_many : (n : ℕ) → n ≡ count_by is_some core.world.store.cells → AreSoMany (state_of C es).places n
+  pub so_many : (n : ℕ) → n ≡ count_by is_some core.data_state.store.cells → AreSoMany (state_of C es).places n
   so_many n e =
       subst (λ (t : CodeState). AreSoMany t.places n) (sym (state_here C I es core s)) (record {
         listed = slots.places;
         same = λ a. (λ i. let y = slots.slot a i in s.stands.data_stand.naming.there y.0 a y.3, λ i. there a i);
         once = slots.once (λ d f a p q. s.stands.data_stand.naming.one_name d f a p q);
-        count_is = e ∙ sym (same_count core.world.store.cells) ∙ sym slots.count;
+        count_is = e ∙ sym (same_count core.data_state.store.cells) ∙ sym slots.count;
       })
 
   pub exact_here : (run : Run C es (state_of C es)) → DataAreExact C (state_of C es) (run_log C es (state_of C es) run)

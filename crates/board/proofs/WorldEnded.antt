@@ -26,8 +26,8 @@ use Rattle.board_effects.specs.Effects.{OpensNothing}
 use Rattle.board_effects.specs.Openings.{AreOpenings}
 use Rattle.board_instances.proofs.Opened.{stands_nested}
 use Rattle.board_instances.specs.Made.{FitsAround, made_as}
-use Rattle.board_instances.specs.declared.opening.Opening.{Opening as OneOpening}
-use Rattle.board_instances.specs.declared.opening.Openings.{Openings}
+use Rattle.board_instances.specs.declared.pending.PendingInstance.{PendingInstance as OneOpening}
+use Rattle.board_instances.specs.declared.pending.PendingInstances.{PendingInstances}
 use Rattle.board_changes.proofs.After.{cells_after}
 use Rattle.board_changes.proofs.Becomes.{becomes}
 use Rattle.board_changes.proofs.Bridge.{are_blocks}
@@ -44,8 +44,8 @@ use Rattle.board_changes.specs.Blocks.{AreBlocks}
 use Rattle.board_changes.specs.Data.{MakesData}
 use Rattle.board_changes.specs.Opened.{AreOpened, going}
 use Rattle.board_changes.specs.World.{CanStore, Goes, IsSame, LetsGo, Opens, WorldEnds, target_of, told_of, values_of}
-use Rattle.board_changes.specs.declared.world.Change.{Change}
-use Rattle.board_changes.specs.declared.world.Change.TheVariants as Changes
+use Rattle.board_changes.specs.declared.data_state.Change.{Change}
+use Rattle.board_changes.specs.declared.data_state.Change.TheVariants as Changes
 use Rattle.board.proofs.After.{WorldAfter, new_jobs}
 use Rattle.board.proofs.Slots.{few_left, few_opened, few_put}
 
@@ -64,14 +64,14 @@ OpensAs C fs j x (Changes.Element d k v) = OpensNothing C fs j x
 OpensAs C fs j x (Changes.Elements d es) = OpensNothing C fs j x
 OpensAs C fs j x (Changes.Opens o) = AreOpenings C fs j x o
 
-pub record OpeningsFit (fs : List (Option Frame)) (j : Job) (o : Openings) : Type 0 where
+pub record OpeningsFit (fs : List (Option Frame)) (j : Job) (o : PendingInstances) : Type 0 where
   pub around : FitsAround fs (home j) (length o.list.items)
   pub count : ℕ
   pub first : (one : OneOpening) → slice_get o.list.items 0 ≡ Some one → count ≡ length one.instance.slots.items
   pub few : count < 2 ^ 64
 
 -- the holds that are added fit
-abbrev pub HoldsFit : (C : Code) (F : Fields) (j : Job) (s : Store) (o : Openings) → Type 0
+abbrev pub HoldsFit : (C : Code) (F : Fields) (j : Job) (s : Store) (o : PendingInstances) → Type 0
 HoldsFit C F j s o =
     (hs : List (Option Frame)) (rows : List Row) (stored more : Store) (w : AreOpened C j o F.frames hs F.rows rows stored more) → StoresIn None [] s stored
     → (d : ℕ) → Fit (added_times C (layout_of C) (λ y. y.reads) hs d (map (made_as F.frames (home j)) w.placed.puts)) (added_times C (layout_of C) (λ y. y.writes) hs d (map (made_as F.frames (home j)) w.placed.puts)) (at w.made d)
@@ -183,7 +183,7 @@ module _ (C : Code) (I : IsCode C) (es : List Event) (F : Fields) (st : Stands C
       (subst (λ (a : List (Option Frame)). LetsGo C j a gs stored t closed) same.frames (subst (λ (a : Store). LetsGo C j middle gs a t closed) same.data_same goes)) told)
 
   -- a change that opens instances
-  module _ (o : Openings) (gs : List (Option Frame)) (rows : List Row) (t : Store) where
+  module _ (o : PendingInstances) (gs : List (Option Frame)) (rows : List Row) (t : Store) where
     entry_blocks : (k e c : ℕ) → row.job ≡ Does k e c → AreOpenings C fs (Does k e c) x o → OpeningsFit fs (Does k e c) o → HoldsFit C F (Does k e c) s o → ((d : ℕ) → [] ≡ job_stores C (layout_of C) fs (Does k e c) x d)
         → (middle : List (Option Frame)) (stored more : Store) (closed : List ℕ) → StoresIn None [] s stored → Opens C (Does k e c) o fs middle F.rows rows stored more → Goes C o.goes_on (Does k e c) middle gs more t closed
         → WorldPasses C F (Does k e c) x gs (cells_view t.cells) rows (map Whole closed)

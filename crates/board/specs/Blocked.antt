@@ -6,28 +6,28 @@ use Rattle.task_code.specs.Machine.{CodeState}
 use Rattle.task_code.specs.Places as Places
 use Rattle.task_code.specs.Runs.{Blocked, FaultAt}
 use Rattle.paths.specs.declared.faults.Fault.{Fault}
-use Rattle.paths.specs.declared.statements.Statement.{Statement}
+use Rattle.paths.specs.declared.statements.StatementInstance.{StatementInstance}
 use Rattle.paths.specs.Order.{path_below}
 use Rattle.board_effects.specs.Effects.{kind_of_fault}
 use Rattle.board.specs.View.{path_view}
 
--- a path is written from its outermost step on, and a place has its last step first
-abbrev pub path_of : Statement → List Places.Step
+-- a path of the program lists its outermost step first, one of a place its last step first
+abbrev pub path_of : StatementInstance → List Places.Step
 path_of s = reverse (path_view s.path.items)
 
--- a statement comes before another: by its path, and then by its offset
-abbrev pub comes_before : Statement → Statement → Type 0
+-- a statement precedes another: by path, and then by offset
+abbrev pub comes_before : StatementInstance → StatementInstance → Type 0
 comes_before s t = (path_below s.path.items t.path.items ≡ true) ⊎ ((path_of s ≡ path_of t) × (nat_lt s.at t.at ≡ true))
 
--- each statement comes before those behind it
-abbrev pub InTextOrder : List Statement → Type 0
+-- each statement precedes all following ones
+abbrev pub InTextOrder : List StatementInstance → Type 0
 InTextOrder [] = Unit {0}
-InTextOrder (s ∷ ss) = ((t : Statement) → In t ss → comes_before s t) × InTextOrder ss
+InTextOrder (s ∷ ss) = ((t : StatementInstance) → In t ss → comes_before s t) × InTextOrder ss
 
--- these are all blocked statements, in their order, each once
-pub record AreBlocked (C : Code) (s : CodeState) (statements : List Statement) : Type 0 where
-  pub all : (at : ℕ) (path : List Places.Step) → Blocked C s at path → (t : Statement) × In t statements × (t.at ≡ at) × (path_of t ≡ path)
-  pub only : (t : Statement) → In t statements → Blocked C s t.at (path_of t)
+-- these are all blocked statements, in order, each once
+pub record AreBlocked (C : Code) (s : CodeState) (statements : List StatementInstance) : Type 0 where
+  pub all : (at : ℕ) (path : List Places.Step) → Blocked C s at path → (t : StatementInstance) × In t statements × (t.at ≡ at) × (path_of t ≡ path)
+  pub only : (t : StatementInstance) → In t statements → Blocked C s t.at (path_of t)
   pub order : InTextOrder statements
 
 -- the fault is the one that stands in the state

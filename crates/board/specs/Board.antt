@@ -1,4 +1,4 @@
--- What the clauses of a board say.
+-- The vocabulary of the contracts of a board.
 use Rattle.std.specs.Prelude.{◌≡◌, ℕ, ◌<◌, List, [], ◌∷◌, ◌++◌, Some, None, length}
 use Rattle.dataflow.specs.System.{Answer, In}
 use Rattle.dataflow.specs.Events.{NewlyAt, worker_of}
@@ -13,10 +13,10 @@ use Rattle.task_code.specs.Machine.{CanBegin, CodeItem, CodeState, CodeStep, Run
 use Rattle.task_code.specs.System.{answered, code_system, task_inputs}
 use Rattle.board_work.specs.Assigned as Work
 use Rattle.board_work.specs.Assigned.{Assigned}
-use Rattle.board.specs.declared.refusal.Refusal.{Refusal}
-use Rattle.board.specs.declared.refusal.Refusal.TheVariants.{Ended, Memory, NotReady, NotYours, Stranger}
+use Rattle.board.specs.declared.refusal.BoardRefusal.{BoardRefusal}
+use Rattle.board.specs.declared.refusal.BoardRefusal.TheVariants.{Ended, Memory, NotReady, NotYours, Stranger}
 
--- a board: the code and the limit, the state, the events so far, and the items that can begin and could not before the last of them
+-- a board: the code, the limit, the state, the events so far, and the items that the last event enabled
 pub record Seen : Type 0 where
   pub code : Code
   pub limit : ℕ
@@ -28,7 +28,7 @@ pub record Seen : Type 0 where
 abbrev pub IsWorker : ℕ → Type 0
 IsWorker w = w < 64
 
--- each event is by one of them
+-- each event is by one of the workers
 abbrev pub AreByWorkers : List Machine.Event → Type 0
 AreByWorkers es = (e : Machine.Event) → In e es → IsWorker (worker_of e)
 
@@ -36,12 +36,13 @@ AreByWorkers es = (e : Machine.Event) → In e es → IsWorker (worker_of e)
 abbrev pub IsGoing : Seen → Type 0
 IsGoing b = (b.state.fault ≡ None) × (length b.history < b.limit)
 
--- each number is smaller than those behind it
+-- each number is smaller than all following ones
 abbrev pub Rises : List ℕ → Type 0
 Rises [] = Unit {0}
 Rises (n ∷ ns) = ((m : ℕ) → In m ns → n < m) × Rises ns
 
--- the event is accepted: the machine has that step, the items that it enables are named by rising numbers, and nothing else changes
+-- the event is accepted: the machine has that step, the items that it enables are listed by ascending number, and
+-- nothing else changes
 pub record Accepts (old : Seen) (e : Machine.Event) (new : Seen) : Type 0 where
   pub going : IsGoing old
   pub step : CodeStep old.code old.state e new.state
@@ -51,7 +52,7 @@ pub record Accepts (old : Seen) (e : Machine.Event) (new : Seen) : Type 0 where
   pub newly : NewlyAt (code_system old.code) old.state new.state new.newly
   pub rising : Rises new.newly
 
--- what a task is for, and the answers to its entry's needs where its inputs have these
+-- the task of the work for a machine task, and the answers to the needs of its entry, given the answers to its inputs
 abbrev pub job_of : Code → Task → Work.Task
 job_of C Main = Work.opens_script
 job_of C (Item i p c) = Work.runs (entry C i)
@@ -60,14 +61,14 @@ abbrev pub answers_to : Code → Task → List (Answer Key Scalar) → List (Ans
 answers_to C Main xs = xs
 answers_to C (Item i p c) xs = answered C p (entry C i).needs xs
 
--- the work is the task's: its job, with answers that its needs have in this state
+-- the work belongs to the task: it has its job, with answers that its needs have in this state
 pub record IsWorkOf (C : Code) (s : CodeState) (t : Task) (work : Assigned) : Type 0 where
   pub job : work.job ≡ job_of C t
   pub inputs : List (Answer Key Scalar)
   pub known : SeesAll (code_system C) s (task_inputs C t) inputs
   pub answers : work.answers ≡ answers_to C t inputs
 
--- some item of the work's number runs on that worker, and the work is its own
+-- an item of the work's number runs on that worker, and the work is its own
 pub record IsOwn (b : Seen) (worker : ℕ) (work : Assigned) : Type 0 where
   pub item : CodeItem
   pub there : In item b.state.items
@@ -75,7 +76,7 @@ pub record IsOwn (b : Seen) (worker : ℕ) (work : Assigned) : Type 0 where
   pub runs : item.runs ≡ Some worker
   pub own : IsWorkOf b.code b.state item.task work
 
--- the work is that of the item of its number, for as long as that is there, running or not
+-- the work belongs to the item of its number, for as long as that item exists, running or not
 pub record IsItems (b : Seen) (work : Assigned) : Type 0 where
   pub task : Task
   pub inputs : List (Answer Key Scalar)
@@ -83,39 +84,39 @@ pub record IsItems (b : Seen) (work : Assigned) : Type 0 where
   pub job : work.job ≡ job_of b.code task
   pub answers : work.answers ≡ answers_to b.code task inputs
 
--- some item of that number may begin, or runs on that worker
+-- an item of that number may begin, or runs on that worker
 abbrev pub MayBegin : Seen → ℕ → Type 0
 MayBegin b n = CanBegin b.code b.state n
 
 abbrev pub IsTheirs : Seen → ℕ → ℕ → Type 0
 IsTheirs b w n = RunsOn b.code b.state w n
 
--- why begin refuses: the first cause that holds
-abbrev pub RefusesBegin : Seen → ℕ → Refusal → Type 0
+-- the reason for which begin refuses: the first cause that holds
+abbrev pub RefusesBegin : Seen → ℕ → BoardRefusal → Type 0
 RefusesBegin b n Ended = ¬ IsGoing b
 RefusesBegin b n NotReady = IsGoing b × ¬ MayBegin b n
 RefusesBegin b n Memory = IsGoing b × MayBegin b n
 RefusesBegin b n NotYours = ⊥
 RefusesBegin b n Stranger = ⊥
 
--- why end refuses: the first cause that holds; memory is wanted only for what is the item's own
-abbrev pub RefusesEnd : Seen → ℕ → Assigned → Refusal → Type 0
+-- the reason for which end refuses: the first cause that holds; memory only for work that is the item's own
+abbrev pub RefusesEnd : Seen → ℕ → Assigned → BoardRefusal → Type 0
 RefusesEnd b w done Ended = ¬ IsGoing b
 RefusesEnd b w done NotYours = IsGoing b × ¬ IsTheirs b w done.item
 RefusesEnd b w done Stranger = IsGoing b × IsTheirs b w done.item × ¬ IsOwn b w done
 RefusesEnd b w done Memory = IsGoing b × IsOwn b w done
 RefusesEnd b w done NotReady = ⊥
 
--- why back refuses: the first cause that holds; never for memory
-abbrev pub RefusesBack : Seen → ℕ → ℕ → Refusal → Type 0
+-- the reason for which back refuses: the first cause that holds; never memory
+abbrev pub RefusesBack : Seen → ℕ → ℕ → BoardRefusal → Type 0
 RefusesBack b w n Ended = ¬ IsGoing b
 RefusesBack b w n NotYours = IsGoing b × ¬ IsTheirs b w n
 RefusesBack b w n Memory = ⊥
 RefusesBack b w n NotReady = ⊥
 RefusesBack b w n Stranger = ⊥
 
--- why the work of an item that runs is not given out: the first cause that holds
-abbrev pub RefusesWork : Seen → ℕ → ℕ → Refusal → Type 0
+-- the reason for which the work of a running item is not returned: the first cause that holds
+abbrev pub RefusesWork : Seen → ℕ → ℕ → BoardRefusal → Type 0
 RefusesWork b w n Ended = ¬ IsGoing b
 RefusesWork b w n NotYours = IsGoing b × ¬ IsTheirs b w n
 RefusesWork b w n Memory = IsGoing b × IsTheirs b w n

@@ -1,12 +1,12 @@
--- What an effect changes, and what it prints.
+-- The change and the printed line of an effect.
 use Rattle.std.specs.Prelude.{List, [], ◌∷◌, Option, Some, None}
 use Rattle.values.specs.declared.value.Scalar.{Scalar}
 use Rattle.board_effects.specs.declared.effect.Effect.{Effect}
 use Rattle.board_effects.specs.declared.effect.Effect.TheVariants as Effects
-use Rattle.board_changes.specs.declared.world.Change.{Change}
-use Rattle.board_changes.specs.declared.world.Change.TheVariants as Changes
+use Rattle.board_changes.specs.declared.data_state.Change.{Change}
+use Rattle.board_changes.specs.declared.data_state.Change.TheVariants as Changes
 
--- to instances and data
+-- the change of instances and data
 abbrev pub change_of : Effect → Change
 change_of (Effects.Fails f) = Changes.Nothing
 change_of (Effects.Stores d v) = Changes.Value d v

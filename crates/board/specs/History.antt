@@ -6,7 +6,7 @@ use Rattle.task_code.specs.Code.{Code}
 use Rattle.task_code.specs.Machine.{CodeState}
 use Rattle.task_code.specs.System.{code_system}
 
--- the first state for what is no history
+-- the first state, where a list of events is not a history
 abbrev pub or_start : Code → Option CodeState → CodeState
 or_start C None = start (code_system C)
 or_start C (Some s) = s

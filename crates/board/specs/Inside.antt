@@ -1,4 +1,4 @@
--- The board's fields, as contracts see them, and what always holds of them.
+-- The invariant of a board, and its model for contracts.
 use Rattle.std.specs.Prelude.{◌≡◌, ◌+◌, ◌≤◌, ℕ, List, Option, Some, None, map, vec_capacity, vec_len}
 use Rattle.dataflow.specs.Machine as Machine
 use Rattle.dataflow.specs.System.{In}
@@ -14,7 +14,7 @@ use Rattle.board_program.specs.Spots.{layout_of}
 use Rattle.board_data.specs.Wanted.{FewSlots}
 use Rattle.board_instances.specs.View.{frames_view}
 use Rattle.paths.specs.declared.faults.Fault.{Fault}
-use Rattle.paths.specs.declared.statements.Statement.{Statement}
+use Rattle.paths.specs.declared.statements.StatementInstance.{StatementInstance}
 use Rattle.board.specs.declared.board.Board.TheInside.{Inside}
 use Rattle.board.specs.Blocked.{path_of}
 use Rattle.board_program.specs.Program.{AreAtMost}
@@ -24,7 +24,7 @@ use Rattle.board.specs.Numbers.{AreNumbered}
 use Rattle.board_items.specs.Room.{IsRoomy}
 use Rattle.board_effects.specs.Effects.{kind_of_fault}
 use Rattle.board.specs.View.{Told, fields_view}
-use Rattle.board.specs.declared.state.Core.{Core}
+use Rattle.board.specs.declared.state.BoardState.{BoardState}
 
 abbrev pub seen_of : Inside → Seen
 seen_of a =
@@ -36,27 +36,27 @@ seen_of a =
       newly = a.core.items.newly.items;
     }
 
--- the statement is the task's
-abbrev pub IsStatementOf : Code → Task → Statement → Type 0
+-- the statement belongs to the task
+abbrev pub IsStatementOf : Code → Task → StatementInstance → Type 0
 IsStatementOf C Main s = ⊥
 IsStatementOf C (Item i p c) s = (s.at ≡ (entry C i).at) × (path_of s ≡ p)
 
--- the fault that was met is noted, with its statement
+-- the fault that was met is recorded, with its statement
 abbrev pub IsNoted : Code → Option (Task × Machine.Fault EntryFault) → Option Fault → Type 0
 IsNoted C None None = Unit {0}
 IsNoted C (Some m) (Some f) = (m.1 ≡ kind_of_fault f.kind) × IsStatementOf C m.0 f.statement
 IsNoted C None (Some f) = ⊥
 IsNoted C (Some m) None = ⊥
 
--- what holds of the fields beside
-pub record IsKept (C : Code) (core : Core) : Type 0 where
-  pub few : FewSlots (frames_view core.world.instances.slots)
-  pub rising : AreRising core.world.store
+-- further invariants of the fields
+pub record IsKept (C : Code) (core : BoardState) : Type 0 where
+  pub few : FewSlots (frames_view core.data_state.instances.slots)
+  pub rising : AreRising core.data_state.store
   pub roomy : IsRoomy C core.items
   pub rises : Rises core.items.newly.items
 
 -- the fields stand for the state that the history leads to
-pub record Stand (C : Code) (events : List Machine.Event) (core : Core) : Type 0 where
+pub record Stand (C : Code) (events : List Machine.Event) (core : BoardState) : Type 0 where
   pub told : Told
   pub stands : Stands C (layout_of C) events (fields_view told core)
   pub fault : IsNoted C told.fault core.fault

@@ -8,6 +8,6 @@ number_in (Begin w n) = n
 number_in (End w n) = n
 number_in (Back w n) = n
 
--- each event names an item by a number of 64 bits that is not 0
+-- each event names an item by a 64-bit number that is not 0
 abbrev pub AreNumbered : List Event → Type 0
 AreNumbered es = (e : Event) → In e es → (0 < number_in e) × (number_in e < 2 ^ 64)

@@ -1,18 +1,18 @@
--- Room for all that the end of an item makes of items and lines.
+-- Room for the items and the line that the end of an item creates.
 use Rattle.std.specs.Prelude.{◌+◌, ◌*◌, ◌≤◌, ℕ, Bool, true, false, length, vec_capacity, vec_len}
 use Rattle.task_code.specs.Code.{Code, Control, Leaf, body}
 use Rattle.board_program.specs.Tables.{run_as}
 use Rattle.board_items.specs.Room.{IsRoomy, IsRoomyFor}
-use Rattle.board_changes.specs.declared.world.Change.{Change}
-use Rattle.board_changes.specs.declared.world.Change.TheVariants as Changes
-use Rattle.board.specs.declared.state.Core.{Core}
+use Rattle.board_changes.specs.declared.data_state.Change.{Change}
+use Rattle.board_changes.specs.declared.data_state.Change.TheVariants as Changes
+use Rattle.board.specs.declared.state.BoardState.{BoardState}
 
--- one more item goes on with a loop
+-- the number of items created for the rest of a loop
 abbrev pub going : Bool → ℕ
 going true = 1
 going false = 0
 
--- so many new items of each kind: one that goes on with a loop is a control item
+-- the number of new items of each kind; one for the rest of a loop is a control item
 abbrev pub new_controls : Code → Change → ℕ
 new_controls C Changes.Nothing = 0
 new_controls C (Changes.Value d v) = 0
@@ -27,8 +27,8 @@ new_leaves C (Changes.Element d k v) = 0
 new_leaves C (Changes.Elements d es) = 0
 new_leaves C (Changes.Opens o) = run_as C Leaf (body C o.body).entries * vec_len o.list
 
--- there is room for the items that wait, for so many new ones of each kind, and for a line
-pub record HasRoomForItems (C : Code) (controls leaves : ℕ) (old new : Core) : Type 0 where
+-- there is room for all waiting items, for these new ones of each kind, and for a line
+pub record HasRoomForItems (C : Code) (controls leaves : ℕ) (old new : BoardState) : Type 0 where
   pub items : IsRoomy C old.items → IsRoomyFor C controls leaves new.items
   pub rules : controls + leaves ≤ new.items.rules.room
   pub woken : vec_len new.items.woken + length new.items.rules.waiting ≤ vec_capacity new.items.woken

@@ -1,4 +1,4 @@
--- What it leaves that inputs have become known.
+-- The items after inputs have become known.
 use Rattle.std.specs.Prelude.{◌≡◌, ◌+◌, ◌≤◌, List, ◌++◌, map, length, vec_capacity, vec_len}
 use Rattle.board_history.specs.Fields.{Waiter, Want}
 use Rattle.std.specs.Prelude.{ℕ}
@@ -8,7 +8,8 @@ use Rattle.board_data.specs.View.{want_view}
 use Rattle.board_items.specs.Learnt.{HaveLearnt}
 use Rattle.board_items.specs.declared.items.Items.{Items}
 
--- those who wait have learnt of all these, where there was room to note them, and nothing else has changed
+-- waiting items were notified of all these inputs, if there was room to record the woken ones, and nothing else has
+-- changed
 pub record HaveHeard (known : List Input) (old new : Items) : Type 0 where
   pub rows : new.rows ≡ old.rows
   pub queue : new.queue ≡ old.queue

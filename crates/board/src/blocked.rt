@@ -1,4 +1,7 @@
-//! The statements whose items have not ended.
+//! The blocked statements of a state, in order of path and offset.
+//!
+//! Each item that is not over is mapped to its statement. The list is then sorted, and duplicates are removed. Unlike
+//! an event, this visits all items.
 ghost use Rattle.std.specs.Prelude.{◌≡◌, ◌↔◌, [], ℕ, None, Some, map, option_map, IfOk};
 ghost use Rattle.std.specs.List.{filter_map, list_all};
 ghost use Rattle.std.specs.Ordering.{is_lt};
@@ -16,17 +19,18 @@ ghost use Rattle.board.specs.Blocked.{InTextOrder};
 ghost use Rattle.board.specs.Stuck.{Place, at_place, blocked_offset, blocked_row, first_unknown, is_header_known, misses_none, place_of};
 ghost use Rattle.board.specs.Sorting.{each_once, is_last};
 
-use crate::state::Core;
+use crate::state::BoardState;
 use board_instances::instance::{Instance, path_of};
-use board_instances::item::{Item, Job, Mark};
+use board_instances::item::{ItemRecord, ItemStatus, ItemTask};
 use board_program::program::Program;
-use paths::Statement;
+use paths::StatementInstance;
 use slab::Slab;
 use std::alloc::{AllocError, Global};
 use std::cmp::Ordering;
 use task_code::entry::{Act, Header, Need};
 
-/// Whether a statement of this act can be blocked.
+/// Returns true if a statement with this act can be blocked. Cells, reads and calls are parts of statements, so they
+/// cannot.
 fn counts(act: &Act) -> bool
     ensures { result ≡ counts (act_view act.now) }
 {
@@ -42,7 +46,7 @@ fn counts(act: &Act) -> bool
     }
 }
 
-/// The body of an instance.
+/// Returns the body of an instance, or `None` if there is no instance with this key.
 #[tactic(auto, using(board_instances::proofs::Frames::frame_there))]
 fn body_at(instances: &Slab<Instance>, at: usize) -> Option<u32>
     ensures { result ≡ option_map (λ (f : Frame). f.body) (slot_at (frames_view instances.now.slots) at) }
@@ -53,8 +57,8 @@ fn body_at(instances: &Slab<Instance>, at: usize) -> Option<u32>
     }
 }
 
-/// How a statement stands to another in the order.
-fn order(one: &Statement, other: &Statement) -> Ordering
+/// Compares two statements by path and then by offset.
+fn order(one: &StatementInstance, other: &StatementInstance) -> Ordering
     ensures { is_lt result ≡ statement_below one.now other.now }
 {
     if one.is_below(other) {
@@ -66,8 +70,8 @@ fn order(one: &Statement, other: &Statement) -> Ordering
     }
 }
 
-/// Whether the statement is the last of these.
-fn is_last(found: &[Statement], statement: &Statement) -> bool
+/// Returns true if the last of the found statements is this one.
+fn is_last(found: &[StatementInstance], statement: &StatementInstance) -> bool
     ensures { result ≡ is_last found.now statement.now }
 {
     match found.last() {
@@ -76,8 +80,11 @@ fn is_last(found: &[Statement], statement: &Statement) -> bool
     }
 }
 
-/// The statements, each once where the same ones stand together.
-fn each_once(alloc: Global, statements: Vec<Statement>) -> Result<Vec<Statement>, AllocError>
+/// Removes consecutive duplicates.
+fn each_once(
+    alloc: Global,
+    statements: Vec<StatementInstance>,
+) -> Result<Vec<StatementInstance>, AllocError>
     ensures { IfOk result (λ found. found.items ≡ each_once [] statements.items) }
 {
     let mut found = Vec::new(alloc);
@@ -89,8 +96,11 @@ fn each_once(alloc: Global, statements: Vec<Statement>) -> Result<Vec<Statement>
     Ok(found)
 }
 
-/// The statements in their order, each once.
-fn in_order(alloc: Global, statements: Vec<Statement>) -> Result<Vec<Statement>, AllocError>
+/// Sorts the statements by path and then by offset, and removes duplicates.
+fn in_order(
+    alloc: Global,
+    statements: Vec<StatementInstance>,
+) -> Result<Vec<StatementInstance>, AllocError>
     ensures places { IfOk result (λ found. (p : Place) → In p (map place_of found.items) ↔ In p (map place_of statements.items)) }
     ensures order { IfOk result (λ found. InTextOrder found.items) }
 {
@@ -103,8 +113,8 @@ fn in_order(alloc: Global, statements: Vec<Statement>) -> Result<Vec<Statement>,
     each_once(alloc, statements)
 }
 
-impl Core {
-    /// Whether what is waited for is known.
+impl BoardState {
+    /// Returns true if no input of this need is missing in the instance with key `at`.
     fn is_need_known(
         &self,
         program: &Program,
@@ -113,14 +123,14 @@ impl Core {
         need: &Need,
     ) -> Result<bool, AllocError>
         ensures { IfOk result (λ yes. yes ≡ misses_none
-            (wanted_missed program.now (cells_view self.now.world.store.cells) (led_slot (frames_view self.now.world.instances.slots) at)
+            (wanted_missed program.now (cells_view self.now.data_state.store.cells) (led_slot (frames_view self.now.data_state.instances.slots) at)
             (wanted_in program.now body (need_view need.now)))) }
     {
         let wanted = program.wanted(body, need)?;
         Ok(self.view(program, at).missing(&wanted).is_none())
     }
 
-    /// Whether all that a header waits for is known.
+    /// Returns true if no input of any need of the header is missing.
     fn is_header_known(
         &self,
         program: &Program,
@@ -128,7 +138,7 @@ impl Core {
         body: u32,
         header: &Header,
     ) -> Result<bool, AllocError>
-        ensures { IfOk result (λ yes. yes ≡ is_header_known program.now (frames_view self.now.world.instances.slots) (cells_view self.now.world.store.cells) at
+        ensures { IfOk result (λ yes. yes ≡ is_header_known program.now (frames_view self.now.data_state.instances.slots) (cells_view self.now.data_state.store.cells) at
             body (header_view header.now).needs) }
     {
         for need in &header.needs {
@@ -139,7 +149,7 @@ impl Core {
         Ok(true)
     }
 
-    /// The offset of the first header that waits for something unknown.
+    /// Returns the offset of the first header with a missing input, or `None` if all headers are known.
     fn first_unknown(
         &self,
         program: &Program,
@@ -147,7 +157,7 @@ impl Core {
         body: u32,
         headers: &[Header],
     ) -> Result<Option<usize>, AllocError>
-        ensures { IfOk result (λ found. found ≡ first_unknown program.now (frames_view self.now.world.instances.slots) (cells_view self.now.world.store.cells)
+        ensures { IfOk result (λ found. found ≡ first_unknown program.now (frames_view self.now.data_state.instances.slots) (cells_view self.now.data_state.store.cells)
             at body (map header_view headers.now)) }
     {
         for header in headers {
@@ -158,7 +168,8 @@ impl Core {
         Ok(None)
     }
 
-    /// The offset where the statement of an act is blocked, whose own offset this is.
+    /// Returns the offset at which the statement of an act is blocked, or `None` if the act cannot be blocked. A `wait`
+    /// is blocked at its first header with a missing input, any other statement at its own offset.
     fn offset_of(
         &self,
         program: &Program,
@@ -166,11 +177,11 @@ impl Core {
         own: usize,
         act: &Act,
     ) -> Result<Option<usize>, AllocError>
-        ensures { IfOk result (λ found. found ≡ blocked_offset program.now (frames_view self.now.world.instances.slots) (cells_view self.now.world.store.cells)
+        ensures { IfOk result (λ found. found ≡ blocked_offset program.now (frames_view self.now.data_state.instances.slots) (cells_view self.now.data_state.store.cells)
             instance own (act_view act.now)) }
     {
         match act {
-            Act::Wait(headers, _) => match body_at(&self.world.instances, instance) {
+            Act::Wait(headers, _) => match body_at(&self.data_state.instances, instance) {
                 Some(body) => self.first_unknown(program, instance, body, headers.as_slice()),
                 None => Ok(None),
             },
@@ -179,21 +190,22 @@ impl Core {
         }
     }
 
-    /// The instance and the offset where the item's statement is blocked.
+    /// Returns the instance and the offset at which the statement of the item is blocked, or `None` if it is not
+    /// blocked.
     fn blocked_at(
         &self,
         program: &Program,
-        item: Item,
+        item: ItemRecord,
     ) -> Result<Option<(usize, usize)>, AllocError>
-        ensures { IfOk result (λ found. option_map (λ (p : ℕ × ℕ). at_place p.1 (path_in (frames_view self.now.world.instances.slots) p.0)) found
-            ≡ blocked_row program.now (frames_view self.now.world.instances.slots) (cells_view self.now.world.store.cells) (row_view item)) }
+        ensures { IfOk result (λ found. option_map (λ (p : ℕ × ℕ). at_place p.1 (path_in (frames_view self.now.data_state.instances.slots) p.0)) found
+            ≡ blocked_row program.now (frames_view self.now.data_state.instances.slots) (cells_view self.now.data_state.store.cells) (row_view item)) }
     {
-        if item.mark() == Mark::Over {
+        if item.mark() == ItemStatus::Over {
             return Ok(None);
         }
         match item.job() {
-            Job::Script => Ok(None),
-            Job::Does {
+            ItemTask::Script => Ok(None),
+            ItemTask::Does {
                 instance,
                 entry,
                 chunk: _,
@@ -209,29 +221,29 @@ impl Core {
         }
     }
 
-    /// The blocked statements of all items, in no order.
-    fn list_blocked(&self, program: &Program) -> Result<Vec<Statement>, AllocError>
+    /// Collects the blocked statements of all items, in the order of the items and with duplicates.
+    fn list_blocked(&self, program: &Program) -> Result<Vec<StatementInstance>, AllocError>
         ensures { IfOk result (λ statements. map place_of statements.items
-            ≡ filter_map (blocked_row program.now (frames_view self.now.world.instances.slots) (cells_view self.now.world.store.cells))
+            ≡ filter_map (blocked_row program.now (frames_view self.now.data_state.instances.slots) (cells_view self.now.data_state.store.cells))
             (rows_view self.now.items.rows.items)) }
     {
         let mut statements = Vec::new(self.alloc);
         for item in &self.items.rows {
             if let Some((instance, at)) = self.blocked_at(program, item.item())? {
-                statements.push(Statement {
+                statements.push(StatementInstance {
                     at,
-                    path: path_of(self.alloc, &self.world.instances, instance)?,
+                    path: path_of(self.alloc, &self.data_state.instances, instance)?,
                 })?;
             }
         }
         Ok(statements)
     }
 
-    /// The blocked statements in their order, each once.
-    pub fn blocked(&self, program: &Program) -> Result<Vec<Statement>, AllocError>
+    /// Returns the blocked statements in order of path and offset, each once.
+    pub fn blocked(&self, program: &Program) -> Result<Vec<StatementInstance>, AllocError>
         ensures places { IfOk result (λ statements. (p : Place)
             → In p (map place_of statements.items) ↔ In p
-            (filter_map (blocked_row program.now (frames_view self.now.world.instances.slots) (cells_view self.now.world.store.cells))
+            (filter_map (blocked_row program.now (frames_view self.now.data_state.instances.slots) (cells_view self.now.data_state.store.cells))
             (rows_view self.now.items.rows.items))) }
         ensures order { IfOk result (λ statements. InTextOrder statements.items) }
     {

@@ -1,4 +1,7 @@
-//! The board: begin, end and give back items.
+//! The board: checked calls to begin, end and give back items.
+//!
+//! Each accepted event is appended to the history. A refused call changes nothing, apart from `perform` when it fails
+//! after its Begin.
 ghost use Rattle.std.specs.Prelude.{ℕ, ℤ, ◌≡◌, ◌⊎◌, ◌<◌, ◌≤◌, ◌^◌, ◌∷◌, [], map, length, vec_len, MatchBool, IfOk, IfErr, IfSome, IfNone, OnOk, OnErr, IsTrue, ◌↔◌, None, Some, slice_get};
 ghost use Rattle.dataflow.specs.Machine.{start};
 ghost use Rattle.dataflow.specs.Machine as Machine;
@@ -8,24 +11,23 @@ ghost use Rattle.task_code.specs.View.{event_view};
 ghost use Rattle.task_code.specs.Whole.{IsCode};
 ghost use Rattle.work_queue.specs.declared.entry.Kind.{Kind as AKind};
 ghost use Rattle.board_work.specs.Assigned.{Assigned};
-ghost use Rattle.board_compute.specs.View.{answers_view};
+ghost use Rattle.board_work.specs.View.{answers_view};
 ghost use Rattle.board.specs.Board.{Seen, AreByWorkers, IsWorker, IsGoing, Accepts, IsItems, IsOwn, RefusesBegin, RefusesEnd, RefusesBack, RefusesWork};
-ghost use Rattle.board.specs.declared.refusal.Refusal.TheVariants.{Memory};
+ghost use Rattle.board.specs.declared.refusal.BoardRefusal.TheVariants.{Memory};
 ghost use Rattle.board.specs.Numbers.{AreNumbered};
 ghost use Rattle.board.specs.Stored.{AreSoMany};
 ghost use Rattle.board.specs.Ready.{AreReady, HasKind, IsFirst, IsNext, IsReady};
 ghost use Rattle.board.specs.Blocked.{AreBlocked, IsFaultOf};
 ghost use Rattle.dataflow.specs.System.{In};
 
-use crate::refusal::Refusal;
-use crate::state::Core;
-use board_compute::answer::Answer;
-use board_instances::item::{Job, Mark, item_of};
+use crate::refusal::BoardRefusal;
+use crate::state::BoardState;
+use board_instances::item::{ItemStatus, ItemTask, item_of};
 use board_items::items::order_of;
 use board_program::program::Program;
-use board_work::work::{Done, Job as Task, Work};
-use packed_events::PackedEvent;
-use paths::{Fault, Statement};
+use board_work::answer::Answer;
+use board_work::work::{Done, Work, WorkTask};
+use paths::{Fault, StatementInstance};
 use rules::input::Input;
 use std::alloc::{AllocError, Global};
 use std::marker::Model;
@@ -33,23 +35,24 @@ use std::mem::replace;
 use task_code::code::Code;
 use task_code::entry::Kind;
 use task_code::event::Event;
+use task_code::packed_event::PackedEvent;
 use values::value::Scalar;
 
-/// The machine's state over some code, with the events that led to it. At most `limit` events are accepted, each by one of the
-/// workers 0 to 63.
+/// The machine state over some code, with the history of events that led to it. At most `limit` events are accepted,
+/// each by one of the workers 0 to 63.
 pub struct Board {
     program: Program,
     most_names: usize,
     limit: u32,
-    core: Core,
+    core: BoardState,
     history: Vec<PackedEvent>,
-    /// What an End makes known, until that is told. It means nothing between two calls.
+    /// Buffer for the inputs that an End makes known. Its contents mean nothing between two calls.
     known: Vec<Input>,
-    /// The list of the answers of work that has ended, for those of the next. It means nothing.
+    /// Buffer for answers, reused from one ended item to the next. Its contents mean nothing between two calls.
     answers: Vec<Answer>,
 }
 
-// Written out, so that who owns a board lets it go by one call.
+// Written out, so that an owner of a board drops it by one call.
 impl Drop for Board {
     fn drop(self) {
         let Board {
@@ -80,22 +83,22 @@ impl Model for Board {
     ghost invariant = { IsSound };
 }
 
-/// What a board leaves.
+/// The parts of a board that is no longer used.
 #[derive(Drop)]
-pub struct Remains {
+pub struct BoardParts {
     pub program: Program,
-    /// The events, from the first on.
+    /// The events, oldest first.
     pub history: Vec<PackedEvent>,
-    /// The lines that were printed, in their order.
+    /// The printed lines, in order.
     pub lines: Vec<Scalar>,
 }
 
 impl Board {
-    /// A board over the program, before any event.
+    /// Creates a board over the program, before any event.
     ///
     /// # Errors
     ///
-    /// `AllocError` where memory that was asked for was refused.
+    /// Returns `AllocError` if an allocation fails.
     pub fn new(alloc: Global, program: Program, limit: u32) -> Result<Board, AllocError>
         ensures { IfOk result (λ b. b ≡ record { code = program; limit = limit; state = start (code_system program); history = []; newly = [] }) }
     {
@@ -103,26 +106,27 @@ impl Board {
             most_names: program.most_names(),
             program,
             limit,
-            core: Core::new(alloc)?,
+            core: BoardState::new(alloc)?,
             history: Vec::new(alloc),
             known: Vec::new(alloc),
             answers: Vec::new(alloc),
         })
     }
 
-    /// Whether an event may be accepted: no fault was met, and the limit is not reached.
+    /// Returns true if an event may be accepted: no fault stands and the limit is not reached.
     pub fn is_going(&self) -> bool
         ensures { IsTrue result ↔ IsGoing self.now }
     {
         self.core.fault.is_none() && self.history.len() < self.limit as usize
     }
 
-    /// Begins the item on the worker. The work is the item's, with the answers to its needs.
+    /// Begins the item on the worker, and returns its work with the answers to its needs.
     ///
     /// # Errors
     ///
-    /// `Ended` after a fault or at the limit; `NotReady` where the item is not enabled, runs, or does not exist; `Memory`.
-    pub fn begin(&mut self, worker: u8, item: u64) -> Result<Work, Refusal>
+    /// Returns `Ended` after a fault or at the limit. Returns `NotReady` if the item is not enabled, is running, or
+    /// does not exist. Returns `Memory` if an allocation fails.
+    pub fn begin(&mut self, worker: u8, item: u64) -> Result<Work, BoardRefusal>
         requires { IsWorker worker }
         ensures accepted { OnOk result (Accepts self.old (Machine.Begin worker item) self.new) }
         ensures still { OnOk result (self.new.newly ≡ []) }
@@ -132,24 +136,24 @@ impl Board {
         ensures unchanged { OnErr result (self.new ≡ self.old) }
     {
         if !self.is_going() {
-            return Err(Refusal::Ended);
+            return Err(BoardRefusal::Ended);
         }
         let Some(job) = self.core.ready_job(item) else {
-            return Err(Refusal::NotReady);
+            return Err(BoardRefusal::NotReady);
         };
         let Ok(()) = self.core.sort_arrays(&self.program, job) else {
-            return Err(Refusal::Memory);
+            return Err(BoardRefusal::Memory);
         };
         let list = replace(&mut self.answers, Vec::new(self.core.alloc));
         let Ok(work) = self.core.work(&self.program, item, job, list) else {
-            return Err(Refusal::Memory);
+            return Err(BoardRefusal::Memory);
         };
-        // Room for this event, and for the next one of each item that runs.
+        // Room for this event, and for the next event of each running item.
         let Ok(()) = self
             .history
             .reserve(self.core.items.running.saturating_add(2))
         else {
-            return Err(Refusal::Memory);
+            return Err(BoardRefusal::Memory);
         };
         self.core.begin(&self.program, worker, item, job);
         self.history
@@ -161,10 +165,10 @@ impl Board {
     ///
     /// # Errors
     ///
-    /// With the work that was done: `Ended` after a fault or at the limit; `NotYours` where the item does not run on the
-    /// worker; `Stranger` where the work was not done for the item's entry and answers, which takes no memory to see;
-    /// `Memory` only where it was.
-    pub fn end(&mut self, worker: u8, done: Done) -> Result<(), (Done, Refusal)>
+    /// Returns the work together with the reason. `Ended` after a fault or at the limit. `NotYours` if the item is not
+    /// running on the worker. `Stranger` if the work is not that of the item, by its entry and answers; this check
+    /// allocates nothing. `Memory` if an allocation fails, which is reported only for work that is the item's own.
+    pub fn end(&mut self, worker: u8, done: Done) -> Result<(), (Done, BoardRefusal)>
         requires { IsWorker worker }
         ensures accepted { OnOk result (Accepts self.old (Machine.End worker done.item) self.new) }
         ensures own { OnOk result (IsOwn self.old worker done) }
@@ -173,23 +177,25 @@ impl Board {
         ensures unchanged { OnErr result (self.new ≡ self.old) }
     {
         if !self.is_going() {
-            return Err((done, Refusal::Ended));
+            return Err((done, BoardRefusal::Ended));
         }
         let Some(job) = self.core.running_job(worker, done.item()) else {
-            return Err((done, Refusal::NotYours));
+            return Err((done, BoardRefusal::NotYours));
         };
-        if !self.core.is_done_for(&self.program, job, &done) {
-            return Err((done, Refusal::Stranger));
+        if !self.core.matches_item(&self.program, job, &done) {
+            return Err((done, BoardRefusal::Stranger));
         }
-        self.end_own(worker, done)
+        self.end_trusted(worker, done)
     }
 
-    /// Ends the item on the worker as `end` does, where the work is known to be its own: entry and answers are not looked at again.
+    /// Ends the item on the worker as `end` does, for work that the caller has shown to be the item's own. Entry and
+    /// answers are not compared again.
     ///
     /// # Errors
     ///
-    /// With the work that was done: `Ended` after a fault or at the limit; `Memory`.
-    pub fn end_own(&mut self, worker: u8, done: Done) -> Result<(), (Done, Refusal)>
+    /// Returns the work together with the reason: `Ended` after a fault or at the limit, `Memory` if an allocation
+    /// fails.
+    pub fn end_trusted(&mut self, worker: u8, done: Done) -> Result<(), (Done, BoardRefusal)>
         requires worker { IsWorker worker }
         requires own { IsOwn self.old worker done }
         ensures accepted { OnOk result (Accepts self.old (Machine.End worker done.item) self.new) }
@@ -198,18 +204,19 @@ impl Board {
         ensures unchanged { OnErr result (self.new ≡ self.old) }
     {
         if self.core.fault.is_some() {
-            return Err((done, Refusal::Ended));
+            return Err((done, BoardRefusal::Ended));
         }
         self.end_begun(worker, done)
     }
 
-    /// Ends the item on the worker as `end` does, where the work is that of the item of its number, as long as there is one: neither the
-    /// entry nor an answer is looked at.
+    /// Ends the item on the worker as `end` does, for work that belongs to the item of its number, running or not.
+    /// Neither the entry nor an answer is compared.
     ///
     /// # Errors
     ///
-    /// With the work that was done: `Ended` after a fault or at the limit; `NotYours` where the item does not run on the worker; `Memory`.
-    pub fn end_begun(&mut self, worker: u8, done: Done) -> Result<(), (Done, Refusal)>
+    /// Returns the work together with the reason. `Ended` after a fault or at the limit. `NotYours` if the item is not
+    /// running on the worker. `Memory` if an allocation fails.
+    pub fn end_begun(&mut self, worker: u8, done: Done) -> Result<(), (Done, BoardRefusal)>
         requires worker { IsWorker worker }
         requires items { IsItems self.old done }
         ensures accepted { OnOk result (Accepts self.old (Machine.End worker done.item) self.new) }
@@ -219,11 +226,11 @@ impl Board {
         ensures unchanged { OnErr result (self.new ≡ self.old) }
     {
         if !self.is_going() {
-            return Err((done, Refusal::Ended));
+            return Err((done, BoardRefusal::Ended));
         }
         let item = done.item();
         let Some(job) = self.core.running_job(worker, item) else {
-            return Err((done, Refusal::NotYours));
+            return Err((done, BoardRefusal::NotYours));
         };
         let Ok(()) = self.core.end(
             &self.program,
@@ -234,7 +241,7 @@ impl Board {
             &mut self.known,
         )
         else {
-            return Err((done, Refusal::Memory));
+            return Err((done, BoardRefusal::Memory));
         };
         self.history
             .push_reserved(PackedEvent::new(Event::End { worker, item }));
@@ -242,13 +249,14 @@ impl Board {
         Ok(())
     }
 
-    /// Begins the item on the worker, computes it and ends it: as `begin`, `Work::compute` and `end` do, where nobody else looks at
-    /// the work. Answers whether it has ended: where the limit was reached between the two events, it has begun alone.
+    /// Begins the item on the worker, computes it and ends it, without creating a `Work` for other threads. Returns
+    /// true if it has ended. Returns false if the limit was reached after its Begin, so that it has only begun.
     ///
     /// # Errors
     ///
-    /// As `begin`; and `Memory`, once the item has begun, where memory was refused to its computing or its end. It still runs then.
-    pub fn perform(&mut self, worker: u8, item: u64) -> Result<bool, Refusal>
+    /// Returns the errors of `begin`, which change nothing. Also returns `Memory` if an allocation fails while the
+    /// begun item is computed or ended; the item is still running then.
+    pub fn perform(&mut self, worker: u8, item: u64) -> Result<bool, BoardRefusal>
         requires { IsWorker worker }
         ensures performed { IfOk result (λ ended. MatchBool ended
             ((mid : Seen) × Accepts self.old (Machine.Begin worker item) mid × Accepts mid (Machine.End worker item) self.new)
@@ -257,20 +265,20 @@ impl Board {
             ⊎ (Accepts self.old (Machine.Begin worker item) self.new × (e ≡ Memory))) }
     {
         if !self.is_going() {
-            return Err(Refusal::Ended);
+            return Err(BoardRefusal::Ended);
         }
         let Some(job) = self.core.ready_job(item) else {
-            return Err(Refusal::NotReady);
+            return Err(BoardRefusal::NotReady);
         };
         let Ok(()) = self.core.answer(&self.program, job, &mut self.answers) else {
-            return Err(Refusal::Memory);
+            return Err(BoardRefusal::Memory);
         };
-        // Room for this event, and for the next one of each item that runs.
+        // Room for this event, and for the next event of each running item.
         let Ok(()) = self
             .history
             .reserve(self.core.items.running.saturating_add(2))
         else {
-            return Err(Refusal::Memory);
+            return Err(BoardRefusal::Memory);
         };
         self.core.begin(&self.program, worker, item, job);
         self.history
@@ -278,7 +286,7 @@ impl Board {
         if !self.is_going() {
             return Ok(false);
         }
-        let Ok(()) = self.core.end_from(
+        let Ok(()) = self.core.end_computed(
             &self.program,
             self.most_names,
             item,
@@ -287,19 +295,19 @@ impl Board {
             &mut self.known,
         )
         else {
-            return Err(Refusal::Memory);
+            return Err(BoardRefusal::Memory);
         };
         self.history
             .push_reserved(PackedEvent::new(Event::End { worker, item }));
         Ok(true)
     }
 
-    /// Gives the item back: it runs no more. Takes no memory.
+    /// Gives the running item back, so that it is ready again. Allocates no memory.
     ///
     /// # Errors
     ///
-    /// `Ended` after a fault or at the limit; `NotYours` where the item does not run on the worker.
-    pub fn back(&mut self, worker: u8, item: u64) -> Result<(), Refusal>
+    /// Returns `Ended` after a fault or at the limit, and `NotYours` if the item is not running on the worker.
+    pub fn back(&mut self, worker: u8, item: u64) -> Result<(), BoardRefusal>
         requires { IsWorker worker }
         ensures accepted { OnOk result (Accepts self.old (Machine.Back worker item) self.new) }
         ensures again { OnOk result (self.new.newly ≡ item ∷ []) }
@@ -307,10 +315,10 @@ impl Board {
         ensures unchanged { OnErr result (self.new ≡ self.old) }
     {
         if !self.is_going() {
-            return Err(Refusal::Ended);
+            return Err(BoardRefusal::Ended);
         }
         let Some(job) = self.core.running_job(worker, item) else {
-            return Err(Refusal::NotYours);
+            return Err(BoardRefusal::NotYours);
         };
         self.core.back(&self.program, item, job);
         self.history
@@ -318,31 +326,33 @@ impl Board {
         Ok(())
     }
 
-    /// The work of an item that runs on the worker, as `begin` gave it.
+    /// Returns the work of an item that is running on the worker, as `begin` returned it.
     ///
     /// # Errors
     ///
-    /// `Ended` after a fault or at the limit; `NotYours` where the item does not run on the worker; `Memory`.
-    pub fn work(&self, worker: u8, item: u64) -> Result<Work, Refusal>
+    /// Returns `Ended` after a fault or at the limit, `NotYours` if the item is not running on the worker, and `Memory`
+    /// if an allocation fails.
+    pub fn work(&self, worker: u8, item: u64) -> Result<Work, BoardRefusal>
         requires { IsWorker worker }
         ensures own { IfOk result (λ work. IsOwn self.now worker work) }
         ensures number { IfOk result (λ work. work.item ≡ item) }
         ensures refused { IfErr result (λ e. RefusesWork self.now worker item e) }
     {
         if !self.is_going() {
-            return Err(Refusal::Ended);
+            return Err(BoardRefusal::Ended);
         }
         let Some(job) = self.core.running_job(worker, item) else {
-            return Err(Refusal::NotYours);
+            return Err(BoardRefusal::NotYours);
         };
         let list = Vec::new(self.core.alloc);
         let Ok(work) = self.core.work(&self.program, item, job, list) else {
-            return Err(Refusal::Memory);
+            return Err(BoardRefusal::Memory);
         };
         Ok(work)
     }
 
-    /// The events so far. They lead to the state, name the workers 0 to 63 alone, and items by numbers above 0.
+    /// Returns the events so far, oldest first. They replay to the current state. Their workers are 0 to 63, and their
+    /// item numbers are above 0.
     pub fn history(&self) -> &Vec<PackedEvent>
         ensures events { map event_view result.now.items ≡ self.now.history }
         ensures replays { Run self.now.code self.now.history self.now.state }
@@ -356,8 +366,8 @@ impl Board {
         &self.history
     }
 
-    /// What is left of it once it is not needed any more. Takes no memory.
-    pub fn into_remains(self) -> Remains
+    /// Consumes the board and returns its program, history and printed lines. Allocates no memory.
+    pub fn into_parts(self) -> BoardParts
         ensures program { result.program ≡ self.code }
         ensures history { map event_view result.history.items ≡ self.history }
         ensures lines { result.lines.items ≡ self.state.lines }
@@ -371,59 +381,59 @@ impl Board {
             known: _,
             answers: _,
         } = self;
-        Remains {
+        BoardParts {
             program,
             history,
             lines: core.into_lines(),
         }
     }
 
-    /// The lines that were printed so far, in their order: a text each, where the code prints texts alone.
+    /// Returns the lines printed so far, in order. If the code prints only texts, each line is a text.
     pub fn lines(&self) -> &Vec<Scalar>
         ensures { self.now.state.lines ≡ result.now.items }
     {
         &self.core.lines
     }
 
-    /// The code.
+    /// Returns the code.
     pub fn code(&self) -> &Code
         ensures { result.now ≡ self.now.code }
     {
         self.program.code()
     }
 
-    /// The same with what is worked out of it.
+    /// Returns the code together with its precomputed tables.
     pub fn program(&self) -> &Program
         ensures { result.now ≡ self.now.code }
     {
         &self.program
     }
 
-    /// How many events are accepted at most.
+    /// Returns the maximum number of events that are accepted.
     pub fn limit(&self) -> u32
         ensures { result ≡ self.now.limit }
     {
         self.limit
     }
 
-    /// How many data there are: exactly those that were made and are not free, which some item that has not ended may still
-    /// read or write. Takes no memory, and looks at none of them.
+    /// Returns the number of data. They are exactly those that were made and are not free: some item that has not ended
+    /// may still read or write each. Runs in constant time and allocates no memory.
     pub fn stored(&self) -> usize
         ensures count { AreSoMany self.now.state.places result }
         ensures exact { (run : Run self.now.code self.now.history self.now.state)
             → DataAreExact self.now.code self.now.state (run_log self.now.code self.now.history self.now.state run) }
     {
-        self.core.world.store.len()
+        self.core.data_state.store.len()
     }
 
-    /// Whether nothing is left to be done: no fault was met, and no item runs or is enabled.
+    /// Returns true if nothing is left to do: no fault stands, and no item is running or enabled.
     pub fn is_quiet(&self) -> bool
         ensures { IsTrue result ↔ Quiet self.now.code self.now.state }
     {
-        self.core.fault.is_none() && self.core.items.is_still()
+        self.core.fault.is_none() && self.core.items.is_quiescent()
     }
 
-    /// The fault that was met, and its statement.
+    /// Returns the fault that was met, with its statement, or `None`.
     pub fn fault(&self) -> Option<&Fault>
         ensures none { IfNone result (self.now.state.fault ≡ None) }
         ensures some { IfSome result (λ fault. IsFaultOf self.now.code self.now.state fault.now) }
@@ -434,7 +444,7 @@ impl Board {
         }
     }
 
-    /// Who runs the item of this number, where there is one that has not ended.
+    /// Returns the kind of the item with this number, or `None` if no such item exists that has not ended.
     pub fn kind(&self, item: u64) -> Option<Kind>
         ensures none { IfNone result ((i : CodeItem) → In i self.now.state.items → i.number ≡ item → ⊥) }
         ensures some { IfSome result (λ kind. HasKind self.now item kind) }
@@ -443,7 +453,7 @@ impl Board {
             return None;
         };
         match found.mark() {
-            Mark::Over => None,
+            ItemStatus::Over => None,
             _ => {
                 let (kind, _) = order_of(&self.program, found.job());
                 Some(kind)
@@ -451,8 +461,8 @@ impl Board {
         }
     }
 
-    /// The first item of the kind that can begin: of the greatest priority, and then of the smallest number. None after a
-    /// fault or at the limit. Takes no memory.
+    /// Returns the first ready item of the kind: of the greatest priority, and among those of the smallest number.
+    /// Returns `None` after a fault or at the limit. Allocates no memory.
     pub fn next(&self, kind: Kind) -> Option<u64>
         ensures none { IfNone result (IsGoing self.now → (i : CodeItem) → IsReady self.now i → task_kind self.now.code i.task ≡ kind → ⊥) }
         ensures some { IfSome result (λ number. IsNext self.now kind number) }
@@ -463,8 +473,8 @@ impl Board {
         self.core.items.queue.first(kind)
     }
 
-    /// The first item that can begin, with who runs it: of the greatest priority, and then of the smallest number. None after a
-    /// fault or at the limit. Takes no memory.
+    /// Returns the first ready item of either kind, with its kind: of the greatest priority, and among those of the
+    /// smallest number. Returns `None` after a fault or at the limit. Allocates no memory.
     pub fn first(&self) -> Option<(Kind, u64)>
         ensures none { IfNone result (IsGoing self.now → (i : CodeItem) → IsReady self.now i → ⊥) }
         ensures some { IfSome result (λ found. IsFirst self.now found.1) }
@@ -490,7 +500,7 @@ impl Board {
         }
     }
 
-    /// How many items can begin and could not before the last event.
+    /// Returns the number of items that the last event enabled.
     pub fn newly_len(&self) -> usize
         ensures len { result ≡ length self.now.newly }
         ensures few { result < 2 ^ 63 }
@@ -498,8 +508,8 @@ impl Board {
         self.core.items.newly.len()
     }
 
-    /// The item at this place among those that can begin and could not before the last event, by rising number: who runs it,
-    /// its priority and its number.
+    /// Returns the kind, priority and number of an item that the last event enabled. `place` is its index in the list
+    /// of these items, which is sorted by number.
     pub fn newly(&self, place: usize) -> Option<(Kind, i32, u64)>
         ensures none { IfNone result (length self.now.newly ≤ place) }
         ensures above { IfSome result (λ found. 0 < found.2) }
@@ -517,11 +527,11 @@ impl Board {
         Some((kind, priority, number))
     }
 
-    /// The numbers of all items that can begin, by greatest priority and then by smallest number.
+    /// Returns the numbers of all ready items, by descending priority and then by ascending number.
     ///
     /// # Errors
     ///
-    /// `AllocError` where memory that was asked for was refused.
+    /// Returns `AllocError` if an allocation fails.
     pub fn ready_items(&self) -> Result<Vec<u64>, AllocError>
         ensures { IfOk result (λ numbers. AreReady self.now numbers.items) }
     {
@@ -529,19 +539,19 @@ impl Board {
         numbers_of(self.core.alloc, listed.as_slice())
     }
 
-    /// The statements whose items have not ended, by their paths and then by their offsets, each once.
+    /// Returns the statements whose items have not ended, sorted by path and then by offset, each once.
     ///
     /// # Errors
     ///
-    /// `AllocError` where memory that was asked for was refused.
-    pub fn blocked(&self) -> Result<Vec<Statement>, AllocError>
+    /// Returns `AllocError` if an allocation fails.
+    pub fn blocked(&self) -> Result<Vec<StatementInstance>, AllocError>
         ensures { IfOk result (λ statements. AreBlocked self.now.code self.now.state statements.items) }
     {
         self.core.blocked(&self.program)
     }
 }
 
-/// The number at a place.
+/// Returns the number at an index, or `None` past the end.
 fn number_at(numbers: &Vec<u64>, place: usize) -> Option<u64>
     ensures { result ≡ slice_get numbers.now.items place }
 {
@@ -551,7 +561,7 @@ fn number_at(numbers: &Vec<u64>, place: usize) -> Option<u64>
     }
 }
 
-/// The numbers of listed items.
+/// Returns the numbers of the listed items, in the same order.
 fn numbers_of(alloc: Global, listed: &[(Kind, i32, u64)]) -> Result<Vec<u64>, AllocError>
     ensures { IfOk result (λ numbers. numbers.items ≡ map (λ (l : AKind × ℤ × ℕ). l.2) listed.now) }
 {

@@ -1,14 +1,14 @@
-//! Whether a loop that goes on has a next chunk.
+//! Tests whether a loop that continues has a next chunk number.
 ghost use Rattle.std.specs.Prelude.{◌≡◌, IsTrue};
 ghost use Rattle.board_instances.specs.View.{job_view};
 ghost use Rattle.board_changes.specs.Opened.{CanGoOn};
 ghost use Rattle.board_changes.specs.World.{goes_on};
 
-use board_changes::world::Change;
-use board_instances::item::Job;
+use board_changes::data_state::Change;
+use board_instances::item::ItemTask;
 
-/// Whether another item goes on with its loop.
-fn goes_on(change: &Change) -> bool
+/// Returns true if the change creates an item for the rest of a loop.
+fn has_next_item(change: &Change) -> bool
     ensures { result ≡ goes_on change.now }
 {
     match change {
@@ -17,16 +17,17 @@ fn goes_on(change: &Change) -> bool
     }
 }
 
-/// Whether the chunk of an item's job has a next one, if another item goes on with its loop.
-pub fn has_next_chunk(job: Job, change: &Change) -> bool
+/// Returns false only if the change creates an item for the rest of a loop and the chunk number of this task cannot be
+/// incremented.
+pub fn has_next_chunk(job: ItemTask, change: &Change) -> bool
     ensures { IsTrue result → CanGoOn (job_view job) (goes_on change.now) }
 {
     match job {
-        Job::Script => true,
-        Job::Does {
+        ItemTask::Script => true,
+        ItemTask::Does {
             instance: _,
             entry: _,
             chunk,
-        } => !goes_on(change) || chunk < usize::MAX,
+        } => !has_next_item(change) || chunk < usize::MAX,
     }
 }

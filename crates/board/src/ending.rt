@@ -1,41 +1,43 @@
-//! An item ends.
+//! The end of an item: computes the effect of its outcome, reserves memory, and applies the effect.
+//!
+//! All allocation happens before the first change, so a failed call leaves the state as it was.
 
 ghost use Rattle.std.specs.Prelude.{◌≡◌, IfOk, OnErr, OnOk};
 ghost use Rattle.board_instances.specs.View.{job_view};
 ghost use Rattle.board_work.specs.Assigned.{Assigned, job_control, job_result};
-ghost use Rattle.board_compute.specs.Outcome.{control_in, result_in};
-ghost use Rattle.board_compute.specs.View.{answers_view};
+ghost use Rattle.board_work.specs.Outcome.{control_in, result_in};
+ghost use Rattle.board_work.specs.View.{answers_view};
 ghost use Rattle.board_program.specs.Program.{AreAtMost};
 ghost use Rattle.board.specs.Ending.{HasEnded, HasFailed, HasPassed, IsEffectOf, StaysBy, StaysIf};
 ghost use Rattle.board.specs.Working.{IsThere, work_of};
 
-use crate::changing::change_of;
-use crate::state::Core;
-use board_compute::answer::Answer;
-use board_compute::outcome::{Computed, Outcome, outcome_of};
-use board_data::wanted::View;
-use board_effects::effect::{Effect, Ended};
+use crate::effect_change::change_of;
+use crate::state::BoardState;
+use board_data::inputs::Environment;
+use board_effects::effect::{Effect, EndingItem};
 use board_effects::script_effect;
-use board_instances::item::Job;
-use board_items::settling::Outlook;
+use board_instances::item::ItemTask;
+use board_items::readiness::BoardView;
 use board_program::program::Program;
+use board_work::answer::Answer;
+use board_work::outcome::{ControlResult, Outcome, outcome_of};
 use board_work::work::Done;
 use paths::Fault;
 use rules::input::Input;
 use std::alloc::{AllocError, Global};
 
-/// What the item of a job comes to, whose needs have these answers.
+/// Computes the outcome of an item with this task from the answers to its needs.
 fn outcome_for(
     alloc: Global,
     program: &Program,
-    job: Job,
+    job: ItemTask,
     answers: &[Answer],
 ) -> Result<Outcome, AllocError>
     requires { IsThere program.now (job_view job) }
     ensures leaf { IfOk result (λ o. result_in o ≡ job_result (work_of program.now (job_view job)) (answers_view answers.now)) }
     ensures control { IfOk result (λ o. control_in o ≡ job_control (work_of program.now (job_view job)) (answers_view answers.now)) }
 {
-    if let Job::Does {
+    if let ItemTask::Does {
         instance: _,
         entry,
         chunk: _,
@@ -45,30 +47,35 @@ fn outcome_for(
             return outcome_of(alloc, &found.act, answers);
         }
     }
-    Ok(Outcome::Control(Computed::Opens))
+    Ok(Outcome::Control(ControlResult::Opens))
 }
 
-impl Core {
-    /// What the item of a job does, which comes to this.
-    fn effect_of(&self, program: &Program, job: Job, outcome: Outcome) -> Result<Effect, AllocError>
+impl BoardState {
+    /// Returns the effect of an item with this task and outcome.
+    fn effect_of(
+        &self,
+        program: &Program,
+        job: ItemTask,
+        outcome: Outcome,
+    ) -> Result<Effect, AllocError>
         requires { IsThere program.now (job_view job) }
         ensures { IfOk result (λ e. (done : Assigned) → result_in outcome ≡ job_result done.job done.answers
             → control_in outcome ≡ job_control done.job done.answers → IsEffectOf program.now self.now (job_view job) done e) }
     {
         match job {
-            Job::Script => return script_effect(self.alloc, program),
-            Job::Does {
+            ItemTask::Script => return script_effect(self.alloc, program),
+            ItemTask::Does {
                 instance,
                 entry,
                 chunk,
             } => match (program.code().entry(entry), program.entry(entry)) {
                 (Some(found), Some(table)) => {
-                    let ended = Ended {
+                    let ended = EndingItem {
                         alloc: self.alloc,
-                        view: View {
+                        view: Environment {
                             program,
-                            instances: &self.world.instances,
-                            store: &self.world.store,
+                            instances: &self.data_state.instances,
+                            store: &self.data_state.store,
                             at: instance,
                         },
                         number: entry,
@@ -83,7 +90,8 @@ impl Core {
         }
     }
 
-    /// A fault was met. Nothing else changes: the item that met it runs for ever. Takes no memory.
+    /// Records a fault and clears the list of newly enabled items. The item that met the fault stays running. Allocates
+    /// no memory.
     fn fail(&mut self, fault: Fault)
         ensures { HasFailed fault self.old self.new }
     {
@@ -91,14 +99,14 @@ impl Core {
         self.fault = Some(fault);
     }
 
-    /// The item, which runs, ends with this effect, which is no fault. No entry reads or writes more names than `most`. What becomes
-    /// known is told by way of the list, whatever was in it.
-    fn pass(
+    /// Ends a running item with an effect that is not a fault. `most` is an upper bound on the names that any entry
+    /// reads or writes. `known` is a buffer: it is emptied, and then receives the inputs that become known.
+    fn apply_effect(
         &mut self,
         program: &Program,
         most: usize,
         number: u64,
-        job: Job,
+        job: ItemTask,
         effect: Effect,
         known: &mut Vec<Input>,
     ) -> Result<(), AllocError>
@@ -113,23 +121,23 @@ impl Core {
         known.clear();
         self.make_room(program, job, &change, known)?;
         let first = self.items.rows.len();
-        let spare = self.make(program, job, change, line, known)?;
-        let outlook = Outlook {
+        let spare = self.apply(program, job, change, line, known)?;
+        let board_view = BoardView {
             alloc: self.alloc,
             program,
-            instances: &self.world.instances,
-            store: &self.world.store,
+            instances: &self.data_state.instances,
+            store: &self.data_state.store,
         };
-        self.items.finish(outlook, number, job, first, spare)
+        self.items.finish(board_view, number, job, first, spare)
     }
 
-    /// The item, which runs, ends with this effect, by way of the list as `pass` does. No entry reads or writes more names than `most`.
-    fn end_by(
+    /// Ends a running item with this effect, which may be a fault. `most` and `known` are as in `apply_effect`.
+    fn end_with_buffer(
         &mut self,
         program: &Program,
         most: usize,
         number: u64,
-        job: Job,
+        job: ItemTask,
         effect: Effect,
         known: &mut Vec<Input>,
     ) -> Result<(), AllocError>
@@ -144,21 +152,21 @@ impl Core {
                 self.fail(fault);
                 Ok(())
             }
-            passed => match self.pass(program, most, number, job, passed, known) {
+            passed => match self.apply_effect(program, most, number, job, passed, known) {
                 Ok(()) => Ok(()),
                 Err(refused) => Err(refused),
             },
         }
     }
 
-    /// The item, which runs, ends with what was done for it, by way of the list as `pass` does. No entry reads or writes more names
-    /// than `most`.
+    /// Ends a running item with the work that was done for it. `most` and `known` are as in `apply_effect`. On an
+    /// error, nothing but capacity has changed.
     pub fn end(
         &mut self,
         program: &Program,
         most: usize,
         number: u64,
-        job: Job,
+        job: ItemTask,
         done: &Done,
         known: &mut Vec<Input>,
     ) -> Result<(), AllocError>
@@ -168,16 +176,17 @@ impl Core {
         ensures same { OnErr result (StaysIf program.now number (job_view job) done.now self.old self.new) }
     {
         let effect = self.effect_of(program, job, done.outcome().share()?)?;
-        self.end_by(program, most, number, job, effect, known)
+        self.end_with_buffer(program, most, number, job, effect, known)
     }
 
-    /// As `end`, from the answers to the item's needs: what it comes to is computed here.
-    pub fn end_from(
+    /// Ends a running item after computing its outcome here, from the answers to its needs. Otherwise it behaves as
+    /// `end`.
+    pub fn end_computed(
         &mut self,
         program: &Program,
         most: usize,
         number: u64,
-        job: Job,
+        job: ItemTask,
         answers: &[Answer],
         known: &mut Vec<Input>,
     ) -> Result<(), AllocError>
@@ -190,6 +199,6 @@ impl Core {
     {
         let outcome = outcome_for(self.alloc, program, job, answers)?;
         let effect = self.effect_of(program, job, outcome)?;
-        self.end_by(program, most, number, job, effect, known)
+        self.end_with_buffer(program, most, number, job, effect, known)
     }
 }

@@ -1,4 +1,4 @@
-//! What the fields of a board tell, whatever the order of its queue.
+//! Theorems about the fields of a board and about the work of its items.
 
 ghost use Rattle.std.specs.Prelude.{ℕ, ℤ, List};
 ghost use Rattle.dataflow.specs.Machine.{Event};
@@ -11,15 +11,16 @@ ghost use Rattle.board_history.specs.Stands.{Stands};
 ghost use Rattle.task_code.specs.Code.{Code, Kind};
 ghost use Rattle.board.specs.Queues.{SameNumbers, with_queue};
 
-/// Fields with the same numbers in the queue, each once, stand for the same state.
+/// States that the order of the queue does not matter. Fields that have the same numbers in the queue, each once, stand
+/// for the same state.
 #[tactic(auto, using(crate::proofs::Queues::queue_kept))]
 pub fn queues_by_members()
     ensures { (C : Code) (L : Layout) (events : List Event) (F : Fields) → Stands C L events F →
         (q : Kind → ℤ → List ℕ) → SameNumbers F.queue q → Stands C L events (with_queue q F) }
 {}
 
-/// Work that is an item's own on a worker is that of its item, whatever is accepted next; and it is its own on any worker on which the item
-/// runs.
+/// States that work which is an item's own on a worker belongs to that item, and that this is stable. It remains so
+/// after any accepted event, and the work is the item's own on any worker on which the item runs.
 pub fn work_stays()
     ensures begun { (b : Seen) → IsCode b.code → Run b.code b.history b.state →
         (w : ℕ) (work : Assigned) → IsOwn b w work → IsItems b work }

@@ -1,24 +1,27 @@
-//! The machine as a value, for code of the whole language.
+//! The dataflow machine as one object: code, state and event history, advanced by checked calls to begin, end and give
+//! back items.
+//!
+//! No event visits all items, data or instances. The type to start from is `Board`.
 #![tactic(auto)]
 
+mod apply;
 mod blocked;
 pub mod board;
-mod changing;
+mod bounds;
 mod chunk;
-mod counted;
+mod effect_change;
 mod ending;
-mod fitting;
+mod item_work;
 pub mod laws;
-mod making;
+mod notify;
+mod numbering;
 mod opened;
 pub mod refusal;
 mod room;
 mod state;
-mod telling;
-mod working;
 
-pub use board::{Board, Remains};
-pub use board_compute::answer::Answer;
-pub use board_compute::outcome::EntryFault;
+pub use board::{Board, BoardParts};
+pub use board_work::answer::Answer;
+pub use board_work::outcome::EntryFault;
 pub use board_work::work::{Done, Work};
-pub use paths::{Fault, FaultKind, Statement, Step};
+pub use paths::{Fault, FaultKind, StatementInstance, Step};

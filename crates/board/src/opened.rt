@@ -1,12 +1,13 @@
-//! How many slots the instances have that an item opens.
+//! Slot counts of the instances that an item opens.
 
 ghost use Rattle.std.specs.Prelude.{◌≡◌, ◌<◌, ◌^◌, length, slice_get, Some};
-ghost use Rattle.board_instances.specs.declared.opening.Opening.{Opening as OneOpening};
+ghost use Rattle.board_instances.specs.declared.pending.PendingInstance.{PendingInstance as OneOpening};
 
-use board_instances::opening::Openings;
+use board_instances::pending::PendingInstances;
 
-/// How many the first of them has: all are of one body.
-pub fn slots_of(openings: &Openings) -> usize
+/// Returns the number of slots of the first instance, or 0 if there is none. All instances of one list have the same
+/// body.
+pub fn slot_count(openings: &PendingInstances) -> usize
     ensures first { (one : OneOpening) → slice_get openings.now.list.items 0 ≡ Some one → result ≡ length one.instance.slots.items }
     ensures few { result < 2 ^ 64 }
 {

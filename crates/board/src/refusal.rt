@@ -1,23 +1,23 @@
-//! Why a board refused a call.
+//! Reasons for which a board refuses a call.
 
 use thiserror::Error;
 
-/// Why a board refused a call.
+/// The reason for which a board refused a call.
 #[derive(Clone, Copy, PartialEq, Eq, Debug, Drop, Error)]
-pub enum Refusal {
-    /// The item is not enabled, or runs, or does not exist.
+pub enum BoardRefusal {
+    /// The item is not enabled, is already running, or does not exist.
     #[error("B1 NotReady")]
     NotReady,
-    /// A fault was met, or the limit is reached.
+    /// A fault stands, or the event limit is reached.
     #[error("B2 Ended")]
     Ended,
-    /// The item does not run on that worker.
+    /// The item is not running on that worker.
     #[error("B3 NotYours")]
     NotYours,
-    /// What was done was not done for the item: it has another entry, or other answers.
+    /// The submitted work is not that of the item: its entry or its answers differ.
     #[error("B4 Stranger")]
     Stranger,
-    /// Memory that was asked for was refused.
+    /// An allocation failed.
     #[error("no memory")]
     Memory,
 }

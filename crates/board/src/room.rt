@@ -1,4 +1,6 @@
-//! Room for all that the end of an item makes, before anything is changed.
+//! Reservation of all memory that the end of an item uses.
+//!
+//! Memory is reserved before anything else changes, so an allocation failure leaves the board as it was.
 
 ghost use Rattle.std.specs.Prelude.{◌≡◌, ◌+◌, ◌≤◌, IfSome, OnOk, length, vec_capacity, vec_len};
 ghost use Rattle.board.specs.Ending.{StaysSo};
@@ -11,15 +13,16 @@ ghost use Rattle.board_items.specs.Room.{IsRoomy, IsRoomyFor};
 ghost use Rattle.board_items.specs.Settled.{StaysButRoom};
 ghost use Rattle.board.specs.Room.{HasRoomForItems, new_controls, new_leaves};
 
-use crate::state::Core;
-use board_changes::world::Change;
-use board_instances::item::Job;
+use crate::state::BoardState;
+use board_changes::data_state::Change;
+use board_instances::item::ItemTask;
 use board_items::items::{Counts, Items};
 use board_program::program::Program;
 use rules::input::Input;
 use std::alloc::AllocError;
 
-/// The items that a change makes. One that goes on with a loop is a control item. None where they are too many to count.
+/// Returns the number of items that a change creates, by kind. The item for the rest of a loop counts as a control
+/// item. `None` if the count overflows, or if the body does not exist.
 fn new_items(program: &Program, change: &Change) -> Option<Counts>
     ensures controls { IfSome result (λ c. c.controls ≡ new_controls program.now change.now) }
     ensures leaves { IfSome result (λ c. c.leaves ≡ new_leaves program.now change.now) }
@@ -38,7 +41,7 @@ fn new_items(program: &Program, change: &Change) -> Option<Counts>
     Some(Counts { controls, leaves })
 }
 
-/// Room for so many new items, if there are any. Nothing else changes.
+/// Reserves memory for new items; does nothing if both counts are zero. Nothing but capacity changes.
 #[tactic(auto, using(crate::proofs::NoMore::none_more))]
 fn reserve_items(items: &mut Items, added: Counts) -> Result<(), AllocError>
     ensures stays { StaysButRoom items.old items.new }
@@ -52,7 +55,8 @@ fn reserve_items(items: &mut Items, added: Counts) -> Result<(), AllocError>
     items.reserve_new(added)
 }
 
-/// Memory for finding those items of the change that may wait for more than two inputs. Nothing else changes.
+/// Reserves the index memory for those new items of the change that may wait for more than two inputs. Nothing else
+/// changes.
 fn reserve_to_wait(items: &mut Items, change: &Change) -> Result<(), AllocError>
     ensures { items.new ≡ items.old }
 {
@@ -62,16 +66,16 @@ fn reserve_to_wait(items: &mut Items, change: &Change) -> Result<(), AllocError>
     }
 }
 
-impl Core {
-    /// Room for the items that wait, for so many new ones, and for a line.
+impl BoardState {
+    /// Reserves memory for waking all waiting items, for `added` new items and for one printed line.
     fn make_room_for_items(&mut self, program: &Program, added: Counts) -> Result<(), AllocError>
         ensures same { StaysSo program.now self.old self.new }
-        ensures world { self.new.world ≡ self.old.world }
+        ensures data_state { self.new.data_state ≡ self.old.data_state }
         ensures rows { self.new.items.rows.items ≡ self.old.items.rows.items }
         ensures room { OnOk result (HasRoomForItems program.now added.controls added.leaves self.old self.new) }
     {
         let waiting = self.items.rules.waiting();
-        // So many are more than memory has room for.
+        // A count that overflows is more than memory can hold.
         let Some(new) = added.controls.checked_add(added.leaves) else {
             return Err(AllocError);
         };
@@ -84,30 +88,31 @@ impl Core {
         self.items.newly.reserve(ready)
     }
 
-    /// Room for all that the end of an item makes which makes this change. Nothing else changes.
+    /// Reserves memory for all that the end of an item with this task and change creates. Inputs that become known will
+    /// be appended to `known`. Nothing but capacity changes.
     pub fn make_room(
         &mut self,
         program: &Program,
-        job: Job,
+        job: ItemTask,
         change: &Change,
         known: &mut Vec<Input>,
     ) -> Result<(), AllocError>
         ensures same { StaysSo program.now self.old self.new }
         ensures items { OnOk result (HasRoomForItems program.now (new_controls program.now change.now) (new_leaves program.now change.now) self.old self.new) }
-        ensures world { OnOk result (OpensWell program.now (job_view job) change.now
-            → HasRoomToEnd program.now (job_view job) change.now self.new.world self.new.items.rows known.new) }
-        ensures takes { OnOk result (TakesMore change.now self.new.world.store) }
+        ensures data_state { OnOk result (OpensWell program.now (job_view job) change.now
+            → HasRoomToEnd program.now (job_view job) change.now self.new.data_state self.new.items.rows known.new) }
+        ensures takes { OnOk result (TakesMore change.now self.new.data_state.store) }
         ensures known { known.new.items ≡ known.old.items }
         ensures rows { self.new.items.rows.items ≡ self.old.items.rows.items }
-        ensures frames { self.new.world.instances.slots ≡ self.old.world.instances.slots }
-        ensures cells { cells_view self.new.world.store.cells ≡ cells_view self.old.world.store.cells }
+        ensures frames { self.new.data_state.instances.slots ≡ self.old.data_state.instances.slots }
+        ensures cells { cells_view self.new.data_state.store.cells ≡ cells_view self.old.data_state.store.cells }
     {
         let Some(added) = new_items(program, change) else {
             return Err(AllocError);
         };
         self.make_room_for_items(program, added)?;
         reserve_to_wait(&mut self.items, change)?;
-        self.world
+        self.data_state
             .make_room(&mut self.items.rows, known, program, job, change)
     }
 }

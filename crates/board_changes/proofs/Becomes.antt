@@ -21,7 +21,7 @@ use Rattle.board_changes.proofs.Known.{closed_all, closed_sound}
 use Rattle.board_changes.proofs.Told.{inserted_told, put_told}
 use Rattle.board_changes.specs.Data.{MakesData}
 use Rattle.board_changes.specs.World.{CanStore, target_of, told_of, values_of}
-use Rattle.board_changes.specs.declared.world.Change.{Change}
+use Rattle.board_changes.specs.declared.data_state.Change.{Change}
 
 module _ (C : Code) (L : Layout) (fs hs : List (Option Frame)) (j : Job) (x : Computed) (ms : List Instance) (os : List (Opening Task Place)) (change : Change) (s stored made more t : Store) (can : CanStore change s)
     (stores : StoresIn (target_of change) (values_of change) s stored) (makes : MakesData C L fs hs j x ms stored made)

@@ -19,8 +19,8 @@ use Rattle.board_instances.proofs.Opened.{inner_opened, outermost_opened}
 use Rattle.board_instances.specs.Made.{IsOpened, block_of}
 use Rattle.board_instances.specs.Openings.{IsInner, passed_from, unfilled}
 use Rattle.board_instances.specs.View.{opening_frame}
-use Rattle.board_instances.specs.declared.opening.Opening.{Opening}
-use Rattle.board_instances.specs.declared.opening.Openings.{Openings}
+use Rattle.board_instances.specs.declared.pending.PendingInstance.{PendingInstance}
+use Rattle.board_instances.specs.declared.pending.PendingInstances.{PendingInstances}
 use Rattle.board_changes.specs.Blocks.{AreBlocks, TurnStarts, handed}
 
 -- a loop hands nothing over
@@ -66,7 +66,7 @@ some_length [] e = absurd (cc)
 some_length (x ∷ xs) e = omega arith
 
 -- an instance inside of another, as it is asked of an opening
-module _ (C : Code) (fs : List (Option Frame)) (deep : (k : ℕ) (g : Frame) → slot_at fs k ≡ Some g → g.depth ≡ length (path_of fs k)) (k e c : ℕ) (x : Computed) (number : ℕ) (one : Opening) where
+module _ (C : Code) (fs : List (Option Frame)) (deep : (k : ℕ) (g : Frame) → slot_at fs k ≡ Some g → g.depth ≡ length (path_of fs k)) (k e c : ℕ) (x : Computed) (number : ℕ) (one : PendingInstance) where
   inner_body : (way : Option Step) (passed : List Slot) → IsInner C fs k number way passed (opening_frame one) → (opening_frame one).body ≡ number
   inner_body way passed i = ap (λ (f : Frame). f.body) i.is
 
@@ -89,9 +89,9 @@ module _ (C : Code) (fs : List (Option Frame)) (deep : (k : ℕ) (g : Frame) →
   one_starts None h = (h.1.value_is, h.1.turn_is)
   one_starts (Some w) h = (h.0, h.1, ap (λ (f : Frame). step_before f.way (path_of fs k)) h.2.inner.is, h.2.value_is, h.2.turn_is)
 
-module _ (C : Code) (fs : List (Option Frame)) (deep : (k : ℕ) (g : Frame) → slot_at fs k ≡ Some g → g.depth ≡ length (path_of fs k)) (x : Computed) (o : Openings) where
+module _ (C : Code) (fs : List (Option Frame)) (deep : (k : ℕ) (g : Frame) → slot_at fs k ≡ Some g → g.depth ≡ length (path_of fs k)) (x : Computed) (o : PendingInstances) where
   -- an opening is of a block that has entries
-  a_block : (j : Job) → AreOpenings C fs j x o → (one : Opening) → In one o.list.items → In (block_of fs (home j) (opening_frame one)) (opened C (task_of fs j) x) × (0 < length (body C (opening_frame one).body).entries)
+  a_block : (j : Job) → AreOpenings C fs j x o → (one : PendingInstance) → In one o.list.items → In (block_of fs (home j) (opening_frame one)) (opened C (task_of fs j) x) × (0 < length (body C (opening_frame one).body).entries)
   a_block j a one i =
       let b = block_of fs (home j) (opening_frame one) in
       let h : In b (filter (has_entries C) (opened C (task_of fs j) x)) = subst (λ (l : List (ℕ × List Step)). In b l) a.blocks (in_map (block_of fs (home j)) (opening_frame one) (map opening_frame o.list.items) (in_map opening_frame one o.list.items i)) in
@@ -122,5 +122,5 @@ module _ (C : Code) (fs : List (Option Frame)) (deep : (k : ℕ) (g : Frame) →
     loop_body = λ one w i q. let s = a_block (Does k e c) a one i in sym (loop_instances (entry C e).act w q (entry C e).mark (path_of fs k) c x (block_of fs (Some k) (opening_frame one)) s.0) ∙ number one i;
   }
     where
-      number : (one : Opening) → In one o.list.items → (opening_frame one).body ≡ o.body
+      number : (one : PendingInstance) → In one o.list.items → (opening_frame one).body ≡ o.body
       number one i = let n = one_inner C fs deep k e c x o.body one (loop_of (entry C e).act) (a.each one i) in inner_body C fs deep k e c x o.body one n.0 n.1 n.2

@@ -12,7 +12,7 @@ use Rattle.task_code.specs.Code.{Code, Name, Variable, body, here}
 use Rattle.task_code.specs.Places.{variable_eq}
 use Rattle.board_program.specs.Spots.{place_from}
 use Rattle.board_program.specs.Tables.{first_count, is_place, own_from, own_row}
-use Rattle.board_program.specs.declared.program.Own.{Own}
+use Rattle.board_program.specs.declared.program.LocalVariable.{LocalVariable}
 use Rattle.board_changes.specs.Opened.{own_of}
 
 -- the place of a variable among some, counted from a number on
@@ -65,7 +65,7 @@ module _ (C : Code) (b : ℕ) where
   own_count_of = own_length (body C b).makes (names_in C (λ e. e.reads) b) (names_in C (λ e. e.writes) b) 0 (body C b).makes
 
   -- a variable's datum, at its first place
-  pub record OwnAt (v : Variable) (k : ℕ) (o : Own) : Type 0 where
+  pub record OwnAt (v : Variable) (k : ℕ) (o : LocalVariable) : Type 0 where
     pub within : k < length (own_of C b)
     pub there : slice_get (own_of C b) k ≡ Some o
     pub variable : slice_get (body C b).makes k ≡ Some v
@@ -73,7 +73,7 @@ module _ (C : Code) (b : ℕ) where
     pub reads : o.reads ≡ own_count C (λ e. e.reads) b v
     pub writes : o.writes ≡ own_count C (λ e. e.writes) b v
 
-  pub own_found : (v : Variable) (k : ℕ) → place_from 0 v (body C b).makes ≡ Some k → (o : Own) × OwnAt v k o
+  pub own_found : (v : Variable) (k : ℕ) → place_from 0 v (body C b).makes ≡ Some k → (o : LocalVariable) × OwnAt v k o
   own_found v k e =
       let p = place_is 0 v (body C b).makes k e in
       let there : slice_get (body C b).makes k ≡ Some v = subst (λ i. slice_get (body C b).makes i ≡ Some v) (same_place k p.after p.is) p.there in (
@@ -104,7 +104,7 @@ module _ (C : Code) (b : ℕ) where
     pub place : place_from 0 variable (body C b).makes ≡ Some i
     pub named : 0 < own_count C (λ e. e.reads) b variable + own_count C (λ e. e.writes) b variable
 
-  pub own_back : (i : ℕ) (o : Own) → slice_get (own_of C b) i ≡ Some o → 0 < o.reads + o.writes → OwnOf i
+  pub own_back : (i : ℕ) (o : LocalVariable) → slice_get (own_of C b) i ≡ Some o → 0 < o.reads + o.writes → OwnOf i
   own_back i o e h = of (variable_at (body C b).makes i (subst (λ n. i < n) own_count_of (slice_get_within (own_of C b) i o e)))
     where
       rs : List Name
@@ -129,8 +129,8 @@ module _ (C : Code) (b : ℕ) where
       of r =
           let z : Some (own_row (body C b).makes rs ws i r.0) ≡ Some o = sym (own_first (body C b).makes rs ws (body C b).makes i r.0 r.1) ∙ e in
           let same : own_row (body C b).makes rs ws i r.0 ≡ o = cc in
-          let reads : first_count (body C b).makes i r.0 rs ≡ o.reads = ap (λ (y : Own). y.reads) same in
-          let writes : first_count (body C b).makes i r.0 ws ≡ o.writes = ap (λ (y : Own). y.writes) same in
+          let reads : first_count (body C b).makes i r.0 rs ≡ o.reads = ap (λ (y : LocalVariable). y.reads) same in
+          let writes : first_count (body C b).makes i r.0 ws ≡ o.writes = ap (λ (y : LocalVariable). y.writes) same in
           elim (cases_Bool (is_place i (place_from 0 r.0 (body C b).makes))) [
             | inl t ↦ record {
               variable = r.0;

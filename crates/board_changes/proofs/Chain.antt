@@ -9,15 +9,15 @@ use Rattle.data_store.specs.declared.datum.Datum.{Datum}
 use Rattle.board_history.specs.Fields.{Absent, DatumOf, Frame}
 use Rattle.board_history.specs.Fields as Pure
 use Rattle.task_code.specs.Code.{nth}
-use Rattle.board_program.specs.declared.program.Own.{Own}
+use Rattle.board_program.specs.declared.program.LocalVariable.{LocalVariable}
 use Rattle.board_data.specs.Made.{DataMade, new_datum, slot_in, start_at}
 use Rattle.board_instances.specs.Openings.{Put}
 use Rattle.board_instances.specs.View.{opening_frame, slot_view}
 use Rattle.board_instances.specs.declared.instance.Slot.{Slot}
 use Rattle.board_instances.specs.declared.instance.Slot.TheVariants as Slots
-use Rattle.board_instances.specs.declared.opening.Opening.{Opening}
+use Rattle.board_instances.specs.declared.pending.PendingInstance.{PendingInstance}
 use Rattle.values.specs.declared.value.Scalar.{Scalar}
-use Rattle.board_changes.specs.declared.filling.TurnSlots.{TurnSlots}
+use Rattle.board_changes.specs.declared.instance_data.TurnSlots.{TurnSlots}
 use Rattle.board_changes.specs.Filled.{AreFilled, Fills, HasSlots, starts_of}
 
 -- what stands in a slot, as it is seen
@@ -50,11 +50,11 @@ free_before s t d k e = by (at s d) refl
     by None q = q
     by (Some x) q = absurd (some_none (at t d) x (k x q) e)
 
-module _ (own : List Own) where
+module _ (own : List LocalVariable) where
   -- the data of one instance: told by its slots
   pub record Stored (first : ℕ → Option Scalar) (f : Frame) (s t : Store) : Type 0 where
-    pub absent : (i : ℕ) (o : Own) → i < length own → slice_get own i ≡ Some o → o.reads + o.writes ≡ 0 → nth Absent f.slots i ≡ Absent
-    pub key : (i : ℕ) (o : Own) → i < length own → slice_get own i ≡ Some o → 0 < o.reads + o.writes → (d : ℕ) × (nth Absent f.slots i ≡ DatumOf d) × (at s d ≡ None) × (at t d ≡ Some (new_datum o (first i)))
+    pub absent : (i : ℕ) (o : LocalVariable) → i < length own → slice_get own i ≡ Some o → o.reads + o.writes ≡ 0 → nth Absent f.slots i ≡ Absent
+    pub key : (i : ℕ) (o : LocalVariable) → i < length own → slice_get own i ≡ Some o → 0 < o.reads + o.writes → (d : ℕ) × (nth Absent f.slots i ≡ DatumOf d) × (at s d ≡ None) × (at t d ≡ Some (new_datum o (first i)))
     pub apart : (i j d : ℕ) → i < length own → j < length own → nth Absent f.slots i ≡ DatumOf d → nth Absent f.slots j ≡ DatumOf d → i ≡ j
 
   stored_one : (first : ℕ → Option Scalar) (f : Frame) (xs : List Slot) (s t : Store) → f.slots ≡ map slot_view xs → DataMade own first (length own) s xs t → Stored first f s t
@@ -76,14 +76,14 @@ module _ (own : List Own) where
   }
 
   -- a slot of its own data that names a datum names a new one
-  pub named : (first : ℕ → Option Scalar) (f : Frame) (s t : Store) → Stored first f s t → (i d : ℕ) → i < length own → nth Absent f.slots i ≡ DatumOf d → (o : Own) × (slice_get own i ≡ Some o) × (0 < o.reads + o.writes) × (at s d ≡ None) × (at t d ≡ Some (new_datum o (first i)))
+  pub named : (first : ℕ → Option Scalar) (f : Frame) (s t : Store) → Stored first f s t → (i d : ℕ) → i < length own → nth Absent f.slots i ≡ DatumOf d → (o : LocalVariable) × (slice_get own i ≡ Some o) × (0 < o.reads + o.writes) × (at s d ≡ None) × (at t d ≡ Some (new_datum o (first i)))
   named first f s t m i d h e = by own refl
     where
-      by : (zs : List Own) → own ≡ zs → (o : Own) × (slice_get own i ≡ Some o) × (0 < o.reads + o.writes) × (at s d ≡ None) × (at t d ≡ Some (new_datum o (first i)))
-      by [] q = absurd (omega (arith, h, ap (λ (zs : List Own). length zs) q))
+      by : (zs : List LocalVariable) → own ≡ zs → (o : LocalVariable) × (slice_get own i ≡ Some o) × (0 < o.reads + o.writes) × (at s d ≡ None) × (at t d ≡ Some (new_datum o (first i)))
+      by [] q = absurd (omega (arith, h, ap (λ (zs : List LocalVariable). length zs) q))
       by (z ∷ zs) q = of _ (slice_get-get_or own i z h)
         where
-          of : (o : Own) → slice_get own i ≡ Some o → (o : Own) × (slice_get own i ≡ Some o) × (0 < o.reads + o.writes) × (at s d ≡ None) × (at t d ≡ Some (new_datum o (first i)))
+          of : (o : LocalVariable) → slice_get own i ≡ Some o → (o : LocalVariable) × (slice_get own i ≡ Some o) × (0 < o.reads + o.writes) × (at s d ≡ None) × (at t d ≡ Some (new_datum o (first i)))
           of o g = elim (cases_eq (o.reads + o.writes) 0) [
             | inl n ↦ (let w : Absent ≡ DatumOf d = sym (m.absent i o h g n) ∙ e in absurd cc)
             | inr p ↦ (let k = m.key i o h g (omega (arith, p)) in
@@ -94,31 +94,31 @@ module _ (own : List Own) where
 
   module _ (slots : TurnSlots) where
     -- instances that were put in are those that were filled, in order
-    abbrev pub Placed : List Put → List Opening → Type 0
+    abbrev pub Placed : List Put → List PendingInstance → Type 0
     Placed [] [] = Unit {0}
     Placed (q ∷ qs) (p ∷ ps) = (q.frame ≡ opening_frame p) × Placed qs ps
     Placed [] (p ∷ ps) = ⊥
     Placed (q ∷ qs) [] = ⊥
 
-    pub kept_all : (os ps : List Opening) (s t : Store) → ((o : Opening) → In o os → HasSlots (length own) o) → AreFilled own slots os s ps t → Kept s t
+    pub kept_all : (os ps : List PendingInstance) (s t : Store) → ((o : PendingInstance) → In o os → HasSlots (length own) o) → AreFilled own slots os s ps t → Kept s t
     kept_all [] [] s t all e = λ d x h. ap (λ u. at u d) e ∙ h
     kept_all (o ∷ os) (p ∷ ps) s t all f = λ d x h. kept_all os ps f.0 t (λ z i. all z (inr i)) f.2 d x ((f.1.makes (all o (inl refl))).older d x h)
     kept_all [] (p ∷ ps) s t all f = absurd f
     kept_all (o ∷ os) [] s t all f = absurd f
 
     -- one of the instances, with the opening that it was
-    pub record OneStored (os : List Opening) (q : Put) (s t : Store) : Type 0 where
-      pub was : Opening
+    pub record OneStored (os : List PendingInstance) (q : Put) (s t : Store) : Type 0 where
+      pub was : PendingInstance
       pub is_in : In was os
       pub frame : q.frame ≡ record { parent = (opening_frame was).parent; level = (opening_frame was).level; depth = (opening_frame was).depth; way = (opening_frame was).way; body = (opening_frame was).body; live = (opening_frame was).live; slots = q.frame.slots }
       pub stored : Stored (start_at (starts_of slots was)) q.frame s t
       pub tail : (i : ℕ) → length own ≤ i → nth Absent q.frame.slots i ≡ nth Absent (opening_frame was).slots i
       pub count : length q.frame.slots ≡ length (opening_frame was).slots
 
-    head_stored : (o p : Opening) (q : Put) (s m : Store) → HasSlots (length own) o → Fills own slots o s p m → q.frame ≡ opening_frame p → Stored (start_at (starts_of slots o)) q.frame s m
+    head_stored : (o p : PendingInstance) (q : Put) (s m : Store) → HasSlots (length own) o → Fills own slots o s p m → q.frame ≡ opening_frame p → Stored (start_at (starts_of slots o)) q.frame s m
     head_stored o p q s m h f e = stored_one (start_at (starts_of slots o)) q.frame p.instance.slots.items s m (ap (λ (z : Frame). z.slots) e) (f.makes h)
 
-    pub each_stored : (os ps : List Opening) (qs : List Put) (s t : Store) → ((o : Opening) → In o os → HasSlots (length own) o) → AreFilled own slots os s ps t → Placed qs ps → (q : Put) → In q qs → OneStored os q s t
+    pub each_stored : (os ps : List PendingInstance) (qs : List Put) (s t : Store) → ((o : PendingInstance) → In o os → HasSlots (length own) o) → AreFilled own slots os s ps t → Placed qs ps → (q : Put) → In q qs → OneStored os q s t
     each_stored [] [] [] s t all f p q i = absurd i
     each_stored (o ∷ os) (p ∷ ps) (r ∷ qs) s t all f e q i =
         elim i [
@@ -145,7 +145,7 @@ module _ (own : List Own) where
     each_stored (o ∷ os) (x ∷ ps) [] s t all f p q i = absurd p
 
     -- two slots that name the same datum are one slot of one instance
-    pub all_apart : (os ps : List Opening) (qs : List Put) (s t : Store) → ((o : Opening) → In o os → HasSlots (length own) o) → AreFilled own slots os s ps t → Placed qs ps →
+    pub all_apart : (os ps : List PendingInstance) (qs : List Put) (s t : Store) → ((o : PendingInstance) → In o os → HasSlots (length own) o) → AreFilled own slots os s ps t → Placed qs ps →
         (q r : Put) (i j d : ℕ) → In q qs → In r qs → i < length own → j < length own → nth Absent q.frame.slots i ≡ DatumOf d → nth Absent r.frame.slots j ≡ DatumOf d → (q ≡ r) × (i ≡ j)
     all_apart [] [] [] s t all f p q r i j d iq ir hi hj a b = absurd iq
     all_apart (o ∷ os) (p ∷ ps) (x ∷ qs) s t all f e q r i j d iq ir hi hj a b = by iq ir (λ u v. all_apart os ps qs f.0 t (λ y l. all y (inr l)) f.2 e.1 q r i j d u v hi hj a b)
@@ -174,7 +174,7 @@ module _ (own : List Own) where
     all_apart (o ∷ os) (x ∷ ps) [] s t all f p q r i j d iq ir hi hj a b = absurd p
 
     -- nothing else was made
-    pub only_stored : (os ps : List Opening) (qs : List Put) (s t : Store) → ((o : Opening) → In o os → HasSlots (length own) o) → AreFilled own slots os s ps t → Placed qs ps → (d : ℕ) (y : Datum) → at t d ≡ Some y →
+    pub only_stored : (os ps : List PendingInstance) (qs : List Put) (s t : Store) → ((o : PendingInstance) → In o os → HasSlots (length own) o) → AreFilled own slots os s ps t → Placed qs ps → (d : ℕ) (y : Datum) → at t d ≡ Some y →
         (at s d ≡ Some y) ⊎ ((q : Put) × (i : ℕ) × In q qs × (i < length own) × (nth Absent q.frame.slots i ≡ DatumOf d))
     only_stored [] [] [] s t all f p d y h = inl (ap (λ u. at u d) (sym f) ∙ h)
     only_stored (o ∷ os) (p ∷ ps) (x ∷ qs) s t all f e d y h =
@@ -191,7 +191,7 @@ module _ (own : List Own) where
     only_stored (o ∷ os) (x ∷ ps) [] s t all f p d y h = absurd p
 
 -- from the equation of lists
-pub placed : (own : List Own) (slots : TurnSlots) (qs : List Put) (ps : List Opening) → map (λ (p : Put). p.frame) qs ≡ map opening_frame ps → Placed own slots qs ps
+pub placed : (own : List LocalVariable) (slots : TurnSlots) (qs : List Put) (ps : List PendingInstance) → map (λ (p : Put). p.frame) qs ≡ map opening_frame ps → Placed own slots qs ps
 placed own slots [] [] e = tt
 placed own slots (q ∷ qs) (p ∷ ps) e =
     let h : q.frame ≡ opening_frame p = cc in

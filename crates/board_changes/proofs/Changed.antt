@@ -11,10 +11,10 @@ use Rattle.values.specs.declared.map.Element.{Element}
 use Rattle.values.specs.declared.value.Scalar.{Scalar}
 use Rattle.board_data.specs.Stored.{IsScalarTarget, StoresIn, Takes}
 use Rattle.board_data.proofs.Stored.{stored_nothing}
-use Rattle.board_instances.specs.declared.opening.Openings.{Openings}
+use Rattle.board_instances.specs.declared.pending.PendingInstances.{PendingInstances}
 use Rattle.board_changes.specs.World.{Changed, Goes, LetsGo, Opens, WorldEnds, goes_on, told_of}
-use Rattle.board_changes.specs.declared.world.Change.{Change}
-use Rattle.board_changes.specs.declared.world.Change.TheVariants as Changes
+use Rattle.board_changes.specs.declared.data_state.Change.{Change}
+use Rattle.board_changes.specs.declared.data_state.Change.TheVariants as Changes
 
 module _ (C : Code) (j : Job) (x : Change) (fs gs : List (Option Frame)) (old : List Row) (s t : Store) where
   pub nothing_changed : x ≡ Changes.Nothing → gs ≡ fs → t ≡ s → Changed C j x fs gs old old s t
@@ -34,7 +34,7 @@ module _ (C : Code) (j : Job) (x : Change) (fs gs : List (Option Frame)) (old : 
   elements_changed d es q e u i h = subst (λ (y : Change). Changed C j y fs gs old old s t) (sym q) (record { stored = u; stores = h; opens = record { frames = e; rows = refl; data_same = i } })
 
 -- instances are opened
-pub open_changed : (C : Code) (j : Job) (x : Change) (o : Openings) → x ≡ Changes.Opens o → (fs gs : List (Option Frame)) (old new : List Row) (s t : Store) → Opens C j o fs gs old new s t → Changed C j x fs gs old new s t
+pub open_changed : (C : Code) (j : Job) (x : Change) (o : PendingInstances) → x ≡ Changes.Opens o → (fs gs : List (Option Frame)) (old new : List Row) (s t : Store) → Opens C j o fs gs old new s t → Changed C j x fs gs old new s t
 open_changed C j x o q fs gs old new s t h = subst (λ (y : Change). Changed C j y fs gs old new s t) (sym q) (record { stored = s; stores = λ k. stored_nothing [] s s refl; opens = h })
 
 -- all that an End does

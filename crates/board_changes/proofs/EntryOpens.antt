@@ -29,7 +29,7 @@ use Rattle.board_data.specs.View.{cell_view, cells_view}
 use Rattle.board_instances.proofs.Opened.{stands_nested}
 use Rattle.board_instances.specs.Made.{FitsAround, made_as}
 use Rattle.board_instances.specs.Openings.{Put}
-use Rattle.board_instances.specs.declared.opening.Openings.{Openings}
+use Rattle.board_instances.specs.declared.pending.PendingInstances.{PendingInstances}
 use Rattle.board_changes.proofs.After.{cells_after}
 use Rattle.board_changes.proofs.Frames.{are_made, count, frames_open, nested}
 use Rattle.board_changes.proofs.Leads.{all_lead}
@@ -41,7 +41,7 @@ use Rattle.board_changes.specs.Blocks.{AreBlocks}
 use Rattle.board_changes.specs.Opened.{AreOpened, outer_of}
 use Rattle.board_changes.proofs.Becomes.{becomes}
 use Rattle.board_changes.specs.World.{Goes}
-use Rattle.board_changes.specs.declared.world.Change.TheVariants as Changes
+use Rattle.board_changes.specs.declared.data_state.Change.TheVariants as Changes
 
 lengths : {X Y : Type 0} (f : X → Y) (xs : List X) → length (map f xs) ≡ length xs
 lengths f [] = refl
@@ -52,7 +52,7 @@ some_or_none [] = inl refl
 some_or_none (x ∷ xs) = inr (x, inl refl)
 
 module _ (C : Code) (I : IsCode C) (es : List Event) (F : Fields) (x : Stands C (layout_of C) es F) (n k e c : ℕ) (row : Row) (there : row_of F.rows n ≡ Some row) (job : row.job ≡ Does k e c) (live : row.mark ≡ Over → ⊥)
-    (computed : Computed) (o : Openings) (hs : List (Option Frame)) (rows : List Row) (s stored more : Store) (B : AreBlocks C F.frames (Does k e c) computed o) (W : AreOpened C (Does k e c) o F.frames hs F.rows rows stored more)
+    (computed : Computed) (o : PendingInstances) (hs : List (Option Frame)) (rows : List Row) (s stored more : Store) (B : AreBlocks C F.frames (Does k e c) computed o) (W : AreOpened C (Does k e c) o F.frames hs F.rows rows stored more)
     (fits : FitsAround F.frames (Some k) (length o.list.items)) (few : (q : Put) → In q W.placed.puts → length q.frame.slots < 2 ^ 64) where
   abbrev ms : List Instance
   ms = map (made_as F.frames (Some k)) W.placed.puts

@@ -29,7 +29,7 @@ use Rattle.board_changes.proofs.Becomes.{becomes}
 use Rattle.board_changes.proofs.Known.{given}
 use Rattle.board_changes.proofs.Told.{told_sound}
 use Rattle.board_changes.specs.World.{CanStore, LetsGo, target_of, told_of, values_of}
-use Rattle.board_changes.specs.declared.world.Change.{Change}
+use Rattle.board_changes.specs.declared.data_state.Change.{Change}
 
 -- nothing is made
 pub makes_none : (C : Code) (L : Layout) (fs : List (Option Frame)) (j : Job) (x : Computed) (s : Store) → MakesData C L fs fs j x [] s s

@@ -3,44 +3,44 @@ use Rattle.std.proofs.Common.{◌≡◌, refl, sym, ap, subst, ℕ, zero, suc, �
 use Rattle.std.specs.Prelude.{slice_set}
 use Rattle.dataflow.specs.System.{In}
 use Rattle.data_store.specs.Stores.{Store}
-use Rattle.board_program.specs.declared.program.Own.{Own}
-use Rattle.board_instances.specs.declared.opening.Opening.{Opening}
-use Rattle.board_changes.specs.declared.filling.TurnSlots.{TurnSlots}
+use Rattle.board_program.specs.declared.program.LocalVariable.{LocalVariable}
+use Rattle.board_instances.specs.declared.pending.PendingInstance.{PendingInstance}
+use Rattle.board_changes.specs.declared.instance_data.TurnSlots.{TurnSlots}
 use Rattle.board_changes.specs.Filled.{AreFilled, Fills, HasSlots}
 
-module _ (own : List Own) (at : TurnSlots) where
+module _ (own : List LocalVariable) (at : TurnSlots) where
   -- those before a place are filled, and the others are as they were
-  pub record Filling (n : ℕ) (os : List Opening) (s : Store) (ps : List Opening) (t : Store) : Type 0 where
+  pub record Filling (n : ℕ) (os : List PendingInstance) (s : Store) (ps : List PendingInstance) (t : Store) : Type 0 where
     pub rest : drop n ps ≡ drop n os
     pub filled : AreFilled own at (take n os) s (take n ps) t
 
-  next : (n : ℕ) (os ps : List Opening) (s m t : Store) (o p : Opening) → n < length ps → o ≡ get_or ps n o → drop n ps ≡ drop n os → AreFilled own at (take n os) s (take n ps) m → Fills own at o m p t →
+  next : (n : ℕ) (os ps : List PendingInstance) (s m t : Store) (o p : PendingInstance) → n < length ps → o ≡ get_or ps n o → drop n ps ≡ drop n os → AreFilled own at (take n os) s (take n ps) m → Fills own at o m p t →
       AreFilled own at (take (suc n) os) s (take (suc n) (slice_set ps n p)) t × (drop (suc n) (slice_set ps n p) ≡ drop (suc n) os)
   next n os [] s m t o p h g e f w = absurd (omega (arith, h))
   next zero [] (q ∷ ps) s m t o p h g e f w = absurd (cc)
   next zero (x ∷ os) (q ∷ ps) s m t o p h g e f w =
       let x_is : o ≡ x = cc in
       let rest : ps ≡ os = cc in
-      ((t, subst (λ (z : Opening). Fills own at z s p t) x_is (subst (λ (z : Store). Fills own at o z p t) f w), refl), rest)
+      ((t, subst (λ (z : PendingInstance). Fills own at z s p t) x_is (subst (λ (z : Store). Fills own at o z p t) f w), refl), rest)
   next (suc n) [] (q ∷ ps) s m t o p h g e f w = absurd f
   next (suc n) (x ∷ os) (q ∷ ps) s m t o p h g e f w =
       let r = next n os ps f.0 m t o p (omega (arith, h)) g e f.2 w in
       ((f.0, f.1, r.0), r.1)
 
   -- one more is filled
-  pub fill_next : (n : ℕ) (os ps qs : List Opening) (s m t : Store) (o p : Opening) → n < length ps → o ≡ get_or ps n o → qs ≡ slice_set ps n p → Filling n os s ps m → Fills own at o m p t → Filling (n + 1) os s qs t
+  pub fill_next : (n : ℕ) (os ps qs : List PendingInstance) (s m t : Store) (o p : PendingInstance) → n < length ps → o ≡ get_or ps n o → qs ≡ slice_set ps n p → Filling n os s ps m → Fills own at o m p t → Filling (n + 1) os s qs t
   fill_next n os ps qs s m t o p h g e f w =
       let r = next n os ps s m t o p h g f.rest f.filled w in
-      subst (λ (zs : List Opening). Filling (n + 1) os s zs t) (sym e) (record { rest = rw add-one r.1; filled = rw add-one r.0 })
+      subst (λ (zs : List PendingInstance). Filling (n + 1) os s zs t) (sym e) (record { rest = rw add-one r.1; filled = rw add-one r.0 })
 
   -- all are filled
-  pub fill_last : (n : ℕ) (os ps : List Opening) (s t : Store) → length ps ≤ n → length os ≤ n → Filling n os s ps t → AreFilled own at os s ps t
+  pub fill_last : (n : ℕ) (os ps : List PendingInstance) (s t : Store) → length ps ≤ n → length os ≤ n → Filling n os s ps t → AreFilled own at os s ps t
   fill_last n os ps s t h g f = whole os ps n h g f.filled
     where
-      whole : (os ps : List Opening) (n : ℕ) → length ps ≤ n → length os ≤ n → AreFilled own at (take n os) s (take n ps) t → AreFilled own at os s ps t
-      whole os ps n h g x = subst (λ (zs : List Opening). AreFilled own at os s zs t) (all n ps h) (subst (λ (zs : List Opening). AreFilled own at zs s (take n ps) t) (all n os g) x)
+      whole : (os ps : List PendingInstance) (n : ℕ) → length ps ≤ n → length os ≤ n → AreFilled own at (take n os) s (take n ps) t → AreFilled own at os s ps t
+      whole os ps n h g x = subst (λ (zs : List PendingInstance). AreFilled own at os s zs t) (all n ps h) (subst (λ (zs : List PendingInstance). AreFilled own at zs s (take n ps) t) (all n os g) x)
         where
-          all : (n : ℕ) (xs : List Opening) → length xs ≤ n → take n xs ≡ xs
+          all : (n : ℕ) (xs : List PendingInstance) → length xs ≤ n → take n xs ≡ xs
           all zero [] h = refl
           all (suc n) [] h = refl
           all zero (x ∷ xs) h = absurd (omega (arith, h))
@@ -79,5 +79,5 @@ still_room most room i n k h g l = omega (arith, h, g, times)
         less zero (suc n) l = omega arith
         less (suc i) (suc n) l = omega (arith, less i n (omega (arith, l)))
 
-pub long_enough : (k : ℕ) (n : ℕ) (os ps : List Opening) (o : Opening) → ((x : Opening) → In x os → HasSlots k x) → n < length ps → o ≡ get_or ps n o → drop n ps ≡ drop n os → HasSlots k o
+pub long_enough : (k : ℕ) (n : ℕ) (os ps : List PendingInstance) (o : PendingInstance) → ((x : PendingInstance) → In x os → HasSlots k x) → n < length ps → o ≡ get_or ps n o → drop n ps ≡ drop n os → HasSlots k o
 long_enough k n os ps o all h g e = all o (in_rest n os ps o h g e)

@@ -7,22 +7,22 @@ use Rattle.board_history.specs.Fields.{Frame, Job, Row, task_of}
 use Rattle.board_history.specs.Fields as Pure
 use Rattle.task_code.specs.Code.{Code, body}
 use Rattle.task_code.specs.Compute.{Computed}
-use Rattle.board_program.specs.declared.program.Own.{Own}
+use Rattle.board_program.specs.declared.program.LocalVariable.{LocalVariable}
 use Rattle.board_instances.proofs.Opened.{placed_made, placed_nested, placed_opens, placed_rows}
 use Rattle.board_instances.specs.Made.{FitsAround, IsOpened, block_of, made_as, with_slots}
 use Rattle.board_instances.specs.Nested.{IsNested}
 use Rattle.board_instances.specs.Openings.{WithMore}
 use Rattle.board_instances.specs.View.{opening_frame, slot_view}
-use Rattle.board_instances.specs.declared.opening.Opening.{Opening}
-use Rattle.board_instances.specs.declared.opening.Openings.{Openings}
+use Rattle.board_instances.specs.declared.pending.PendingInstance.{PendingInstance}
+use Rattle.board_instances.specs.declared.pending.PendingInstances.{PendingInstances}
 use Rattle.board_changes.specs.Blocks.{AreBlocks}
 use Rattle.board_changes.specs.Filled.{AreFilled}
 use Rattle.board_changes.specs.Opened.{AreOpened, own_of, turn_slots}
-use Rattle.board_changes.specs.declared.filling.TurnSlots.{TurnSlots}
+use Rattle.board_changes.specs.declared.instance_data.TurnSlots.{TurnSlots}
 
 -- what holds of each opening, whatever its slots, holds of each that is filled
-module _ (own : List Own) (at : TurnSlots) (P : Frame → Type 0) (any : (f : Frame) (xs : List Pure.Slot) → P f → P (with_slots xs f)) where
-  each_filled : (os ps : List Opening) (s t : Store) → AreFilled own at os s ps t → ((o : Opening) → In o os → P (opening_frame o)) → (f : Frame) → In f (map opening_frame ps) → P f
+module _ (own : List LocalVariable) (at : TurnSlots) (P : Frame → Type 0) (any : (f : Frame) (xs : List Pure.Slot) → P f → P (with_slots xs f)) where
+  each_filled : (os ps : List PendingInstance) (s t : Store) → AreFilled own at os s ps t → ((o : PendingInstance) → In o os → P (opening_frame o)) → (f : Frame) → In f (map opening_frame ps) → P f
   each_filled [] [] s t w all f i = absurd i
   each_filled (o ∷ os) (p ∷ ps) s t w all f i =
       elim i [
@@ -32,7 +32,7 @@ module _ (own : List Own) (at : TurnSlots) (P : Frame → Type 0) (any : (f : Fr
   each_filled [] (p ∷ ps) s t w all f i = absurd w
   each_filled (o ∷ os) [] s t w all f i = absurd w
 
-blocks_filled : (own : List Own) (at : TurnSlots) (fs : List (Option Frame)) (around : Option ℕ) (os ps : List Opening) (s t : Store) → AreFilled own at os s ps t →
+blocks_filled : (own : List LocalVariable) (at : TurnSlots) (fs : List (Option Frame)) (around : Option ℕ) (os ps : List PendingInstance) (s t : Store) → AreFilled own at os s ps t →
     map (block_of fs around) (map opening_frame ps) ≡ map (block_of fs around) (map opening_frame os)
 blocks_filled own at fs around [] [] s t w = refl
 blocks_filled own at fs around (o ∷ os) (p ∷ ps) s t w =
@@ -42,13 +42,13 @@ blocks_filled own at fs around (o ∷ os) (p ∷ ps) s t w =
 blocks_filled own at fs around [] (p ∷ ps) s t w = absurd w
 blocks_filled own at fs around (o ∷ os) [] s t w = absurd w
 
-count_filled : (own : List Own) (at : TurnSlots) (os ps : List Opening) (s t : Store) → AreFilled own at os s ps t → length (map opening_frame ps) ≡ length os
+count_filled : (own : List LocalVariable) (at : TurnSlots) (os ps : List PendingInstance) (s t : Store) → AreFilled own at os s ps t → length (map opening_frame ps) ≡ length os
 count_filled own at [] [] s t w = refl
 count_filled own at (o ∷ os) (p ∷ ps) s t w = ap suc (count_filled own at os ps w.0 t w.2)
 count_filled own at [] (p ∷ ps) s t w = absurd w
 count_filled own at (o ∷ os) [] s t w = absurd w
 
-module _ (C : Code) (j : Job) (x : Computed) (o : Openings) (fs gs : List (Option Frame)) (old new : List Row) (s t : Store) (B : AreBlocks C fs j x o) (W : AreOpened C j o fs gs old new s t) where
+module _ (C : Code) (j : Job) (x : Computed) (o : PendingInstances) (fs gs : List (Option Frame)) (old new : List Row) (s t : Store) (B : AreBlocks C fs j x o) (W : AreOpened C j o fs gs old new s t) where
   abbrev pub made : List Instance
   made = map (made_as fs (home j)) W.placed.puts
 

@@ -8,26 +8,26 @@ use Rattle.board_history.specs.Ending.{TakenOff, outside}
 use Rattle.board_history.specs.Fields.{Does, Frame, Job, Script, Slot, Want, Whole, slot_at}
 use Rattle.task_code.specs.Code.{Code, entry}
 use Rattle.board_program.specs.Tables.{body_of, led_times, spots_in}
-use Rattle.board_program.specs.declared.spot.Spot.{Spot}
+use Rattle.board_program.specs.declared.lexical_address.LexicalAddress.{LexicalAddress}
 use Rattle.board_data.specs.Holds.{Closes, GivesUp, fewer}
 use Rattle.board_instances.specs.Names.{spot_slot}
 use Rattle.board_instances.specs.Nested.{IsNested}
 use Rattle.board_changes.specs.World.{LetsGo}
 
-pub given_up : (f : Spot → Slot) (ps qs rs ws : List Spot) (s t : Store) (old new : List (Want ℕ)) (base now told : List ℕ) → rs ≡ ps → ws ≡ qs → GivesUp (λ d. led_times f d rs) (λ d. led_times f d ws) s t → base ≡ [] →
+pub given_up : (f : LexicalAddress → Slot) (ps qs rs ws : List LexicalAddress) (s t : Store) (old new : List (Want ℕ)) (base now told : List ℕ) → rs ≡ ps → ws ≡ qs → GivesUp (λ d. led_times f d rs) (λ d. led_times f d ws) s t → base ≡ [] →
     (added : List ℕ) × (now ≡ base ++ added) × (length added ≤ length ws) × Closes (λ d. led_times f d ws) s added → told ≡ now → new ≡ old ++ map Whole told →
     (closed : List ℕ) × GivesUp (λ d. led_times f d ps) (λ d. led_times f d qs) s t × Closes (λ d. led_times f d qs) s closed × (new ≡ old ++ map Whole closed)
 given_up f ps qs rs ws s t old new base now told r w g b c same e = (
   c.0,
-  subst (λ (xs : List Spot). GivesUp (λ d. led_times f d xs) (λ d. led_times f d qs) s t) r (subst (λ (xs : List Spot). GivesUp (λ d. led_times f d rs) (λ d. led_times f d xs) s t) w g),
-  subst (λ (xs : List Spot). Closes (λ d. led_times f d xs) s c.0) w c.3,
+  subst (λ (xs : List LexicalAddress). GivesUp (λ d. led_times f d xs) (λ d. led_times f d qs) s t) r (subst (λ (xs : List LexicalAddress). GivesUp (λ d. led_times f d rs) (λ d. led_times f d xs) s t) w g),
+  subst (λ (xs : List LexicalAddress). Closes (λ d. led_times f d xs) s c.0) w c.3,
   e ∙ ap (λ (ds : List ℕ). old ++ map Whole ds) (same ∙ c.1 ∙ ap (λ (ds : List ℕ). ds ++ c.0) b),
 )
 
 -- there is room to tell of what was closed
-pub few_told : (ws qs : List Spot) (n m : ℕ) (base now told : List ℕ) (closes : List ℕ → Type 0) → ws ≡ qs → base ≡ [] → (added : List ℕ) × (now ≡ base ++ added) × (length added ≤ length ws) × closes added → told ≡ now → n + length qs ≤ m → n + length told ≤ m
+pub few_told : (ws qs : List LexicalAddress) (n m : ℕ) (base now told : List ℕ) (closes : List ℕ → Type 0) → ws ≡ qs → base ≡ [] → (added : List ℕ) × (now ≡ base ++ added) × (length added ≤ length ws) × closes added → told ≡ now → n + length qs ≤ m → n + length told ≤ m
 few_told ws qs n m base now told closes w b c same h =
-    by (length qs) (length ws) (length c.0) (length told) n m (ap (λ (xs : List Spot). length xs) w) c.2 (ap (λ (xs : List ℕ). length xs) (same ∙ c.1 ∙ ap (λ (xs : List ℕ). xs ++ c.0) b)) h
+    by (length qs) (length ws) (length c.0) (length told) n m (ap (λ (xs : List LexicalAddress). length xs) w) c.2 (ap (λ (xs : List ℕ). length xs) (same ∙ c.1 ∙ ap (λ (xs : List ℕ). xs ++ c.0) b)) h
   where
     by : (q w a t n m : ℕ) → w ≡ q → a ≤ w → t ≡ a → n + q ≤ m → n + t ≤ m
     by q w a t n m e f g h = omega (arith, e, f, g, h)

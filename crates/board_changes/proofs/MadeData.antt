@@ -5,7 +5,7 @@ use Rattle.dataflow.specs.System.{In}
 use Rattle.dataflow.proofs.Lists.{in_map, in_unmap}
 use Rattle.data_store.specs.Stores.{Store, at}
 use Rattle.data_store.specs.declared.datum.Datum.{Datum}
-use Rattle.data_store.specs.declared.datum.Shape.{Shape}
+use Rattle.data_store.specs.declared.datum.DatumKind.{DatumKind}
 use Rattle.board_history.specs.Ending.{Instance, IsOwn, NewCell, StartsAs, StartsBy, home, path_around}
 use Rattle.board_history.specs.Fields.{Absent, Content, DatumOf, Does, Frame, Job, Row, Script, frame_up, path_of, slot_for, step_before}
 use Rattle.board_history.specs.Fields.{Slot as PureSlot}
@@ -17,8 +17,8 @@ use Rattle.task_code.specs.Whole.{IsCode}
 use Rattle.board_program.proofs.Laid.{own_leads}
 use Rattle.board_program.specs.Spots.{layout_of, levels_of, place_from, slot_of, spot_in}
 use Rattle.board_program.specs.Tables.{is_place, node_slot, shape_of, turn_slot, value_slot}
-use Rattle.board_program.specs.declared.program.Own.{Own}
-use Rattle.board_program.specs.declared.spot.Spot.{Spot}
+use Rattle.board_program.specs.declared.program.LocalVariable.{LocalVariable}
+use Rattle.board_program.specs.declared.lexical_address.LexicalAddress.{LexicalAddress}
 use Rattle.board_data.proofs.Cells.{cell_there}
 use Rattle.board_data.specs.Made.{start_at, started}
 use Rattle.board_data.specs.View.{cell_view, cells_view, content_view}
@@ -26,8 +26,8 @@ use Rattle.board_effects.specs.Openings.{job_loop}
 use Rattle.board_instances.specs.Made.{made_as}
 use Rattle.board_instances.specs.Openings.{Put}
 use Rattle.board_instances.specs.View.{opening_frame}
-use Rattle.board_instances.specs.declared.opening.Opening.{Opening}
-use Rattle.board_instances.specs.declared.opening.Openings.{Openings}
+use Rattle.board_instances.specs.declared.pending.PendingInstance.{PendingInstance}
+use Rattle.board_instances.specs.declared.pending.PendingInstances.{PendingInstances}
 use Rattle.board_changes.proofs.Cells.{own_back, own_count_of, own_found, same_at}
 use Rattle.board_changes.proofs.Chain.{OneStored, views, Placed, all_apart, each_stored, kept_all, named, only_stored, placed}
 use Rattle.board_changes.proofs.Starts.{place_test, starts_none, starts_turn}
@@ -35,10 +35,10 @@ use Rattle.board_changes.specs.Blocks.{AreBlocks, Starts, TurnStarts, handed}
 use Rattle.board_changes.specs.Data.{MakesData}
 use Rattle.board_changes.specs.Filled.{HasSlots, starts_of}
 use Rattle.board_changes.specs.Opened.{AreOpened, own_of, turn_slots}
-use Rattle.board_changes.specs.declared.filling.TurnSlots.{TurnSlots}
+use Rattle.board_changes.specs.declared.instance_data.TurnSlots.{TurnSlots}
 
 -- an opening with slots for its own data has so many
-long_slots : (n : ℕ) (zs : List PureSlot) (one : Opening) → (opening_frame one).slots ≡ replicate n Absent ++ zs → HasSlots n one
+long_slots : (n : ℕ) (zs : List PureSlot) (one : PendingInstance) → (opening_frame one).slots ≡ replicate n Absent ++ zs → HasSlots n one
 long_slots n zs one e = omega (arith, views one.instance.slots.items, ap (λ (ys : List PureSlot). length ys) e, long n)
   where
     long : (n : ℕ) → n ≤ length (replicate n Absent ++ zs)
@@ -46,7 +46,7 @@ long_slots n zs one e = omega (arith, views one.instance.slots.items, ap (λ (ys
     long (suc n) = omega (arith, long n)
 
 -- what a variable starts with, told by the opening
-starts_as : (C : Code) (fs : List (Option Frame)) (j : Job) (x : Computed) (one : Opening) (slots : TurnSlots) (m : Instance) (v : Variable) (k : ℕ) → Starts C fs j x one → slots.value ≡ value_slot C (job_loop C j) → slots.turn ≡ turn_slot C (job_loop C j) →
+starts_as : (C : Code) (fs : List (Option Frame)) (j : Job) (x : Computed) (one : PendingInstance) (slots : TurnSlots) (m : Instance) (v : Variable) (k : ℕ) → Starts C fs j x one → slots.value ≡ value_slot C (job_loop C j) → slots.turn ≡ turn_slot C (job_loop C j) →
     ((w : Loop) → job_loop C j ≡ Some w → w.body ≡ m.body) → m.path ≡ step_before (opening_frame one).way (path_around fs (home j)) → place_from 0 v (body C m.body).makes ≡ Some k →
     StartsAs C fs j x m v (content_view (started (shape_of v.array) (start_at (starts_of slots one) k)))
 starts_as C fs Script x one slots m v k st value turn loop path place = starts_none v k (starts_of slots one) st.0 st.1
@@ -71,8 +71,8 @@ starts_as C fs (Does i e c) x one slots m v k st value turn loop path place = by
         some : (n : ℕ) → w.turn ≡ Some n → variable_eq v (scalar n) ≡ is_place k slots.turn
         some n z = test (scalar n) ∙ ap (is_place k) (sym (b ∙ ap (node_slot C w.body) z ∙ moved (scalar n)))
 
-module _ (C : Code) (I : IsCode C) (j : Job) (x : Computed) (o : Openings) (fs gs : List (Option Frame)) (old new : List Row) (s t : Store) (B : AreBlocks C fs j x o) (W : AreOpened C j o fs gs old new s t) where
-  all_slots : (one : Opening) → In one o.list.items → HasSlots (length (own_of C o.body)) one
+module _ (C : Code) (I : IsCode C) (j : Job) (x : Computed) (o : PendingInstances) (fs gs : List (Option Frame)) (old new : List Row) (s t : Store) (B : AreBlocks C fs j x o) (W : AreOpened C j o fs gs old new s t) where
+  all_slots : (one : PendingInstance) → In one o.list.items → HasSlots (length (own_of C o.body)) one
   all_slots one i = subst (λ n. HasSlots n one) (sym (own_count_of C o.body)) (long_slots (length (body C o.body).makes) (handed C fs j) one (B.slots one i))
 
   in_order : Placed (own_of C o.body) (turn_slots o) W.placed.puts W.filled
@@ -87,7 +87,7 @@ module _ (C : Code) (I : IsCode C) (j : Job) (x : Computed) (o : Openings) (fs g
   -- a variable of a new instance leads to the slot of its first place
   own_slot : (q : Put) → In q W.placed.puts → (v : Variable) (k : ℕ) → spot_in C q.frame.body (here v) ≡ Some (record { levels = 0; slot = k }) → slot_for (layout_of C) gs q.key q.frame.body (here v) ≡ nth Absent q.frame.slots k
   own_slot q i v k e =
-      ap (λ (r : Option Spot). elim (frame_up gs (levels_of r) q.key) [ None ↦ Absent | Some f ↦ nth Absent f.slots (slot_of r) ]) e
+      ap (λ (r : Option LexicalAddress). elim (frame_up gs (levels_of r) q.key) [ None ↦ Absent | Some f ↦ nth Absent f.slots (slot_of r) ]) e
       ∙ ap (λ (r : Option Frame). elim r [ None ↦ Absent | Some f ↦ nth Absent f.slots k ]) (W.placed.put_in.there q i)
 
   first_place : (q : Put) → In q W.placed.puts → (v : Variable) → In v (body C q.frame.body).makes → (k : ℕ) × (place_from 0 v (body C o.body).makes ≡ Some k) × (slot_for (layout_of C) gs q.key q.frame.body (here v) ≡ nth Absent q.frame.slots k) × (place_from 0 v (body C q.frame.body).makes ≡ Some k)
@@ -110,7 +110,7 @@ module _ (C : Code) (I : IsCode C) (j : Job) (x : Computed) (o : Openings) (fs g
         leads = l.2 ∙ st.1;
         fresh = cell_there s.cells st.0 ∙ ap (option_map cell_view) st.2;
         content = content;
-        starts = subst (λ (k : Shape). StartsAs C fs j x (made_as fs (home j) q) v (content_view (started k (start_at (starts_of (turn_slots o) u.was) l.0)))) (sym (ap (λ (y : Own). y.shape) f.1.is))
+        starts = subst (λ (k : DatumKind). StartsAs C fs j x (made_as fs (home j) q) v (content_view (started k (start_at (starts_of (turn_slots o) u.was) l.0)))) (sym (ap (λ (y : LocalVariable). y.shape) f.1.is))
             (starts_as C fs j x u.was (turn_slots o) (made_as fs (home j) q) v l.0 (B.starts u.was u.is_in) B.value_is B.turn_is (λ w e. B.loop_body u.was w u.is_in e ∙ sym b) (ap (λ (f : Frame). step_before f.way (path_around fs (home j))) u.frame) l.3);
         is = cell_there W.made.cells st.0 ∙ ap (option_map cell_view) st.3
             ∙ ap (λ r. Some (record { reads = r; writes = f.0.writes; content = content })) reads

@@ -8,7 +8,7 @@ use Rattle.board_history.specs.Static.{counted_names, names_in, outer_holds}
 use Rattle.board_history.specs.Fields.{Slot}
 use Rattle.task_code.specs.Code.{Body, Code, Entry, Name, blank_body, blank_entry, body, entry, nth}
 use Rattle.board_program.specs.Tables.{at_name, own_from, spots_in}
-use Rattle.board_program.specs.declared.spot.Spot.{Spot}
+use Rattle.board_program.specs.declared.lexical_address.LexicalAddress.{LexicalAddress}
 use Rattle.board_changes.specs.Opened.{own_of}
 
 past : {X : Type 0} (d : X) (xs : List X) (n : ℕ) → length xs ≤ n → nth d xs n ≡ d
@@ -29,7 +29,7 @@ module _ (C : Code) (b : ℕ) (h : length C.bodies ≤ b) where
   no_names : (rights : Entry → List Name) → names_in C rights b ≡ []
   no_names rights = ap (λ (x : Body). flat_map (λ j. rights (entry C j)) x.entries) none
 
-  pub no_outer : (rights : Entry → List Name) (f : Spot → Slot) (d : ℕ) → 0 ≡ held_times (at_name C b f) d (outer_holds C rights b)
+  pub no_outer : (rights : Entry → List Name) (f : LexicalAddress → Slot) (d : ℕ) → 0 ≡ held_times (at_name C b f) d (outer_holds C rights b)
   no_outer rights f d = sym (ap (λ (rs : List Name). held_times (at_name C b f) d (counted_names (filter (λ r. not (is_declared C b r)) rs))) (no_names rights))
 
 -- an entry that there is not has no rights

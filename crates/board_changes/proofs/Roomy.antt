@@ -22,7 +22,7 @@ use Rattle.board_data.specs.Data.{AreRising, is_keyed, roomy}
 use Rattle.board_data.specs.View.{cell_view, cells_view}
 use Rattle.board_data.proofs.Changes.{set_here}
 use Rattle.board_changes.specs.Room.{HasPlaces, OnlyRoom}
-use Rattle.board_changes.specs.declared.world.World.{World}
+use Rattle.board_changes.specs.declared.data_state.DataState.{DataState}
 
 abbrev elements_in : Option Datum → List Element
 elements_in c = (array_in (or_none c).content).elements
@@ -133,20 +133,20 @@ one_place (Ok x) target k v s t made = λ d to keyed e m. places_next target 1 (
 one_place (Err x) target k v s t made = tt
 
 -- one array has more room
-only_places : (d : Option ℕ) (k : Key) (n : ℕ) (old : World) (t : Store) → t ≡ roomy d k n old.store → OnlyRoom old (record { instances = old.instances; store = t; closed = old.closed })
+only_places : (d : Option ℕ) (k : Key) (n : ℕ) (old : DataState) (t : Store) → t ≡ roomy d k n old.store → OnlyRoom old (record { instances = old.instances; store = t; closed = old.closed })
 only_places d k n old t e = record {
   frames = refl;
   cells = ap (λ (u : Store). cells_view u.cells) e ∙ roomy_cells d k n old.store;
   rising = λ r. subst AreRising (sym e) (roomy_rises d k n old.store r);
 }
 
-only_same : (old : World) (t : Store) → t ≡ old.store → OnlyRoom old (record { instances = old.instances; store = t; closed = old.closed })
+only_same : (old : DataState) (t : Store) → t ≡ old.store → OnlyRoom old (record { instances = old.instances; store = t; closed = old.closed })
 only_same old t e = record {
   frames = refl;
   cells = ap (λ (u : Store). cells_view u.cells) e;
   rising = λ r. subst AreRising (sym e) r;
 }
 
-pub room_only : {T E : Type 0} (r : Result T E) (d : Option ℕ) (k : Key) (n : ℕ) (old : World) (t : Store) → OnOk r (t ≡ roomy d k n old.store) → OnErr r (t ≡ old.store) → OnlyRoom old (record { instances = old.instances; store = t; closed = old.closed })
+pub room_only : {T E : Type 0} (r : Result T E) (d : Option ℕ) (k : Key) (n : ℕ) (old : DataState) (t : Store) → OnOk r (t ≡ roomy d k n old.store) → OnErr r (t ≡ old.store) → OnlyRoom old (record { instances = old.instances; store = t; closed = old.closed })
 room_only (Ok x) d k n old t ok err = only_places d k n old t ok
 room_only (Err x) d k n old t ok err = only_same old t err

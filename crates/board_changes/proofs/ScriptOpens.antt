@@ -23,7 +23,7 @@ use Rattle.board_data.specs.View.{cells_view}
 use Rattle.board_instances.proofs.Opened.{stands_nested}
 use Rattle.board_instances.specs.Made.{made_as}
 use Rattle.board_instances.specs.Openings.{Put}
-use Rattle.board_instances.specs.declared.opening.Openings.{Openings}
+use Rattle.board_instances.specs.declared.pending.PendingInstances.{PendingInstances}
 use Rattle.board_changes.proofs.After.{cells_after}
 use Rattle.board_changes.proofs.Frames.{are_made, nested}
 use Rattle.board_changes.proofs.MadeData.{body_is, makes_data}
@@ -40,10 +40,10 @@ use Rattle.board_changes.proofs.Steps.{adds_all, last_none, last_some}
 use Rattle.board_changes.specs.Blocks.{AreBlocks}
 use Rattle.board_changes.specs.Opened.{AreOpened, outer_of}
 use Rattle.board_changes.proofs.Becomes.{becomes}
-use Rattle.board_changes.specs.declared.world.Change.TheVariants as Changes
+use Rattle.board_changes.specs.declared.data_state.Change.TheVariants as Changes
 
 module _ (C : Code) (I : IsCode C) (es : List Event) (F : Fields) (x : Stands C (layout_of C) es F) (n : ℕ) (row : Row) (there : row_of F.rows n ≡ Some row) (job : row.job ≡ Script) (live : row.mark ≡ Over → ⊥)
-    (computed : Computed) (o : Openings) (hs : List (Option Frame)) (rows : List Row) (s stored more : Store) (B : AreBlocks C F.frames Script computed o) (W : AreOpened C Script o F.frames hs F.rows rows stored more) where
+    (computed : Computed) (o : PendingInstances) (hs : List (Option Frame)) (rows : List Row) (s stored more : Store) (B : AreBlocks C F.frames Script computed o) (W : AreOpened C Script o F.frames hs F.rows rows stored more) where
   abbrev ms : List Instance
   ms = map (made_as F.frames None) W.placed.puts
 

@@ -16,7 +16,7 @@ use Rattle.board_program.specs.Spots.{place_from}
 use Rattle.board_program.specs.Tables.{is_place, shape_of}
 use Rattle.board_data.specs.Made.{start_at, started}
 use Rattle.board_data.specs.View.{content_view}
-use Rattle.board_data.specs.declared.making.Starts.{Starts}
+use Rattle.board_data.specs.declared.making.InitialValues.{InitialValues}
 use Rattle.board_changes.proofs.Cells.{place_is, same_at}
 
 same_truth : (a b : Bool) → (a ≡ true → b ≡ true) → (b ≡ true → a ≡ true) → a ≡ b
@@ -49,7 +49,7 @@ started_empty false = refl
 started_empty true = refl
 
 -- no values are brought
-pub starts_none : (v : Variable) (k : ℕ) (s : Starts) → s.value ≡ None → s.turn ≡ None → content_view (started (shape_of v.array) (start_at s k)) ≡ empty_content v.array
+pub starts_none : (v : Variable) (k : ℕ) (s : InitialValues) → s.value ≡ None → s.turn ≡ None → content_view (started (shape_of v.array) (start_at s k)) ≡ empty_content v.array
 starts_none v k s a b = ap (λ (y : Option Scalar). content_view (started (shape_of v.array) y)) none ∙ started_empty v.array
   where
     none : start_at s k ≡ None
@@ -65,7 +65,7 @@ held : (v : Variable) (n : ℕ) (y : Scalar) → v ≡ scalar n → content_view
 held v n y e = ap (λ (z : Variable). content_view (started (shape_of z.array) (Some y))) e
 
 -- the values of a turn are brought
-module _ (w : Loop) (t : Key × Scalar) (v : Variable) (k : ℕ) (s : Starts) (value : s.value ≡ Some t.1) (turn : s.turn ≡ Some (key_scalar t.0)) (here : variable_eq v (scalar w.value) ≡ is_place k s.value_at) where
+module _ (w : Loop) (t : Key × Scalar) (v : Variable) (k : ℕ) (s : InitialValues) (value : s.value ≡ Some t.1) (turn : s.turn ≡ Some (key_scalar t.0)) (here : variable_eq v (scalar w.value) ≡ is_place k s.value_at) where
   content : Option Scalar → Content
   content y = content_view (started (shape_of v.array) y)
 

@@ -21,14 +21,14 @@ use Rattle.board_program.proofs.Laid.{leads_somewhere}
 use Rattle.board_program.proofs.Slots.{reads_led, writes_led}
 use Rattle.board_program.specs.Spots.{frame_slot, layout_of, levels_of, slot_of, spot_in}
 use Rattle.board_program.specs.Tables.{at_spot, body_of, body_or_script, led_times, spots_in}
-use Rattle.board_program.specs.declared.spot.Spot.{Spot}
+use Rattle.board_program.specs.declared.lexical_address.LexicalAddress.{LexicalAddress}
 use Rattle.board_data.specs.Holds.{Closes, Fit, GivesUp, fewer}
 use Rattle.board_instances.specs.Names.{slot_in, spot_slot}
 use Rattle.board_instances.specs.Openings.{Put, last_key}
 use Rattle.board_changes.specs.Opened.{AddsOuter, outer_of}
 use Rattle.board_changes.specs.World.{reads_of, writes_of}
 
-pub spot_same : (fs : List (Option Frame)) (k : ℕ) (s : Spot) → spot_slot fs k s ≡ frame_slot fs k s
+pub spot_same : (fs : List (Option Frame)) (k : ℕ) (s : LexicalAddress) → spot_slot fs k s ≡ frame_slot fs k s
 spot_same fs k s = by (frame_up fs s.levels k)
   where
     by : (r : Option Frame) → slot_in r s.slot ≡ elim r [ None ↦ Absent | Some f ↦ nth Absent f.slots s.slot ]
@@ -61,7 +61,7 @@ outer_is C I b reached fs k rights right d =
         let p = in_flat (λ j. rights (entry C j)) (body C b).entries r h in
         flat_in (λ j. (entry C j).reads ++ (entry C j).writes) (body C b).entries p.0 r p.1 (right (entry C p.0) r p.2)
 
-    by_spot : (r : Name) (s : Spot) → spot_in C b r ≡ Some s → slot_for (layout_of C) fs k b r ≡ spot_slot fs k s
+    by_spot : (r : Name) (s : LexicalAddress) → spot_in C b r ≡ Some s → slot_for (layout_of C) fs k b r ≡ spot_slot fs k s
     by_spot r s e = (λ i. frame_slot fs k (record { levels = levels_of (e i); slot = slot_of (e i) })) ∙ sym (spot_same fs k s)
 
     stands : (r : Name) → In r (all_names C b) → at_spot (spot_slot fs k) (spot_in C b r) ≡ slot_for (layout_of C) fs k b r

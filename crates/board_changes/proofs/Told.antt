@@ -32,8 +32,8 @@ use Rattle.board_data.specs.View.{cell_view, cells_view, content_view}
 use Rattle.board_changes.proofs.After.{seen_there}
 use Rattle.board_changes.proofs.Known.{array_seen, kept_known}
 use Rattle.board_changes.specs.World.{CanStore, elements_of, target_of, told_of, values_of, whole_of}
-use Rattle.board_changes.specs.declared.world.Change.{Change}
-use Rattle.board_changes.specs.declared.world.Change.TheVariants as Changes
+use Rattle.board_changes.specs.declared.data_state.Change.{Change}
+use Rattle.board_changes.specs.declared.data_state.Change.TheVariants as Changes
 
 -- where an element is there, one of its mark is
 marked_there : (k : Key) (v : Scalar) (xs : Elements) → In (k, v) xs → has_mark (mark_of k) xs ≡ true

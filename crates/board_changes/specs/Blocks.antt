@@ -1,4 +1,4 @@
--- The openings of an End, by what is asked of them: of which blocks they are, and what their variables start with.
+-- The openings of an End, by their conditions: the blocks they belong to, and the initial values of their variables.
 use Rattle.std.specs.Prelude.{◌≡◌, ◌++◌, ℕ, List, [], length, map, replicate, Option, Some, None}
 use Rattle.std.specs.List.{filter}
 use Rattle.dataflow.specs.System.{In}
@@ -15,31 +15,32 @@ use Rattle.board_program.specs.Tables.{turn_slot, value_slot}
 use Rattle.board_effects.specs.Openings.{handed_over, job_loop}
 use Rattle.board_instances.specs.Made.{IsOpened, block_of}
 use Rattle.board_instances.specs.View.{opening_frame}
-use Rattle.board_instances.specs.declared.opening.Opening.{Opening}
-use Rattle.board_instances.specs.declared.opening.Openings.{Openings}
+use Rattle.board_instances.specs.declared.pending.PendingInstance.{PendingInstance}
+use Rattle.board_instances.specs.declared.pending.PendingInstances.{PendingInstances}
 
 module _ (C : Code) (fs : List (Option Frame)) where
-  -- an opening brings values for a turn's variables, if a loop opens it: those of a turn of its chunk
-  abbrev pub TurnStarts : (path : List Step) → (mark chunk : ℕ) → Computed → Option Loop → Opening → Type 0
+  -- an opening has values for a turn's variables, if a loop opens it: those of a turn of its chunk
+  abbrev pub TurnStarts : (path : List Step) → (mark chunk : ℕ) → Computed → Option Loop → PendingInstance → Type 0
   TurnStarts p mark c x None o = (o.value ≡ None) × (o.turn ≡ None)
   TurnStarts p mark c x (Some w) o = (t : Key × Scalar) × In t (chunk c (turns_of x)) × (step_before (opening_frame o).way p ≡ step_at mark t.0 p) × (o.value ≡ Some t.1) × (o.turn ≡ Some (key_scalar t.0))
 
-  abbrev pub Starts : Job → Computed → Opening → Type 0
+  abbrev pub Starts : Job → Computed → PendingInstance → Type 0
   Starts Script x o = (o.value ≡ None) × (o.turn ≡ None)
   Starts (Does k e c) x o = TurnStarts (path_of fs k) (entry C e).mark c x (loop_of (entry C e).act) o
 
-  -- what the item of a job hands over, if it is a call
+  -- the arguments of the item of a job, if it is a call
   abbrev pub handed : Job → List Slot
   handed Script = []
   handed (Does k e c) = handed_over C fs k e
 
-  -- these are opened by the item of a job which computed this: one instance for each block with entries, in order, all of one body
-  pub record AreBlocks (j : Job) (x : Computed) (o : Openings) : Type 0 where
+  -- the item of a job that computed this opens these: one instance for each block with entries, in order, all of one
+  -- body
+  pub record AreBlocks (j : Job) (x : Computed) (o : PendingInstances) : Type 0 where
     pub blocks : map (block_of fs (home j)) (map opening_frame o.list.items) ≡ filter (has_entries C) (opened C (task_of fs j) x)
-    pub each : (one : Opening) → In one o.list.items → IsOpened C fs (home j) (opening_frame one)
-    pub one_body : (one : Opening) → In one o.list.items → (opening_frame one).body ≡ o.body
-    pub slots : (one : Opening) → In one o.list.items → (opening_frame one).slots ≡ replicate (length (body C o.body).makes) Absent ++ handed j
-    pub starts : (one : Opening) → In one o.list.items → Starts j x one
+    pub each : (one : PendingInstance) → In one o.list.items → IsOpened C fs (home j) (opening_frame one)
+    pub one_body : (one : PendingInstance) → In one o.list.items → (opening_frame one).body ≡ o.body
+    pub slots : (one : PendingInstance) → In one o.list.items → (opening_frame one).slots ≡ replicate (length (body C o.body).makes) Absent ++ handed j
+    pub starts : (one : PendingInstance) → In one o.list.items → Starts j x one
     pub value_is : o.value ≡ value_slot C (job_loop C j)
     pub turn_is : o.turn ≡ turn_slot C (job_loop C j)
-    pub loop_body : (one : Opening) (w : Loop) → In one o.list.items → job_loop C j ≡ Some w → w.body ≡ o.body
+    pub loop_body : (one : PendingInstance) (w : Loop) → In one o.list.items → job_loop C j ≡ Some w → w.body ≡ o.body

@@ -11,7 +11,8 @@ use Rattle.task_code.specs.Compute.{Computed}
 use Rattle.board_data.specs.View.{cells_view}
 
 module _ (C : Code) (L : Layout) where
-  -- one for each variable that some entry names, under a number of its own that had none, with its first counts and its value; the others are as they were
+  -- one new datum for each variable that some entry names, under a number of its own, with its first counts and its
+  -- value; other data are unchanged
   pub record MakesData (fs hs : List (Option Frame)) (j : Job) (x : Computed) (made : List Instance) (s t : Store) : Type 0 where
     pub older : (d : ℕ) (y : Datum) → at s d ≡ Some y → at t d ≡ Some y
     pub new : (m : Instance) (v : Variable) → In m made → In v (body C m.body).makes → 0 < own_count C (λ e. e.reads) m.body v + own_count C (λ e. e.writes) m.body v → NewCell C L fs hs j x m v (cells_view s.cells) (cells_view t.cells)

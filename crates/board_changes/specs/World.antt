@@ -1,4 +1,4 @@
--- What an End does to instances and data, step by step.
+-- The changes that an End makes to instances and data, step by step.
 use Rattle.std.specs.Prelude.{◌≡◌, ◌≤◌, ◌+◌, ◌*◌, ◌^◌, vec_len, vec_capacity, ℕ, Bool, true, false, List, [], ◌∷◌, ◌++◌, length, map, Option, Some, None, IsSome}
 use Rattle.std.proofs.Common.{Vec, Global}
 use Rattle.dataflow.specs.System.{In}
@@ -7,8 +7,8 @@ use Rattle.rules.specs.declared.input.Input.{Input}
 use Rattle.slab.specs.Slab.{HasRoomFor, Slab}
 use Rattle.smallvec.specs.SmallVec.{SmallVec}
 use Rattle.board_instances.specs.declared.instance.Instance.{Instance}
-use Rattle.board_instances.specs.declared.item.Item.{Item}
-use Rattle.board_instances.specs.declared.opening.Opening.{Opening as OneOpening}
+use Rattle.board_instances.specs.declared.item.ItemRecord.{ItemRecord}
+use Rattle.board_instances.specs.declared.pending.PendingInstance.{PendingInstance as OneOpening}
 use Rattle.board_changes.specs.Filled.{HasSlots}
 use Rattle.board_history.specs.Ending.{TakenOff, home, new_row}
 use Rattle.board_history.specs.Fields.{AnElement, Does, Frame, Job, Row, Script, Want, Whole, slot_at}
@@ -23,13 +23,13 @@ use Rattle.board_data.specs.Holds.{Closes, GivesUp}
 use Rattle.board_data.specs.Stored.{IsScalarTarget, StoresIn, Takes}
 use Rattle.board_instances.specs.Names.{spot_slot}
 use Rattle.board_instances.specs.Nested.{IsNested}
-use Rattle.board_instances.specs.declared.opening.Openings.{Openings}
+use Rattle.board_instances.specs.declared.pending.PendingInstances.{PendingInstances}
 use Rattle.board_changes.specs.Opened.{AreOpened, CanGoOn, IsShort, going, more_of, own_of}
-use Rattle.board_changes.specs.declared.world.Change.{Change}
-use Rattle.board_changes.specs.declared.world.World.{World}
-use Rattle.board_changes.specs.declared.world.Change.TheVariants as Changes
+use Rattle.board_changes.specs.declared.data_state.Change.{Change}
+use Rattle.board_changes.specs.declared.data_state.DataState.{DataState}
+use Rattle.board_changes.specs.declared.data_state.Change.TheVariants as Changes
 
--- where a change stores, and what
+-- the target of a change, and what it stores there
 abbrev pub target_of : Change → Option ℕ
 target_of Changes.Nothing = None
 target_of (Changes.Value d v) = d
@@ -44,7 +44,7 @@ values_of (Changes.Element d k v) = (k, v) ∷ []
 values_of (Changes.Elements d es) = pairs es.items
 values_of (Changes.Opens o) = []
 
--- it asks for a scalar, or for an array that takes the elements
+-- the target is a scalar, or an array that takes the elements
 abbrev pub CanStore : Change → Store → Type 0
 CanStore Changes.Nothing s = Unit {0}
 CanStore (Changes.Value d v) s = IsScalarTarget d s
@@ -52,7 +52,7 @@ CanStore (Changes.Element d k v) s = (n : ℕ) → d ≡ Some n → Takes n (ele
 CanStore (Changes.Elements d es) s = (n : ℕ) → d ≡ Some n → Takes n es.items s
 CanStore (Changes.Opens o) s = Unit {0}
 
--- what becomes known of what is stored
+-- the inputs that become known by a store
 abbrev pub whole_of : Option ℕ → List (Want ℕ)
 whole_of None = []
 whole_of (Some d) = Whole d ∷ []
@@ -68,7 +68,7 @@ told_of (Changes.Element d k v) = elements_of d (element k v ∷ [])
 told_of (Changes.Elements d es) = elements_of d es.items
 told_of (Changes.Opens o) = []
 
--- so much of what is stored becomes known
+-- the number of inputs that become known by a store
 abbrev pub told_by : Change → ℕ
 told_by Changes.Nothing = 0
 told_by (Changes.Value d v) = 1
@@ -76,7 +76,7 @@ told_by (Changes.Element d k v) = 1
 told_by (Changes.Elements d es) = vec_len es
 told_by (Changes.Opens o) = 0
 
--- another item goes on with the loop
+-- another item continues the loop
 abbrev pub goes_on : Change → Bool
 goes_on Changes.Nothing = false
 goes_on (Changes.Value d v) = false
@@ -84,7 +84,7 @@ goes_on (Changes.Element d k v) = false
 goes_on (Changes.Elements d es) = false
 goes_on (Changes.Opens o) = o.goes_on
 
--- the lists for what new items miss
+-- the lists for the missing inputs of new items
 abbrev pub spare_of : Change → List (SmallVec Input)
 spare_of Changes.Nothing = []
 spare_of (Changes.Value d v) = []
@@ -94,7 +94,7 @@ spare_of (Changes.Opens o) = o.spare.items
 
 module _ (C : Code) where
   -- there is room for all that is opened
-  pub record HasRoom (j : Job) (o : Openings) (instances : Slab Instance) (s : Store) (rows : Vec Item Global) : Type 0 where
+  pub record HasRoom (j : Job) (o : PendingInstances) (instances : Slab Instance) (s : Store) (rows : Vec ItemRecord Global) : Type 0 where
     pub slots : (x : OneOpening) → In x o.list.items → HasSlots (length (own_of C o.body)) x
     pub data_room : vec_len o.list * length (own_of C o.body) ≤ s.room
     pub data_numbers : s.bound ≤ 2 ^ 32
@@ -104,15 +104,15 @@ module _ (C : Code) where
     pub goes : CanGoOn j o.goes_on
     pub short : IsShort j o.goes_on
 
-  -- the same of a change, which may open nothing
-  abbrev pub CanOpen : Job → Change → Slab Instance → Store → Vec Item Global → Type 0
+  -- there is room for a change, which may open nothing
+  abbrev pub CanOpen : Job → Change → Slab Instance → Store → Vec ItemRecord Global → Type 0
   CanOpen j Changes.Nothing instances s rows = Unit {0}
   CanOpen j (Changes.Value d v) instances s rows = Unit {0}
   CanOpen j (Changes.Element d k v) instances s rows = Unit {0}
   CanOpen j (Changes.Elements d es) instances s rows = Unit {0}
   CanOpen j (Changes.Opens o) instances s rows = HasRoom j o instances s rows
 
-  -- so many data an entry may write, and the item of a job with it
+  -- the number of data that an entry may write, and that the item of a job may write
   abbrev pub spots_number : ℕ → ℕ
   spots_number e = length (spots_in C (body_of C e) (entry C e).writes)
 
@@ -120,19 +120,19 @@ module _ (C : Code) where
   holds_of Script = 0
   holds_of (Does k e c) = spots_number e
 
-  -- so many arrays may be closed at most, where the item goes
+  -- the maximum number of arrays that are closed when the item ends
   abbrev pub closes_of : Job → Bool → ℕ
   closes_of j true = 0
   closes_of j false = holds_of j
 
-  -- there is room for all that an End does: for what it opens, for arrays that are closed, and for what becomes known
-  pub record HasRoomToEnd (j : Job) (x : Change) (w : World) (rows : Vec Item Global) (known : Vec Input Global) : Type 0 where
+  -- there is room for all that an End does: for what it opens, for closed arrays, and for what becomes known
+  pub record HasRoomToEnd (j : Job) (x : Change) (w : DataState) (rows : Vec ItemRecord Global) (known : Vec Input Global) : Type 0 where
     pub opens : CanOpen j x w.instances w.store rows
     pub closed : closes_of j (goes_on x) ≤ vec_capacity w.closed
     pub told : vec_len known + told_by x + closes_of j (goes_on x) ≤ vec_capacity known
 
   -- instances were opened, or nothing was changed
-  pub record Opens (j : Job) (o : Openings) (fs gs : List (Option Frame)) (old new : List Row) (s t : Store) : Type 0 where
+  pub record Opens (j : Job) (o : PendingInstances) (fs gs : List (Option Frame)) (old new : List Row) (s t : Store) : Type 0 where
     pub rows : List Row
     pub opened : AreOpened C j o fs gs old rows s t
     pub goes : new ≡ rows ++ map new_row (going j o.goes_on)
@@ -149,13 +149,13 @@ module _ (C : Code) where
   Opening j (Changes.Elements d es) fs gs old new s t = IsSame fs gs old new s t
   Opening j (Changes.Opens o) fs gs old new s t = Opens j o fs gs old new s t
 
-  -- a change of a job was made: it stored, and opened
+  -- the change of a job was made: it stored, and opened
   pub record Changed (j : Job) (x : Change) (fs gs : List (Option Frame)) (old new : List Row) (s t : Store) : Type 0 where
     pub stored : Store
     pub stores : CanStore x s → StoresIn (target_of x) (values_of x) s stored
     pub opens : Opening j x fs gs old new stored t
 
-  -- what the item of an entry holds on a datum, seen from its instance
+  -- the holds of the item of an entry on a datum, resolved from its instance
   abbrev pub reads_of : List (Option Frame) → Job → ℕ → ℕ
   reads_of fs Script d = 0
   reads_of fs (Does k e c) d = led_times (spot_slot fs k) d (spots_in C (body_of C e) (entry C e).reads)
@@ -170,12 +170,12 @@ module _ (C : Code) where
     pub closes : Closes (writes_of fs j) s closed
     pub leaves : IsNested fs → ((k : ℕ) → home j ≡ Some k → IsSome (slot_at fs k)) → TakenOff gs fs (home j)
 
-  -- an item went, unless another goes on with its loop
+  -- an item left, unless another continues its loop
   abbrev pub Goes : Bool → Job → List (Option Frame) → List (Option Frame) → Store → Store → List ℕ → Type 0
   Goes true j fs gs s t closed = (gs ≡ fs) × (t ≡ s) × (closed ≡ [])
   Goes false j fs gs s t closed = LetsGo j fs gs s t closed
 
-  -- all that an End does to instances, rows and data, and what becomes known by that
+  -- all that an End does to instances, rows and data, and what becomes known by it
   pub record WorldEnds (j : Job) (x : Change) (fs gs : List (Option Frame)) (old new : List Row) (s t : Store) (known : List (Want ℕ)) : Type 0 where
     pub middle : List (Option Frame)
     pub more : Store

@@ -1,4 +1,4 @@
-//! What the steps of an End come to.
+//! Theorems about the steps of an End: instances, data and known inputs afterwards.
 ghost use Rattle.std.specs.Prelude.{◌≡◌, ◌++◌, ◌<◌, ◌^◌, ℕ, Bool, List, [], Option, Some, None, length, map, if◌then◌else◌};
 ghost use Rattle.dataflow.specs.Machine.{Event};
 ghost use Rattle.dataflow.specs.System.{In, Opening};
@@ -22,15 +22,15 @@ ghost use Rattle.board_data.specs.Stored.{StoresIn};
 ghost use Rattle.board_data.specs.View.{cells_view};
 ghost use Rattle.board_instances.specs.Openings.{Put};
 ghost use Rattle.board_changes.specs.World.{CanStore, Goes, LetsGo, target_of, told_of, values_of};
-ghost use Rattle.board_changes.specs.declared.world.Change.{Change as TheChange};
+ghost use Rattle.board_changes.specs.declared.data_state.Change.{Change as TheChange};
 ghost use Rattle.board_instances.specs.Nested.{IsNested};
-ghost use Rattle.board_instances.specs.declared.opening.Openings.{Openings as TheOpenings};
+ghost use Rattle.board_instances.specs.declared.pending.PendingInstances.{PendingInstances as TheOpenings};
 ghost use Rattle.board_changes.specs.Blocks.{AreBlocks};
 ghost use Rattle.board_changes.specs.Data.{MakesData};
 ghost use Rattle.board_changes.specs.Opened.{AreOpened};
 
-/// Where instances were opened that are of the blocks of an End, those that were put in are the instances that the End makes, with
-/// the rows of their items and with their data: a datum for each variable that some entry names, under a number of its own.
+/// States that instances opened for the blocks of an End are the instances that the End creates. They have the rows of
+/// their items and their data: a new datum for each variable that some entry names.
 pub fn opened_blocks()
     ensures made { (C : Code) (j : Job) (x : Computed) (o : TheOpenings) (fs gs : List (Option Frame)) (old new : List Row) (s t : Store) → AreBlocks C fs j x o
         → (w : AreOpened C j o fs gs old new s t) →
@@ -49,10 +49,12 @@ pub fn opened_blocks()
         MakesData C (layout_of C) fs gs j x (map (made_as fs (home j)) w.placed.puts) s w.made }
 {}
 
-/// What the fields become where the item of an entry ends that opens instances, and the fields stand for the state of a history: the
-/// names of the new instances lead where they should; each datum that was there has gained the holds of the new instances and has
-/// lost those that the item gives up, each new one is as it was made, and there is no other; and the item has left its instance,
-/// unless another goes on with its loop. All this where the counts fit 64 bits.
+/// States the fields after the end of an entry's item that opens instances. The fields stand for the state of a history
+/// before, and all counts fit in 64 bits.
+///
+/// The names of the new instances resolve correctly. Each old datum has gained the holds of the new instances and lost
+/// those that the item gives up. Each new datum is as it was created, and there are no others. The item has left its
+/// instance, unless another item continues its loop.
 pub fn entry_opens()
     ensures leads { (C : Code) → IsCode C → (es : List Event) (F : Fields) → Stands C (layout_of C) es F →
         (n k e c : ℕ) (row : Row) → row_of F.rows n ≡ Some row → row.job ≡ Does k e c → (row.mark ≡ Over → ⊥) →
@@ -75,7 +77,8 @@ pub fn entry_opens()
         × TakenOff gs hs (leaving (Does k e c) (rests C (task_of F.frames (Does k e c)) x)) }
 {}
 
-/// An item that is not over gives up no more holds than there are, where the fields stand for the state of a history.
+/// States that an item that is not over gives up no more holds than there are. The fields stand for the state of a
+/// history.
 pub fn given_up()
     ensures { (C : Code) → IsCode C → (L : Layout) (es : List Event) (F : Fields) → Stands C L es F → (n : ℕ) (row : Row) → row_of F.rows n ≡ Some row
         → (row.mark ≡ Over → ⊥) →
@@ -83,7 +86,8 @@ pub fn given_up()
         → Covers (λ d. given_times C L (λ e. e.reads) F.frames d row.job os) (λ d. given_times C L (λ e. e.writes) F.frames d row.job os) s }
 {}
 
-/// The same where the item of an entry ends that opens nothing: it may have stored something.
+/// States the fields after the end of an entry's item that opens nothing: the instances, and the data with what it may
+/// have stored.
 pub fn entry_stores()
     ensures opens { (C : Code) (fs : List (Option Frame)) (around : Option ℕ) → FramesOpen C fs around [] fs }
     ensures cells { (C : Code) → IsCode C → (es : List Event) (F : Fields) → Stands C (layout_of C) es F →
@@ -95,14 +99,16 @@ pub fn entry_stores()
         CellsAfter C (layout_of C) F.frames F.frames (Does k e c) x [] os F.cells (cells_view t.cells) × TakenOff gs F.frames (leaving (Does k e c) os) }
 {}
 
-/// The openings of an item are of its blocks, where the instances' paths have as many steps as they tell.
+/// States that the openings of an item are of its blocks, if each instance records the number of steps of its path.
 pub fn openings_of_item()
     ensures { (C : Code) (fs : List (Option Frame)) → ((k : ℕ) (g : Frame) → slot_at fs k ≡ Some g → g.depth ≡ length (path_of fs k))
         → (x : Computed) (o : TheOpenings) (j : Job) → AreOpenings C fs j x o → AreBlocks C fs j x o }
 {}
 
-/// The list of what becomes known at the End of an entry's item is just that: where it stores, or nothing is opened, what was stored
-/// and the arrays that were closed; where it opens instances, the arrays that were closed.
+/// States that the list of inputs reported at the End of an entry's item is exactly what becomes known.
+///
+/// If nothing is opened, these are the stored values and the closed arrays. If instances are opened, these are the
+/// closed arrays.
 pub fn becomes_known()
     ensures stores { (C : Code) → IsCode C → (es : List Event) (F : Fields) → Stands C (layout_of C) es F →
         (n k e c : ℕ) (row : Row) → row_of F.rows n ≡ Some row → row.job ≡ Does k e c → (row.mark ≡ Over → ⊥) →
@@ -124,7 +130,8 @@ pub fn becomes_known()
         BecomesKnown C (layout_of C) (job_stores C (layout_of C) F.frames (Does k e c) x) F.cells (cells_view t.cells) (map Whole closed) }
 {}
 
-/// The same where the opening of the script ends: its data, that it is in no instance, and what becomes known.
+/// States the data, the instances and the known inputs after the opening of the script has ended. Its item is in no
+/// instance.
 pub fn script_opens()
     ensures { (C : Code) → IsCode C → (es : List Event) (F : Fields) → Stands C (layout_of C) es F →
         (n : ℕ) (row : Row) → row_of F.rows n ≡ Some row → row.job ≡ Script → (row.mark ≡ Over → ⊥) →

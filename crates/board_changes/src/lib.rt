@@ -1,9 +1,11 @@
-//! What the end of an item does to the instances and the data of a board: it stores, opens instances with their data and items, and
-//! gives up its holds.
+//! The changes that the end of an item makes to the instances and data of a board: stores, opened instances, holds
+//! given up, and inputs that become known.
+//!
+//! Memory is reserved in a first call, so the second call, which makes the change, does not fail half-way.
 #![tactic(auto)]
 
-pub mod filling;
+pub mod data_state;
+pub mod instance_data;
 pub mod laws;
 pub mod opening;
 pub mod room;
-pub mod world;

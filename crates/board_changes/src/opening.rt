@@ -1,4 +1,4 @@
-//! The instances that an End opens, with their data and items.
+//! Placement of the instances that an End opens, with their data, items and holds.
 ghost use Rattle.std.specs.Prelude.{◌≡◌, ◌+◌, ◌*◌, ◌≤◌, ◌<◌, ◌++◌, ◌^◌, [], ℕ, List, Option, None, Some, length, map, vec_len, vec_capacity, IsOk, OnOk};
 ghost use Rattle.slab.specs.Slab.{HasRoomFor};
 ghost use Rattle.dataflow.specs.System.{In};
@@ -7,26 +7,26 @@ ghost use Rattle.board_history.specs.Static.{outer_holds};
 ghost use Rattle.task_code.specs.Code.{body as body_at};
 ghost use Rattle.board_program.specs.Tables.{at_name, hold_times};
 ghost use Rattle.board_history.specs.Ending.{held_times};
-ghost use Rattle.board_program.specs.declared.spot.Spot.{Spot as ASpot};
+ghost use Rattle.board_program.specs.declared.lexical_address.LexicalAddress.{LexicalAddress as ASpot};
 ghost use Rattle.board_history.specs.Fields.{Slot as ASlot};
 ghost use Rattle.board_data.specs.Data.{AreRising};
 ghost use Rattle.board_instances.specs.View.{frames_view, job_view, rows_view};
-ghost use Rattle.board_instances.specs.declared.opening.Opening.{Opening as AnOpening};
+ghost use Rattle.board_instances.specs.declared.pending.PendingInstance.{PendingInstance as AnOpening};
 ghost use Rattle.board_changes.specs.Filled.{HasSlots};
 ghost use Rattle.board_changes.specs.Opened.{AddsOuter, AreOpened, CanGoOn, IsShort, going, more_of, own_of};
 
-use crate::filling::{TurnSlots, fill_all};
-use board_data::holding::hold_outer;
+use crate::instance_data::{TurnSlots, fill_all};
+use board_data::holds::hold_outer;
 use board_instances::instance::Instance;
-use board_instances::item::{Job, PackedItem};
-use board_instances::opening::Openings;
-use board_instances::placing::{go_on, place_all};
-use board_program::program::{Hold, Own, Program};
+use board_instances::item::{ItemTask, PackedItem};
+use board_instances::pending::PendingInstances;
+use board_instances::placing::{place_all, push_rest_of_loop};
+use board_program::program::{Hold, LocalVariable, Program};
 use data_store::store::Store;
 use slab::Slab;
 use std::alloc::AllocError;
 
-/// The entries of a body.
+/// Returns the entries of a body.
 pub(crate) fn entries_of(program: &Program, number: u32) -> &[u32]
     ensures { result.now ≡ (body_at program.now number).entries }
 {
@@ -36,8 +36,8 @@ pub(crate) fn entries_of(program: &Program, number: u32) -> &[u32]
     }
 }
 
-/// A body's own data.
-pub(crate) fn own_of(program: &Program, number: u32) -> &[Own]
+/// Returns the variables that each instance of a body creates data for.
+pub(crate) fn local_variables(program: &Program, number: u32) -> &[LocalVariable]
     ensures { result.now ≡ own_of program.now number }
 {
     match program.body(number) {
@@ -46,8 +46,8 @@ pub(crate) fn own_of(program: &Program, number: u32) -> &[Own]
     }
 }
 
-/// The holds of a body on data outside of it.
-fn outer_of(program: &Program, number: u32) -> &[Hold]
+/// Returns the holds of a body on data outside it.
+fn outer_holds(program: &Program, number: u32) -> &[Hold]
     ensures reads { (f : ASpot → ASlot) (d : ℕ) → hold_times f (λ h. h.reads) d result.now
         ≡ held_times (at_name program.now number f) d (outer_holds program.now (λ e. e.reads) number) }
     ensures writes { (f : ASpot → ASlot) (d : ℕ) → hold_times f (λ h. h.writes) d result.now
@@ -59,13 +59,13 @@ fn outer_of(program: &Program, number: u32) -> &[Hold]
     }
 }
 
-/// The instance that a job's item is of.
-pub fn home(job: Job) -> Option<usize>
+/// Returns the instance of a task, or `None` for the script.
+pub fn instance_of(job: ItemTask) -> Option<usize>
     ensures { result ≡ home (job_view job) }
 {
     match job {
-        Job::Script => None,
-        Job::Does {
+        ItemTask::Script => None,
+        ItemTask::Does {
             instance,
             entry: _,
             chunk: _,
@@ -73,7 +73,7 @@ pub fn home(job: Job) -> Option<usize>
     }
 }
 
-/// Adds the holds of so many instances on data outside, seen from the last of them.
+/// Adds the holds of `count` new instances on data outside them. Addresses are resolved from the last instance.
 fn hold_all(
     store: &mut Store,
     instances: &Slab<Instance>,
@@ -89,25 +89,26 @@ fn hold_all(
         hold_outer(
             store,
             instances,
-            outer_of(program, number),
+            outer_holds(program, number),
             at,
             count as u64,
         );
     }
 }
 
-/// Makes all instances, with their data and items, and adds their holds on data outside of them. Takes no memory where there is room.
+/// Creates all instances, with their data and items, and adds their holds on data outside them. Allocates no memory if
+/// room was reserved.
 ///
 /// # Errors
 ///
-/// `AllocError` where memory that was asked for was refused. Some of the instances may be there then.
+/// Returns `AllocError` if an allocation fails. Some of the instances may have been created.
 pub fn open_all(
     instances: &mut Slab<Instance>,
     store: &mut Store,
     rows: &mut Vec<PackedItem>,
     program: &Program,
-    job: Job,
-    openings: Openings,
+    job: ItemTask,
+    openings: PendingInstances,
 ) -> Result<(), AllocError>
     ensures opened { OnOk result (AreOpened program.now (job_view job) openings (frames_view instances.old.slots) (frames_view instances.new.slots)
         (rows_view rows.old.items) (rows_view rows.new.items) store.old store.new) }
@@ -120,7 +121,7 @@ pub fn open_all(
         HasRoomFor instances.old (vec_len openings.list) → instances.old.capacity ≤ 2 ^ 32 →
         vec_len rows.old + vec_len openings.list * length (body_at program.now openings.body).entries ≤ vec_capacity rows.old → IsOk result }
 {
-    let Openings {
+    let PendingInstances {
         body: number,
         mut list,
         value,
@@ -131,14 +132,14 @@ pub fn open_all(
     let count = list.len();
     fill_all(
         store,
-        own_of(program, number),
+        local_variables(program, number),
         &mut list,
         TurnSlots { value, turn },
     )?;
     let last = place_all(
         instances,
         rows,
-        home(job),
+        instance_of(job),
         entries_of(program, number),
         list,
     )?;
@@ -146,17 +147,21 @@ pub fn open_all(
     Ok(())
 }
 
-/// The item that goes on with a loop, if one does. Takes no memory where there is room.
+/// Appends the item for the rest of a loop, if `goes_on` is true. Allocates no memory if room was reserved.
 ///
 /// # Errors
 ///
-/// `AllocError` where memory that was asked for was refused, and where the chunks are more than numbers.
-pub fn go_on_if(rows: &mut Vec<PackedItem>, job: Job, goes_on: bool) -> Result<(), AllocError>
+/// Returns `AllocError` if an allocation fails or the chunk number overflows.
+pub fn push_continuation(
+    rows: &mut Vec<PackedItem>,
+    job: ItemTask,
+    goes_on: bool,
+) -> Result<(), AllocError>
     ensures rows { OnOk result (rows_view rows.new.items ≡ rows_view rows.old.items ++ map new_row (going (job_view job) goes_on)) }
     ensures succeeds { CanGoOn (job_view job) goes_on → IsShort (job_view job) goes_on
         → vec_len rows.old + more_of goes_on ≤ vec_capacity rows.old → IsOk result }
 {
-    if let Job::Does {
+    if let ItemTask::Does {
         instance,
         entry,
         chunk,
@@ -166,7 +171,7 @@ pub fn go_on_if(rows: &mut Vec<PackedItem>, job: Job, goes_on: bool) -> Result<(
             if chunk == usize::MAX {
                 return Err(AllocError);
             }
-            go_on(rows, instance, entry, chunk)?;
+            push_rest_of_loop(rows, instance, entry, chunk)?;
         }
     }
     Ok(())

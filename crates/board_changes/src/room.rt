@@ -1,4 +1,4 @@
-//! Room for what the end of an item does, which is made before anything is changed.
+//! Reservation of the memory that the end of an item uses, before anything changes.
 ghost use Rattle.std.specs.Prelude.{◌≡◌, ◌+◌, ◌≤◌, vec_len, vec_capacity, OnErr, OnOk};
 ghost use Rattle.board_data.specs.Data.{AreRising};
 ghost use Rattle.board_data.specs.View.{cells_view};
@@ -7,24 +7,24 @@ ghost use Rattle.std.specs.Bool.{OnTrue};
 ghost use Rattle.board_changes.specs.Opened.{IsShort};
 ghost use Rattle.board_changes.specs.Room.{HasPlaces, OnlyRoom, OpensWell, TakesMore};
 ghost use Rattle.board_changes.specs.World.{CanOpen, HasRoomToEnd, closes_of, goes_on, holds_of, told_by};
-ghost use Rattle.board_changes.specs.declared.world.Change.TheVariants.{Opens as OpensAll};
+ghost use Rattle.board_changes.specs.declared.data_state.Change.TheVariants.{Opens as OpensAll};
 
-use crate::opening::{entries_of, own_of};
-use crate::world::{Change, World, writes_of};
+use crate::data_state::{Change, DataState, writes_of};
+use crate::opening::{entries_of, local_variables};
 use board_data::data;
-use board_instances::item::{Job, PackedItem};
-use board_instances::opening::Openings;
+use board_instances::item::{ItemTask, PackedItem};
+use board_instances::pending::PendingInstances;
 use board_program::program::Program;
 use data_store::store::Store;
 use rules::input::Input;
 use std::alloc::AllocError;
 use values::map::Element;
 
-/// So many data, or instances, have numbers of 32 bits. More than that are more than memory has room for.
+/// Number of data or instances that 32-bit numbers can distinguish. More are reported as an allocation failure.
 const MOST: usize = 4_294_967_296;
 
 impl Change {
-    /// How much of what it stores becomes known.
+    /// Returns the number of stored values that become known.
     fn told(&self) -> usize
         ensures { result ≡ told_by self.now }
     {
@@ -38,13 +38,13 @@ impl Change {
     }
 }
 
-/// So many data the item of a job may write, and close when it goes.
-fn held_by(program: &Program, job: Job) -> usize
+/// Returns the number of data that the item of a task may write, and may close when it ends.
+fn writable_count(program: &Program, job: ItemTask) -> usize
     ensures { result ≡ holds_of program.now (job_view job) }
 {
     match job {
-        Job::Script => 0,
-        Job::Does {
+        ItemTask::Script => 0,
+        ItemTask::Does {
             instance: _,
             entry,
             chunk: _,
@@ -52,13 +52,13 @@ fn held_by(program: &Program, job: Job) -> usize
     }
 }
 
-/// Whether the item that goes on with a loop, if one does, is told in numbers of 32 bits.
-fn is_short(job: Job, goes_on: bool) -> bool
+/// Returns true if the item for the rest of a loop, if there is one, fits in 32-bit numbers.
+fn is_short(job: ItemTask, goes_on: bool) -> bool
     ensures { OnTrue result (IsShort (job_view job) goes_on) }
 {
     match job {
-        Job::Script => true,
-        Job::Does {
+        ItemTask::Script => true,
+        ItemTask::Does {
             instance,
             entry: _,
             chunk,
@@ -66,19 +66,23 @@ fn is_short(job: Job, goes_on: bool) -> bool
     }
 }
 
-/// So many arrays an item closes at most that makes this change.
-fn closed_by(program: &Program, job: Job, change: &Change) -> usize
+/// Returns the maximum number of arrays that an item with this change closes.
+fn closed_count(program: &Program, job: ItemTask, change: &Change) -> usize
     ensures { result ≡ closes_of program.now (job_view job) (goes_on change.now) }
 {
     if change.goes_on() {
         0
     } else {
-        held_by(program, job)
+        writable_count(program, job)
     }
 }
 
-/// Room for elements in an array, under keys of their kinds.
-fn room_for_all(store: &mut Store, d: Option<usize>, elements: &[Element]) -> Result<(), AllocError>
+/// Reserves memory for elements in an array, under keys of their kinds.
+fn reserve_elements(
+    store: &mut Store,
+    d: Option<usize>,
+    elements: &[Element],
+) -> Result<(), AllocError>
     ensures places { OnOk result (HasPlaces d elements.now store.new) }
     ensures cells { cells_view store.new.cells ≡ cells_view store.old.cells }
     ensures rising { AreRising store.old → AreRising store.new }
@@ -89,14 +93,14 @@ fn room_for_all(store: &mut Store, d: Option<usize>, elements: &[Element]) -> Re
     Ok(())
 }
 
-impl World {
-    /// Room for instances that are opened, with their data and items.
-    fn room_to_open(
+impl DataState {
+    /// Reserves memory for opened instances, with their data and items.
+    fn reserve_to_open(
         &mut self,
         rows: &mut Vec<PackedItem>,
         program: &Program,
-        job: Job,
-        openings: &Openings,
+        job: ItemTask,
+        openings: &PendingInstances,
     ) -> Result<(), AllocError>
         ensures room { OnOk result (OpensWell program.now (job_view job) (OpensAll openings.now)
             → CanOpen program.now (job_view job) (OpensAll openings.now) self.new.instances self.new.store rows.new) }
@@ -106,7 +110,7 @@ impl World {
     {
         let count = openings.list.len();
         let data = count
-            .checked_mul(own_of(program, openings.body).len())
+            .checked_mul(local_variables(program, openings.body).len())
             .ok_or(AllocError)?;
         let items = count
             .checked_mul(entries_of(program, openings.body).len())
@@ -123,12 +127,12 @@ impl World {
         rows.reserve(more)
     }
 
-    /// Room for elements in an array, or for what is opened.
-    fn room_to_change(
+    /// Reserves memory for elements in an array, or for opened instances.
+    fn reserve_to_change(
         &mut self,
         rows: &mut Vec<PackedItem>,
         program: &Program,
-        job: Job,
+        job: ItemTask,
         change: &Change,
     ) -> Result<(), AllocError>
         ensures room { OnOk result (OpensWell program.now (job_view job) change.now
@@ -143,18 +147,18 @@ impl World {
             Change::Value(_, _) => Ok(()),
             Change::Element(d, key, _) => data::reserve(&mut self.store, *d, key.as_ref(), 1),
             Change::Elements(d, elements) => {
-                room_for_all(&mut self.store, *d, elements.as_slice())
+                reserve_elements(&mut self.store, *d, elements.as_slice())
             }
-            Change::Opens(openings) => self.room_to_open(rows, program, job, openings),
+            Change::Opens(openings) => self.reserve_to_open(rows, program, job, openings),
         }
     }
 
-    /// Room for arrays that are closed, and for what becomes known.
-    fn room_to_tell(
+    /// Reserves memory for the arrays that are closed and for the inputs that become known.
+    fn reserve_to_notify(
         &mut self,
         known: &mut Vec<Input>,
         program: &Program,
-        job: Job,
+        job: ItemTask,
         change: &Change,
     ) -> Result<(), AllocError>
         ensures closed { OnOk result (closes_of program.now (job_view job) (goes_on change.now) ≤ vec_capacity self.new.closed) }
@@ -164,24 +168,24 @@ impl World {
         ensures store { self.new.store ≡ self.old.store }
         ensures known { known.new.items ≡ known.old.items }
     {
-        let closes = closed_by(program, job, change);
+        let closes = closed_count(program, job, change);
         let told = change.told().checked_add(closes).ok_or(AllocError)?;
         self.closed.clear();
         self.closed.reserve(closes)?;
         known.reserve(told)
     }
 
-    /// Makes the room that the end of the item of a job takes which makes this change. Nothing else changes.
+    /// Reserves the memory for the end of an item with this task and change. Nothing but capacity changes.
     ///
     /// # Errors
     ///
-    /// `AllocError` where memory that was asked for was refused.
+    /// Returns `AllocError` if an allocation fails.
     pub fn make_room(
         &mut self,
         rows: &mut Vec<PackedItem>,
         known: &mut Vec<Input>,
         program: &Program,
-        job: Job,
+        job: ItemTask,
         change: &Change,
     ) -> Result<(), AllocError>
         ensures room { OnOk result (OpensWell program.now (job_view job) change.now
@@ -191,7 +195,7 @@ impl World {
         ensures rows { rows.new.items ≡ rows.old.items }
         ensures known { known.new.items ≡ known.old.items }
     {
-        self.room_to_tell(known, program, job, change)?;
-        self.room_to_change(rows, program, job, change)
+        self.reserve_to_notify(known, program, job, change)?;
+        self.reserve_to_change(rows, program, job, change)
     }
 }

@@ -2,7 +2,7 @@
 use Rattle.std.proofs.Common.{◌≡◌, ◌≢◌, ◌∙◌, refl, sym, ap, subst, inl, inr, ℕ, suc, ◌<◌, ◌≤◌, ◌+◌, ◌-◌, List, [], ◌∷◌, ◌++◌, length, drop, drop-cons, get_or, add-one, append_assoc, append-nil, Option, Some, None, Bool, true, false, ◌==◌, ◌&&◌, arith}
 use Rattle.std.specs.Prelude.{if◌then◌else◌}
 use Rattle.std.proofs.lemmas.Bool.{cases_eq, cases_Bool, eqb-true, eq-eqb}
-use Rattle.board_program.specs.declared.spot.Spot.{Spot}
+use Rattle.board_program.specs.declared.lexical_address.LexicalAddress.{LexicalAddress}
 use Rattle.board_instances.specs.Names.{datum_of}
 use Rattle.dataflow.specs.System.{In}
 use Rattle.dataflow.proofs.Lists.{in_left, in_right, in_split}
@@ -17,12 +17,12 @@ use Rattle.board_program.specs.Tables.{led_times}
 use Rattle.board_data.proofs.Given.{give_step, kept_gone, kept_there, led_not, led_once, slot_elsewhere, slot_here, slot_nowhere, slot_stays, spent_zero}
 use Rattle.board_data.proofs.Steps.{past}
 
-module _ (f : Spot → Slot) where
-  abbrev pub step : Spot → Store → Store
+module _ (f : LexicalAddress → Slot) where
+  abbrev pub step : LexicalAddress → Store → Store
   step p s = give_step (λ (y : Datum). y.writes) without_write f p s
 
   -- the arrays that are closed, one after the other
-  abbrev pub all_closing : List Spot → Store → List ℕ
+  abbrev pub all_closing : List LexicalAddress → Store → List ℕ
   all_closing [] s = []
   all_closing (p ∷ ps) s = closing (datum_of (f p)) s ++ all_closing ps (step p s)
 
@@ -58,7 +58,7 @@ module _ (f : Spot → Slot) where
   is_closes c x e k w = ap closes e ∙ ap (λ b. b && (x.writes == 1)) k ∙ ap (λ n. n == 1) w
 
   -- the datum after one spot, from the datum before
-  module _ (p : Spot) (s : Store) (d : ℕ) where
+  module _ (p : LexicalAddress) (s : Store) (d : ℕ) where
     before : (y : Datum) → at (step p s) d ≡ Some y → (x : Datum) × (at s d ≡ Some x)
     before y e = by (at s d) refl
       where
@@ -66,7 +66,7 @@ module _ (f : Spot → Slot) where
         by None q = absurd (some_none (at (step p s) d) y e (slot_nowhere (λ (z : Datum). z.writes) without_write (f p) s d q))
         by (Some x) q = (x, q)
 
-  only_closed : (ps : List Spot) (s : Store) (d : ℕ) → In d (all_closing ps s) → (x : Datum) × (at s d ≡ Some x) × (is_keyed (Some x) ≡ true) × (x.writes ≤ led_times f d ps)
+  only_closed : (ps : List LexicalAddress) (s : Store) (d : ℕ) → In d (all_closing ps s) → (x : Datum) × (at s d ≡ Some x) × (is_keyed (Some x) ≡ true) × (x.writes ≤ led_times f d ps)
   only_closed [] s d i = absurd i
   only_closed (p ∷ ps) s d i = elim (in_split d (closing (datum_of (f p)) s) (all_closing ps (step p s)) i) [
     | inl now ↦ (let a = closed_one (f p) s d now in
@@ -104,7 +104,7 @@ module _ (f : Spot → Slot) where
       no_led : (n k : ℕ) → n ≡ 0 → n ≤ k
       no_led n k e = omega (arith, e)
 
-  every_closed : (ps : List Spot) (s : Store) (d : ℕ) (x : Datum) → at s d ≡ Some x → is_keyed (Some x) ≡ true → 0 < x.writes → led_times f d ps ≡ x.writes → In d (all_closing ps s)
+  every_closed : (ps : List LexicalAddress) (s : Store) (d : ℕ) (x : Datum) → at s d ≡ Some x → is_keyed (Some x) ≡ true → 0 < x.writes → led_times f d ps ≡ x.writes → In d (all_closing ps s)
   every_closed [] s d x e k w l = absurd (omega (arith, w, l))
   every_closed (p ∷ ps) s d x e k w l = elim (cases_Bool (slot_is d (f p))) [
     | inr no_slot ↦ in_right d (closing (datum_of (f p)) s) (all_closing ps (step p s)) (every_closed ps (step p s) d x (slot_elsewhere (λ (z : Datum). z.writes) without_write (f p) s d no_slot ∙ e) k w (sym (led_not (λ (z : Datum). z.writes) without_write f p ps d no_slot) ∙ l))
@@ -128,14 +128,14 @@ module _ (f : Spot → Slot) where
         | inr g ↦ g
       ]
 
-  pub closes_all : (ps : List Spot) (s : Store) → Closes (λ d. led_times f d ps) s (all_closing ps s)
+  pub closes_all : (ps : List LexicalAddress) (s : Store) → Closes (λ d. led_times f d ps) s (all_closing ps s)
   closes_all ps s = record {
     all = λ d x e k w l. every_closed ps s d x e k w l;
     only = λ d i. only_closed ps s d i;
   }
 
   -- one spot more
-  pub next_closing : (xs : List Spot) (i : ℕ) (d : Spot) (s t : Store) (before now all : List ℕ) → i < length xs → before ++ all_closing (drop i xs) s ≡ all → t ≡ step (get_or xs i d) s → now ≡ before ++ closing (datum_of (f (get_or xs i d))) s → now ++ all_closing (drop (i + 1) xs) t ≡ all
+  pub next_closing : (xs : List LexicalAddress) (i : ℕ) (d : LexicalAddress) (s t : Store) (before now all : List ℕ) → i < length xs → before ++ all_closing (drop i xs) s ≡ all → t ≡ step (get_or xs i d) s → now ≡ before ++ closing (datum_of (f (get_or xs i d))) s → now ++ all_closing (drop (i + 1) xs) t ≡ all
   next_closing xs i d s t before now all h e n c =
       ap (λ u. now ++ all_closing (drop (i + 1) xs) u) n
       ∙ ap (λ ys. ys ++ all_closing (drop (i + 1) xs) (step (get_or xs i d) s)) c
@@ -143,5 +143,5 @@ module _ (f : Spot → Slot) where
       ∙ ap (λ k. before ++ (closing (datum_of (f (get_or xs i d))) s ++ all_closing (drop k xs) (step (get_or xs i d) s))) (add-one i)
       ∙ ap (λ ys. before ++ all_closing ys s) (sym (drop-cons xs i d h)) ∙ e
 
-  pub last_closing : (xs : List Spot) (i : ℕ) (s : Store) (now all : List ℕ) → length xs ≤ i → now ++ all_closing (drop i xs) s ≡ all → now ≡ all
+  pub last_closing : (xs : List LexicalAddress) (i : ℕ) (s : Store) (now all : List ℕ) → length xs ≤ i → now ++ all_closing (drop i xs) s ≡ all → now ≡ all
   last_closing xs i s now all h e = sym (append-nil now) ∙ ap (λ ys. now ++ all_closing ys s) (sym (past xs i h)) ∙ e

@@ -3,8 +3,8 @@ use Rattle.std.proofs.Common.{◌≡◌, ◌∙◌, ◌↔◌, refl, sym, ap, su
 use Rattle.std.specs.Prelude.{IsTrue, if◌then◌else◌}
 use Rattle.std.specs.List.{list_all}
 use Rattle.std.proofs.lemmas.Bool.{cases_Bool, and_from, and_parts}
-use Rattle.board_compute.proofs.Comparisons.{same_answers}
-use Rattle.board_compute.specs.Same.{answer_eq, option_eq, scalar_eq}
+use Rattle.board_work.proofs.Comparisons.{same_answers}
+use Rattle.board_work.specs.Same.{answer_eq, option_eq, scalar_eq}
 use Rattle.data_store.specs.Stores.{Store, array_at, at}
 use Rattle.dataflow.specs.System as flow
 use Rattle.board_history.specs.Fields.{slot_at}

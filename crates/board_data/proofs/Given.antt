@@ -2,7 +2,7 @@
 use Rattle.std.proofs.Common.{◌≡◌, ◌≢◌, ◌∙◌, refl, sym, ap, subst, inl, inr, ℕ, zero, suc, ◌<◌, ◌≤◌, ◌+◌, ◌-◌, List, [], ◌∷◌, Option, Some, None, Bool, true, false, ◌==◌, ◌&&◌, zero-add, arith}
 use Rattle.std.specs.Prelude.{if◌then◌else◌, nat_eq}
 use Rattle.std.proofs.lemmas.Bool.{cases_eq, cases_Bool, eqb-true, eq-eqb}
-use Rattle.board_program.specs.declared.spot.Spot.{Spot}
+use Rattle.board_program.specs.declared.lexical_address.LexicalAddress.{LexicalAddress}
 use Rattle.board_instances.specs.Names.{datum_of}
 use Rattle.data_store.specs.Data.{is_spent, kept, without_read, without_write}
 use Rattle.data_store.specs.Stores.{Store, at, datum, given_up, kept_after, or_none}
@@ -84,25 +84,25 @@ module _ (count : Datum → ℕ) (take : Datum → Datum) where
   slot_nowhere (LiteralOf i k) s d e = e
   slot_nowhere (DatumOf k) s d e = call_nowhere s d k e
 
-  module _ (f : Spot → Slot) where
-    abbrev pub give_step : Spot → Store → Store
+  module _ (f : LexicalAddress → Slot) where
+    abbrev pub give_step : LexicalAddress → Store → Store
     give_step p s = call_at (datum_of (f p)) s
 
-    pub all_nowhere : (ps : List Spot) (s : Store) (d : ℕ) → at s d ≡ None → at (one_by_one give_step ps s) d ≡ None
+    pub all_nowhere : (ps : List LexicalAddress) (s : Store) (d : ℕ) → at s d ≡ None → at (one_by_one give_step ps s) d ≡ None
     all_nowhere [] s d e = e
     all_nowhere (p ∷ ps) s d e = all_nowhere ps (give_step p s) d (slot_nowhere (f p) s d e)
 
-    pub led_not : (p : Spot) (ps : List Spot) (d : ℕ) → slot_is d (f p) ≡ false → led_times f d (p ∷ ps) ≡ led_times f d ps
+    pub led_not : (p : LexicalAddress) (ps : List LexicalAddress) (d : ℕ) → slot_is d (f p) ≡ false → led_times f d (p ∷ ps) ≡ led_times f d ps
     led_not p ps d h = ap (λ b. (if b then 1 else 0) + led_times f d ps) h ∙ zero-add (led_times f d ps)
 
-    pub led_once : (p : Spot) (ps : List Spot) (d : ℕ) → slot_is d (f p) ≡ true → led_times f d (p ∷ ps) ≡ suc (led_times f d ps)
+    pub led_once : (p : LexicalAddress) (ps : List LexicalAddress) (d : ℕ) → slot_is d (f p) ≡ true → led_times f d (p ∷ ps) ≡ suc (led_times f d ps)
     led_once p ps d h = ap (λ b. (if b then 1 else 0) + led_times f d ps) h ∙ one (led_times f d ps)
       where
         one : (n : ℕ) → 1 + n ≡ suc n
         one n = omega arith
 
     module _ (less : (x : Datum) → count (take x) ≡ count x - 1) (spent : (x : Datum) → is_spent x ≡ true → count x ≡ 0) where
-      pub all_given : (ps : List Spot) (s : Store) (d : ℕ) (x : Datum) → at s d ≡ Some x → is_spent x ≡ false → led_times f d ps ≤ count x → at (one_by_one give_step ps s) d ≡ kept (taken (led_times f d ps) x)
+      pub all_given : (ps : List LexicalAddress) (s : Store) (d : ℕ) (x : Datum) → at s d ≡ Some x → is_spent x ≡ false → led_times f d ps ≤ count x → at (one_by_one give_step ps s) d ≡ kept (taken (led_times f d ps) x)
       all_given [] s d x e n h = e ∙ sym (kept_there x n)
       all_given (p ∷ ps) s d x e n h = elim (cases_Bool (slot_is d (f p))) [
         | inr no_slot ↦ all_given ps (give_step p s) d x (slot_elsewhere (f p) s d no_slot ∙ e) n (subst (λ k. k ≤ count x) (led_not p ps d no_slot) h) ∙ ap (λ k. kept (taken k x)) (sym (led_not p ps d no_slot))
@@ -152,13 +152,13 @@ spent_zero x h = both_zero x.reads x.writes h
 zero_spent : (x : Datum) → x.reads ≡ 0 → x.writes ≡ 0 → is_spent x ≡ true
 zero_spent x r w = ap (λ k. (k == 0) && (x.writes == 0)) r ∙ ap (λ k. (0 == 0) && (k == 0)) w
 
-pub gives_reads : (f : Spot → Slot) (ps : List Spot) (s t : Store) → t ≡ one_by_one (give_step (λ (y : Datum). y.reads) without_read f) ps s → GivesUp (λ d. led_times f d ps) (λ d. 0) s t
+pub gives_reads : (f : LexicalAddress → Slot) (ps : List LexicalAddress) (s t : Store) → t ≡ one_by_one (give_step (λ (y : Datum). y.reads) without_read f) ps s → GivesUp (λ d. led_times f d ps) (λ d. 0) s t
 gives_reads f ps s t e = record {
   there = λ d x h n r w. ap (λ u. at u d) e ∙ all_given (λ (y : Datum). y.reads) without_read f (λ y. refl) (λ y z. (spent_zero y z).0) ps s d x h n r ∙ ap kept (taken_reads (led_times f d ps) x);
   nothing = λ d h. ap (λ u. at u d) e ∙ all_nowhere (λ (y : Datum). y.reads) without_read f ps s d h;
 }
 
-pub gives_writes : (f : Spot → Slot) (ps : List Spot) (s t : Store) → t ≡ one_by_one (give_step (λ (y : Datum). y.writes) without_write f) ps s → GivesUp (λ d. 0) (λ d. led_times f d ps) s t
+pub gives_writes : (f : LexicalAddress → Slot) (ps : List LexicalAddress) (s t : Store) → t ≡ one_by_one (give_step (λ (y : Datum). y.writes) without_write f) ps s → GivesUp (λ d. 0) (λ d. led_times f d ps) s t
 gives_writes f ps s t e = record {
   there = λ d x h n r w. ap (λ u. at u d) e ∙ all_given (λ (y : Datum). y.writes) without_write f (λ y. refl) (λ y z. (spent_zero y z).1) ps s d x h n w ∙ ap kept (taken_writes (led_times f d ps) x);
   nothing = λ d h. ap (λ u. at u d) e ∙ all_nowhere (λ (y : Datum). y.writes) without_write f ps s d h;

@@ -3,7 +3,7 @@ use Rattle.std.proofs.Common.{◌≡◌, ◌≢◌, ◌∙◌, refl, sym, ap, su
 use Rattle.std.specs.Prelude.{if◌then◌else◌, nat_eq}
 use Rattle.std.proofs.lemmas.Bool.{cases_eq, eqb-true, eq-eqb}
 use Rattle.board_program.specs.declared.program.Hold.{Hold}
-use Rattle.board_program.specs.declared.spot.Spot.{Spot}
+use Rattle.board_program.specs.declared.lexical_address.LexicalAddress.{LexicalAddress}
 use Rattle.board_instances.specs.Names.{datum_of}
 use Rattle.data_store.specs.Data.{with_holds}
 use Rattle.data_store.specs.Stores.{Store, at, changed}
@@ -80,7 +80,7 @@ fit_rest : (c : Option Datum) (a b m n : ℕ) → Fit (m + a) (n + b) c → Fit 
 fit_rest None a b m n h = h
 fit_rest (Some x) a b m n h = (omega (arith, h.0), omega (arith, h.1))
 
-module _ (f : Spot → Slot) (r w : Hold → ℕ) where
+module _ (f : LexicalAddress → Slot) (r w : Hold → ℕ) where
   abbrev pub hold_step : Hold → Store → Store
   hold_step h s = held_at (datum_of (f h.spot)) (r h) (w h) s
 
@@ -92,7 +92,7 @@ module _ (f : Spot → Slot) (r w : Hold → ℕ) where
       ∙ two c (hold_times f r d hs) (hold_times f w d hs) _ _
 
 -- a factor of each count is one of the whole
-times_out : (f : Spot → Slot) (n : ℕ) (r : Hold → ℕ) (d : ℕ) (hs : List Hold) → hold_times f (λ h. n * r h) d hs ≡ n * hold_times f r d hs
+times_out : (f : LexicalAddress → Slot) (n : ℕ) (r : Hold → ℕ) (d : ℕ) (hs : List Hold) → hold_times f (λ h. n * r h) d hs ≡ n * hold_times f r d hs
 times_out f n r d [] = omega arith
 times_out f n r d (x ∷ hs) = ap (λ k. (if slot_is d (f x.spot) then n * r x else 0) + k) (times_out f n r d hs) ∙ by (slot_is d (f x.spot)) (hold_times f r d hs)
   where
@@ -101,7 +101,7 @@ times_out f n r d (x ∷ hs) = ap (λ k. (if slot_is d (f x.spot) then n * r x e
     by false k = grind arith
 
 -- so many times these holds are added
-pub held_times : (f : Spot → Slot) (n : ℕ) (hs : List Hold) (s t : Store) → t ≡ one_by_one (hold_step f (λ h. n * h.reads) (λ h. n * h.writes)) hs s → (d : ℕ) → Fit (n * hold_times f (λ h. h.reads) d hs) (n * hold_times f (λ h. h.writes) d hs) (at s d) → at t d ≡ option_map (with_holds (n * hold_times f (λ h. h.reads) d hs) (n * hold_times f (λ h. h.writes) d hs)) (at s d)
+pub held_times : (f : LexicalAddress → Slot) (n : ℕ) (hs : List Hold) (s t : Store) → t ≡ one_by_one (hold_step f (λ h. n * h.reads) (λ h. n * h.writes)) hs s → (d : ℕ) → Fit (n * hold_times f (λ h. h.reads) d hs) (n * hold_times f (λ h. h.writes) d hs) (at s d) → at t d ≡ option_map (with_holds (n * hold_times f (λ h. h.reads) d hs) (n * hold_times f (λ h. h.writes) d hs)) (at s d)
 held_times f n hs s t e d h =
     let R = times_out f n (λ h. h.reads) d hs in
     let W = times_out f n (λ h. h.writes) d hs in

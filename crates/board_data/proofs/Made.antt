@@ -6,9 +6,9 @@ use Rattle.data_store.specs.Data.{nothing, with_value}
 use Rattle.data_store.specs.Stores.{Adds, Store, at, changed, fresh}
 use Rattle.data_store.specs.declared.datum.Content.TheVariants.{OfArray, OfScalar}
 use Rattle.data_store.specs.declared.datum.Datum.{Datum}
-use Rattle.data_store.specs.declared.datum.Shape.{Shape}
-use Rattle.data_store.specs.declared.datum.Shape.TheVariants.{Single, Keyed}
-use Rattle.board_program.specs.declared.program.Own.{Own}
+use Rattle.data_store.specs.declared.datum.DatumKind.{DatumKind}
+use Rattle.data_store.specs.declared.datum.DatumKind.TheVariants.{Single, Keyed}
+use Rattle.board_program.specs.declared.program.LocalVariable.{LocalVariable}
 use Rattle.board_instances.specs.declared.instance.Slot.TheVariants as Slots
 use Rattle.board_data.specs.Data.{given, is_unset}
 use Rattle.board_data.specs.Made.{Makes, new_datum, started}
@@ -46,19 +46,19 @@ bound_given d v s = by (is_unset (at s d))
     by true = refl
     by false = refl
 
-nothing_yet : (k : Shape) → nothing k ≡ started k None
+nothing_yet : (k : DatumKind) → nothing k ≡ started k None
 nothing_yet Single = refl
 nothing_yet Keyed = refl
 
-pub made_without : (old mid : Store) (d : ℕ) (o : Own) → Adds old d (fresh o.shape o.reads o.writes) mid → Makes old (new_datum o None) (Slots.Datum d) mid
+pub made_without : (old mid : Store) (d : ℕ) (o : LocalVariable) → Adds old d (fresh o.shape o.reads o.writes) mid → Makes old (new_datum o None) (Slots.Datum d) mid
 made_without old mid d o a = made_plain old mid d (fresh o.shape o.reads o.writes) (new_datum o None) a (ap (λ c. record { content = c; reads = o.reads; writes = o.writes }) (nothing_yet o.shape))
 
-made_by : (k : Shape) (old mid : Store) (d r w : ℕ) (v : Scalar) → Adds old d (fresh k r w) mid → Makes old (record { content = started k (Some v); reads = r; writes = w }) (Slots.Datum d) (given d v mid)
+made_by : (k : DatumKind) (old mid : Store) (d r w : ℕ) (v : Scalar) → Adds old d (fresh k r w) mid → Makes old (record { content = started k (Some v); reads = r; writes = w }) (Slots.Datum d) (given d v mid)
 made_by Single old mid d r w v a = made_given old mid d r w v a
 made_by Keyed old mid d r w v a = subst (λ s. Makes old (record { content = OfArray arrays.empty; reads = r; writes = w }) (Slots.Datum d) s) (sym kept) (made_plain old mid d (fresh Keyed r w) (fresh Keyed r w) a refl)
   where
     kept : given d v mid ≡ mid
     kept = ap (λ c. if is_unset c then changed d (with_value v) mid else mid) a.has
 
-pub made_with : (old mid new : Store) (d : ℕ) (o : Own) (v : Scalar) → Adds old d (fresh o.shape o.reads o.writes) mid → new ≡ given d v mid → Makes old (new_datum o (Some v)) (Slots.Datum d) new
+pub made_with : (old mid new : Store) (d : ℕ) (o : LocalVariable) (v : Scalar) → Adds old d (fresh o.shape o.reads o.writes) mid → new ≡ given d v mid → Makes old (new_datum o (Some v)) (Slots.Datum d) new
 made_with old mid new d o v a e = subst (λ s. Makes old (new_datum o (Some v)) (Slots.Datum d) s) (sym e) (made_by o.shape old mid d o.reads o.writes v a)

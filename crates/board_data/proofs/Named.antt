@@ -4,7 +4,7 @@ use Rattle.std.specs.Prelude.{if◌then◌else◌}
 use Rattle.std.specs.List.{filter_map, flat_map}
 use Rattle.board_program.specs.Spots.{layout_of, levels_of, slot_of, spot_in}
 use Rattle.board_program.specs.Tables.{at_spot, spots_in, wanted_in}
-use Rattle.board_program.specs.declared.spot.Spot.{Spot}
+use Rattle.board_program.specs.declared.lexical_address.LexicalAddress.{LexicalAddress}
 use Rattle.board_instances.specs.Names.{led_slot, slot_in, spot_slot}
 use Rattle.board_history.specs.Ending.{held_times, named_times, slot_is}
 use Rattle.board_history.specs.Fields.{Absent, Counted, Does, Fields, Frame, Slot, frame_up, slot_at, slot_for}
@@ -28,14 +28,14 @@ module _ (C : Code) (fs : List (Option Frame)) (k b : ℕ) (few : FewSlots fs) w
   nowhere None e = refl
   nowhere (Some f) e = past f.slots (2 ^ 64) (few k f e)
 
-  by_spot : (o : Option Spot) → elim (frame_up fs (levels_of o) k) [ None ↦ Absent | Some f ↦ nth Absent f.slots (slot_of o) ] ≡ led_slot fs k o
+  by_spot : (o : Option LexicalAddress) → elim (frame_up fs (levels_of o) k) [ None ↦ Absent | Some f ↦ nth Absent f.slots (slot_of o) ] ≡ led_slot fs k o
   by_spot None = nowhere (slot_at fs k) refl
   by_spot (Some s) = by_frame (frame_up fs s.levels k) s.slot
 
   pub slot_by : (r : Name) → slot_for (layout_of C) fs k b r ≡ led_slot fs k (spot_in C b r)
   slot_by r = by_spot (spot_in C b r)
 
-  at_led : (o : Option Spot) → at_spot (spot_slot fs k) o ≡ led_slot fs k o
+  at_led : (o : Option LexicalAddress) → at_spot (spot_slot fs k) o ≡ led_slot fs k o
   at_led None = refl
   at_led (Some s) = refl
 
@@ -53,7 +53,7 @@ module _ (C : Code) (fs : List (Option Frame)) (k b : ℕ) (few : FewSlots fs) w
   all_named d [] = refl
   all_named d (r ∷ rs) = by (spot_in C b r) (slot_by r) (all_named d rs)
     where
-      by : (o : Option Spot) → slot_for (layout_of C) fs k b r ≡ led_slot fs k o → led_times (spot_slot fs k) d (spots_in C b rs) ≡ named_times (slot_for (layout_of C) fs k b) d rs → led_times (spot_slot fs k) d (Rattle.std.specs.List.cons_option o (spots_in C b rs)) ≡ named_times (slot_for (layout_of C) fs k b) d (r ∷ rs)
+      by : (o : Option LexicalAddress) → slot_for (layout_of C) fs k b r ≡ led_slot fs k o → led_times (spot_slot fs k) d (spots_in C b rs) ≡ named_times (slot_for (layout_of C) fs k b) d rs → led_times (spot_slot fs k) d (Rattle.std.specs.List.cons_option o (spots_in C b rs)) ≡ named_times (slot_for (layout_of C) fs k b) d (r ∷ rs)
       by None e rest = rest ∙ none (named_times (slot_for (layout_of C) fs k b) d rs) ∙ ap (λ x. (if slot_is d x then 1 else 0) + named_times (slot_for (layout_of C) fs k b) d rs) (sym e)
         where
           none : (n : ℕ) → n ≡ 0 + n

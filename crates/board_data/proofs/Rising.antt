@@ -6,11 +6,11 @@ use Rattle.data_store.specs.Arrays.{with_element}
 use Rattle.data_store.specs.Data.{array_in, is_spent, kept, with_array, with_holds, with_value, without_read, without_write}
 use Rattle.data_store.specs.Stores.{IsArrayAt, Store, array_at, at, changed, datum, given_up, kept_after, or_none}
 use Rattle.data_store.specs.declared.datum.Datum.{Datum}
-use Rattle.data_store.specs.declared.datum.Shape.{Shape}
-use Rattle.data_store.specs.declared.datum.Shape.TheVariants.{Keyed, Single}
+use Rattle.data_store.specs.declared.datum.DatumKind.{DatumKind}
+use Rattle.data_store.specs.declared.datum.DatumKind.TheVariants.{Keyed, Single}
 use Rattle.board_program.specs.declared.program.Hold.{Hold}
-use Rattle.board_program.specs.declared.program.Own.{Own}
-use Rattle.board_program.specs.declared.spot.Spot.{Spot}
+use Rattle.board_program.specs.declared.program.LocalVariable.{LocalVariable}
+use Rattle.board_program.specs.declared.lexical_address.LexicalAddress.{LexicalAddress}
 use Rattle.board_history.specs.Fields.{Slot as ASlot}
 use Rattle.board_instances.specs.Names.{datum_of}
 use Rattle.board_instances.specs.declared.instance.Slot.{Slot}
@@ -79,11 +79,11 @@ insert_rises d k v s t c r = elim c [
 ]
 
 -- a datum is made, or none
-started_rises : (h : Shape) (v : Option Scalar) → rising (array_in (started h v)).elements ≡ true
+started_rises : (h : DatumKind) (v : Option Scalar) → rising (array_in (started h v)).elements ≡ true
 started_rises Single v = refl
 started_rises Keyed v = refl
 
-pub made_rises : (s t : Store) (o : Own) (v : Option Scalar) (slot : Slot) → (o.reads + o.writes ≡ 0 → t ≡ s) → (0 < o.reads + o.writes → Makes s (new_datum o v) slot t) → AreRising s → AreRising t
+pub made_rises : (s t : Store) (o : LocalVariable) (v : Option Scalar) (slot : Slot) → (o.reads + o.writes ≡ 0 → t ≡ s) → (0 < o.reads + o.writes → Makes s (new_datum o v) slot t) → AreRising s → AreRising t
 made_rises s t o v slot same made r = elim (cases_eq (o.reads + o.writes) 0) [
   | inl none ↦ subst AreRising (sym (same none)) r
   | inr some ↦ by (made (omega (arith, some)))
@@ -96,7 +96,7 @@ made_rises s t o v slot same made r = elim (cases_eq (o.reads + o.writes) 0) [
     ]
 
 -- holds are added
-pub holds_rise : (f : Spot → ASlot) (n : ℕ) (hs : List Hold) (s t : Store) → t ≡ one_by_one (hold_step f (λ h. n * h.reads) (λ h. n * h.writes)) hs s → AreRising s → AreRising t
+pub holds_rise : (f : LexicalAddress → ASlot) (n : ℕ) (hs : List Hold) (s t : Store) → t ≡ one_by_one (hold_step f (λ h. n * h.reads) (λ h. n * h.writes)) hs s → AreRising s → AreRising t
 holds_rise f n hs s t e r = subst AreRising (sym e) (all hs s r)
   where
     one : (p : Option ℕ) (k w : ℕ) (s : Store) → AreRising s → AreRising (held_at p k w s)
@@ -108,7 +108,7 @@ holds_rise f n hs s t e r = subst AreRising (sym e) (all hs s r)
     all (h ∷ hs) s r = all hs (hold_step f (λ h. n * h.reads) (λ h. n * h.writes) h s) (one (datum_of (f h.spot)) (n * h.reads) (n * h.writes) s r)
 
 -- holds are given up
-module _ (count : Datum → ℕ) (take : Datum → Datum) (same : (x : Datum) → RisesIn (Some x) → RisesIn (Some (take x))) (f : Spot → ASlot) where
+module _ (count : Datum → ℕ) (take : Datum → Datum) (same : (x : Datum) → RisesIn (Some x) → RisesIn (Some (take x))) (f : LexicalAddress → ASlot) where
   given_up_rises : (d : ℕ) (s : Store) → AreRising s → AreRising (given_up d take s)
   given_up_rises d s r = keeps s d (kept_after take) refl (λ x h. kept_rises (take x) (same x h)) r
 
@@ -123,18 +123,18 @@ module _ (count : Datum → ℕ) (take : Datum → Datum) (same : (x : Datum) �
           test true = r
           test false = given_up_rises d s r
 
-  pub steps_rise : (ps : List Spot) (s : Store) → AreRising s → AreRising (one_by_one (give_step count take f) ps s)
+  pub steps_rise : (ps : List LexicalAddress) (s : Store) → AreRising s → AreRising (one_by_one (give_step count take f) ps s)
   steps_rise [] s r = r
   steps_rise (p ∷ ps) s r = steps_rise ps (give_step count take f p s) (step_rises (f p) s r)
 
-pub reads_rise : (f : Spot → ASlot) (ps : List Spot) (s t : Store) → t ≡ one_by_one (give_step (λ (y : Datum). y.reads) without_read f) ps s → AreRising s → AreRising t
+pub reads_rise : (f : LexicalAddress → ASlot) (ps : List LexicalAddress) (s t : Store) → t ≡ one_by_one (give_step (λ (y : Datum). y.reads) without_read f) ps s → AreRising s → AreRising t
 reads_rise f ps s t e r = subst AreRising (sym e) (steps_rise (λ (y : Datum). y.reads) without_read (λ x h. h) f ps s r)
 
-pub writes_rise : (f : Spot → ASlot) (ps : List Spot) (s t : Store) → t ≡ one_by_one (give_step (λ (y : Datum). y.writes) without_write f) ps s → AreRising s → AreRising t
+pub writes_rise : (f : LexicalAddress → ASlot) (ps : List LexicalAddress) (s t : Store) → t ≡ one_by_one (give_step (λ (y : Datum). y.writes) without_write f) ps s → AreRising s → AreRising t
 writes_rise f ps s t e r = subst AreRising (sym e) (steps_rise (λ (y : Datum). y.writes) without_write (λ x h. h) f ps s r)
 
 -- no more arrays are closed than spots are given up
-pub few_closing : (f : Spot → ASlot) (ps : List Spot) (s : Store) → length (all_closing f ps s) ≤ length ps
+pub few_closing : (f : LexicalAddress → ASlot) (ps : List LexicalAddress) (s : Store) → length (all_closing f ps s) ≤ length ps
 few_closing f [] s = omega arith
 few_closing f (p ∷ ps) s = subst (λ n. n ≤ suc (length ps)) (sym (length-append (closing (datum_of (f p)) s) (all_closing f ps (step f p s)))) (more (length (closing (datum_of (f p)) s)) _ _ (one (datum_of (f p))) (few_closing f ps (step f p s)))
   where

@@ -7,7 +7,7 @@ use Rattle.std.proofs.lemmas.List.{get_or-set_same, get_or-set_other}
 use Rattle.std.proofs.lemmas.Option.{slice_get-get_or}
 use Rattle.data_store.specs.Stores.{Store, at}
 use Rattle.data_store.specs.declared.datum.Datum.{Datum}
-use Rattle.board_program.specs.declared.program.Own.{Own}
+use Rattle.board_program.specs.declared.program.LocalVariable.{LocalVariable}
 use Rattle.board_instances.specs.declared.instance.Slot.{Slot}
 use Rattle.board_instances.specs.declared.instance.Slot.TheVariants as Slots
 use Rattle.board_data.specs.Made.{DataMade, Makes, NewAt, new_datum, slot_in}
@@ -23,7 +23,7 @@ below i n h = elim (cases_eq i n) [ inl e ↦ inr e | inr d ↦ inl (omega (arit
 apart_of : (i n : ℕ) → i < n → i ≢ n
 apart_of i n h e = omega (arith, h, e)
 
-module _ (own : List Own) (first : ℕ → Option Scalar) (n : ℕ) (old mid : Store) (xs : List Slot) (o : Own) (slot : Slot) (so : DataMade own first n old xs mid) (is : slice_get own n ≡ Some o) (most : n < length own) (room : n < length xs) where
+module _ (own : List LocalVariable) (first : ℕ → Option Scalar) (n : ℕ) (old mid : Store) (xs : List Slot) (o : LocalVariable) (slot : Slot) (so : DataMade own first n old xs mid) (is : slice_get own n ≡ Some o) (most : n < length own) (room : n < length xs) where
   after : List Slot
   after = slice_set xs n slot
 
@@ -33,7 +33,7 @@ module _ (own : List Own) (first : ℕ → Option Scalar) (n : ℕ) (old mid : S
   other : (i : ℕ) → i < n → slot_in (slice_set xs n slot) i ≡ slot_in xs i
   other i h = get_or-set_other xs n i slot Slots.Absent (apart_of i n h)
 
-  same_own : (i : ℕ) (p : Own) → i ≡ n → slice_get own i ≡ Some p → p ≡ o
+  same_own : (i : ℕ) (p : LocalVariable) → i ≡ n → slice_get own i ≡ Some p → p ≡ o
   same_own i p e s = let q : Some p ≡ Some o = sym s ∙ ap (slice_get own) e ∙ is in cc
 
   last_at : (i : ℕ) → i ≡ n → slot_in (slice_set xs n slot) i ≡ slot
@@ -49,7 +49,7 @@ module _ (own : List Own) (first : ℕ → Option Scalar) (n : ℕ) (old mid : S
         (new_datum p (first i), ap (at mid) (sym k) ∙ m.has))
   ]
     where
-      p : Own
+      p : LocalVariable
       p = get_or own i o
 
       got : slice_get own i ≡ Some (get_or own i o)
@@ -61,7 +61,7 @@ module _ (own : List Own) (first : ℕ → Option Scalar) (n : ℕ) (old mid : S
     absent = λ i p h s z. elim (below i n h) [ inl m ↦ other i m ∙ so.absent i p m s z | inr e ↦ last_at i e ∙ absent ];
     made = λ i p h s z. elim (below i n h) [
       | inl m ↦ subst (λ (y : Slot). NewAt old y (new_datum p (first i)) mid) (sym (other i m)) (so.made i p m s z)
-      | inr e ↦ absurd (omega (arith, none, z, ap (λ (q : Own). q.reads + q.writes) (same_own i p e s)))
+      | inr e ↦ absurd (omega (arith, none, z, ap (λ (q : LocalVariable). q.reads + q.writes) (same_own i p e s)))
     ];
     apart = λ i j d h g a b. elim (below i n h) [
       | inl m ↦ elim (below j n g) [
@@ -80,12 +80,12 @@ module _ (own : List Own) (first : ℕ → Option Scalar) (n : ℕ) (old mid : S
   made_one new some m = record {
     absent = λ i p h s z. elim (below i n h) [
       | inl l ↦ other i l ∙ so.absent i p l s z
-      | inr e ↦ absurd (omega (arith, some, z, ap (λ (q : Own). q.reads + q.writes) (same_own i p e s)))
+      | inr e ↦ absurd (omega (arith, some, z, ap (λ (q : LocalVariable). q.reads + q.writes) (same_own i p e s)))
     ];
     made = λ i p h s z. elim (below i n h) [
       | inl l ↦ (let y = so.made i p l s z in
           record { key = y.key; slot_is = other i l ∙ y.slot_is; was_free = y.was_free; has = m.others y.key (differs y.key (new_datum p (first i)) y.has) ∙ y.has })
-      | inr e ↦ record { key = m.key; slot_is = last_at i e ∙ m.slot_is; was_free = free m.key m.was_free; has = m.has ∙ ap Some (ap (λ (q : Own). new_datum q (first n)) (sym (same_own i p e s)) ∙ ap (λ k. new_datum p (first k)) (sym e)) }
+      | inr e ↦ record { key = m.key; slot_is = last_at i e ∙ m.slot_is; was_free = free m.key m.was_free; has = m.has ∙ ap Some (ap (λ (q : LocalVariable). new_datum q (first n)) (sym (same_own i p e s)) ∙ ap (λ k. new_datum p (first k)) (sym e)) }
     ];
     apart = λ i j d h g a b. elim (below i n h) [
       | inl l ↦ elim (below j n g) [
@@ -123,7 +123,7 @@ module _ (own : List Own) (first : ℕ → Option Scalar) (n : ℕ) (old mid : S
           some_none (at mid d) y.0 y.1 (ap (at mid) (sym k) ∙ m.was_free)
 
 -- one variable more
-pub made_next : (own : List Own) (first : ℕ → Option Scalar) (n : ℕ) (old mid new : Store) (xs ys : List Slot) (d : Own) (v : Option Scalar) (slot : Slot) →
+pub made_next : (own : List LocalVariable) (first : ℕ → Option Scalar) (n : ℕ) (old mid new : Store) (xs ys : List Slot) (d : LocalVariable) (v : Option Scalar) (slot : Slot) →
     DataMade own first n old xs mid → n < length own → n < length xs → ys ≡ slice_set xs n slot → v ≡ first n →
     ((get_or own n d).reads + (get_or own n d).writes ≡ 0 → slot ≡ Slots.Absent) → ((get_or own n d).reads + (get_or own n d).writes ≡ 0 → new ≡ mid) →
     (0 < (get_or own n d).reads + (get_or own n d).writes → Makes mid (new_datum (get_or own n d) v) slot new) → DataMade own first (n + 1) old ys new
@@ -135,7 +135,7 @@ made_next own first n old mid new xs ys d v slot so most room ys_is v_is absent 
     ])
 
 -- room for one less, where nothing or one is made
-pub room_next : (most : ℕ) (mid new : Store) (n : ℕ) (o : Own) (v : Option Scalar) (slot : Slot) → most ≤ mid.room + n → (o.reads + o.writes ≡ 0 → new ≡ mid) → (0 < o.reads + o.writes → Makes mid (new_datum o v) slot new) → most ≤ new.room + (n + 1)
+pub room_next : (most : ℕ) (mid new : Store) (n : ℕ) (o : LocalVariable) (v : Option Scalar) (slot : Slot) → most ≤ mid.room + n → (o.reads + o.writes ≡ 0 → new ≡ mid) → (0 < o.reads + o.writes → Makes mid (new_datum o v) slot new) → most ≤ new.room + (n + 1)
 room_next most mid new n o v slot h same makes = elim (cases_eq (o.reads + o.writes) 0) [
   | inl z ↦ omega (arith, h, ap (λ (s : Store). s.room) (same z))
   | inr s ↦ omega (arith, h, (makes (omega (arith, s))).room)

@@ -1,8 +1,8 @@
--- The answers to what is waited for.
+-- The answers to needs.
 use Rattle.std.specs.Prelude.{List, Option, Some, None}
-use Rattle.board_program.specs.declared.program.Wanted.{Wanted}
-use Rattle.board_program.specs.declared.program.Wanted.TheVariants as Waits
-use Rattle.board_program.specs.declared.spot.Spot.{Spot}
+use Rattle.board_program.specs.declared.program.ResolvedNeed.{ResolvedNeed}
+use Rattle.board_program.specs.declared.program.ResolvedNeed.TheVariants as Waits
+use Rattle.board_program.specs.declared.lexical_address.LexicalAddress.{LexicalAddress}
 use Rattle.dataflow.specs.System.{Answer, Found, Missing, Content}
 use Rattle.board_history.specs.Fields.{Absent, Counted, DatumOf, LiteralOf, Slot, slot_at}
 use Rattle.board_history.specs.Fields as fields
@@ -32,8 +32,8 @@ module _ (C : Code) (cs : List (Option Counted)) where
   array_answer (DatumOf d) = cell_answer (slot_at cs d)
   array_answer (LiteralOf e k) = Missing
 
-  -- the answer to what is waited for, by what its names stand for
-  abbrev pub wanted_answer : (Option Spot → Slot) → Wanted → Answer Key Scalar
+  -- the answer to a need, by the slots of its names
+  abbrev pub wanted_answer : (Option LexicalAddress → Slot) → ResolvedNeed → Answer Key Scalar
   wanted_answer f (Waits.Stored r) = scalar_answer (wanted_found C cs f (Waits.Stored r))
   wanted_answer f (Waits.Closed r) = array_answer (f r)
   wanted_answer f (Waits.At a r) = scalar_answer (wanted_found C cs f (Waits.At a r))

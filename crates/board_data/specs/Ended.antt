@@ -1,4 +1,4 @@
--- What an End does to data, in the order in which it is done.
+-- The changes that an End makes to data, in order.
 use Rattle.std.specs.Prelude.{◌≡◌, ◌≤◌, ℕ, false, List, [], Option, Some, None, option_map, if◌then◌else◌}
 use Rattle.data_store.specs.Data.{is_spent, with_holds}
 use Rattle.data_store.specs.Stores.{Store, at}
@@ -24,13 +24,13 @@ pub record Changes (target : Option ℕ) (values : Elements) (added_reads added_
   pub adds : (d : ℕ) → at more d ≡ option_map (with_holds (added_reads d) (added_writes d)) (at made d)
   pub gives : GivesUp given_reads given_writes more new
 
--- an item gives up no more than there is, and there is nothing that nobody holds
+-- an item gives up no more holds than there are, and each datum has a hold
 pub record Covers (given_reads given_writes : ℕ → ℕ) (old : Store) : Type 0 where
   pub held : (d : ℕ) (x : Datum) → at old d ≡ Some x → (is_spent x ≡ false) × (given_reads d ≤ x.reads) × (given_writes d ≤ x.writes)
   pub absent : (d : ℕ) → at old d ≡ None → (given_reads d ≡ 0) × (given_writes d ≡ 0)
 
 module _ (C : Code) (L : Layout) where
-  -- the same of the item of a job, which computed this and opens these instances
+  -- the changes by the item of a job, which computed this and opens these instances
   abbrev pub JobChanges : List (Option Frame) → List (Option Frame) → Job → Computed → List Instance → List (Opening Task Place) → Option ℕ → Elements → Store → Store → Type 0
   JobChanges fs hs j x made os target values old new =
       ((d : ℕ) → (if is_place d target then values else []) ≡ job_stores C L fs j x d)

@@ -6,32 +6,32 @@ use Rattle.data_store.specs.Stores.{Store, at}
 use Rattle.data_store.specs.declared.datum.Content.{Content}
 use Rattle.data_store.specs.declared.datum.Content.TheVariants.{OfArray, OfScalar}
 use Rattle.data_store.specs.declared.datum.Datum.{Datum}
-use Rattle.data_store.specs.declared.datum.Shape.{Shape}
-use Rattle.data_store.specs.declared.datum.Shape.TheVariants.{Single, Keyed}
+use Rattle.data_store.specs.declared.datum.DatumKind.{DatumKind}
+use Rattle.data_store.specs.declared.datum.DatumKind.TheVariants.{Single, Keyed}
 use Rattle.board_program.specs.Tables.{is_place}
-use Rattle.board_program.specs.declared.program.Own.{Own}
+use Rattle.board_program.specs.declared.program.LocalVariable.{LocalVariable}
 use Rattle.board_instances.specs.declared.instance.Slot.{Slot}
 use Rattle.board_instances.specs.declared.instance.Slot.TheVariants as Slots
-use Rattle.board_data.specs.declared.making.Starts.{Starts}
+use Rattle.board_data.specs.declared.making.InitialValues.{InitialValues}
 use Rattle.values.specs.declared.value.Scalar.{Scalar}
 
--- what a new datum stores from the start
-abbrev pub started : Shape → Option Scalar → Content
+-- the initial content of a new datum
+abbrev pub started : DatumKind → Option Scalar → Content
 started Single v = OfScalar v
 started Keyed v = OfArray empty
 
-abbrev pub new_datum : Own → Option Scalar → Datum
+abbrev pub new_datum : LocalVariable → Option Scalar → Datum
 new_datum o v = record { content = started o.shape v; reads = o.reads; writes = o.writes }
 
--- the value that a place starts with
-abbrev pub start_at : Starts → ℕ → Option Scalar
+-- the initial value for an index
+abbrev pub start_at : InitialValues → ℕ → Option Scalar
 start_at s i = if is_place i s.value_at then s.value else (if is_place i s.turn_at then s.turn else None)
 
--- what stands in a slot
+-- a slot by its index
 abbrev pub slot_in : List Slot → ℕ → Slot
 slot_in xs i = slice_index_or xs i Slots.Absent
 
--- a number that had no datum has this one, and the slot names it; nothing else has changed, but for the room
+-- a number without datum has this one now, and the slot names it; nothing else has changed, apart from the room
 pub record Makes (old : Store) (x : Datum) (slot : Slot) (new : Store) : Type 0 where
   pub key : ℕ
   pub slot_is : slot ≡ Slots.Datum key
@@ -40,17 +40,18 @@ pub record Makes (old : Store) (x : Datum) (slot : Slot) (new : Store) : Type 0 
   pub others : (e : ℕ) → e ≢ key → at new e ≡ at old e
   pub room : old.room ≤ new.room + 1
 
--- a new datum stands for the variable at a place, with its first counts and its value
+-- a new datum is that of the variable at an index, with its first counts and its value
 pub record NewAt (old : Store) (slot : Slot) (x : Datum) (new : Store) : Type 0 where
   pub key : ℕ
   pub slot_is : slot ≡ Slots.Datum key
   pub was_free : at old key ≡ None
   pub has : at new key ≡ Some x
 
--- for the first so many of a body's variables data were made: one for each that some entry names, each under a key of its own, and nothing else has changed
-pub record DataMade (own : List Own) (first : ℕ → Option Scalar) (n : ℕ) (old : Store) (slots : List Slot) (new : Store) : Type 0 where
-  pub absent : (i : ℕ) (o : Own) → i < n → slice_get own i ≡ Some o → o.reads + o.writes ≡ 0 → slot_in slots i ≡ Slots.Absent
-  pub made : (i : ℕ) (o : Own) → i < n → slice_get own i ≡ Some o → 0 < o.reads + o.writes → NewAt old (slot_in slots i) (new_datum o (first i)) new
+-- data were made for the first n of a body's variables: one for each that some entry names, each under a key of its
+-- own, and nothing else has changed
+pub record DataMade (own : List LocalVariable) (first : ℕ → Option Scalar) (n : ℕ) (old : Store) (slots : List Slot) (new : Store) : Type 0 where
+  pub absent : (i : ℕ) (o : LocalVariable) → i < n → slice_get own i ≡ Some o → o.reads + o.writes ≡ 0 → slot_in slots i ≡ Slots.Absent
+  pub made : (i : ℕ) (o : LocalVariable) → i < n → slice_get own i ≡ Some o → 0 < o.reads + o.writes → NewAt old (slot_in slots i) (new_datum o (first i)) new
   pub apart : (i j d : ℕ) → i < n → j < n → slot_in slots i ≡ Slots.Datum d → slot_in slots j ≡ Slots.Datum d → i ≡ j
   pub older : (d : ℕ) (x : Datum) → at old d ≡ Some x → at new d ≡ Some x
   pub only : (d : ℕ) (x : Datum) → at new d ≡ Some x → (at old d ≡ Some x) ⊎ ((i : ℕ) × (i < n) × (slot_in slots i ≡ Slots.Datum d))

@@ -1,4 +1,4 @@
--- What is stored.
+-- The content of data after a store.
 use Rattle.std.specs.Prelude.{◌≡◌, ◌≤◌, ◌<◌, ℕ, false, List, [], length, Option, Some, None, IsTrue, if◌then◌else◌}
 use Rattle.dataflow.specs.System.{In}
 use Rattle.data_store.specs.Arrays.{Array, room_for}
@@ -13,12 +13,12 @@ use Rattle.board_data.specs.Data.{is_keyed}
 use Rattle.board_program.specs.Tables.{is_place}
 use Rattle.board_data.specs.View.{content_view}
 
--- this is stored in the datum, and nothing in another
+-- this is stored in the datum, and nothing in any other
 pub record StoresIn (target : Option ℕ) (values : Elements) (old new : Store) : Type 0 where
   pub there : (d : ℕ) (x : Datum) → at old d ≡ Some x → (c : Content) × (at new d ≡ Some (record { content = c; reads = x.reads; writes = x.writes })) × ContentAfter (content_view x.content) (if is_place d target then values else []) (content_view c)
   pub nothing : (d : ℕ) → at old d ≡ None → at new d ≡ None
 
--- it is a scalar
+-- the target is a scalar
 abbrev pub IsScalarTarget : Option ℕ → Store → Type 0
 IsScalarTarget target s = (d : ℕ) → target ≡ Some d → is_keyed (at s d) ≡ false
 

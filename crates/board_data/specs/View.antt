@@ -1,4 +1,4 @@
--- What data and missing inputs stand for.
+-- The views of data and of missing inputs.
 use Rattle.std.specs.Prelude.{ℕ, List, [], ◌∷◌, Option, Some, None, option_map, map}
 use Rattle.data_store.specs.declared.datum.Content.{Content}
 use Rattle.data_store.specs.declared.datum.Content.TheVariants as Holds
@@ -20,7 +20,7 @@ cell_view x = record { reads = x.reads; writes = x.writes; content = content_vie
 abbrev pub cells_view : List (Option Datum) → List (Option Pure.Counted)
 cells_view cs = map (λ c. option_map cell_view c) cs
 
--- what an item misses
+-- missing inputs
 abbrev pub want_view : Input → Pure.Want ℕ
 want_view (Inputs.Whole d) = Pure.Whole d
 want_view (Inputs.Element d k) = Pure.AnElement d k

@@ -1,4 +1,4 @@
-//! What the calls on data come to for a whole End.
+//! Theorems about the data of a board after a whole End.
 
 ghost use Rattle.std.specs.Prelude.{◌≡◌, ℕ, List, Option, Some, None, map, false};
 ghost use Rattle.std.specs.List.{flat_map};
@@ -21,9 +21,10 @@ ghost use Rattle.board_data.specs.Ended.{Changes, Covers, JobChanges};
 ghost use Rattle.board_data.specs.View.{cells_view};
 ghost use Rattle.board_data.specs.Wanted.{FewSlots, wanted_missed};
 
-/// Where an End stores, makes data, adds holds and gives up its own, in this order, and gives up no more than there is: each
-/// datum that was there has become what an End makes of it; one that was made, to which nobody adds holds, is as it was made;
-/// and there is no other.
+/// States the data after an End that stores, creates data, adds holds and gives up its own, in this order.
+///
+/// It is assumed that it gives up no more holds than there are. Each datum that existed is then as an End of
+/// `board_history` makes it. A new datum to which no instance adds holds is as it was created. There are no other data.
 pub fn ended_data()
     ensures old { (C : Code) (L : Layout) (fs hs : List (Option Frame)) (j : Job) (x : Computed) (made : List Instance) (os : List (Opening Task Place))
         (target : Option ℕ) (values : Elements) (s t : Store) →
@@ -37,8 +38,9 @@ pub fn ended_data()
         (d : ℕ) (y : Datum) → at t d ≡ Some y → (x : Datum) × (at changes.made d ≡ Some x) }
 {}
 
-/// What an item misses and holds, by the tables of its entry and by the names of the entry, is the same for the layout of the
-/// code, where no instance has more slots than numbers.
+/// States that resolution by address agrees with resolution by name, for the layout of the code. What an item misses
+/// and holds by the tables of its entry is what it misses and holds by the names of the entry. It is assumed that no
+/// instance has more than 2^64 slots.
 pub fn names_by_spots()
     ensures missed { (C : Code) (F : Fields) (k e c : ℕ) (f : Frame) → FewSlots F.frames → slot_at F.frames k ≡ Some f →
         flat_map (wanted_missed C F.cells (led_slot F.frames k)) (map (wanted_in C f.body) (entry C e).needs) ≡ job_missed C (layout_of C) F (Does k e c) }

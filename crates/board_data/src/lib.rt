@@ -1,10 +1,13 @@
-//! Data of a board by what the names of an instance stand for: what is stored there, what an item misses, and the answers to what it waited for.
+//! Data access by lexical address: what the names of an instance refer to, the inputs an item misses, the answers to
+//! its needs, and its stores and holds.
+//!
+//! The store, the instances and the tables are separate parameters, so that a caller keeps its facts about each.
 #![tactic(auto)]
 
 pub mod answers;
 pub mod data;
-pub mod holding;
+pub mod holds;
+pub mod inputs;
 pub mod laws;
 pub mod making;
 pub mod storing;
-pub mod wanted;

@@ -1,4 +1,4 @@
-//! Data that are made for the variables of an instance.
+//! Creation of the data for an instance's own variables.
 
 ghost use Rattle.std.specs.Prelude.{◌≡◌, ◌≢◌, ◌<◌, ◌≤◌, ◌+◌, ◌^◌, ℕ, length, IfOk, IsOk, OnOk};
 ghost use Rattle.board_data.specs.Data.{AreRising};
@@ -7,22 +7,22 @@ ghost use Rattle.board_instances.specs.declared.instance.Slot.TheVariants.{Absen
 
 use crate::data;
 use board_instances::packed::PackedSlot;
-use board_program::program::Own;
+use board_program::program::LocalVariable;
 use data_store::store::Store;
 use std::alloc::AllocError;
 use values::value::Scalar;
 
-/// The values that variables of a loop's turn start with: each with the place of its variable.
+/// The initial values of a turn's variables, each with the index of its variable.
 #[derive(Drop)]
-pub struct Starts {
+pub struct InitialValues {
     pub value_at: Option<usize>,
     pub value: Option<Scalar>,
     pub turn_at: Option<usize>,
     pub turn: Option<Scalar>,
 }
 
-impl Starts {
-    /// The value for a place, which is asked for once.
+impl InitialValues {
+    /// Returns the initial value for a variable, and removes it.
     fn take(&mut self, place: usize) -> Option<Scalar>
         ensures value { result ≡ start_at self.old place }
         ensures others { (i : ℕ) → i ≢ place → start_at self.new i ≡ start_at self.old i }
@@ -37,9 +37,14 @@ impl Starts {
     }
 }
 
-/// A new datum, with a value if there is one, unless nobody may read or write it.
+/// Creates a datum, with its value if there is one, and returns its slot. A variable that no item may read or write
+/// gets no datum.
 #[tactic(auto, using(crate::proofs::Made::bound_given, crate::proofs::Made::made_with, crate::proofs::Made::made_without))]
-fn make_datum(store: &mut Store, own: Own, value: Option<Scalar>) -> Result<PackedSlot, AllocError>
+fn make_datum(
+    store: &mut Store,
+    own: LocalVariable,
+    value: Option<Scalar>,
+) -> Result<PackedSlot, AllocError>
     ensures absent { own.reads + own.writes ≡ 0 → IfOk result (λ slot. slot ≡ Absent) }
     ensures same { own.reads + own.writes ≡ 0 → store.new ≡ store.old }
     ensures made { 0 < own.reads + own.writes → IfOk result (λ slot. Makes store.old (new_datum own value) slot store.new) }
@@ -51,23 +56,23 @@ fn make_datum(store: &mut Store, own: Own, value: Option<Scalar>) -> Result<Pack
     }
     let d = store.new_cell(own.shape, own.reads, own.writes)?;
     if let Some(value) = value {
-        data::put(store, d, value);
+        data::set_scalar(store, d, value);
     }
     PackedSlot::datum(d)
 }
 
-/// Makes the data of an instance's own variables, and puts them into its first slots. Makes no refusal where there is room for
-/// as many data as variables, and their numbers are of 32 bits.
+/// Creates the data for an instance's own variables, and writes them into its first slots. It succeeds if there is room
+/// for one datum per variable and data numbers fit in 32 bits.
 ///
 /// # Errors
 ///
-/// `AllocError` where memory that was asked for was refused; some of the data may be made then.
+/// Returns `AllocError` if an allocation fails. Some of the data may have been created.
 #[tactic(auto, using(crate::proofs::Rows::made_nothing, crate::proofs::Rows::made_one))]
 pub fn make_data(
     store: &mut Store,
-    own: &[Own],
+    own: &[LocalVariable],
     slots: &mut [PackedSlot],
-    starts: Starts,
+    starts: InitialValues,
 ) -> Result<(), AllocError>
     ensures made { length own.now ≤ length slots.old → OnOk result (DataMade own.now (start_at starts) (length own.now) store.old slots.new store.new) }
     ensures others { (i : ℕ) → length own.now ≤ i → slot_in slots.new i ≡ slot_in slots.old i }

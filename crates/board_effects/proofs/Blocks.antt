@@ -19,14 +19,14 @@ use Rattle.board_instances.specs.Made.{block_of}
 use Rattle.board_instances.specs.Openings.{passed_from}
 use Rattle.board_instances.specs.Turns.{IsOpening}
 use Rattle.board_instances.specs.View.{opening_frame}
-use Rattle.board_instances.specs.declared.opening.Opening.{Opening}
+use Rattle.board_instances.specs.declared.pending.PendingInstance.{PendingInstance}
 use Rattle.board_effects.specs.Effects.{GoesWell, GoesWrong}
 use Rattle.board_effects.specs.Ended.{Ends, IsEnded, OpensBlock, OpensList, act_of, cells_of, code_of, frames_of, job_of, needs_of}
 use Rattle.board_effects.specs.Fits.{is_fault}
 use Rattle.board_effects.specs.Openings.{IsOpened, IsOpenedBy, IsSpare, handed_over}
 use Rattle.board_effects.specs.declared.effect.Effect.{Effect}
 use Rattle.board_effects.specs.declared.effect.Effect.TheVariants as To
-use Rattle.board_effects.specs.declared.effect.Ended.{Ended}
+use Rattle.board_effects.specs.declared.effect.EndingItem.{EndingItem}
 use Rattle.board_effects.proofs.Acts.{bad, deep_long, deep_none, deep_plain, deep_short, good}
 use Rattle.board_effects.proofs.Ends.{nowhere, unstored}
 
@@ -39,7 +39,7 @@ pub deep_turns : (a : Act) (p : List Step) (ss : List (ℕ × List Step)) (m : B
 deep_turns a p ss true e h = deep_short a p ss h
 deep_turns a p ss false e h = deep_none a p ss e
 
-module _ (p : Ended) (w : IsEnded p) where
+module _ (p : EndingItem) (w : IsEnded p) where
   abbrev pub path : List Step
   path = path_of (frames_of p) p.view.at
 
@@ -104,7 +104,7 @@ module _ (p : Ended) (w : IsEnded p) where
     pub block_deep : p.chunk ≡ 0 → is_some way ≡ true → nat_le most_steps (length path) ≡ true → GoesWrong (code_of p) (frames_of p) (cells_of p) (job_of p) x (OfTask TooDeep)
     block_deep e s h = bad x _ _ r.computes (deep_long now.act path _ h (own (λ e. steps_on e.act ≡ is_some way) r.steps ∙ s) (ap is_some_list (first e)))
 
-    module _ (list : List Opening) (added : 0 < length (body (code_of p) b).entries → IsSome (slot_at (frames_of p) p.view.at) → (o : Opening) × (list ≡ o ∷ []) × IsOpening (code_of p) (frames_of p) p.view.at b way (passed_from (frames_of p) p.view.at p.number 0 p.table.now.arguments.items) None None o) (none : length (body (code_of p) b).entries ≡ 0 → list ≡ []) where
+    module _ (list : List PendingInstance) (added : 0 < length (body (code_of p) b).entries → IsSome (slot_at (frames_of p) p.view.at) → (o : PendingInstance) × (list ≡ o ∷ []) × IsOpening (code_of p) (frames_of p) p.view.at b way (passed_from (frames_of p) p.view.at p.number 0 p.table.now.arguments.items) None None o) (none : length (body (code_of p) b).entries ≡ 0 → list ≡ []) where
       is_there : IsSome (slot_at (frames_of p) p.view.at)
       is_there = subst (λ (o : Option Frame). IsSome o) (sym w.there) (search rules)
 
@@ -116,7 +116,7 @@ module _ (p : Ended) (w : IsEnded p) where
           ∙ ap (λ f. block_of (frames_of p) (Some p.view.at) f ∷ []) o.2.inner.is
           ∙ sym (ap (λ es. if is_some_list es then (b, step_before way path) ∷ [] else []) e)
 
-      one_each : (es : List ℕ) → (body (code_of p) b).entries ≡ es → (o : Opening) → In o list → IsOpened (code_of p) (frames_of p) (job_of p) x b o
+      one_each : (es : List ℕ) → (body (code_of p) b).entries ≡ es → (o : PendingInstance) → In o list → IsOpened (code_of p) (frames_of p) (job_of p) x b o
       one_each [] e o m = absurd (subst (λ l. In o l) (none (ap length e)) m)
       one_each (j ∷ js) e o m = (let y = added (subst (λ (es : List ℕ). 0 < length es) (sym e) (omega arith)) is_there in
           elim (subst (λ l. In o l) y.1 m) [

@@ -19,14 +19,14 @@ use Rattle.values.specs.declared.value.Scalar.{Scalar}
 use Rattle.board_instances.specs.Made.{block_of}
 use Rattle.board_instances.specs.Turns.{AddsTurns, IsTurn}
 use Rattle.board_instances.specs.View.{opening_frame}
-use Rattle.board_instances.specs.declared.opening.Opening.{Opening}
+use Rattle.board_instances.specs.declared.pending.PendingInstance.{PendingInstance}
 use Rattle.board_instances.proofs.Turned.{turns_blocks}
 use Rattle.board_effects.specs.Effects.{GoesWell, GoesWrong}
 use Rattle.board_effects.specs.Ended.{Ends, FailsWith, IsEnded, IsLoop, OpensList, act_of, cells_of, code_of, frames_of, job_of, needs_of}
 use Rattle.board_effects.specs.Openings.{IsOpened, IsOpenedBy, IsSpare}
 use Rattle.board_effects.specs.declared.effect.Effect.{Effect}
 use Rattle.board_effects.specs.declared.effect.Effect.TheVariants as To
-use Rattle.board_effects.specs.declared.effect.Ended.{Ended}
+use Rattle.board_effects.specs.declared.effect.EndingItem.{EndingItem}
 use Rattle.board_effects.proofs.Acts.{bad, deep_long, good, loop_instances, loop_silent, loop_steps, loop_stores}
 use Rattle.board_effects.proofs.Blocks.{deep_turns, own, stores_nothing}
 use Rattle.board_effects.proofs.Chunks.{some_behind, some_chunk}
@@ -53,14 +53,14 @@ some_rest : (m : Bool) (i : ℕ) (p : List Step) (c : ℕ) → is_some_list (res
 some_rest true i p c = refl
 some_rest false i p c = refl
 
-turn_in : (C : Code) (fs : List (Option Frame)) (k b mark : ℕ) (ts : Elements) (os : List Opening) → AllZip (IsTurn C fs k b mark) ts os → (o : Opening) → In o os → (t : Key × Scalar) × In t ts × IsTurn C fs k b mark t o
+turn_in : (C : Code) (fs : List (Option Frame)) (k b mark : ℕ) (ts : Elements) (os : List PendingInstance) → AllZip (IsTurn C fs k b mark) ts os → (o : PendingInstance) → In o os → (t : Key × Scalar) × In t ts × IsTurn C fs k b mark t o
 turn_in C fs k b mark [] [] x o m = absurd m
 turn_in C fs k b mark [] (o' ∷ os) x o m = absurd x
 turn_in C fs k b mark (t ∷ ts) [] x o m = absurd x
 turn_in C fs k b mark (t ∷ ts) (o' ∷ os) x o (inl e) = (t, inl refl, subst (λ y. IsTurn C fs k b mark t y) (sym e) x.0)
 turn_in C fs k b mark (t ∷ ts) (o' ∷ os) x o (inr m) = (let r = turn_in C fs k b mark ts os x.1 o m in (r.0, inr r.1, r.2))
 
-module _ (p : Ended) (w : IsEnded p) (u : Loop) (ts : Elements) (is : loop_of (act_of p) ≡ Some u) where
+module _ (p : EndingItem) (w : IsEnded p) (u : Loop) (ts : Elements) (is : loop_of (act_of p) ≡ Some u) where
   abbrev path : List Step
   path = path_of (frames_of p) p.view.at
 
@@ -80,7 +80,7 @@ module _ (p : Ended) (w : IsEnded p) (u : Loop) (ts : Elements) (is : loop_of (a
   pub loop_deep : is_some_list turns ≡ true → nat_le most_steps (length path) ≡ true → GoesWrong (code_of p) (frames_of p) (cells_of p) (job_of p) (Turns ts) (OfTask TooDeep)
   loop_deep s h = bad (Turns ts) _ _ refl (deep_long now.act path _ h (own p w (λ e. steps_on e.act ≡ true) (loop_steps (act_of p) u is)) (some_blocks ∙ s))
 
-  module _ (list : List Opening) (added : 0 < length (body (code_of p) u.body).entries → IsSome (slot_at (frames_of p) p.view.at) → AddsTurns (code_of p) (frames_of p) p.view.at u.body (entry_view p.entry.now).mark turns [] list) (none : length (body (code_of p) u.body).entries ≡ 0 → list ≡ []) where
+  module _ (list : List PendingInstance) (added : 0 < length (body (code_of p) u.body).entries → IsSome (slot_at (frames_of p) p.view.at) → AddsTurns (code_of p) (frames_of p) p.view.at u.body (entry_view p.entry.now).mark turns [] list) (none : length (body (code_of p) u.body).entries ≡ 0 → list ≡ []) where
     is_there : IsSome (slot_at (frames_of p) p.view.at)
     is_there = subst (λ (o : Option Frame). IsSome o) (sym w.there) (search rules)
 
@@ -94,7 +94,7 @@ module _ (p : Ended) (w : IsEnded p) (u : Loop) (ts : Elements) (is : loop_of (a
         turns_blocks (code_of p) (frames_of p) p.view.at u.body now.mark turns list (each_turn (subst (λ (es : List ℕ). 0 < length es) (sym e) (omega arith)))
         ∙ sym (turns_kept (code_of p) u.body now.mark path turns (ap is_some_list e))
 
-    all_each : (es : List ℕ) → (body (code_of p) u.body).entries ≡ es → (o : Opening) → In o list → IsOpened (code_of p) (frames_of p) (job_of p) (Turns ts) u.body o
+    all_each : (es : List ℕ) → (body (code_of p) u.body).entries ≡ es → (o : PendingInstance) → In o list → IsOpened (code_of p) (frames_of p) (job_of p) (Turns ts) u.body o
     all_each [] e o m = absurd (subst (λ l. In o l) (none (ap length e)) m)
     all_each (j ∷ js) e o m =
         subst (λ l. IsOpenedBy (code_of p) (frames_of p) p.view.at p.number p.chunk (Turns ts) u.body l o) (sym (own p w (λ e. loop_of e.act ≡ Some u) is))
@@ -129,7 +129,7 @@ lt_from : (a b : ℕ) → nat_lt a b ≡ true → a < b
 lt_from a b h = grind (arith, h)
 
 -- it is over a chunk that begins and ends there
-module _ (p : Ended) (w : IsEnded p) (b : ℕ) (l : IsLoop p b) (ts : Elements) (count first end : ℕ) (begins : first ≡ min (p.chunk * chunk_size) count) (ends : end ≡ min (p.chunk * chunk_size + chunk_size) count) (all : length ts ≡ count) where
+module _ (p : EndingItem) (w : IsEnded p) (b : ℕ) (l : IsLoop p b) (ts : Elements) (count first end : ℕ) (begins : first ≡ min (p.chunk * chunk_size) count) (ends : end ≡ min (p.chunk * chunk_size + chunk_size) count) (all : length ts ≡ count) where
   has_turns : is_some_list (chunk p.chunk ts) ≡ nat_lt (p.chunk * chunk_size) count
   has_turns = some_chunk p.chunk ts ∙ ap (λ n. nat_lt (p.chunk * chunk_size) n) all
 
@@ -160,7 +160,7 @@ module _ (p : Ended) (w : IsEnded p) (b : ℕ) (l : IsLoop p b) (ts : Elements) 
       here : (m n f e : ℕ) → f ≡ min m n → e ≡ min (m + chunk_size) n → m < n → f < e
       here m n f e q r h = omega (arith, q, r, h)
 
-  pub chunk_opens : (list : List Opening) → (0 < length (body (code_of p) b).entries → IsSome (slot_at (frames_of p) p.view.at) → AddsTurns (code_of p) (frames_of p) p.view.at b (entry_view p.entry.now).mark (chunk p.chunk ts) [] list) → (length (body (code_of p) b).entries ≡ 0 → list ≡ []) → (first < end → nat_le most_steps (length (path_of (frames_of p) p.view.at)) ≡ false) → (e : Effect) → OpensList p b list (nat_lt end count) e → Ends p (Turns ts) e
+  pub chunk_opens : (list : List PendingInstance) → (0 < length (body (code_of p) b).entries → IsSome (slot_at (frames_of p) p.view.at) → AddsTurns (code_of p) (frames_of p) p.view.at b (entry_view p.entry.now).mark (chunk p.chunk ts) [] list) → (length (body (code_of p) b).entries ≡ 0 → list ≡ []) → (first < end → nat_le most_steps (length (path_of (frames_of p) p.view.at)) ≡ false) → (e : Effect) → OpensList p b list (nat_lt end count) e → Ends p (Turns ts) e
   chunk_opens list added none h e q =
       loop_opens p w l.0 ts l.1 list
       (subst (λ n. 0 < length (body (code_of p) n).entries → IsSome (slot_at (frames_of p) p.view.at) → AddsTurns (code_of p) (frames_of p) p.view.at n (entry_view p.entry.now).mark (chunk p.chunk ts) [] list) (sym l.2) added)

@@ -8,7 +8,7 @@ use Rattle.rules.specs.declared.input.Input.{Input}
 use Rattle.smallvec.specs.SmallVec.{SmallVec}
 use Rattle.task_code.specs.Code.{Body, Code, Entry, blank_body, blank_entry, body, entry, nth}
 use Rattle.board_program.specs.Tables.{waits_long}
-use Rattle.board_instances.specs.declared.opening.Opening.{Opening}
+use Rattle.board_instances.specs.declared.pending.PendingInstance.{PendingInstance}
 use Rattle.board_effects.specs.Ended.{long_need, needs_of, spare_list}
 use Rattle.board_effects.specs.Openings.{IsSpare, long_needs}
 
@@ -74,5 +74,5 @@ pub all_spare : (ns : List ℕ) → AllZip IsSpare ns (map spare_list ns)
 all_spare [] = search rules
 all_spare (n ∷ ns) = (record { empty = refl; room = room_for n }, all_spare ns)
 
-pub spare_done : (C : Code) (list : List Opening) (new : List (SmallVec Input)) (i : ℕ) → length list ≤ i → new ≡ map spare_list (needs_of C (take i list)) → AllZip IsSpare (needs_of C list) new
+pub spare_done : (C : Code) (list : List PendingInstance) (new : List (SmallVec Input)) (i : ℕ) → length list ≤ i → new ≡ map spare_list (needs_of C (take i list)) → AllZip IsSpare (needs_of C list) new
 spare_done C list new i h e = subst (λ xs. AllZip IsSpare (needs_of C list) xs) (sym (e ∙ ap (λ l. map spare_list (needs_of C l)) (take_all i list h))) (all_spare (needs_of C list))

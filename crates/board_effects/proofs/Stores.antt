@@ -20,13 +20,13 @@ use Rattle.values.specs.declared.map.Element.{Element}
 use Rattle.values.specs.declared.value.Scalar.{Scalar}
 use Rattle.values.specs.declared.value.Value.{Value}
 use Rattle.board_instances.specs.Names.{datum_of, led_slot}
-use Rattle.board_compute.specs.Outcome.{of_leaf}
+use Rattle.board_work.specs.Outcome.{of_leaf}
 use Rattle.board_effects.specs.Effects.{GoesWell, IsStored, OpensBy, OpensNothing, lines_in, target_in, values_in}
 use Rattle.board_effects.specs.Ended.{Ends, FailsWith, IsEnded, act_of, cells_of, code_of, frames_of, job_of}
 use Rattle.board_effects.specs.Fits.{gives_elements, gives_scalar}
 use Rattle.board_effects.specs.declared.effect.Effect.{Effect}
 use Rattle.board_effects.specs.declared.effect.Effect.TheVariants as To
-use Rattle.board_effects.specs.declared.effect.Ended.{Ended}
+use Rattle.board_effects.specs.declared.effect.EndingItem.{EndingItem}
 use Rattle.board_effects.proofs.Ends.{elements_clash, elements_end, scalar_ends, shown_ends, tested_ends}
 use Rattle.board_effects.proofs.Values.{fails_ends, in_order, key_none, key_some, none_there, some_there, there}
 
@@ -46,7 +46,7 @@ only_tests (Acts.Range lo hi s w) k nc ns nf np = absurd (cc k)
 only_tests (Acts.Each w) k nc ns nf np = absurd (cc k)
 only_tests (Acts.Wait hs b) k nc ns nf np = absurd (cc k)
 
-module _ (p : Ended) (w : IsEnded p) where
+module _ (p : EndingItem) (w : IsEnded p) where
   abbrev pub at : Option ℕ
   at = datum_of (led_slot (frames_of p) p.view.at p.table.now.target)
 

@@ -14,7 +14,7 @@ use Rattle.values.specs.declared.value.Scalar.{Scalar}
 use Rattle.board_effects.specs.Effects.{GoesWrong}
 use Rattle.board_effects.specs.Ended.{Ends, FailsWith, cells_of, code_of, frames_of, job_of}
 use Rattle.board_effects.specs.declared.effect.Effect.{Effect}
-use Rattle.board_effects.specs.declared.effect.Ended.{Ended}
+use Rattle.board_effects.specs.declared.effect.EndingItem.{EndingItem}
 
 -- of what a call gives, where it gives something
 pub ok_map : {A E : Type 0} (P Q : A → Type 0) (r : Result A E) → ((x : A) → P x → Q x) → IfOk r P → IfOk r Q
@@ -57,5 +57,5 @@ pub in_order : (es : List Element) → rising es ≡ true → in_key_order (pair
 in_order es h = ap rising (elements_back es) ∙ h
 
 -- a fault that is met
-pub fails_ends : (p : Ended) (x : Computed) (f : Fault EntryFault) (e : Effect) → GoesWrong (code_of p) (frames_of p) (cells_of p) (job_of p) x f → FailsWith p f e → Ends p x e
+pub fails_ends : (p : EndingItem) (x : Computed) (f : Fault EntryFault) (e : Effect) → GoesWrong (code_of p) (frames_of p) (cells_of p) (job_of p) x f → FailsWith p f e → Ends p x e
 fails_ends p x f e g r = subst (λ (y : Effect). Ends p x y) (sym r.is) (subst (λ (y : Fault EntryFault). GoesWrong (code_of p) (frames_of p) (cells_of p) (job_of p) x y) (sym r.kind_is) g, r.met)

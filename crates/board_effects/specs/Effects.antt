@@ -1,4 +1,4 @@
--- What an item does when it ends, told by what it computed.
+-- The effect of an item at its end, by what it computed.
 use Rattle.std.specs.Prelude.{◌≡◌, ◌≤◌, ℕ, true, List, [], ◌∷◌, length, map, reverse, Option, Some, None, if◌then◌else◌}
 use Rattle.std.specs.List.{filter}
 use Rattle.dataflow.specs.Machine.{ElementTwice, Fault, OfTask}
@@ -24,12 +24,12 @@ use Rattle.board_data.specs.Wanted.{FewSlots}
 use Rattle.board_instances.specs.View.{step_view}
 use Rattle.paths.specs.declared.faults.FaultKind.{FaultKind}
 use Rattle.paths.specs.declared.faults.FaultKind.TheVariants as Kind
-use Rattle.paths.specs.declared.statements.Statement.{Statement}
+use Rattle.paths.specs.declared.statements.StatementInstance.{StatementInstance}
 use Rattle.board_effects.specs.Openings.{AreOpenings}
 use Rattle.board_effects.specs.declared.effect.Effect.{Effect}
 use Rattle.board_effects.specs.declared.effect.Effect.TheVariants.{Fails, Inserts, Opens, Prints, Puts, Stores}
 
--- what went wrong, as the machine has it
+-- a fault kind as the machine's fault
 abbrev pub kind_of_fault : FaultKind → Fault EntryFault
 kind_of_fault Kind.Overflow = OfTask (InOperation Op.Overflow)
 kind_of_fault Kind.DivideByZero = OfTask (InOperation Op.DivideByZero)
@@ -40,7 +40,7 @@ kind_of_fault Kind.TooDeep = OfTask TooDeep
 kind_of_fault Kind.NotANumber = OfTask (InOperation Op.NotANumber)
 kind_of_fault Kind.AssertFailed = OfTask (InOperation Op.AssertFailed)
 
--- the datum that it stores into, what it stores there, and what it prints
+-- the datum that an effect stores into, what it stores there, and what it prints
 abbrev pub target_in : Effect → Option ℕ
 target_in (Stores d v) = d
 target_in (Puts d k v) = d
@@ -57,7 +57,8 @@ abbrev pub lines_in : Effect → List Scalar
 lines_in (Prints v) = v ∷ []
 lines_in _ = []
 
--- the data take what is stored: a scalar is one, and an array may be written, has none of the keys, and, where it has room, takes the elements
+-- the data take what is stored: a scalar target is a scalar; an array may be written, has none of the keys, and takes
+-- the elements if it has room
 abbrev pub CanStore : Effect → Store → Type 0
 CanStore (Stores d v) s = IsScalarTarget d s
 CanStore (Puts d k v) s = (n : ℕ) → d ≡ Some n → HasPlacesFor (element k v ∷ []) (array_at s n) → Takes n (element k v ∷ []) s
@@ -76,18 +77,18 @@ abbrev pub fault_of : Task → Effect → Option (Task × Fault EntryFault)
 fault_of t (Fails f) = Some (t, kind_of_fault f.kind)
 fault_of t _ = None
 
--- there is an effect, and no fault in place of it
+-- there is an effect, and not a fault
 abbrev pub IsGood : Outcome Task Place Key Scalar EntryFault → Type 0
 IsGood o = (e : PureEffect Task Place Key Scalar) × (o ≡ Good e)
 
 module _ (C : Code) where
-  -- what comes of a task that computed this
+  -- the outcome of a task that computed this
   abbrev pub outcome_for : Task → Computed → Outcome Task Place Key Scalar EntryFault
   outcome_for Main x = Good (record { writes = []; lines = []; opens = block C (0, []) ∷ [] })
   outcome_for (Item i p c) x = outcome_of x (is_too_deep (entry C i).act p (instances (entry C i).act (entry C i).mark p c x)) (effect_at C i p c x)
 
   module _ (fs : List (Option Frame)) where
-    -- the instance of an item is there, with what is worked out of its entry
+    -- the instance of an item exists, with the table of its entry
     pub record IsAtWork (instance number : ℕ) (e : Entry) (table : EntryTable) : Type 0 where
       pub frame : Frame
       pub there : slot_at fs instance ≡ Some frame
@@ -97,16 +98,16 @@ module _ (C : Code) where
       pub table_is : IsEntryTable C frame.body number table
 
     -- the statement of a job
-    abbrev pub IsStatementOf : Job → Statement → Type 0
+    abbrev pub IsStatementOf : Job → StatementInstance → Type 0
     IsStatementOf Script s = ⊥
     IsStatementOf (Does k i c) s = (s.at ≡ (entry C i).at) × (map step_view s.path.items ≡ reverse (path_of fs k))
 
-    -- a name that the entry of a job stores into stands for the datum
+    -- a name that the entry of a job stores into has this datum
     abbrev pub IsTarget : Job → ℕ → Type 0
     IsTarget Script d = ⊥
     IsTarget (Does k i c) d = (r : Name) × In r (stored_of (entry C i).node (entry C i).act) × (job_slot C (layout_of C) fs (Does k i c) r ≡ DatumOf d)
 
-    -- no block is opened, and no item goes on with a loop
+    -- no block is opened, and no item continues a loop
     pub record OpensNothing (j : Job) (x : Computed) : Type 0 where
       pub none : filter (has_entries C) (opened C (task_of fs j) x) ≡ []
       pub ends : rests C (task_of fs j) x ≡ []
@@ -116,7 +117,7 @@ module _ (C : Code) where
     OpensBy j x _ = OpensNothing j x
 
     module _ (cs : List (Option Counted)) where
-      -- an element that it would store is there
+      -- an element that it would store is already present
       pub record Clashes (j : Job) (x : Computed) : Type 0 where
         pub key : ℕ
         pub element : Key × Scalar
@@ -126,12 +127,12 @@ module _ (C : Code) where
         pub stores : In element (job_stores C (layout_of C) fs j x key)
         pub has : cell_element element.0 (slot_at cs key) ≡ Some older
 
-      -- what goes wrong: a fault of its own, or an element that is there already
+      -- a fault: one of its own, or an element that is already present
       abbrev pub GoesWrong : Job → Computed → Fault EntryFault → Type 0
       GoesWrong j x (OfTask f) = outcome_for (task_of fs j) x ≡ Bad f
       GoesWrong j x ElementTwice = IsGood (outcome_for (task_of fs j) x) × Clashes j x
 
-      -- nothing goes wrong: this is stored, printed and opened
+      -- there is no fault: this is stored, printed and opened
       pub record GoesWell (j : Job) (x : Computed) (e : Effect) : Type 0 where
         pub good : IsGood (outcome_for (task_of fs j) x)
         pub apart : Clashes j x → ⊥
@@ -142,7 +143,7 @@ module _ (C : Code) where
         pub lines : printed C j x ≡ lines_in e
         pub opens : OpensBy j x e
 
-      -- what the item of a job does that computed this
+      -- the effect of the item of a job that computed this
       abbrev pub IsEffect : Job → Computed → Effect → Type 0
       IsEffect j x (Fails f) = GoesWrong j x (kind_of_fault f.kind) × IsStatementOf j f.statement
       IsEffect j x e = GoesWell j x e

@@ -1,4 +1,4 @@
--- What entries can compute, by what they do.
+-- The results that entries can compute, by their act.
 use Rattle.std.specs.Prelude.{Bool, true, false, ◌||◌, Option, Some, None}
 use Rattle.task_code.specs.Code.{Act, Assert, Call, Cell, Copy, Fill, If, Loop, Print, Put, Read, Set, Wait, loop_of}
 use Rattle.task_code.specs.Compute.{Computed, Fails, Gives, Inserts, Opens, Takes, Turns}
@@ -17,7 +17,7 @@ gives_elements (Copy r) = true
 gives_elements (Put r i e) = true
 gives_elements _ = false
 
--- it only shows or tests its value
+-- it only prints or tests its value
 abbrev pub keeps_nothing : Act → Bool
 keeps_nothing (Print e) = true
 keeps_nothing (Assert e) = true
@@ -37,7 +37,7 @@ abbrev pub is_some_loop : Option Loop → Bool
 is_some_loop None = false
 is_some_loop (Some w) = true
 
--- an entry that does this can compute it
+-- an entry with this act can compute this
 abbrev pub fits : Act → Computed → Bool
 fits a (Fails f) = true
 fits a (Gives v) = gives_scalar a || keeps_nothing a

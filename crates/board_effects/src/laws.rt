@@ -1,4 +1,4 @@
-//! What the effect of an item tells of the state of a history.
+//! Theorems that relate the effect of an item to the state of a history.
 ghost use Rattle.std.specs.Prelude.{◌≡◌, ◌++◌, ◌∷◌, [], ℕ, List, Some};
 ghost use Rattle.dataflow.specs.Machine.{End, Event, SeesAll};
 ghost use Rattle.dataflow.specs.System.{Answer};
@@ -21,8 +21,10 @@ ghost use Rattle.board_program.specs.declared.program.EntryTable.{EntryTable as 
 ghost use Rattle.board_data.specs.Wanted.{FewSlots};
 ghost use Rattle.board_effects.specs.declared.effect.Effect.{Effect as AnEffect};
 
-/// Where the fields stand for the state of a history and the item of a number ends, which saw these answers: the next state has
-/// the fault of the item's effect, at its task, and none where the effect is no fault.
+/// States that the effect of an item that ends determines the fault of the next state.
+///
+/// The fields stand for the state of a history, and the item has seen these answers. The next state has the fault of
+/// the effect, at the task of the item, and no fault if the effect is none.
 pub fn effects_tell()
     ensures { (C : Code) → IsCode C → (events : List Event) (F : Fields) (x : Stands C (layout_of C) events F) →
         (w n : ℕ) (t : CodeState) → replayed C (events ++ End w n ∷ []) ≡ Some t → (row : Row) → row_of F.rows n ≡ Some row →
@@ -31,15 +33,16 @@ pub fn effects_tell()
         t.fault ≡ fault_of (task_of F.frames row.job) e }
 {}
 
-/// Where the fields stand for the state of a history, the instance of each item that has not ended is there, and the table of its
-/// entry's number is the entry's own.
+/// States that the instance of each item that has not ended exists. The table with the number of its entry is the table
+/// of that entry. The fields stand for the state of a history.
 pub fn items_at_work()
     ensures { (C : Code) → IsCode C → (events : List Event) (F : Fields) → Stands C (layout_of C) events F → FewSlots F.frames →
         (n k i c : ℕ) (row : Row) → row_of F.rows n ≡ Some row → row.job ≡ Does k i c → (row.mark ≡ Over → ⊥) →
         (e : PureEntry) → e ≡ entry_of C i → (table : ATable) → IsEntryTable C (body_of C i) i table → IsAtWork C F.frames k i e table }
 {}
 
-/// Where an item ends as in `effects_tell`: the datum that the effect stores into takes what is stored, where there is room.
+/// States that the target datum of an effect takes the values to be stored, if there is room. The item ends under the
+/// premises of `effects_tell`.
 pub fn effects_fit()
     ensures { (C : Code) → IsCode C → (events : List Event) (F : Fields) (x : Stands C (layout_of C) events F) →
         (w n : ℕ) (t : CodeState) → replayed C (events ++ End w n ∷ []) ≡ Some t → (row : Row) → row_of F.rows n ≡ Some row →

@@ -1,4 +1,4 @@
-//! Elements of an array that are there, and elements that are to come.
+//! Tests for keys that are already present in an array, and copies of elements.
 ghost use Rattle.std.specs.Prelude.{◌≡◌, IfOk};
 ghost use Rattle.std.specs.List.{list_any};
 ghost use Rattle.board_history.specs.Fields.{slot_at};
@@ -12,7 +12,7 @@ use std::alloc::{AllocError, Global};
 use values::key::Key;
 use values::map::Element;
 
-/// Whether the array has an element under this key.
+/// Returns true if the array has an element under this key.
 #[tactic(auto, using(board_data::proofs::Cells::element_there, crate::proofs::Found::is_found))]
 pub(crate) fn has_key(store: &Store, d: usize, key: &Key) -> bool
     ensures { result ≡ has (cell_element key.now (slot_at (cells_view store.now.cells) d)) }
@@ -20,7 +20,7 @@ pub(crate) fn has_key(store: &Store, d: usize, key: &Key) -> bool
     element(store, d, key.as_ref()).is_some()
 }
 
-/// Whether it has an element under one of these keys.
+/// Returns true if the array has an element under one of these keys.
 pub(crate) fn has_any(store: &Store, d: usize, elements: &[Element]) -> bool
     ensures { result ≡ list_any (λ (e : AnElement). has (cell_element e.key (slot_at (cells_view store.now.cells) d))) elements.now }
 {
@@ -32,7 +32,7 @@ pub(crate) fn has_any(store: &Store, d: usize, elements: &[Element]) -> bool
     false
 }
 
-/// The same elements, each by itself.
+/// Returns a list of the same elements. Texts are shared.
 pub(crate) fn copied(alloc: Global, elements: &[Element]) -> Result<Vec<Element>, AllocError>
     ensures { IfOk result (λ copies. copies.items ≡ elements.now) }
 {

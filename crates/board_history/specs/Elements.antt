@@ -1,4 +1,4 @@
--- Elements of an array by rising keys, and the tests of code.
+-- Elements of an array by ascending keys, and the tests of code.
 use Rattle.std.specs.Prelude.{[], ◌∷◌, if◌then◌else◌}
 use Rattle.board_history.specs.Replay.{Tests}
 use Rattle.task_code.specs.Compute.{Elements}
@@ -7,7 +7,7 @@ use Rattle.values.specs.Keys.{key_below, same_key}
 use Rattle.values.specs.declared.key.Key.{Key}
 use Rattle.values.specs.declared.value.Scalar.{Scalar}
 
--- an element put among elements by rising keys; of two with one key the one that was there stays
+-- inserts an element into elements by ascending keys; an element already present under the same key stays
 abbrev pub put_in : Key × Scalar → Elements → Elements
 put_in e [] = e ∷ []
 put_in e (x ∷ xs) = if key_below e.0 x.0 then e ∷ x ∷ xs else (if same_key e.0 x.0 then x ∷ xs else x ∷ put_in e xs)
@@ -16,6 +16,6 @@ abbrev pub by_key : Elements → Elements
 by_key [] = []
 by_key (x ∷ xs) = put_in x (by_key xs)
 
--- what can be told of places, keys and elements of code
+-- the comparisons of places, keys and elements of code
 abbrev pub code_tests : Tests Place Key Scalar
 code_tests = record { same_place = place_eq; same_key = same_key; listing = by_key }

@@ -1,4 +1,4 @@
--- What an End without fault does to the fields of a board.
+-- The fields of a board after an End without fault.
 use Rattle.std.specs.Prelude.{◌≡◌, ◌⊎◌, ℕ, ℤ, pos, zero, suc, ◌+◌, ◌-◌, ◌<◌, Bool, true, false, ◌||◌, List, [], ◌∷◌, ◌++◌, map, length, drop, Option, Some, None, nat_eq, if◌then◌else◌}
 use Rattle.std.specs.List.{flat_map, filter}
 use Rattle.dataflow.specs.System.{Answer, Distinct, Effect, Good, In, Opening, System, tasks_of}
@@ -16,12 +16,12 @@ use Rattle.values.specs.declared.key.Key.{Key}
 use Rattle.values.specs.declared.value.Scalar.{Scalar}
 use Rattle.values.specs.Limits.{chunk_size}
 
--- the number is one of the list
+-- the number is in the list
 abbrev pub is_one : ℕ → List ℕ → Bool
 is_one n [] = false
 is_one n (m ∷ ms) = nat_eq n m || is_one n ms
 
--- the mark of a row afterwards: the item's own is over, and those newly enabled are ready
+-- the mark of a row afterwards: the item's own is over, and the newly enabled ones are ready
 abbrev pub mark_after : (number : ℕ) → (newly : List ℕ) → ℕ → Mark → Mark
 mark_after n newly k m = if nat_eq k n then Over else (if is_one k newly then Ready else m)
 
@@ -34,17 +34,18 @@ marked_by f k (r ∷ rs) = record { job = r.job; mark = f k r.mark } ∷ marked_
 abbrev pub new_row : Job → Row
 new_row j = record { job = j; mark = Waiting }
 
--- all rows afterwards: those of new items stand behind the others
+-- all rows afterwards: those of new items follow the old ones
 abbrev pub ended_rows : List Row → (number : ℕ) → (newly : List ℕ) → List Job → List Row
 ended_rows rows n newly jobs = marked_by (mark_after n newly) 1 (rows ++ map new_row jobs)
 
--- with other instances, the other items have the same tasks, and the new jobs are the tasks that were opened, in order
+-- with other instances, the other items have the same tasks, and the new jobs are the opened tasks, in order
 pub record TasksStay (fs gs : List (Option Frame)) (rows : List Row) (number : ℕ) (jobs : List Job) (tasks : List Task) : Type 0 where
   pub others : (m : ℕ) (r : Row) → row_of rows m ≡ Some r → (r.mark ≡ Over → ⊥) → (m ≡ number → ⊥) → task_of gs r.job ≡ task_of fs r.job
   pub opened : map (task_of gs) jobs ≡ tasks
 
 module _ {T D K V E : Type 0} (S : System T D K V E) where
-  -- the item that ran on the worker is gone, its lines are printed, the items that it opens stand behind the others, numbered on, and only data that are free leave
+  -- the item that ran on the worker is removed and its lines are printed; the items that it opens follow the others,
+  -- with the next numbers; only free data are removed
   pub record OpensItems (s : State T D K V E) (worker number : ℕ) (t : State T D K V E) : Type 0 where
     pub before : List (Item T)
     pub item : Item T
@@ -66,17 +67,17 @@ pub record Sets {X : Type 0} (fs : List (Option X)) (key : ℕ) (value : Option 
   pub here : slot_at gs key ≡ value
   pub others : (k : ℕ) → (k ≡ key → ⊥) → slot_at gs k ≡ slot_at fs k
 
--- the same under every key
+-- the same value under every key
 abbrev pub SameSlots : {X : Type 0} → List (Option X) → List (Option X) → Type 0
 SameSlots fs gs = (k : ℕ) → slot_at gs k ≡ slot_at fs k
 
--- an instance that is made: its key, its body and its path
+-- a new instance: its key, its body and its path
 pub record Instance : Type 0 where
   pub key : ℕ
   pub body : ℕ
   pub path : List Step
 
--- the instance that a job's item is of
+-- the instance of a job
 abbrev pub home : Job → Option ℕ
 home Script = None
 home (Does k e c) = Some k
@@ -85,7 +86,7 @@ abbrev pub is_home : Option ℕ → ℕ → Bool
 is_home None k = false
 is_home (Some j) k = nat_eq j k
 
--- the path and the level inside of an instance, if there is one around
+-- the path and the level inside an instance, if there is one around
 abbrev pub path_around : List (Option Frame) → Option ℕ → List Step
 path_around fs None = []
 path_around fs (Some k) = path_of fs k
@@ -94,27 +95,27 @@ abbrev pub level_inside : List (Option Frame) → Option ℕ → ℕ
 level_inside fs None = 0
 level_inside fs (Some k) = suc (level_of (slot_at fs k))
 
--- with so many more items or instances inside
+-- the instance with this live count
 abbrev pub with_live : ℕ → Frame → Frame
 with_live n f = record { parent = f.parent; level = f.level; depth = f.depth; way = f.way; body = f.body; live = n; slots = f.slots }
 
--- one less is inside of an instance; one that has nothing inside any more goes, and then one less is inside of the one around it
+-- the live count of an instance is one less; an instance without live children is removed, which repeats outwards
 pub data TakenOff (gs : List (Option Frame)) : List (Option Frame) → Option ℕ → Type 0 where
   outside : (fs : List (Option Frame)) (at : Option ℕ) → at ≡ None → SameSlots fs gs → TakenOff gs fs at
   stays : (fs : List (Option Frame)) (at : Option ℕ) (k n : ℕ) (f : Frame) → at ≡ Some k → slot_at fs k ≡ Some f → f.live ≡ suc (suc n) → Sets fs k (Some (with_live (suc n) f)) gs → TakenOff gs fs at
   goes : (fs hs : List (Option Frame)) (at : Option ℕ) (k : ℕ) (f : Frame) → at ≡ Some k → slot_at fs k ≡ Some f → f.live ≡ 1 → Sets fs k None hs → TakenOff gs hs f.parent → TakenOff gs fs at
 
--- a datum with its counts, which is gone where both are 0
+-- a datum with its counts, which is removed if both are 0
 abbrev pub kept_cell : (reads writes : ℕ) → Content → Option Counted
 kept_cell r w c = if nat_eq (r + w) 0 then None else Some (record { reads = r; writes = w; content = c })
 
--- a slot stands for the datum
+-- a slot has the datum
 abbrev pub slot_is : ℕ → Slot → Bool
 slot_is d Absent = false
 slot_is d (DatumOf e) = nat_eq d e
 slot_is d (LiteralOf e k) = false
 
--- how often the names stand for it, and what the holds come to for it
+-- the number of names with this datum, and the number of holds on it
 abbrev pub named_times : (Name → Slot) → ℕ → List Name → ℕ
 named_times f d [] = 0
 named_times f d (r ∷ rs) = (if slot_is d (f r) then 1 else 0) + named_times f d rs
@@ -123,7 +124,7 @@ abbrev pub held_times : (Name → Slot) → ℕ → List Hold → ℕ
 held_times f d [] = 0
 held_times f d (h ∷ hs) = (if slot_is d (f h.name) then h.count else 0) + held_times f d hs
 
--- what is stored by an item, and where: elements, or a scalar under the one key of scalars
+-- the values that an item stores, and their target: elements, or a scalar under the one key of scalars
 abbrev pub stored_values : Computed → Elements
 stored_values (Fails f) = []
 stored_values (Gives v) = (only, v) ∷ []
@@ -135,7 +136,7 @@ stored_values Opens = []
 abbrev pub stored_by : (Name → Slot) → Computed → ℕ → List Name → Elements
 stored_by f x d rs = flat_map (λ r. if slot_is d (f r) then stored_values x else []) rs
 
--- the content of a datum into which this is stored
+-- the content of a datum after these values are stored
 abbrev pub ContentAfter : Content → Elements → Content → Type 0
 ContentAfter Unset [] c = c ≡ Unset
 ContentAfter Unset (x ∷ xs) c = c ≡ Holding x.1
@@ -147,54 +148,54 @@ abbrev pub empty_content : Bool → Content
 empty_content false = Unset
 empty_content true = Mapping []
 
--- what a variable of a loop's turn stores from the start
+-- the initial content of a variable of a loop's turn
 abbrev pub turn_content : Loop → Key × Scalar → Variable → Content
 turn_content w t v = if variable_eq v (scalar w.value) then Holding t.1 else elim w.turn [ None ↦ empty_content v.array | Some n ↦ if variable_eq v (scalar n) then Holding (key_scalar t.0) else empty_content v.array ]
 
--- these, or others where there are none
+-- the first list, or the second if the first is empty
 abbrev pub or_else : {X : Type 0} → List X → List X → List X
 or_else [] ys = ys
 or_else (x ∷ xs) ys = x ∷ xs
 
--- some are left
+-- the turns that remain
 abbrev pub turns_after : Computed → (chunk : ℕ) → Option Elements → Option Elements
 turns_after x zero kept = Some (drop chunk_size (turns_of x))
 turns_after x (suc c) None = None
 turns_after x (suc c) (Some ts) = Some (drop chunk_size ts)
 
--- what a new item keeps of them
+-- the turns that a new item keeps
 abbrev pub turns_of_new : Computed → Option Elements → Job → Option Elements
 turns_of_new x kept Script = None
 turns_of_new x kept (Does k e zero) = None
 turns_of_new x kept (Does k e (suc c)) = turns_after x c kept
 
--- the job of the item that goes on with a loop
+-- the job of the item for the rest of a loop
 abbrev pub rest_jobs : Job → List (Opening Task Place) → List Job
 rest_jobs Script os = []
 rest_jobs (Does k e c) os = map (λ o. Does k e (suc c)) os
 
--- the item itself leaves its instance, unless another goes on with its loop
+-- the item leaves its instance, unless another continues its loop
 abbrev pub leaving : Job → List (Opening Task Place) → Option ℕ
 leaving j [] = home j
 leaving j (o ∷ os) = None
 
--- what it stores from the start: a loop gives its turn's variables their values
+-- the initial content: a loop gives its turn's variables their values
 abbrev pub StartsBy : List Step → (mark chunk : ℕ) → Computed → Instance → Variable → Content → Option Loop → Type 0
 StartsBy p mark n x m v c None = c ≡ empty_content v.array
 StartsBy p mark n x m v c (Some w) = (t : Key × Scalar) × In t (chunk n (turns_of x)) × (m.path ≡ step_at mark t.0 p) × (c ≡ turn_content w t v)
 
--- those newly enabled: the rows that waited, or are new, and for which nobody waits now
+-- the newly enabled items: the rows that waited or are new, and have no missing input now
 pub record NewlyAfter (G : Fields) (rows : List Row) : Type 0 where
   pub once : Distinct G.newly
   pub all : (m : ℕ) (r : Row) → row_of rows m ≡ Some r → r.mark ≡ Waiting → ((w : Waiter) → In w G.waiting → w.item ≡ m → ⊥) → In m G.newly
   pub only : (m : ℕ) → In m G.newly → (r : Row) × (row_of rows m ≡ Some r) × (r.mark ≡ Waiting) × ((w : Waiter) → In w G.waiting → w.item ≡ m → ⊥)
 
--- the item that goes on with a loop keeps the turns that are left; the other items keep what they kept
+-- the item for the rest of a loop keeps the remaining turns; the other items keep theirs
 pub record TurnsAfter (F G : Fields) (n : ℕ) (x : Computed) (rows : List Row) : Type 0 where
   pub others : (m : ℕ) (r : Row) → row_of F.rows m ≡ Some r → (r.mark ≡ Over → ⊥) → (m ≡ n → ⊥) → G.turns m ≡ F.turns m
   pub new : (m : ℕ) (r : Row) → length F.rows < m → row_of rows m ≡ Some r → G.turns m ≡ turns_of_new x (F.turns n) r.job
 
--- who runs a job, and its priority
+-- the kind of a job, and its priority
 module _ (C : Code) where
   abbrev pub job_kind : Job → Kind
   job_kind Script = Control
@@ -208,7 +209,7 @@ module _ (C : Code) where
   abbrev pub has_entries : ℕ × List Step → Bool
   has_entries s = is_some_list (body C s.0).entries
 
-  -- the instances that are made: one for each block with entries that the end of the task opens, in order
+  -- the new instances: one for each block with entries that the end of the task opens, in order
   abbrev pub AreMade : List Instance → Task → Computed → Type 0
   AreMade made t x = map (λ (m : Instance). (m.body, m.path)) made ≡ filter has_entries (opened C t x)
 
@@ -216,7 +217,7 @@ module _ (C : Code) where
   abbrev pub made_jobs : List Instance → List Job
   made_jobs made = flat_map (λ (m : Instance). map (λ e. Does m.key e 0) (body C m.body).entries) made
 
-  -- an instance that is made: inside of the item's own
+  -- a new instance, nested in the item's own
   pub record NewFrame (fs : List (Option Frame)) (around : Option ℕ) (m : Instance) (f : Frame) : Type 0 where
     pub parent : f.parent ≡ around
     pub level : f.level ≡ level_inside fs around
@@ -225,7 +226,8 @@ module _ (C : Code) where
     pub body_is : f.body ≡ m.body
     pub live : f.live ≡ length (body C m.body).entries
 
-  -- the instances afterwards, before the item leaves its own: those that are made have new keys, and one around has so many more inside
+  -- the instances afterwards, before the item leaves its own: new ones have new keys, and the live count of the one
+  -- around has grown by their number
   pub record FramesOpen (fs : List (Option Frame)) (around : Option ℕ) (made : List Instance) (gs : List (Option Frame)) : Type 0 where
     pub fresh : (m : Instance) → In m made → slot_at fs m.key ≡ None
     pub keys : Distinct (map (λ (m : Instance). m.key) made)
@@ -233,7 +235,7 @@ module _ (C : Code) where
     pub old : (k : ℕ) (f : Frame) → slot_at fs k ≡ Some f → slot_at gs k ≡ Some (with_live (f.live + (if is_home around k then length made else 0)) f)
     pub only : (k : ℕ) (g : Frame) → slot_at gs k ≡ Some g → ((f : Frame) × (slot_at fs k ≡ Some f)) ⊎ ((m : Instance) × In m made × (m.key ≡ k))
 
-  -- the queue: the numbers that were in it, and those newly enabled, each in the part of its row's kind and priority
+  -- the queue: the numbers that were in it, and the newly enabled ones, each in the part of its row's kind and priority
   pub record QueueAfter (F G : Fields) : Type 0 where
     pub kept : (k : Kind) (z : ℤ) (m : ℕ) → In m (F.queue k z) → In m (G.queue k z)
     pub added : (m : ℕ) (r : Row) → row_of G.rows m ≡ Some r → In m G.newly → In m (G.queue (job_kind r.job) (job_priority r.job))
@@ -245,12 +247,12 @@ module _ (C : Code) where
   job_names rights Script = []
   job_names rights (Does k e c) = rights (entry C e)
 
-  -- what it stores from the start
+  -- the initial content
   abbrev pub StartsAs : List (Option Frame) → Job → Computed → Instance → Variable → Content → Type 0
   StartsAs fs Script x m v c = c ≡ empty_content v.array
   StartsAs fs (Does k e n) x m v c = StartsBy (path_of fs k) (entry C e).mark n x m v c (loop_of (entry C e).act)
 
-  -- the jobs of all new items, and all rows with theirs
+  -- the jobs of all new items, and the printed lines
   abbrev pub jobs_after : List Instance → Job → List (Opening Task Place) → List Job
   jobs_after made j os = made_jobs made ++ rest_jobs j os
 
@@ -259,17 +261,18 @@ module _ (C : Code) where
   printed (Does k e c) x = prints (entry C e).act x
 
   module _ (L : Layout) where
-    -- what the names of a job stand for
+    -- the slots of the names of a job
     abbrev pub job_slot : List (Option Frame) → Job → Name → Slot
     job_slot fs Script r = Absent
     job_slot fs (Does k e c) r = elim (slot_at fs k) [ None ↦ Absent | Some f ↦ slot_for L fs k f.body r ]
 
-    -- the names of a new instance's entries stand for what the item's own names stand for, or for a literal that the item passes
+    -- the names of a new instance's entries have the slots of the item's own names, or of a literal argument that the
+    -- item passes
     pub record NamesLead (fs hs : List (Option Frame)) (k e c : ℕ) (m : Instance) : Type 0 where
       pub seen : (w : Way) (r s : Name) → In (w, m.body) (ways (entry C e).act) → In r (names_in C (λ x. x.reads ++ x.writes) m.body) → (Declared C m.body r → ⊥) → Seen C (entry C e).mark w r s → In s ((entry C e).reads ++ (entry C e).writes) → slot_for L hs m.key m.body r ≡ job_slot fs (Does k e c) s
       pub fixed : (n : ℕ) (b : Bool) (v : Scalar) → In (Calling, m.body) (ways (entry C e).act) → In (record { up = 0; owned = Parameter n b }) (names_in C (λ x. x.reads) m.body) → argument C (entry C e).mark n b ≡ Some (Fixed v) → slot_for L hs m.key m.body (record { up = 0; owned = Parameter n b }) ≡ LiteralOf e n
 
-    -- what the instances that are made add to the count of a datum, and what the item gives up
+    -- the holds that the new instances add to the count of a datum, and those that the item gives up
     abbrev pub added_times : (Entry → List Name) → List (Option Frame) → ℕ → List Instance → ℕ
     added_times rights hs d [] = 0
     added_times rights hs d (m ∷ ms) = held_times (slot_for L hs m.key m.body) d (outer_holds C rights m.body) + added_times rights hs d ms
@@ -278,12 +281,12 @@ module _ (C : Code) where
     given_times rights fs d j [] = named_times (job_slot fs j) d (job_names rights j)
     given_times rights fs d j (o ∷ os) = 0
 
-    -- what an item stores in a datum
+    -- the values that an item stores in a datum
     abbrev pub job_stores : List (Option Frame) → Job → Computed → ℕ → Elements
     job_stores fs Script x d = []
     job_stores fs (Does k e c) x d = stored_by (job_slot fs (Does k e c)) x d (stored_of (entry C e).node (entry C e).act)
 
-    -- a variable of a new instance for which there is a new datum: some entry names it
+    -- a variable of a new instance with a new datum: some entry names it
     pub record IsOwn (hs : List (Option Frame)) (m : Instance) (v : Variable) (d : ℕ) : Type 0 where
       pub declared : In v (body C m.body).makes
       pub named : 0 < own_count C (λ e. e.reads) m.body v + own_count C (λ e. e.writes) m.body v
@@ -298,7 +301,8 @@ module _ (C : Code) where
       pub starts : StartsAs fs j x m v content
       pub is : slot_at ds key ≡ Some (record { reads = own_count C (λ e. e.reads) m.body v; writes = own_count C (λ e. e.writes) m.body v; content = content })
 
-    -- a datum that was there: it stores what the item stored, the new instances are added to its counts, and what the item gives up is taken off; it is gone where both are 0
+    -- an old datum: it stores what the item stored, its counts gain the holds of new instances and lose those that the
+    -- item gives up; it is removed if both are 0
     pub record CellAfter (fs hs : List (Option Frame)) (j : Job) (x : Computed) (made : List Instance) (os : List (Opening Task Place)) (d : ℕ) (c : Counted) (now : Option Counted) : Type 0 where
       pub reads : ℕ
       pub writes : ℕ
@@ -315,31 +319,32 @@ module _ (C : Code) where
       pub apart : (m l : Instance) (v w : Variable) (d : ℕ) → In m made → In l made → IsOwn hs m v d → IsOwn hs l w d → (m.key ≡ l.key) × (v ≡ w)
       pub only : (d : ℕ) (c : Counted) → slot_at ds d ≡ Some c → ((b : Counted) × (slot_at cs d ≡ Some b)) ⊎ ((m : Instance) × (v : Variable) × In m made × IsOwn hs m v d)
 
-    -- what has become known: a scalar that was stored, an element, an array that nobody may write any more
+    -- the inputs that have become known: a stored scalar, an element, an array that no item may write any more
     pub record BecomesKnown (stored : ℕ → Elements) (cs ds : List (Option Counted)) (known : List (Want ℕ)) : Type 0 where
       pub sound : (w : Want ℕ) → In w known → is_known ds w ≡ true
       pub put : (d : ℕ) (c : Counted) (x : Key × Scalar) (xs : Elements) → slot_at cs d ≡ Some c → is_array_content c.content ≡ false → stored d ≡ x ∷ xs → In (Whole d) known
       pub inserted : (d : ℕ) (c : Counted) (k : Key) (v : Scalar) → slot_at cs d ≡ Some c → is_array_content c.content ≡ true → In (k, v) (stored d) → In (AnElement d (mark_of k)) known
       pub closed : (d : ℕ) (b c : Counted) → slot_at cs d ≡ Some b → slot_at ds d ≡ Some c → is_array_content b.content ≡ true → 0 < b.writes → c.writes ≡ 0 → In (Whole d) known
 
-    -- what a waiter misses afterwards: what is still missed; where that is nothing, what its item misses next
+    -- the missing inputs of a waiting item afterwards: those still missing; if there are none, those that its item
+    -- misses next
     abbrev pub missed_again : Fields → List Row → List (Want ℕ) → Waiter → List (Want ℕ)
     missed_again G rows known w = or_else (still_missed known w.missing) (elim (row_of rows w.item) [ None ↦ [] | Some r ↦ job_missed C L G r.job ])
 
-    -- what a new item misses; one that goes on with a loop misses nothing
+    -- the missing inputs of a new item; one for the rest of a loop has none
     abbrev pub missed_first : Fields → Job → List (Want ℕ)
     missed_first G Script = []
     missed_first G (Does k e zero) = job_missed C L G (Does k e zero)
     missed_first G (Does k e (suc c)) = []
 
-    -- those wait on that still miss something, and new items that miss something wait too
+    -- waiting items with missing inputs continue to wait, and new items with missing inputs wait too
     pub record WaitsAfter (F G : Fields) (rows : List Row) (known : List (Want ℕ)) : Type 0 where
       pub old : (w : Waiter) → In w F.waiting → (missed_again G rows known w ≡ [] → ⊥) → In (record { item = w.item; missing = missed_again G rows known w }) G.waiting
       pub new : (m : ℕ) (r : Row) → length F.rows < m → row_of rows m ≡ Some r → (missed_first G r.job ≡ [] → ⊥) → In (record { item = m; missing = missed_first G r.job }) G.waiting
       pub only : (w : Waiter) → In w G.waiting → (w.missing ≡ [] → ⊥) × (((v : Waiter) × In v F.waiting × (v.item ≡ w.item) × (w.missing ≡ missed_again G rows known v)) ⊎ ((r : Row) × (length F.rows < w.item) × (row_of rows w.item ≡ Some r) × (w.missing ≡ missed_first G r.job)))
       pub once : Distinct (map (λ (w : Waiter). w.item) G.waiting)
 
-    -- the fields after the item of a number has ended, which had this job and computed this
+    -- the fields after the item of a number has ended, with this job and this result
     pub record EndsTo (F : Fields) (n : ℕ) (j : Job) (x : Computed) (G : Fields) : Type 0 where
       pub made : List Instance
       pub made_are : AreMade made (task_of F.frames j) x

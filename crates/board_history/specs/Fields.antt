@@ -1,4 +1,4 @@
--- The fields of a board that is fast, as values: slabs are lists of slots, items are rows by number.
+-- The fields of a fast board, as values: slabs are lists of slots, items are rows by number.
 use Rattle.std.specs.Prelude.{ℕ, zero, suc, ◌+◌, Bool, true, false, List, [], ◌∷◌, Option, Some, None, ℤ, nat_eq, if◌then◌else◌}
 use Rattle.dataflow.specs.Machine.{Fault}
 use Rattle.task_code.specs.Code.{Argument, Code, Fixed, Kind, Named, Name, arguments, entry, nth}
@@ -14,13 +14,15 @@ slot_at [] k = None
 slot_at (x ∷ xs) zero = x
 slot_at (x ∷ xs) (suc k) = slot_at xs k
 
--- what a name of a block stands for in an instance: nothing, a datum by its key, or a literal that a call passes, by its entry and place
+-- the slot of a name in an instance: nothing, a datum by its key, or a literal argument of a call, by its entry and
+-- index
 pub data Slot : Type 0 where
   Absent : Slot
   DatumOf : (key : ℕ) → Slot
   LiteralOf : (entry place : ℕ) → Slot
 
--- an instance of a block: the one around it, how many are around it, the steps of its path, the step from the one around it (a wait's content has none), its body, how many items and instances it has, and what its names stand for
+-- an instance of a block: its enclosing instance, the number of these, and the length of its path; its last step, which
+-- the content of a wait does not have; its body, its live count, and its slots
 pub record Frame : Type 0 where
   pub parent : Option ℕ
   pub level : ℕ
@@ -30,14 +32,14 @@ pub record Frame : Type 0 where
   pub live : ℕ
   pub slots : List Slot
 
--- how far an item is
+-- the status of an item
 pub data Mark : Type 0 where
   Waiting : Mark
   Ready : Mark
   Running : (worker : ℕ) → Mark
   Over : Mark
 
--- what an item is for: it opens the script, or it is an entry in an instance
+-- the task of an item: it opens the script, or it is an entry in an instance
 pub data Job : Type 0 where
   Script : Job
   Does : (frame entry chunk : ℕ) → Job
@@ -46,7 +48,7 @@ pub record Row : Type 0 where
   pub job : Job
   pub mark : Mark
 
--- what a datum stores
+-- the content of a datum
 pub data Content : Type 0 where
   Unset : Content
   Holding : Scalar → Content
@@ -58,12 +60,12 @@ pub record Counted : Type 0 where
   pub writes : ℕ
   pub content : Content
 
--- what an item waits for: a scalar that is stored or an array that is closed, or an element
+-- an input of an item: a stored scalar or a closed array, or an element
 pub data Want (D : Type 0) : Type 0 where
   Whole : D → Want D
   AnElement : D → (mark : ℕ) → Want D
 
--- an item that waits, and what it misses, in the order of its inputs
+-- a waiting item, and its missing inputs, in order
 pub record Waiter : Type 0 where
   pub item : ℕ
   pub missing : List (Want ℕ)
@@ -81,7 +83,7 @@ pub record Fields : Type 0 where
   pub running : ℕ
   pub newly : List ℕ
 
--- where a compiler has put names: so many instances further out, at this slot
+-- the place of each name: n instances further out, at this slot
 pub record Layout : Type 0 where
   pub levels : (body : ℕ) → Name → ℕ
   pub slot : (body : ℕ) → Name → ℕ
@@ -103,12 +105,12 @@ level_of (Some f) = f.level
 abbrev pub path_of : List (Option Frame) → ℕ → List Step
 path_of fs k = path_from fs (suc (level_of (slot_at fs k))) (Some k)
 
--- the instance so many levels further out
+-- the instance n levels further out
 abbrev pub frame_up : List (Option Frame) → ℕ → ℕ → Option Frame
 frame_up fs zero k = slot_at fs k
 frame_up fs (suc n) k = elim (slot_at fs k) [ None ↦ None | Some f ↦ elim f.parent [ None ↦ None | Some j ↦ frame_up fs n j ] ]
 
--- what a name of an instance's body stands for
+-- the slot of a name of an instance's body
 abbrev pub slot_for : Layout → List (Option Frame) → ℕ → ℕ → Name → Slot
 slot_for l fs k b r = elim (frame_up fs (l.levels b r) k) [ None ↦ Absent | Some f ↦ nth Absent f.slots (l.slot b r) ]
 
@@ -143,7 +145,7 @@ abbrev pub items_from : List (Option Frame) → ℕ → List Row → List CodeIt
 items_from fs n [] = []
 items_from fs n (r ∷ rs) = item_before n (task_of fs r.job) r.mark (items_from fs (suc n) rs)
 
--- how many rows run, how many that are not over are of an instance, and how many instances it has inside
+-- the number of rows that run, of rows that are not over in an instance, and of instances directly inside one
 abbrev pub is_running : Mark → Bool
 is_running (Running w) = true
 is_running _ = false

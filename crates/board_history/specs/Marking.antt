@@ -1,4 +1,4 @@
--- What beginning an item, giving it back, and its fault do to the fields of a board.
+-- The fields of a board after an item begins, is given back, or meets a fault.
 use Rattle.std.specs.Ordering.{int_eq}
 use Rattle.std.specs.Prelude.{ℕ, zero, suc, ◌-◌, Bool, true, false, ◌&&◌, List, [], ◌∷◌, Some, ℤ, nat_eq, if◌then◌else◌}
 use Rattle.dataflow.specs.Machine.{Fault}
@@ -28,10 +28,10 @@ kind_eq Control Control = true
 kind_eq Leaf Leaf = true
 kind_eq _ _ = false
 
--- the row is ready again, its number goes back into its queue and is new there, and nothing else changes
+-- the row is ready again, its number returns to its queue and is newly enabled, and nothing else changes
 abbrev pub returned_fields : Fields → (number : ℕ) → Kind → ℤ → Fields
 returned_fields F n kind priority = record { frames = F.frames; rows = mark_at F.rows n Ready; cells = F.cells; waiting = F.waiting; turns = F.turns; queue = λ k z. if kind_eq kind k && int_eq priority z then n ∷ F.queue k z else F.queue k z; lines = F.lines; fault = F.fault; running = F.running - 1; newly = n ∷ [] }
 
--- the fault is recorded, and nothing else changes: the row runs for ever
+-- the fault is recorded, and nothing else changes: the row stays running
 abbrev pub faulted_fields : Fields → Task → Fault EntryFault → Fields
 faulted_fields F t f = record { frames = F.frames; rows = F.rows; cells = F.cells; waiting = F.waiting; turns = F.turns; queue = F.queue; lines = F.lines; fault = Some (t, f); running = F.running; newly = [] }

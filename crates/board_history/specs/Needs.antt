@@ -1,4 +1,4 @@
--- What an item of an instance misses, told by the fields of a board.
+-- The missing inputs of an item of an instance, computed from the fields of a board.
 use Rattle.std.specs.Prelude.{ℕ, Bool, true, false, ◌&&◌, ◌||◌, not, List, [], ◌∷◌, Option, Some, None, nat_eq, if◌then◌else◌}
 use Rattle.std.specs.List.{flat_map, filter}
 use Rattle.board_history.specs.Fields.{Absent, AnElement, Content, Counted, DatumOf, Does, Fields, Holding, Job, Layout, LiteralOf, Mapping, Script, Slot, Unset, Want, Whole, literal, slot_at, slot_for}
@@ -9,7 +9,7 @@ use Rattle.values.specs.Keys.{mark_of, same_key}
 use Rattle.values.specs.declared.key.Key.{Key}
 use Rattle.values.specs.declared.value.Scalar.{Scalar}
 
--- the value of a scalar, once there is one, and the elements of an array
+-- the value of a scalar, or None if it has none yet, and the elements of an array
 abbrev pub value_in : Content → Option Scalar
 value_in Unset = None
 value_in (Holding v) = Some v
@@ -30,7 +30,7 @@ abbrev pub found : Key → Elements → Option Scalar
 found k [] = None
 found k (x ∷ xs) = if same_key k x.0 then Some x.1 else found k xs
 
--- of a datum that may be gone: its value, its element at a key, and that nobody may write it
+-- for a datum that may have been removed: its value, its element at a key, and whether no item may write it
 abbrev pub cell_value : Option Counted → Option Scalar
 cell_value None = None
 cell_value (Some c) = value_in c.content
@@ -43,7 +43,7 @@ abbrev pub is_shut : Option Counted → Bool
 is_shut None = true
 is_shut (Some c) = nat_eq c.writes 0
 
--- what is missed of a scalar, of a whole array and of an element
+-- the missing inputs of a scalar, of a whole array and of an element
 abbrev pub scalar_missed : List (Option Counted) → Slot → List (Want ℕ)
 scalar_missed cs Absent = []
 scalar_missed cs (LiteralOf e k) = []
@@ -59,7 +59,7 @@ element_missed cs Absent k = []
 element_missed cs (LiteralOf e n) k = []
 element_missed cs (DatumOf d) k = element_wanted (cell_element k (slot_at cs d)) (is_shut (slot_at cs d)) d (mark_of k)
 
--- the index comes first: its own value, or a literal
+-- the index is missing first: its own value, or a literal
 abbrev pub indexed_missed : List (Option Counted) → ℕ → ℕ → Option Scalar → List (Want ℕ)
 indexed_missed cs a i None = Whole i ∷ []
 indexed_missed cs a i (Some v) = element_missed cs (DatumOf a) (key_of v)
@@ -79,19 +79,19 @@ module _ (C : Code) where
   at_missed cs (LiteralOf e k) i = []
   at_missed cs (DatumOf a) i = index_missed cs a i
 
-  -- what is missed of one need, by what its names stand for
+  -- the missing inputs of one need, by the slots of its names
   abbrev pub missed : List (Option Counted) → (Name → Slot) → Need → List (Want ℕ)
   missed cs f (Stored r) = scalar_missed cs (f r)
   missed cs f (Closed r) = array_missed cs (f r)
   missed cs f (At a r) = at_missed cs (f a) (f r)
   missed cs f (AtKey a k) = element_missed cs (f a) k
 
-  -- what an item misses, in the order of its needs
+  -- the missing inputs of an item, in the order of its needs
   abbrev pub job_missed : Layout → Fields → Job → List (Want ℕ)
   job_missed l F Script = []
   job_missed l F (Does k e c) = elim (slot_at F.frames k) [ None ↦ [] | Some f ↦ flat_map (missed F.cells (slot_for l F.frames k f.body)) (entry C e).needs ]
 
--- once this is known, so is that: they are the same, or it is a closed array and that is one of its elements
+-- the first input implies the second: they are equal, or the first is a closed array and the second one of its elements
 abbrev pub covers : Want ℕ → Want ℕ → Bool
 covers (Whole a) (Whole b) = nat_eq a b
 covers (Whole a) (AnElement b k) = nat_eq a b
@@ -102,11 +102,12 @@ abbrev pub is_covered : List (Want ℕ) → Want ℕ → Bool
 is_covered [] w = false
 is_covered (v ∷ vs) w = covers v w || is_covered vs w
 
--- what is still missed where these have become known
+-- the inputs still missing once these are known
 abbrev pub still_missed : List (Want ℕ) → List (Want ℕ) → List (Want ℕ)
 still_missed known ws = filter (λ w. not (is_covered known w)) ws
 
--- it is known: the scalar has a value, nobody may write the array, the element is there, or all of it is gone
+-- the input is known: the scalar has a value, no item may write the array, the element is present, or the datum was
+-- removed
 abbrev pub cell_known : Option Counted → Bool
 cell_known None = true
 cell_known (Some c) = by c.content
@@ -120,7 +121,7 @@ abbrev pub has : Option Scalar → Bool
 has None = false
 has (Some v) = true
 
--- an element of this mark is there; it may be another than the one that is waited for
+-- an element of this mark is present; it may differ from the awaited one
 abbrev pub has_mark : ℕ → Elements → Bool
 has_mark m [] = false
 has_mark m (x ∷ xs) = nat_eq m (mark_of x.0) || has_mark m xs

@@ -1,4 +1,4 @@
--- How the fields of a fast board stand for the state that its history leads to.
+-- The relation between the fields of a fast board and the state that its history leads to.
 use Rattle.std.specs.Ordering.{int_eq}
 use Rattle.std.specs.Prelude.{◌≡◌, ℕ, zero, suc, ◌+◌, ◌<◌, Bool, true, false, List, [], ◌∷◌, ◌++◌, map, length, Option, Some, None, ℤ, pos, if◌then◌else◌}
 use Rattle.std.specs.List.{flat_map}
@@ -22,7 +22,7 @@ use Rattle.values.specs.Keys.{mark_of}
 use Rattle.values.specs.declared.key.Key.{Key}
 use Rattle.values.specs.declared.value.Scalar.{Scalar}
 
--- what an input waits for now: an element at a scalar's value waits for the scalar first
+-- the inputs that are missing now: for an element at a scalar's value, the scalar is missing first
 abbrev pub scalar_wanted : {D : Type 0} → Option Scalar → D → List (Want D)
 scalar_wanted (Some v) d = []
 scalar_wanted None d = Whole d ∷ []
@@ -36,7 +36,7 @@ element_wanted (Some v) closed a m = []
 element_wanted None true a m = []
 element_wanted None false a m = AnElement a m ∷ []
 
--- a want by the key of a datum is the want of its place, and so in order
+-- an input by the key of a datum corresponds to the input by its place, and lists of inputs correspond in order
 abbrev pub WantStands : List (ℕ × Place) → Want ℕ → Want Place → Type 0
 WantStands names (Whole d) (Whole a) = In (d, a) names
 WantStands names (AnElement d k) (AnElement a l) = In (d, a) names × (k ≡ l)
@@ -58,11 +58,11 @@ module _ (C : Code) where
   wanted s (ElementOf a k) = element_wanted (value_at (code_system C) code_tests s.stored a k) (is_closed (code_system C) code_tests s a) a (mark_of k)
   wanted s (ElementAt a d) = keyed_wanted s a d (value_at (code_system C) code_tests s.stored d only)
 
-  -- all that a task waits for now, in the order of its inputs
+  -- all missing inputs of a task, in the order of its inputs
   abbrev pub wants : CodeState → Task → List (Want Place)
   wants s t = flat_map (wanted s) (task_inputs C t)
 
-  -- the turns left to an item that goes on with a loop: those from its chunk on, of all that its entry computes
+  -- the remaining turns of an item that continues a loop: those from its chunk on, of all that its entry computes
   abbrev pub turns_left : Task → Option (List (Answer Key Scalar)) → Option Elements
   turns_left Main r = None
   turns_left (Item e p zero) r = None
@@ -72,13 +72,13 @@ module _ (C : Code) where
   abbrev pub kept_turns : CodeState → Task → Option Elements
   kept_turns s t = turns_left t (answers (code_system C) code_tests s (task_inputs C t))
 
-  -- a slot stands for a place: its datum while that is there, its literal
+  -- a slot corresponds to a place: its datum while that exists, or its literal
   abbrev pub SlotStands : CodeState → List (ℕ × Place) → Slot → Place → Type 0
   SlotStands s names x (Datum p v) = In (Datum p v) s.places → (d : ℕ) × (x ≡ DatumOf d) × In (d, Datum p v) names
   SlotStands s names x (Constant v) = (e : ℕ) × (k : ℕ) × (x ≡ LiteralOf e k) × (literal C e k ≡ Some v)
   SlotStands s names x Nowhere = Unit {0}
 
-  -- what is stored
+  -- the stored content
   abbrev pub ContentStands : CodeState → Place → Bool → Content → Type 0
   ContentStands s a false Unset = (v : Scalar) → Holds (code_system C) s a only v → ⊥
   ContentStands s a false (Holding v) = Holds (code_system C) s a only v
@@ -87,7 +87,7 @@ module _ (C : Code) where
   ContentStands s a true Unset = ⊥
   ContentStands s a true (Holding v) = ⊥
 
-  -- items by number: those that are over are no items, ready ones are enabled, waiting ones are not
+  -- items by number: rows that are over are not items, ready ones are enabled, waiting ones are not
   pub record ItemsStand (F : Fields) (s : CodeState) : Type 0 where
     pub items : items_from F.frames 1 F.rows ≡ s.items
     pub next : s.next ≡ suc (length F.rows)
@@ -95,7 +95,8 @@ module _ (C : Code) where
     pub waiting : (n : ℕ) (r : Row) → row_of F.rows n ≡ Some r → r.mark ≡ Waiting → Enabled C s (task_of F.frames r.job) → ⊥
     pub running : F.running ≡ running_in F.rows
 
-  -- instances: each item's is there, levels rise by one, and one is kept as long as it has an item or an instance inside
+  -- instances: that of each item exists, levels rise by one, and an instance is kept as long as it has an item or an
+  -- instance inside
   pub record FramesStand (L : Layout) (F : Fields) (s : CodeState) (names : List (ℕ × Place)) : Type 0 where
     pub there : (n k e c : ℕ) (r : Row) → row_of F.rows n ≡ Some r → r.job ≡ Does k e c → (r.mark ≡ Over → ⊥) → (f : Frame) × (slot_at F.frames k ≡ Some f) × In e (body C f.body).entries
     pub outermost : (k : ℕ) (f : Frame) → slot_at F.frames k ≡ Some f → f.parent ≡ None → (f.level ≡ 0) × (f.way ≡ None) × (f.body ≡ 0)
@@ -103,7 +104,7 @@ module _ (C : Code) where
     pub depth : (k : ℕ) (f : Frame) → slot_at F.frames k ≡ Some f → f.depth ≡ length (path_of F.frames k)
     pub live : (k : ℕ) (f : Frame) → slot_at F.frames k ≡ Some f → f.live ≡ rows_in k F.rows + frames_in k F.frames
     pub kept : (k : ℕ) (f : Frame) → slot_at F.frames k ≡ Some f → 0 < f.live
-    -- each name that an item has a right to leads to its place
+    -- each name to which an item has a right resolves to its place
     pub reads : (n k e c : ℕ) (r : Row) (f : Frame) → row_of F.rows n ≡ Some r → r.job ≡ Does k e c → (r.mark ≡ Over → ⊥) → slot_at F.frames k ≡ Some f → (x : Name) → In x (entry C e).reads → SlotStands s names (slot_for L F.frames k f.body x) (place_at C (path_of F.frames k) x)
     pub writes : (n k e c : ℕ) (r : Row) (f : Frame) → row_of F.rows n ≡ Some r → r.job ≡ Does k e c → (r.mark ≡ Over → ⊥) → slot_at F.frames k ≡ Some f → (x : Name) → In x (entry C e).writes → SlotStands s names (slot_for L F.frames k f.body x) (place_at C (path_of F.frames k) x)
 
@@ -113,19 +114,19 @@ module _ (C : Code) where
     pub writes : c.writes ≡ writers (code_system C) code_tests s a
     pub content : ContentStands s a (place_array a) c.content
 
-  -- data: the keys of the slab are names of the places that are there
+  -- data: the keys of the slab name the existing places
   pub record DataStand (F : Fields) (s : CodeState) (names : List (ℕ × Place)) : Type 0 where
     pub naming : IsNaming (code_system C) ℕ names s.places
     pub there : (d : ℕ) (a : Place) → In (d, a) names → (c : Counted) × (slot_at F.cells d ≡ Some c) × CellStands s a c
     pub only : (d : ℕ) (c : Counted) → slot_at F.cells d ≡ Some c → (a : Place) × In (d, a) names
 
-  -- waiting: an item that misses something waits, once, for just that, and nothing else waits
+  -- waiting items: an item with missing inputs waits, once, for exactly these, and no other item waits
   pub record WaitsStand (F : Fields) (s : CodeState) (names : List (ℕ × Place)) : Type 0 where
     pub waits : (i : CodeItem) → In i s.items → (wants s i.task ≡ [] → ⊥) → (w : Waiter) × In w F.waiting × (w.item ≡ i.number)
     pub missing : (w : Waiter) → In w F.waiting → (i : CodeItem) × In i s.items × (i.number ≡ w.item) × (w.missing ≡ [] → ⊥) × AllStand names w.missing (wants s i.task)
     pub once : Distinct (map (λ (w : Waiter). w.item) F.waiting)
 
-  -- loops: an item that goes on with one is enabled and keeps the turns that are left, and no other item keeps any
+  -- loops: an item that continues one is enabled and keeps the remaining turns, and no other item keeps any
   pub record TurnsStand (F : Fields) (s : CodeState) : Type 0 where
     pub kept : (i : CodeItem) → In i s.items → F.turns i.number ≡ kept_turns s i.task
     pub going : (i : CodeItem) → In i s.items → (e c : ℕ) (p : List Step) → i.task ≡ Item e p (suc c) → Enabled C s i.task
@@ -161,7 +162,7 @@ module _ (C : Code) where
     pub fault : F.fault ≡ state.fault
     pub newly : (before : List Event) (e : Event) (old : CodeState) → events ≡ before ++ e ∷ [] → replayed C before ≡ Some old → NewlyAt (code_system C) old state F.newly
 
--- the fields of a new board: item 1 is ready, and nothing else is there
+-- the fields of a new board: item 1 is ready, and there is nothing else
 abbrev pub first_queue : Kind → ℤ → List ℕ
 first_queue Control z = if int_eq (pos 0) z then 1 ∷ [] else []
 first_queue Leaf z = []

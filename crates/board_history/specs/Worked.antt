@@ -23,7 +23,7 @@ HelloReplayed =
 abbrev pub WaitsReplayed : Type 0
 WaitsReplayed = replayed used_before_assigned (Begin 0 1 ∷ End 0 1 ∷ Begin 1 2 ∷ []) ≡ None
 
--- afterwards it can, and each datum has left when nothing may use it any more
+-- afterwards it can, and each datum is removed once no item may use it
 abbrev pub LeavesReplayed : Type 0
 LeavesReplayed =
     (s : CodeState)
@@ -32,8 +32,8 @@ LeavesReplayed =
     × (s.places ≡ [])
     × (s.stored ≡ [])
 
--- fields that stand for states of a worked script, with instances, data, waiters and a queue
--- where the names of `int x = y + 1; int y = 2; printf("%i", x);` are put: x at slot 0, y at slot 1
+-- fields that stand for states of a worked script, with instances, data, waiting items and a queue; the layout of the
+-- names of `int x = y + 1; int y = 2; printf("%i", x);`: x at slot 0, y at slot 1
 abbrev pub worked_slot : Owned → ℕ
 worked_slot (Local v) = v.node - 1
 worked_slot (Parameter k b) = 0
@@ -45,7 +45,7 @@ worked_layout = record { levels = λ b r. 0; slot = λ b r. worked_slot r.owned 
 abbrev pub worked_frame : Frame
 worked_frame = record { parent = None; level = 0; depth = 0; way = None; body = 0; live = 3; slots = DatumOf 0 ∷ DatumOf 1 ∷ [] }
 
--- a queue of leaf items of the priority 0
+-- a queue of leaf items of priority 0
 abbrev pub leaf_queue : List ℕ → Kind → ℤ → List ℕ
 leaf_queue ns Control z = []
 leaf_queue ns Leaf z = if int_eq (pos 0) z then ns else []
@@ -71,7 +71,7 @@ opened_fields =
       newly = 3 ∷ [];
     }
 
--- y is stored: item 2 is ready, and one less is in the instance
+-- y is stored: item 2 is ready, and the live count of the instance is one less
 abbrev pub assigned_fields : Fields
 assigned_fields =
     record {

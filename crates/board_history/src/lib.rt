@@ -1,4 +1,8 @@
-//! The machine as a function of its history, and counts of the rights that its items hold.
+//! The machine as a function of its history: deterministic replay of events, counts of held rights, and the invariant
+//! of a board's fields.
+//!
+//! There is no code to run. Each public function has an empty body, and its contract is a theorem that the proofs of
+//! the board use.
 #![tactic(auto)]
 
 ghost use Rattle.std.specs.Prelude.{List, [], ◌∷◌, ◌++◌, ◌≡◌, ℕ, ◌*◌, ◌-◌, suc, length, ℤ, Option, Some, None};
@@ -30,9 +34,11 @@ ghost use Rattle.values.specs.declared.value.Scalar.{Scalar};
 ghost use Rattle.task_code.specs.Whole.{Declared, IsCode};
 ghost use Rattle.task_code.specs.Machine.{ClosedByRights as ClosedInCode, CodeItem, CodeState, CodeStep, Enabled, Run as RunOfCode, run_log, IsTidy as IsTidyCode, DataAreExact as DataAreExactCode, SameButFree as SameButFreeCode};
 
-/// A lawful system whose places and keys can be told apart by tests: in each state of a run the next state is one that the
-/// machine steps to, with no free datum left, and where there is none the machine has no step. So what is replayed is a
-/// run, and each run is replayed, to a state that is the same but for free data.
+/// States that replay agrees with the machine of a lawful system whose places and keys can be compared by tests.
+///
+/// In each state of a run, `next_state` is a state to which the machine steps, without free data. Where it is `None`,
+/// the machine has no step. So a replayed history is a run. Conversely each run can be replayed, to a state that is
+/// equal apart from free data. The data are exactly those that were made and are not free.
 pub fn every_replay<T, D, K, V, E>()
     ensures steps { (S : System T D K V E) (X : Tests D K V) → AreTests S X → Laws S →
         (events : List Event) (s : State T D K V E) → Run S events s →
@@ -55,7 +61,7 @@ pub fn every_replay<T, D, K, V, E>()
         replayed S X (events ++ e ∷ []) ≡ and_then S X (replayed S X events) e }
 {}
 
-/// The same of whole code.
+/// States that replay agrees with the machine of whole code: `every_replay` for the system of code.
 pub fn every_replay_of_code()
     ensures steps { (C : Code) → IsCode C →
         (events : List Event) (s : CodeState) → RunOfCode C events s →
@@ -78,9 +84,11 @@ pub fn every_replay_of_code()
         replayed_code C (events ++ e ∷ []) ≡ then_of_code C (replayed_code C events) e }
 {}
 
-/// Counts of rights: a datum is free exactly where no right to it is held, an array that is there is closed exactly where
-/// none to write it is. Beginning, giving back and a fault change no count; an End without fault takes its own rights off
-/// and adds those of the tasks that it opens. A datum that it makes starts with the rights of its own block.
+/// States how rights to data are counted.
+///
+/// A datum is free exactly if no right to it is held. An existing array is closed exactly if no right to write it is
+/// held. Begin, Back and a fault change no count. An End without fault removes the rights of its item and adds those of
+/// the tasks that it opens. A datum that it creates starts with the rights of its own block.
 pub fn counted_rights<T, D, K, V, E>()
     ensures free { (S : System T D K V E) (X : Tests D K V) → AreTests S X → (s : State T D K V E) (a : D) →
         (Free S s a → (readers S X s a ≡ 0) × (writers S X s a ≡ 0)) × (readers S X s a ≡ 0 → writers S X s a ≡ 0 → Free S s a) }
@@ -98,7 +106,8 @@ pub fn counted_rights<T, D, K, V, E>()
         (x : Exchanges S X s n t) × StartsWith S X t x.effect }
 {}
 
-/// The same of code: what one instance of a body adds is worked out once from the code, for its own data and for others.
+/// States how rights are counted for code. The holds that one instance of a body adds, on its own data and on others,
+/// are computed from the code alone.
 pub fn counted_rights_of_code()
     ensures adds { (C : Code) (b : ℕ) (p : List PathStep) → AddsHolds C b p }
     ensures opens { (C : Code) (i c : ℕ) (p : List PathStep) (x : Computed) → OpensHolds C i c p x }
@@ -113,9 +122,10 @@ pub fn counted_rights_of_code()
         (t : CodeState) (w n : ℕ) → CodeStep C s (End w n) t → t.fault ≡ None → EndCounts C s n t }
 {}
 
-/// A state without free data keeps so, and then a step changes little: beginning and giving back change one mark, an End with
-/// a fault records it and changes nothing else, and at one without only data leave that the item has a right to, and only
-/// arrays close that it may write.
+/// States that a replayed state has no free data, and that a step from such a state changes little.
+///
+/// Begin and Back change one mark. An End with a fault records the fault and changes nothing else. An End without fault
+/// removes only data to which the item has a right, and closes only arrays that it may write.
 pub fn small_steps<T, D, K, V, E>()
     ensures replayed_bare { (S : System T D K V E) (X : Tests D K V) → AreTests S X →
         (events : List Event) (s : State T D K V E) → replayed S X events ≡ Some s → IsBare S s }
@@ -130,8 +140,8 @@ pub fn small_steps<T, D, K, V, E>()
         (item : Item T) × In item s.items × (item.number ≡ n) × OnlyItsOwn S s item.task t }
 {}
 
-/// The function computes: replays of worked scripts. Fields with an instance, data, waiters and a queue stand for two of their
-/// states.
+/// States the replays of worked scripts, which are computed by reflexivity. Fields with an instance, data, waiting
+/// items and a queue stand for two of the states.
 pub fn worked_replays()
     ensures hello { HelloReplayed }
     ensures waits { WaitsReplayed }
@@ -140,17 +150,28 @@ pub fn worked_replays()
     ensures assigned { AssignedStands }
 {}
 
-/// What the fields of a fast board tell of the state that its history leads to. A new board's fields stand for the empty
-/// history. Where an item has begun, its row runs and its number has left the queue; where it was given back, its row is
-/// ready and its number is in the queue again; where it ended with a fault, that is recorded. Nothing else has changed.
+/// States that the fields of a board stand for the state of its history, event by event.
 ///
-/// Where it ended without fault and the fields have become what `EndsTo` says, they stand for the new state: the instances of
-/// the opened blocks are there, new data have their first counts and older ones have gained and lost what they should, data
-/// and instances that nothing uses are gone, each item that misses something waits for just that, and those newly enabled are
-/// ready and in the queue. Two parts of it by themselves: the rows, if the instances keep the tasks, and the queue. An item
-/// that goes on with a loop keeps what is left of the turns that its answers tell. The names of a new instance lead where they
-/// should, where its compiler has laid them so and a call has filled the slots of its parameters. What several instances of
-/// one body add to the counts is what one adds, times their number.
+/// The fields of a new board stand for the empty history. After a Begin, the row of the item runs and its number has
+/// left the queue. After a Back, the row is ready and the number is in the queue again. After an End with a fault, the
+/// fault is recorded. Nothing else has changed.
+///
+/// After an End without fault, fields that satisfy `EndsTo` stand for the new state:
+///
+/// - The instances of the opened blocks exist.
+/// - New data have their first counts, and the counts of older data have changed by the holds added and removed.
+/// - Unused data and instances are gone.
+/// - Each item that misses an input waits for exactly that input.
+/// - Newly enabled items are ready and in the queue.
+///
+/// Two parts of this are also stated alone: the rows, if the instances keep the tasks, and the queue.
+///
+/// An item is enabled exactly if it does not wait. A datum is closed exactly if its count of writes is 0, and no datum
+/// has both counts 0.
+///
+/// An item that continues a loop keeps the remaining turns that its answers determine. The names of a new instance
+/// resolve correctly, if its compiler has laid them so and a call has filled the slots of its parameters. Several
+/// instances of one body add to the counts what one adds, times their number.
 pub fn standing_fields()
     ensures first { (C : Code) (L : Layout) → Stands C L [] first_fields }
     ensures missing { (C : Code) → IsCode C → (L : Layout) (events : List Event) (F : Fields) (x : Stands C L events F) →

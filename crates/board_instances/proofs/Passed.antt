@@ -8,9 +8,9 @@ use Rattle.task_code.specs.Code.{Argument, ByCalls, Code, Fixed, Name, Named, Op
 use Rattle.values.specs.Values.{same_truth}
 use Rattle.board_program.specs.Spots.{around, found_or, go_out, homes_of, layout_of, levels_of, parameter_slot, slot_of, spot_from, spot_in}
 use Rattle.board_program.specs.Tables.{passed_in}
-use Rattle.board_program.specs.declared.program.Passed.{Passed}
-use Rattle.board_program.specs.declared.program.Passed.TheVariants as Handed
-use Rattle.board_program.specs.declared.spot.Spot.{Spot}
+use Rattle.board_program.specs.declared.program.PassedArgument.{PassedArgument}
+use Rattle.board_program.specs.declared.program.PassedArgument.TheVariants as Handed
+use Rattle.board_program.specs.declared.lexical_address.LexicalAddress.{LexicalAddress}
 use Rattle.board_instances.specs.Names.{slot_in}
 use Rattle.board_instances.specs.Openings.{passed_from, passed_slot}
 use Rattle.board_instances.specs.Passing.{HandsOver}
@@ -37,7 +37,7 @@ nth_behind (x ∷ own) xs n = ap (nth Absent (x ∷ (own ++ xs))) (one (length o
     one : (m n : ℕ) → suc m + n ≡ suc (m + n)
     one m n = omega arith
 
-module _ (fs : List (Option Frame)) (k e : ℕ) (p : Argument → Passed) where
+module _ (fs : List (Option Frame)) (k e : ℕ) (p : Argument → PassedArgument) where
   same_argument : (x y : Argument) → Some x ≡ Some y → x ≡ y
   same_argument x y h = cc h
 
@@ -112,9 +112,9 @@ module _ (C : Code) (fs : List (Option Frame)) (k e chunk : ℕ) (m : Instance) 
   seen_there : (n : ℕ) (s : Name) → (spot_in C x.outer.body s ≡ None → ⊥) → passed_slot fs k e n (passed_in C x.outer.body (Named s)) ≡ job_slot C (layout_of C) fs (Does k e chunk) s
   seen_there n s leads = by (spot_in C x.outer.body s) refl ∙ sym (ap (λ (o : Option Frame). elim o [ None ↦ Absent | Some g ↦ slot_for (layout_of C) fs k g.body s ]) x.there)
     where
-      by : (o : Option Spot) → spot_in C x.outer.body s ≡ o → passed_slot fs k e n (passed_in C x.outer.body (Named s)) ≡ slot_for (layout_of C) fs k x.outer.body s
+      by : (o : Option LexicalAddress) → spot_in C x.outer.body s ≡ o → passed_slot fs k e n (passed_in C x.outer.body (Named s)) ≡ slot_for (layout_of C) fs k x.outer.body s
       by None q = absurd (leads q)
-      by (Some sp) q = ap (λ (o : Option Spot). passed_slot fs k e n (Handed.Named o)) q ∙ slot_is (frame_up fs sp.levels k) sp.slot ∙ sym (ap (λ (o : Option Spot). elim (frame_up fs (levels_of o) k) [ None ↦ Absent | Some g ↦ nth Absent g.slots (slot_of o) ]) q)
+      by (Some sp) q = ap (λ (o : Option LexicalAddress). passed_slot fs k e n (Handed.Named o)) q ∙ slot_is (frame_up fs sp.levels k) sp.slot ∙ sym (ap (λ (o : Option LexicalAddress). elim (frame_up fs (levels_of o) k) [ None ↦ Absent | Some g ↦ nth Absent g.slots (slot_of o) ]) q)
 
   pub passes_over : Passes C (layout_of C) fs k e chunk m f
   passes_over = record {

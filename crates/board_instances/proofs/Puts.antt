@@ -7,7 +7,7 @@ use Rattle.board_history.specs.Ending.{Sets, new_row}
 use Rattle.board_history.specs.Fields.{Does, Frame, Row, slot_at}
 use Rattle.board_instances.specs.Openings.{ArePlaced, Put, PutIn, last_key, put_jobs}
 use Rattle.board_instances.specs.View.{new_item, row_view, rows_view}
-use Rattle.board_instances.specs.declared.item.Item.{Item}
+use Rattle.board_instances.specs.declared.item.ItemRecord.{ItemRecord}
 
 none_some : {X B : Type 0} (o : Option X) (x : X) → o ≡ Some x → o ≡ None → B
 none_some o x p q = absurd (cc (p, q))
@@ -45,7 +45,7 @@ module _ (fs gs hs : List (Option Frame)) (puts : List Put) (k : ℕ) (f : Frame
       apart j u v = (let p = in_unmap (λ (p : Put). p.key) j puts u in elim v [ inl same ↦ new_key p.0 p.1 (p.2 ∙ same) | inr none ↦ absurd none ])
 
 -- the rows of new items
-pub rows_new : (items : List Item) (k : ℕ) (entries : List ℕ) → rows_view (items ++ map (new_item k) entries) ≡ rows_view items ++ map new_row (map (λ e. Does k e 0) entries)
+pub rows_new : (items : List ItemRecord) (k : ℕ) (entries : List ℕ) → rows_view (items ++ map (new_item k) entries) ≡ rows_view items ++ map new_row (map (λ e. Does k e 0) entries)
 rows_new [] k [] = refl
 rows_new [] k (e ∷ es) = ap (λ (rs : List Row). new_row (Does k e 0) ∷ rs) (rows_new [] k es)
 rows_new (i ∷ is) k es = ap (λ rs. row_view i ∷ rs) (rows_new is k es)
@@ -64,7 +64,7 @@ pub placed_none : (entries : List ℕ) (fs : List (Option Frame)) (rows : List R
 placed_none es fs rows = record { puts = []; frames_are = refl; put_in = put_none fs; rows = sym (append-nil rows); last_is = refl }
 
 -- one more is placed
-pub placed_more : (frames : List Frame) (entries : List ℕ) (fs gs hs : List (Option Frame)) (old : List Row) (items added : List Item) (last : Option ℕ) (k : ℕ) (f : Frame) → ArePlaced frames entries fs gs old (rows_view items) last → slot_at gs k ≡ None → Sets gs k (Some f) hs → added ≡ items ++ map (new_item k) entries → ArePlaced (frames ++ f ∷ []) entries fs hs old (rows_view added) (Some k)
+pub placed_more : (frames : List Frame) (entries : List ℕ) (fs gs hs : List (Option Frame)) (old : List Row) (items added : List ItemRecord) (last : Option ℕ) (k : ℕ) (f : Frame) → ArePlaced frames entries fs gs old (rows_view items) last → slot_at gs k ≡ None → Sets gs k (Some f) hs → added ≡ items ++ map (new_item k) entries → ArePlaced (frames ++ f ∷ []) entries fs hs old (rows_view added) (Some k)
 placed_more frames es fs gs hs old items added last k f x e s is = record {
   puts = x.puts ++ one_put k f;
   frames_are = map-append (λ (p : Put). p.frame) x.puts (one_put k f) ∙ ap (λ ys. ys ++ f ∷ []) x.frames_are;

@@ -4,65 +4,65 @@ use Rattle.std.specs.Prelude.{slice_index_or}
 use Rattle.board_history.specs.Fields.{Row, row_of}
 use Rattle.board_history.specs.Marking.{mark_at}
 use Rattle.board_instances.specs.View.{mark_view, row_view, rows_view}
-use Rattle.board_instances.specs.declared.item.Item.{Item}
-use Rattle.board_instances.specs.declared.item.Mark.{Mark}
+use Rattle.board_instances.specs.declared.item.ItemRecord.{ItemRecord}
+use Rattle.board_instances.specs.declared.item.ItemStatus.{ItemStatus}
 
 before : (n : ℕ) → n ≡ suc n - 1
 before n = omega arith
 
 -- there is no item of number 0
-no_row : (xs : List Item) → row_of (rows_view xs) 0 ≡ None
+no_row : (xs : List ItemRecord) → row_of (rows_view xs) 0 ≡ None
 no_row [] = refl
 no_row (x ∷ xs) = refl
 
-pub row_none : (xs : List Item) (n : ℕ) → n ≡ 0 → row_of (rows_view xs) n ≡ None
+pub row_none : (xs : List ItemRecord) (n : ℕ) → n ≡ 0 → row_of (rows_view xs) n ≡ None
 row_none xs zero e = no_row xs
 row_none xs (suc n) e = absurd (omega (arith, e))
 
-row_behind : (xs : List Item) (n : ℕ) (d : Item) → n < length xs → row_of (rows_view xs) (suc n) ≡ Some (row_view (slice_index_or xs n d))
+row_behind : (xs : List ItemRecord) (n : ℕ) (d : ItemRecord) → n < length xs → row_of (rows_view xs) (suc n) ≡ Some (row_view (slice_index_or xs n d))
 row_behind [] n d h = absurd (omega (arith, h))
 row_behind (x ∷ xs) zero d h = refl
 row_behind (x ∷ xs) (suc n) d h = row_behind xs n d (omega (arith, h))
 
 -- the item of a number stands one place before it
-pub row_there : (xs : List Item) (n : ℕ) (d : Item) → 0 < n → n - 1 < length xs → row_of (rows_view xs) n ≡ Some (row_view (slice_index_or xs (n - 1) d))
+pub row_there : (xs : List ItemRecord) (n : ℕ) (d : ItemRecord) → 0 < n → n - 1 < length xs → row_of (rows_view xs) n ≡ Some (row_view (slice_index_or xs (n - 1) d))
 row_there xs zero d p h = absurd (omega (arith, p))
 row_there xs (suc n) d p h = row_behind xs n d (omega (arith, h)) ∙ ap (λ k. Some (row_view (slice_index_or xs k d))) (before n)
 
-none_behind : (xs : List Item) (n : ℕ) → length xs ≤ n → row_of (rows_view xs) (suc n) ≡ None
+none_behind : (xs : List ItemRecord) (n : ℕ) → length xs ≤ n → row_of (rows_view xs) (suc n) ≡ None
 none_behind [] n h = refl
 none_behind (x ∷ xs) zero h = absurd (omega (arith, h))
 none_behind (x ∷ xs) (suc n) h = none_behind xs n (omega (arith, h))
 
 -- there is none past the last
-pub row_past : (xs : List Item) (n : ℕ) → length xs ≤ n - 1 → row_of (rows_view xs) n ≡ None
+pub row_past : (xs : List ItemRecord) (n : ℕ) → length xs ≤ n - 1 → row_of (rows_view xs) n ≡ None
 row_past xs zero h = no_row xs
 row_past xs (suc n) h = none_behind xs n (omega (arith, h))
 
 -- no item is marked by the number 0, nor by one past the last
-pub mark_none : (xs : List Item) (m : Mark) → mark_at (rows_view xs) 0 (mark_view m) ≡ rows_view xs
+pub mark_none : (xs : List ItemRecord) (m : ItemStatus) → mark_at (rows_view xs) 0 (mark_view m) ≡ rows_view xs
 mark_none [] m = refl
 mark_none (x ∷ xs) m = refl
 
-mark_behind : (xs : List Item) (n : ℕ) (m : Mark) → length xs ≤ n → mark_at (rows_view xs) (suc n) (mark_view m) ≡ rows_view xs
+mark_behind : (xs : List ItemRecord) (n : ℕ) (m : ItemStatus) → length xs ≤ n → mark_at (rows_view xs) (suc n) (mark_view m) ≡ rows_view xs
 mark_behind [] n m h = refl
 mark_behind (x ∷ xs) zero m h = absurd (omega (arith, h))
 mark_behind (x ∷ xs) (suc n) m h = ap (λ ys. row_view x ∷ ys) (mark_behind xs n m (omega (arith, h)))
 
-pub mark_past : (xs : List Item) (n : ℕ) (m : Mark) → length xs ≤ n - 1 → mark_at (rows_view xs) n (mark_view m) ≡ rows_view xs
+pub mark_past : (xs : List ItemRecord) (n : ℕ) (m : ItemStatus) → length xs ≤ n - 1 → mark_at (rows_view xs) n (mark_view m) ≡ rows_view xs
 mark_past xs zero m h = mark_none xs m
 mark_past xs (suc n) m h = mark_behind xs n m (omega (arith, h))
 
-mark_at_place : (xs : List Item) (n : ℕ) (m : Mark) (d y : Item) → row_view y ≡ record { job = (row_view (slice_index_or xs n d)).job; mark = mark_view m } → n < length xs → rows_view (slice_set xs n y) ≡ mark_at (rows_view xs) (suc n) (mark_view m)
+mark_at_place : (xs : List ItemRecord) (n : ℕ) (m : ItemStatus) (d y : ItemRecord) → row_view y ≡ record { job = (row_view (slice_index_or xs n d)).job; mark = mark_view m } → n < length xs → rows_view (slice_set xs n y) ≡ mark_at (rows_view xs) (suc n) (mark_view m)
 mark_at_place [] n m d y e h = absurd (omega (arith, h))
 mark_at_place (x ∷ xs) zero m d y e h = ap (λ (r : Row). r ∷ rows_view xs) e
 mark_at_place (x ∷ xs) (suc n) m d y e h = ap (λ ys. row_view x ∷ ys) (mark_at_place xs n m d y e (omega (arith, h)))
 
-mark_behind_one : (xs : List Item) (n k : ℕ) (m : Mark) (d y : Item) → n ≡ k → row_view y ≡ record { job = (row_view (slice_index_or xs k d)).job; mark = mark_view m } → n < length xs → rows_view (slice_set xs k y) ≡ mark_at (rows_view xs) (suc n) (mark_view m)
+mark_behind_one : (xs : List ItemRecord) (n k : ℕ) (m : ItemStatus) (d y : ItemRecord) → n ≡ k → row_view y ≡ record { job = (row_view (slice_index_or xs k d)).job; mark = mark_view m } → n < length xs → rows_view (slice_set xs k y) ≡ mark_at (rows_view xs) (suc n) (mark_view m)
 mark_behind_one xs n k m d y same e h =
     ap (λ i. rows_view (slice_set xs i y)) (sym same) ∙ mark_at_place xs n m d y (subst (λ i. row_view y ≡ record { job = (row_view (slice_index_or xs i d)).job; mark = mark_view m }) (sym same) e) h
 
 -- the item of the number has the mark
-pub mark_there : (xs : List Item) (n : ℕ) (m : Mark) (d y : Item) → row_view y ≡ record { job = (row_view (slice_index_or xs (n - 1) d)).job; mark = mark_view m } → 0 < n → n - 1 < length xs → rows_view (slice_set xs (n - 1) y) ≡ mark_at (rows_view xs) n (mark_view m)
+pub mark_there : (xs : List ItemRecord) (n : ℕ) (m : ItemStatus) (d y : ItemRecord) → row_view y ≡ record { job = (row_view (slice_index_or xs (n - 1) d)).job; mark = mark_view m } → 0 < n → n - 1 < length xs → rows_view (slice_set xs (n - 1) y) ≡ mark_at (rows_view xs) n (mark_view m)
 mark_there xs zero m d y e p h = absurd (omega (arith, p))
 mark_there xs (suc n) m d y e p h = mark_behind_one xs n (suc n - 1) m d y (before n) e (omega (arith, h))

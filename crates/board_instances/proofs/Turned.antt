@@ -15,7 +15,7 @@ use Rattle.values.specs.Ranges.{value_in}
 use Rattle.board_instances.specs.Made.{block_of}
 use Rattle.board_instances.specs.View.{opening_frame}
 use Rattle.board_instances.specs.Turns.{AddsTurns, IsOpening, IsTurn}
-use Rattle.board_instances.specs.declared.opening.Opening.{Opening}
+use Rattle.board_instances.specs.declared.pending.PendingInstance.{PendingInstance}
 
 -- a body that there is not has no entries
 blank_past : (bs : List Body) (n : ℕ) → length bs ≤ n → (nth blank_body bs n).entries ≡ []
@@ -27,18 +27,18 @@ pub not_blank : {B : Type 0} (C : Code) (n : ℕ) → length C.bodies ≤ n → 
 not_blank C n h some = (let e : length (body C n).entries ≡ 0 = ap length (blank_past C.bodies n h) in absurd (omega (arith, e, some)))
 
 module _ (C : Code) (fs : List (Option Frame)) (at number offset : ℕ) where
-  zip_more : (ts us : Elements) (xs ys : List Opening) → AllZip (IsTurn C fs at number offset) ts xs → AllZip (IsTurn C fs at number offset) us ys → AllZip (IsTurn C fs at number offset) (ts ++ us) (xs ++ ys)
+  zip_more : (ts us : Elements) (xs ys : List PendingInstance) → AllZip (IsTurn C fs at number offset) ts xs → AllZip (IsTurn C fs at number offset) us ys → AllZip (IsTurn C fs at number offset) (ts ++ us) (xs ++ ys)
   zip_more [] us [] ys a b = b
   zip_more [] us (x ∷ xs) ys a b = absurd a
   zip_more (t ∷ ts) us [] ys a b = absurd a
   zip_more (t ∷ ts) us (x ∷ xs) ys a b = (a.0, zip_more ts us xs ys a.1 b)
 
   -- no turn is added yet
-  pub turns_none : (old : List Opening) → AddsTurns C fs at number offset [] old old
+  pub turns_none : (old : List PendingInstance) → AddsTurns C fs at number offset [] old old
   turns_none old = record { added = []; new_is = sym (append-nil old); each = search rules }
 
   -- more turns are added
-  pub turns_more : (ts us : Elements) (old mid new : List Opening) → AddsTurns C fs at number offset ts old mid → AddsTurns C fs at number offset us mid new → AddsTurns C fs at number offset (ts ++ us) old new
+  pub turns_more : (ts us : Elements) (old mid new : List PendingInstance) → AddsTurns C fs at number offset ts old mid → AddsTurns C fs at number offset us mid new → AddsTurns C fs at number offset (ts ++ us) old new
   turns_more ts us old mid new a b = record {
     added = a.added ++ b.added;
     new_is = b.new_is ∙ ap (λ xs. xs ++ b.added) a.new_is ∙ append_assoc old a.added b.added;
@@ -46,10 +46,10 @@ module _ (C : Code) (fs : List (Option Frame)) (at number offset : ℕ) where
   }
 
   -- one turn
-  pub one_turn : (key : Key) (value turn : Scalar) (old new : List Opening) (o : Opening) → new ≡ old ++ o ∷ [] → turn ≡ key_scalar key → IsOpening C fs at number (Some (record { offset = offset; key = key })) [] (Some value) (Some turn) o → AddsTurns C fs at number offset ((key, value) ∷ []) old new
+  pub one_turn : (key : Key) (value turn : Scalar) (old new : List PendingInstance) (o : PendingInstance) → new ≡ old ++ o ∷ [] → turn ≡ key_scalar key → IsOpening C fs at number (Some (record { offset = offset; key = key })) [] (Some value) (Some turn) o → AddsTurns C fs at number offset ((key, value) ∷ []) old new
   one_turn key value turn old new o e t x = record { added = o ∷ []; new_is = e; each = (record { inner = x.inner; value_is = x.value_is; turn_is = x.turn_is ∙ ap (λ v. Some v) t }, search rules) }
 
-  pub turns_are : (ts us : Elements) (old new : List Opening) → ts ≡ us → AddsTurns C fs at number offset ts old new → AddsTurns C fs at number offset us old new
+  pub turns_are : (ts us : Elements) (old new : List PendingInstance) → ts ≡ us → AddsTurns C fs at number offset ts old new → AddsTurns C fs at number offset us old new
   turns_are ts us old new e x = subst (λ (vs : Elements). AddsTurns C fs at number offset vs old new) e x
 
 -- one turn of a range more
@@ -108,7 +108,7 @@ pub turn_same : (a b : ℤ) (low step : ℤ) (n : ℕ) → a ≡ pos n → b ≡
 turn_same a b low step n e f = ap (λ (z : ℤ). (number_key z, Number b) ∷ []) e ∙ ap (λ (z : ℤ). (number_key (pos n), Number z) ∷ []) f
 
 -- instances of turns are of the blocks that steps lead to
-pub turns_blocks : (C : Code) (fs : List (Option Frame)) (at number offset : ℕ) (turns : Elements) (added : List Opening) → AllZip (IsTurn C fs at number offset) turns added → map (block_of fs (Some at)) (map opening_frame added) ≡ map (λ (t : Key × Scalar). (number, step_at offset t.0 (path_of fs at))) turns
+pub turns_blocks : (C : Code) (fs : List (Option Frame)) (at number offset : ℕ) (turns : Elements) (added : List PendingInstance) → AllZip (IsTurn C fs at number offset) turns added → map (block_of fs (Some at)) (map opening_frame added) ≡ map (λ (t : Key × Scalar). (number, step_at offset t.0 (path_of fs at))) turns
 turns_blocks C fs at number offset [] [] x = refl
 turns_blocks C fs at number offset [] (o ∷ os) x = absurd x
 turns_blocks C fs at number offset (t ∷ ts) [] x = absurd x

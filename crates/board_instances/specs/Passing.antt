@@ -1,4 +1,4 @@
--- What a call hands over to the instance that it opens.
+-- The arguments of a call in the instance that it opens.
 use Rattle.std.specs.Prelude.{◌≡◌, ℕ, ◌<◌, ◌^◌, List, ◌++◌, length, map, Option, Some, None}
 use Rattle.dataflow.specs.System.{In}
 use Rattle.board_history.specs.Ending.{Instance}
@@ -8,7 +8,7 @@ use Rattle.board_program.specs.Spots.{spot_in}
 use Rattle.board_program.specs.Tables.{passed_in}
 use Rattle.board_instances.specs.Openings.{passed_from}
 
--- the slots of what an entry hands over, where it is a call, stand behind the slots of the body's own data
+-- the slots of the arguments of an entry, if it is a call, follow the slots of the body's own data
 pub record HandsOver (C : Code) (fs : List (Option Frame)) (k e : ℕ) (m : Instance) (f : Frame) : Type 0 where
   pub outer : Frame
   pub there : slot_at fs k ≡ Some outer

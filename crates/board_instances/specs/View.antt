@@ -1,39 +1,39 @@
--- What items and instances stand for.
+-- The views of items and instances as rows and frames.
 use Rattle.std.specs.Prelude.{ℕ, List, Option, map, option_map}
 use Rattle.board_history.specs.Fields as Pure
 use Rattle.task_code.specs.Places as Places
-use Rattle.board_instances.specs.declared.item.Mark.{Mark}
-use Rattle.board_instances.specs.declared.item.Mark.TheVariants as Marks
-use Rattle.board_instances.specs.declared.item.Job.{Job}
-use Rattle.board_instances.specs.declared.item.Job.TheVariants as Jobs
-use Rattle.board_instances.specs.declared.item.Item.{Item}
-use Rattle.board_instances.specs.declared.item.Item.TheVariants as Items
+use Rattle.board_instances.specs.declared.item.ItemStatus.{ItemStatus}
+use Rattle.board_instances.specs.declared.item.ItemStatus.TheVariants as Marks
+use Rattle.board_instances.specs.declared.item.ItemTask.{ItemTask}
+use Rattle.board_instances.specs.declared.item.ItemTask.TheVariants as Jobs
+use Rattle.board_instances.specs.declared.item.ItemRecord.{ItemRecord}
+use Rattle.board_instances.specs.declared.item.ItemRecord.TheVariants as Items
 use Rattle.board_instances.specs.declared.instance.Slot.{Slot}
 use Rattle.board_instances.specs.declared.instance.Slot.TheVariants as Slots
 use Rattle.board_instances.specs.declared.instance.Instance.{Instance}
-use Rattle.board_instances.specs.declared.opening.Opening.{Opening}
+use Rattle.board_instances.specs.declared.pending.PendingInstance.{PendingInstance}
 use Rattle.paths.specs.declared.steps.Step.{Step}
 
 -- items
-abbrev pub mark_view : Mark → Pure.Mark
+abbrev pub mark_view : ItemStatus → Pure.Mark
 mark_view Marks.Waiting = Pure.Waiting
 mark_view Marks.Ready = Pure.Ready
 mark_view (Marks.Running w) = Pure.Running w
 mark_view Marks.Over = Pure.Over
 
-abbrev pub job_view : Job → Pure.Job
+abbrev pub job_view : ItemTask → Pure.Job
 job_view Jobs.Script = Pure.Script
 job_view (Jobs.Does e k c) = Pure.Does k e c
 
-abbrev pub row_view : Item → Pure.Row
+abbrev pub row_view : ItemRecord → Pure.Row
 row_view (Items.Script m) = record { job = Pure.Script; mark = mark_view m }
 row_view (Items.Does m e k c) = record { job = Pure.Does k e c; mark = mark_view m }
 
-abbrev pub rows_view : List Item → List Pure.Row
+abbrev pub rows_view : List ItemRecord → List Pure.Row
 rows_view items = map row_view items
 
 -- the new item of an entry in an instance
-abbrev pub new_item : (instance entry : ℕ) → Item
+abbrev pub new_item : (instance entry : ℕ) → ItemRecord
 new_item k e = Items.Does Marks.Waiting e k 0
 
 -- instances
@@ -60,5 +60,5 @@ frame_view f =
 abbrev pub frames_view : List (Option Instance) → List (Option Pure.Frame)
 frames_view fs = map (λ f. option_map frame_view f) fs
 
-abbrev pub opening_frame : Opening → Pure.Frame
+abbrev pub opening_frame : PendingInstance → Pure.Frame
 opening_frame o = frame_view o.instance

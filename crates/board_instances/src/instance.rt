@@ -1,4 +1,4 @@
-//! Instances of blocks: what their names stand for, and their paths.
+//! Block instances: their slots, their paths and their live counts.
 ghost use Rattle.std.specs.Prelude.{◌≡◌, ◌<◌, ◌≤◌, ◌+◌, ◌++◌, ◌^◌, ℕ, suc, List, Option, Some, None, map, reverse, option_copied, option_map, IfOk, IfSome, IsSome, OnSome};
 ghost use Rattle.slab.specs.Slab.{get, slab_len};
 ghost use Rattle.board_history.specs.Ending.{Sets, TakenOff, with_live};
@@ -7,49 +7,49 @@ ghost use Rattle.board_instances.specs.Names.{datum_of, led_slot, slot_in, spot_
 ghost use Rattle.board_instances.specs.Nested.{IsNested};
 ghost use Rattle.board_instances.specs.View.{frame_view, frames_view, slot_view, step_view};
 
-use crate::outer::{LastStep, Outer};
 use crate::packed::PackedSlot;
-use board_program::spot::Spot;
+use crate::parent_key::{LastStep, ParentKey};
+use board_program::lexical_address::LexicalAddress;
 use paths::Step;
 use slab::Slab;
 use smallvec::SmallVec;
 use std::alloc::{AllocError, Global};
 
-/// What a name of a block stands for in an instance.
+/// The value of a name in an instance: nothing, a datum of the store, or a literal argument of a call.
 #[derive(Clone, Copy, PartialEq, Eq, Debug, Drop)]
 pub enum Slot {
     Absent,
     Datum(usize),
-    /// A literal that a call passes: the call's entry, and the place among its arguments.
+    /// A literal argument of a call: the call's entry, and the index among its arguments.
     Literal(u32, usize),
 }
 
-/// So many slots lie in an instance itself.
+/// Number of slots that are stored inside an instance, without a separate allocation.
 pub(crate) const INLINE_SLOTS: usize = 6;
 
-/// What the names of an instance stand for: first the variables of its block, then the parameters of its function.
+/// The slots of an instance: first the variables of its block, then the parameters of its function.
 pub type Slots = SmallVec<PackedSlot, INLINE_SLOTS>;
 
 /// An instance of a block.
 #[derive(Drop)]
 pub struct Instance {
-    /// The instance around it.
-    pub parent: Outer,
-    /// How many are around it.
+    /// The key of the enclosing instance.
+    pub parent: ParentKey,
+    /// Number of enclosing instances.
     pub level: u32,
-    /// How many steps its path has.
+    /// Number of steps in its path.
     pub depth: u32,
     pub body: u32,
     /// The last step of its path; the content of a `wait` adds none.
     pub way: LastStep,
-    /// How many items that have not ended and how many instances it has.
+    /// Number of live children: items that have not ended, and instances directly inside.
     pub live: usize,
     pub slots: Slots,
 }
 
-/// The instance that lies so many further out.
+/// Returns the instance `levels` levels further out, or `None` if there is none.
 #[tactic(auto, using(crate::proofs::Frames::up_none, crate::proofs::Frames::up_here, crate::proofs::Frames::up_outer, crate::proofs::Frames::up_next))]
-fn further_out(instances: &Slab<Instance>, at: usize, levels: usize) -> Option<&Instance>
+fn ancestor(instances: &Slab<Instance>, at: usize, levels: usize) -> Option<&Instance>
     ensures { option_map frame_view (option_copied result) ≡ frame_up (frames_view instances.now.slots) levels at }
 {
     let mut key = at;
@@ -65,7 +65,7 @@ fn further_out(instances: &Slab<Instance>, at: usize, levels: usize) -> Option<&
     instances.get(key)
 }
 
-/// What stands in a slot of an instance.
+/// Returns a slot of an instance; an index past the end is `Absent`.
 #[tactic(auto, using(crate::proofs::Frames::nth_there, crate::proofs::Frames::nth_past))]
 fn slot_in(instance: &Instance, slot: usize) -> Slot
     ensures { slot_view result ≡ slot_in (Some (frame_view instance.now)) slot }
@@ -78,18 +78,22 @@ fn slot_in(instance: &Instance, slot: usize) -> Slot
     }
 }
 
-/// What a name that leads there stands for.
-pub fn slot_at(instances: &Slab<Instance>, at: usize, spot: Spot) -> Slot
+/// Returns the slot at this lexical address, as seen from the instance with key `at`.
+pub fn slot_at(instances: &Slab<Instance>, at: usize, spot: LexicalAddress) -> Slot
     ensures { slot_view result ≡ spot_slot (frames_view instances.now.slots) at spot }
 {
-    match further_out(instances, at, spot.levels) {
+    match ancestor(instances, at, spot.levels) {
         Some(instance) => slot_in(instance, spot.slot),
         None => Slot::Absent,
     }
 }
 
-/// The datum that a name stands for, if it stands for one.
-pub fn datum_at(instances: &Slab<Instance>, at: usize, spot: Option<Spot>) -> Option<usize>
+/// Returns the datum at this lexical address, or `None` if its slot holds none.
+pub fn datum_at(
+    instances: &Slab<Instance>,
+    at: usize,
+    spot: Option<LexicalAddress>,
+) -> Option<usize>
     ensures { result ≡ datum_of (led_slot (frames_view instances.now.slots) at spot) }
 {
     match slot_at(instances, at, spot?) {
@@ -98,7 +102,7 @@ pub fn datum_at(instances: &Slab<Instance>, at: usize, spot: Option<Spot>) -> Op
     }
 }
 
-/// How many instances are around this one.
+/// Returns the number of instances that enclose this one, or 0 if there is no instance with this key.
 #[tactic(auto, using(crate::proofs::Frames::frame_there))]
 fn level_of(instances: &Slab<Instance>, at: usize) -> u32
     ensures { result ≡ level_of (slot_of (frames_view instances.now.slots) at) }
@@ -109,7 +113,7 @@ fn level_of(instances: &Slab<Instance>, at: usize) -> u32
     }
 }
 
-/// Adds the last step of an instance's path, if it has one of its own. Answers with the instance around it.
+/// Appends the last step of an instance's path, if the instance adds one. Returns the key of the enclosing instance.
 fn push_step(
     steps: &mut Vec<Step>,
     instances: &Slab<Instance>,
@@ -128,7 +132,7 @@ fn push_step(
     Ok(instance.parent.key())
 }
 
-/// The steps of an instance's path, the last one first.
+/// Returns the steps of an instance's path, innermost first.
 fn steps_back(alloc: Global, instances: &Slab<Instance>, at: usize) -> Result<Vec<Step>, AllocError>
     ensures { IfOk result (λ steps. map step_view steps.items ≡ path_of (frames_view instances.now.slots) at) }
 {
@@ -143,11 +147,11 @@ fn steps_back(alloc: Global, instances: &Slab<Instance>, at: usize) -> Result<Ve
     Ok(steps)
 }
 
-/// The path of an instance, from its outermost step on.
+/// Returns the path of an instance, outermost step first.
 ///
 /// # Errors
 ///
-/// `AllocError` where memory that was asked for was refused.
+/// Returns `AllocError` if an allocation fails.
 pub fn path_of(
     alloc: Global,
     instances: &Slab<Instance>,
@@ -160,11 +164,12 @@ pub fn path_of(
     Ok(steps)
 }
 
-/// What an instance has inside that goes with it.
+/// The live count of an instance whose last child is about to leave.
 const LAST: usize = 1;
 
-/// One item or instance less is in the instance. Where it was the last, the instance goes, and the answer is the one around it.
-fn leave_one(instances: &mut Slab<Instance>, at: usize) -> Option<usize>
+/// Removes one child from the live count of an instance. If it was the last child, the instance is removed, and the key
+/// of the enclosing instance is returned.
+fn drop_instance(instances: &mut Slab<Instance>, at: usize) -> Option<usize>
     ensures goes { IfSome result (λ outer. (f : Frame) × (slot_of (frames_view instances.old.slots) at ≡ Some f) × (f.parent ≡ Some outer)
         × Sets (frames_view instances.old.slots) at None (frames_view instances.new.slots)) }
     ensures fewer { OnSome result (slab_len instances.new + 1 ≡ slab_len instances.old) }
@@ -181,20 +186,21 @@ fn leave_one(instances: &mut Slab<Instance>, at: usize) -> Option<usize>
     gone.parent.key()
 }
 
-/// One item or instance less is in the instance; where it was the last, the instance goes, and so on outwards.
+/// Removes one child from the live count of an instance. An instance without children is removed, which repeats
+/// outwards.
 pub fn leave(instances: &mut Slab<Instance>, at: usize)
     ensures { IsNested (frames_view instances.old.slots) → IsSome (slot_of (frames_view instances.old.slots) at)
         → TakenOff (frames_view instances.new.slots) (frames_view instances.old.slots) (Some at) }
 {
     let mut next = Some(at);
     while let Some(key) = next {
-        next = leave_one(instances, key);
+        next = drop_instance(instances, key);
     }
 }
 
-/// So many items or instances more are in the instance.
+/// Adds `count` to the live count of an instance. Does nothing if there is no instance with this key.
 #[tactic(auto, using(crate::proofs::Slots::view_there))]
-pub fn enter(instances: &mut Slab<Instance>, at: usize, count: usize)
+pub fn add_child(instances: &mut Slab<Instance>, at: usize, count: usize)
     ensures there { (f : Frame) → slot_of (frames_view instances.old.slots) at ≡ Some f → f.live + count < 2 ^ 64
         → Sets (frames_view instances.old.slots) at (Some (with_live (f.live + count) f)) (frames_view instances.new.slots) }
     ensures absent { slot_of (frames_view instances.old.slots) at ≡ None → instances.new ≡ instances.old }

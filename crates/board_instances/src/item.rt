@@ -1,4 +1,6 @@
-//! The items of a board, by their numbers.
+//! The items of a board, in a table by number.
+//!
+//! The item of number n is row n - 1. A row is never removed, and is packed into two words.
 ghost use Rattle.std.specs.Prelude.{◌≡◌, ◌<◌, ◌^◌, map, option_map, IfOk, IsOk};
 ghost use Rattle.board_history.specs.Fields.{row_of};
 ghost use Rattle.board_history.specs.Marking.{mark_at};
@@ -7,18 +9,18 @@ ghost use Rattle.board_instances.specs.View.{job_view, mark_view, row_view, rows
 use std::alloc::AllocError;
 use std::marker::Model;
 
-/// How far an item is.
+/// The status of an item.
 #[derive(Clone, Copy, PartialEq, Eq, Debug, Drop)]
-pub enum Mark {
+pub enum ItemStatus {
     Waiting,
     Ready,
     Running(u8),
     Over,
 }
 
-/// What an item is for: it opens the script, or it is an entry's in an instance of a block, from this chunk of a loop on.
+/// The task of an item: opening the script, or one entry in an instance, from this chunk of a loop on.
 #[derive(Clone, Copy, PartialEq, Eq, Debug, Drop)]
-pub enum Job {
+pub enum ItemTask {
     Script,
     Does {
         entry: u32,
@@ -27,31 +29,31 @@ pub enum Job {
     },
 }
 
-/// An item that was opened: what a `Job` and a `Mark` are together.
+/// A row of the item table, unpacked: an `ItemTask` together with an `ItemStatus`.
 #[derive(Clone, Copy, PartialEq, Eq, Debug, Drop)]
-pub enum Item {
-    Script(Mark),
+pub enum ItemRecord {
+    Script(ItemStatus),
     Does {
-        mark: Mark,
+        mark: ItemStatus,
         entry: u32,
         instance: usize,
         chunk: usize,
     },
 }
 
-impl Item {
-    /// What it is for.
-    pub fn job(self) -> Job
+impl ItemRecord {
+    /// Returns its task.
+    pub fn job(self) -> ItemTask
         ensures { job_view result ≡ (row_view self).job }
     {
         match self {
-            Item::Script(_) => Job::Script,
-            Item::Does {
+            ItemRecord::Script(_) => ItemTask::Script,
+            ItemRecord::Does {
                 mark: _,
                 entry,
                 instance,
                 chunk,
-            } => Job::Does {
+            } => ItemTask::Does {
                 entry,
                 instance,
                 chunk,
@@ -59,40 +61,40 @@ impl Item {
         }
     }
 
-    /// How far it is.
-    pub fn mark(self) -> Mark
+    /// Returns its status.
+    pub fn mark(self) -> ItemStatus
         ensures { mark_view result ≡ (row_view self).mark }
     {
         match self {
-            Item::Script(mark) => mark,
-            Item::Does { mark, .. } => mark,
+            ItemRecord::Script(mark) => mark,
+            ItemRecord::Does { mark, .. } => mark,
         }
     }
 }
 
-/// An item as a board keeps it, in two words. The one of number n stands at place n - 1, for ever.
+/// A row of the item table, packed into two words. The item of number n is always row n - 1.
 #[derive(Drop)]
 pub struct PackedItem {
     entry: u32,
     instance: u32,
     chunk: u32,
-    mark: Mark,
+    mark: ItemStatus,
     is_script: bool,
 }
 
 impl Model for PackedItem {
     ghost use Rattle.board_instances.specs.Packed.{unpacked_item};
-    ghost use Rattle.board_instances.specs.declared.item.Item.{Item};
+    ghost use Rattle.board_instances.specs.declared.item.ItemRecord.{ItemRecord};
 
-    ghost Value = { Item };
+    ghost Value = { ItemRecord };
 
     ghost view = { λ a. unpacked_item a.is_script a.mark a.entry a.instance a.chunk };
 }
 
 impl PackedItem {
-    /// The item that opens the script.
-    pub fn script(mark: Mark) -> PackedItem
-        ensures { result ≡ Item.Script mark }
+    /// Creates the item that opens the script.
+    pub fn script(mark: ItemStatus) -> PackedItem
+        ensures { result ≡ ItemRecord.Script mark }
     {
         PackedItem {
             entry: 0,
@@ -103,14 +105,14 @@ impl PackedItem {
         }
     }
 
-    /// An item of an entry that waits. So many instances, or chunks of a loop, that 32 bits do not tell their numbers are more than memory
-    /// has room for.
+    /// Creates a waiting item of an entry. Instance keys and chunk numbers are stored in 32 bits. Larger ones are more
+    /// than memory can hold, and are reported as an allocation failure.
     ///
     /// # Errors
     ///
-    /// `AllocError` where a number is too great.
+    /// Returns `AllocError` if `instance` or `chunk` does not fit in 32 bits.
     pub fn waiting(entry: u32, instance: usize, chunk: usize) -> Result<PackedItem, AllocError>
-        ensures item { IfOk result (λ packed. packed ≡ Item.Does Mark.Waiting entry instance chunk) }
+        ensures item { IfOk result (λ packed. packed ≡ ItemRecord.Does ItemStatus.Waiting entry instance chunk) }
         ensures succeeds { instance < 2 ^ 32 → chunk < 2 ^ 32 → IsOk result }
     {
         let (Ok(instance), Ok(chunk)) = (u32::try_from(instance), u32::try_from(chunk)) else {
@@ -120,19 +122,19 @@ impl PackedItem {
             entry,
             instance,
             chunk,
-            mark: Mark::Waiting,
+            mark: ItemStatus::Waiting,
             is_script: false,
         })
     }
 
-    /// What it stands for.
-    pub fn item(&self) -> Item
+    /// Returns the unpacked row.
+    pub fn item(&self) -> ItemRecord
         ensures { result ≡ self.now }
     {
         if self.is_script {
-            Item::Script(self.mark)
+            ItemRecord::Script(self.mark)
         } else {
-            Item::Does {
+            ItemRecord::Does {
                 mark: self.mark,
                 entry: self.entry,
                 instance: self.instance as usize,
@@ -141,17 +143,17 @@ impl PackedItem {
         }
     }
 
-    /// It is so far now.
-    fn set_mark(&mut self, mark: Mark)
+    /// Sets the status.
+    fn set_mark(&mut self, mark: ItemStatus)
         ensures { row_view self.new ≡ record { job = (row_view self.old).job; mark = mark_view mark } }
     {
         self.mark = mark;
     }
 }
 
-/// The item of this number, where there is one.
+/// Returns the item of this number, or `None` if there is none.
 #[tactic(auto, using(crate::proofs::Rows::row_none, crate::proofs::Rows::row_past, crate::proofs::Rows::row_there))]
-pub fn item_of(items: &[PackedItem], number: u64) -> Option<Item>
+pub fn item_of(items: &[PackedItem], number: u64) -> Option<ItemRecord>
     ensures { option_map row_view result ≡ row_of (rows_view items.now) number }
 {
     if number == 0 || items.len() as u64 <= number - 1 {
@@ -160,9 +162,9 @@ pub fn item_of(items: &[PackedItem], number: u64) -> Option<Item>
     Some(items[(number - 1) as usize].item())
 }
 
-/// Marks the item of this number.
+/// Sets the status of the item of this number. Does nothing if there is none.
 #[tactic(auto, using(crate::proofs::Rows::mark_none, crate::proofs::Rows::mark_past, crate::proofs::Rows::mark_there))]
-pub fn mark_item(items: &mut [PackedItem], number: u64, mark: Mark)
+pub fn mark_item(items: &mut [PackedItem], number: u64, mark: ItemStatus)
     ensures { rows_view items.new ≡ mark_at (rows_view items.old) number (mark_view mark) }
 {
     if number == 0 || items.len() as u64 <= number - 1 {

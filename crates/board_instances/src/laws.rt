@@ -1,4 +1,4 @@
-//! What instances that come among the others make of the fields of a board.
+//! Theorems about the fields of a board after instances have been placed.
 ghost use Rattle.std.specs.Prelude.{◌≡◌, ◌<◌, ◌++◌, ℕ, List, [], Option, None, Some, IsSome, length, map};
 ghost use Rattle.std.specs.List.{AllZip, filter};
 ghost use Rattle.dataflow.specs.Machine.{Event};
@@ -19,15 +19,17 @@ ghost use Rattle.board_instances.specs.Openings.{ArePlaced, IsInner, WithMore, u
 ghost use Rattle.board_instances.specs.Passing.{HandsOver};
 ghost use Rattle.board_instances.specs.Turns.{IsTurn};
 ghost use Rattle.board_instances.specs.View.{opening_frame};
-ghost use Rattle.board_instances.specs.declared.opening.Opening.{Opening as AnOpening};
+ghost use Rattle.board_instances.specs.declared.pending.PendingInstance.{PendingInstance as AnOpening};
 ghost use Rattle.values.specs.declared.key.Key.{Key};
 ghost use Rattle.values.specs.declared.value.Scalar.{Scalar};
 
-/// What comes of instances that were put in. An instance that was made inside of another, or the script's own, is one of a block,
-/// also once its data are made. Where all that are put in are such, the instances are those of an End that opens these blocks, with
-/// the rows of their items; and they lie in one another, as they do wherever the fields stand for the state of a history.
-/// Behind the slots of its own data an instance that a call opens has what the call hands over, where the layout puts the parameters.
-/// The instances of a loop's turns are of the blocks that its steps lead to.
+/// States what holds after instances have been created and placed.
+///
+/// An instance created inside another, or the instance of the script, is that of an opened block, also once its data
+/// are made. If all placed instances are of this kind, they are those of an End that opens these blocks, with the rows
+/// of their items. Nesting is preserved, and it holds wherever the fields stand for the state of a history. After the
+/// slots of its own data, an instance opened by a call has the arguments of the call, where the layout puts the
+/// parameters. The instances of a loop's turns are of the blocks to which its steps lead.
 pub fn opened_instances()
     ensures stands { (C : Code) (L : Layout) (events : List Event) (F : Fields) → Stands C L events F → IsNested F.frames }
     ensures inner { (C : Code) (fs : List (Option Frame)) (at number : ℕ) (way : Option Step) (passed xs : List Slot) (f : Frame) →

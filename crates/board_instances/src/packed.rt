@@ -1,16 +1,17 @@
-//! What a name stands for, as an instance keeps it: in one word.
+//! The slot of a name, packed into one word.
 ghost use Rattle.std.specs.Prelude.{◌≡◌, ◌<◌, ◌^◌, IfOk, IsOk};
 
 use crate::instance::Slot;
 use std::alloc::AllocError;
 use std::marker::Model;
 
-// No call has so many arguments that a literal stands at these places: the one is that of a datum, and the other of nothing.
+// Reserved values of `place`: `DATUM` marks a datum, `NOTHING` an absent slot. A literal argument whose index reaches
+// `DATUM` is refused.
 const DATUM: u32 = 4_294_967_294;
 
 const NOTHING: u32 = 4_294_967_295;
 
-/// A slot in one word: the number of a datum, or of the call's entry and the place among its arguments.
+/// A slot in one word: the number of a datum, or a call's entry with an argument index.
 #[derive(Drop)]
 pub struct PackedSlot {
     number: u32,
@@ -33,7 +34,7 @@ impl Default for PackedSlot {
 }
 
 impl PackedSlot {
-    /// Nothing.
+    /// Creates an absent slot.
     pub fn absent() -> PackedSlot
         ensures { result ≡ Slot.Absent }
     {
@@ -43,11 +44,12 @@ impl PackedSlot {
         }
     }
 
-    /// A datum. So many data that one has a greater number than 32 bits tell are more than memory has room for.
+    /// Creates the slot of a datum. Data numbers are stored in 32 bits. A larger one is more than memory can hold, and
+    /// is reported as an allocation failure.
     ///
     /// # Errors
     ///
-    /// `AllocError` where the number is too great.
+    /// Returns `AllocError` if the number does not fit in 32 bits.
     pub fn datum(d: usize) -> Result<PackedSlot, AllocError>
         ensures slot { IfOk result (λ packed. packed ≡ Slot.Datum d) }
         ensures succeeds { d < 2 ^ 32 → IsOk result }
@@ -61,12 +63,12 @@ impl PackedSlot {
         })
     }
 
-    /// The slot in one word. So many data, and so many arguments of one call, that 32 bits do not tell their numbers are more than
-    /// memory has room for.
+    /// Packs a slot into one word. A number that is too large for it is more than memory can hold, and is reported as
+    /// an allocation failure.
     ///
     /// # Errors
     ///
-    /// `AllocError` where a number is too great.
+    /// Returns `AllocError` if the number of a datum does not fit in 32 bits, or if an argument index is too large.
     pub fn of(slot: Slot) -> Result<PackedSlot, AllocError>
         ensures { IfOk result (λ packed. packed ≡ slot) }
     {
@@ -85,7 +87,7 @@ impl PackedSlot {
         }
     }
 
-    /// What it stands for.
+    /// Returns the unpacked slot.
     pub fn slot(&self) -> Slot
         ensures { result ≡ self.now }
     {

@@ -1,4 +1,7 @@
-//! Instances come among the others, with their items.
+//! Placement of new instances and their items.
+//!
+//! Each instance is inserted into the slab under a fresh key, and one waiting item is appended for each entry of its
+//! body.
 ghost use Rattle.std.specs.Prelude.{◌≡◌, ◌≤◌, ◌<◌, ◌+◌, ◌*◌, ◌++◌, ◌^◌, ◌∷◌, [], List, None, Some, Option, length, map, IfOk, IsOk, OnOk, vec_len, vec_capacity};
 ghost use Rattle.slab.specs.Slab.{HasRoomFor, slab_len};
 ghost use Rattle.board_history.specs.Ending.{Sets, new_row};
@@ -6,13 +9,13 @@ ghost use Rattle.board_history.specs.Fields.{Does, Frame, slot_at as slot_of};
 ghost use Rattle.board_instances.specs.Openings.{ArePlaced, WithMore};
 ghost use Rattle.board_instances.specs.View.{frame_view, frames_view, new_item, opening_frame, rows_view};
 
-use crate::instance::{Instance, enter};
+use crate::instance::{Instance, add_child};
 use crate::item::PackedItem;
-use crate::opening::Opening;
+use crate::pending::PendingInstance;
 use slab::Slab;
 use std::alloc::AllocError;
 
-/// Puts a new item of each entry behind the others.
+/// Appends a waiting item for each entry.
 fn push_items(
     items: &mut Vec<PackedItem>,
     instance: usize,
@@ -29,7 +32,7 @@ fn push_items(
     Ok(())
 }
 
-/// Puts an instance among the others, with its items. Answers with its key.
+/// Inserts an instance into the slab and appends its items. Returns the key of the instance.
 fn place(
     instances: &mut Slab<Instance>,
     items: &mut Vec<PackedItem>,
@@ -51,12 +54,12 @@ fn place(
     Ok(key)
 }
 
-/// The same for one whose data are made.
+/// Inserts a pending instance, whose data are made, and appends its items. Returns the key of the instance.
 fn place_opening(
     instances: &mut Slab<Instance>,
     items: &mut Vec<PackedItem>,
     entries: &[u32],
-    opening: Opening,
+    opening: PendingInstance,
 ) -> Result<usize, AllocError>
     ensures fresh { IfOk result (λ key. slot_of (frames_view instances.old.slots) key ≡ None) }
     ensures sets { IfOk result (λ key. Sets (frames_view instances.old.slots) key (Some (opening_frame opening)) (frames_view instances.new.slots)) }
@@ -71,12 +74,12 @@ fn place_opening(
     place(instances, items, entries, opening.instance)
 }
 
-/// Puts these instances among the others, with their items. Answers with the key of the last one.
+/// Inserts these instances and appends their items. Returns the key of the last instance.
 fn place_each(
     instances: &mut Slab<Instance>,
     items: &mut Vec<PackedItem>,
     entries: &[u32],
-    list: Vec<Opening>,
+    list: Vec<PendingInstance>,
 ) -> Result<Option<usize>, AllocError>
     ensures placed { IfOk result (λ last. ArePlaced (map opening_frame list.items) entries.now (frames_view instances.old.slots)
         (frames_view instances.new.slots) (rows_view items.old.items) (rows_view items.new.items) last) }
@@ -91,18 +94,18 @@ fn place_each(
     Ok(last)
 }
 
-/// Puts these instances, which lie in the one around, among the others, with an item for each of these entries. Answers with the key
-/// of the last one. Takes no memory where so many instances and items were reserved.
+/// Inserts these instances inside the one with key `around`, and appends an item for each of the entries. Returns the
+/// key of the last instance. Allocates no memory if instances and items were reserved.
 ///
 /// # Errors
 ///
-/// `AllocError` where memory that was asked for was refused. Some of the instances may be there then.
+/// Returns `AllocError` if an allocation fails. Some of the instances may have been placed.
 pub fn place_all(
     instances: &mut Slab<Instance>,
     items: &mut Vec<PackedItem>,
     around: Option<usize>,
     entries: &[u32],
-    list: Vec<Opening>,
+    list: Vec<PendingInstance>,
 ) -> Result<Option<usize>, AllocError>
     ensures placed { IfOk result (λ last. (middle : List (Option Frame)) × WithMore (frames_view instances.old.slots) around (vec_len list) middle
         × ArePlaced (map opening_frame list.items) entries.now middle (frames_view instances.new.slots) (rows_view items.old.items)
@@ -112,18 +115,17 @@ pub fn place_all(
         → vec_len items.old + vec_len list * length entries.now ≤ vec_capacity items.old → IsOk result }
 {
     if let Some(outer) = around {
-        enter(instances, outer, list.len());
+        add_child(instances, outer, list.len());
     }
     place_each(instances, items, entries, list)
 }
 
-/// One more item goes on with the loop of an item of the entry in the instance, from the next chunk on. Takes no memory where one item
-/// was reserved.
+/// Appends an item that continues a loop from the next chunk on. Allocates no memory if one item was reserved.
 ///
 /// # Errors
 ///
-/// `AllocError` where memory that was asked for was refused.
-pub fn go_on(
+/// Returns `AllocError` if an allocation fails.
+pub fn push_rest_of_loop(
     items: &mut Vec<PackedItem>,
     instance: usize,
     entry: u32,

@@ -1,4 +1,4 @@
-//! The blocks that an End opens, and the turns of a loop among them.
+//! Creation of pending instances for blocks and for the turns of a loop.
 ghost use Rattle.std.specs.Prelude.{◌≡◌, ◌<◌, ◌-◌, ◌++◌, ◌∷◌, [], IsSome, OnOk, length, min, pos, option_map};
 ghost use Rattle.board_history.specs.Fields.{slot_at as slot_of};
 ghost use Rattle.task_code.specs.Code.{body as body_of};
@@ -10,36 +10,36 @@ ghost use Rattle.board_instances.specs.Openings.{passed_from};
 ghost use Rattle.board_instances.specs.Turns.{AddsTurns, IsOpening};
 ghost use Rattle.board_instances.specs.View.{frames_view, step_view};
 ghost use Rattle.values.specs.Keys.{key_seen};
-ghost use Rattle.board_instances.specs.declared.opening.Opening.{Opening as AnOpening};
+ghost use Rattle.board_instances.specs.declared.pending.PendingInstance.{PendingInstance as AnOpening};
 
-use crate::opening::{Around, Opening, inner};
-use crate::outer::LastStep;
-use board_program::program::Passed;
+use crate::parent_key::LastStep;
+use crate::pending::{ParentContext, PendingInstance, child_instance};
+use board_program::program::PassedArgument;
 use std::alloc::{AllocError, Global};
 use values::key::KeyRef;
 use values::map::Element;
-use values::range::Range;
+use values::range::IntRange;
 use values::value::Scalar;
 
-/// A body of which instances are made: inside of the one that is looked at, by steps at this offset.
+/// The body of new instances, the context of their parent, and the offset of the steps that lead to them.
 #[derive(Clone, Copy)]
 pub struct InnerBody<'a> {
     pub alloc: Global,
-    pub around: Around<'a>,
+    pub around: ParentContext<'a>,
     pub body: u32,
     pub offset: u32,
 }
 
-/// Adds an instance of the body, with the values of a turn's variables, unless the body has no entries.
+/// Appends an instance of the body, with the values of a turn's variables. Appends nothing if the body has no entries.
 ///
 /// # Errors
 ///
-/// `AllocError` where memory that was asked for was refused.
+/// Returns `AllocError` if an allocation fails.
 pub fn push_block(
     site: InnerBody<'_>,
-    list: &mut Vec<Opening>,
+    list: &mut Vec<PendingInstance>,
     way: LastStep,
-    arguments: (u32, &[Passed]),
+    arguments: (u32, &[PassedArgument]),
     values: (Option<Scalar>, Option<Scalar>),
 ) -> Result<(), AllocError>
     ensures added { OnOk result (0 < length (body_of site.entry.around.program.now site.entry.body).entries
@@ -56,9 +56,9 @@ pub fn push_block(
     if body.entries.is_empty() {
         return Ok(());
     }
-    if let Some(instance) = inner(site.alloc, site.around, site.body, way, arguments)? {
+    if let Some(instance) = child_instance(site.alloc, site.around, site.body, way, arguments)? {
         let (value, turn) = values;
-        list.push(Opening {
+        list.push(PendingInstance {
             instance,
             value,
             turn,
@@ -67,11 +67,11 @@ pub fn push_block(
     Ok(())
 }
 
-/// Adds an instance for a turn of a loop.
+/// Appends an instance for one turn of a loop.
 #[inline(always)]
 fn push_turn(
     site: InnerBody<'_>,
-    list: &mut Vec<Opening>,
+    list: &mut Vec<PendingInstance>,
     key: KeyRef<'_>,
     value: Scalar,
 ) -> Result<(), AllocError>
@@ -87,14 +87,14 @@ fn push_turn(
     Ok(())
 }
 
-/// Adds an instance for each of these elements, as `foreach` goes over an array.
+/// Appends an instance for each of these elements, as for a `foreach` over an array.
 ///
 /// # Errors
 ///
-/// `AllocError` where memory that was asked for was refused. Some of the instances may be there then.
+/// Returns `AllocError` if an allocation fails. Some of the instances may have been appended.
 pub fn push_elements(
     site: InnerBody<'_>,
-    list: &mut Vec<Opening>,
+    list: &mut Vec<PendingInstance>,
     elements: &[Element],
 ) -> Result<(), AllocError>
     ensures added { OnOk result (0 < length (body_of site.entry.around.program.now site.entry.body).entries
@@ -109,11 +109,11 @@ pub fn push_elements(
     Ok(())
 }
 
-/// Adds an instance for a turn of a range.
+/// Appends an instance for the turn of index `n` of a range.
 fn push_number(
     site: InnerBody<'_>,
-    list: &mut Vec<Opening>,
-    range: &Range,
+    list: &mut Vec<PendingInstance>,
+    range: &IntRange,
     n: u64,
 ) -> Result<(), AllocError>
     requires { n < range.now.count }
@@ -123,7 +123,7 @@ fn push_number(
         ((number_key (pos n), Number (value_in range.now.low range.now.step n)) ∷ []) list.old.items list.new.items) }
     ensures none { OnOk result (length (body_of site.entry.around.program.now site.entry.body).entries ≡ 0 → list.new.items ≡ list.old.items) }
 {
-    // So many turns are more than memory has room for.
+    // A turn index beyond 63 bits means more turns than memory can hold.
     let Ok(key) = i64::try_from(n) else {
         return Err(AllocError);
     };
@@ -136,15 +136,15 @@ fn push_number(
     Ok(())
 }
 
-/// Adds an instance for each turn of a range from one on, before another.
+/// Appends an instance for each turn of a range with an index from `first` to `end`, exclusive.
 ///
 /// # Errors
 ///
-/// `AllocError` where memory that was asked for was refused. Some of the instances may be there then.
+/// Returns `AllocError` if an allocation fails. Some of the instances may have been appended.
 pub fn push_range(
     site: InnerBody<'_>,
-    list: &mut Vec<Opening>,
-    range: &Range,
+    list: &mut Vec<PendingInstance>,
+    range: &IntRange,
     first: u64,
     end: u64,
 ) -> Result<(), AllocError>

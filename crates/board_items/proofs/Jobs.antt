@@ -7,7 +7,7 @@ use Rattle.board_program.proofs.Found.{home_found}
 use Rattle.dataflow.specs.System.{In}
 use Rattle.task_code.specs.Whole.{IsCode}
 use Rattle.board_program.specs.Tables.{body_of, body_or_script, wanted_in}
-use Rattle.board_program.specs.declared.program.Wanted.{Wanted}
+use Rattle.board_program.specs.declared.program.ResolvedNeed.{ResolvedNeed}
 use Rattle.board_data.specs.Wanted.{FewSlots, is_nil, wanted_missed}
 use Rattle.board_data.proofs.Named.{all_missed}
 use Rattle.board_instances.specs.Names.{led_slot}
@@ -48,7 +48,7 @@ module _ (C : Code) (fs : List (Option Frame)) (cs : List (Option Counted)) wher
   misses_at : (k e c : ℕ) (f : Frame) → slot_at fs k ≡ Some f → misses C fs cs (Does k e c) ≡ flat_map (missed C cs (slot_for (layout_of C) fs k f.body)) (entry C e).needs
   misses_at k e c f h = ap (λ (x : Option Frame). elim x [ None ↦ [] | Some f ↦ flat_map (missed C cs (slot_for (layout_of C) fs k f.body)) (entry C e).needs ]) h
 
-  pub misses_listed : (k e c : ℕ) (ws : List Wanted) → FewSlots fs → IsSeen C fs (Does k e c) → ws ≡ map (wanted_in C (body_of C e)) (entry C e).needs → flat_map (wanted_missed C cs (led_slot fs k)) ws ≡ misses C fs cs (Does k e c)
+  pub misses_listed : (k e c : ℕ) (ws : List ResolvedNeed) → FewSlots fs → IsSeen C fs (Does k e c) → ws ≡ map (wanted_in C (body_of C e)) (entry C e).needs → flat_map (wanted_missed C cs (led_slot fs k)) ws ≡ misses C fs cs (Does k e c)
   misses_listed k e c ws few x q =
       ap (flat_map (wanted_missed C cs (led_slot fs k))) q
       ∙ ap (λ (b : ℕ). flat_map (wanted_missed C cs (led_slot fs k)) (map (wanted_in C b) (entry C e).needs)) x.2
@@ -64,7 +64,7 @@ module _ (C : Code) (fs : List (Option Frame)) (cs : List (Option Counted)) wher
   pub missed_past : (k e c : ℕ) (j : Job) → j ≡ Does k e c → IsSeen C fs j → length C.entries ≤ e → misses C fs cs j ≡ []
   missed_past k e c j q x h = ap (misses C fs cs) q ∙ misses_past k e c (subst (IsSeen C fs) q x) h
 
-  pub listed_there : (ws : List Wanted) (k e c : ℕ) (j : Job) → j ≡ Does k e c → FewSlots fs → IsSeen C fs j → ws ≡ map (wanted_in C (body_of C e)) (entry C e).needs → flat_map (wanted_missed C cs (led_slot fs k)) ws ≡ misses C fs cs j
+  pub listed_there : (ws : List ResolvedNeed) (k e c : ℕ) (j : Job) → j ≡ Does k e c → FewSlots fs → IsSeen C fs j → ws ≡ map (wanted_in C (body_of C e)) (entry C e).needs → flat_map (wanted_missed C cs (led_slot fs k)) ws ≡ misses C fs cs j
   listed_there ws k e c j q few x t = misses_listed k e c ws few (subst (IsSeen C fs) q x) t ∙ sym (ap (misses C fs cs) q)
 
 -- a test whether nothing is missed
@@ -93,7 +93,7 @@ module _ (C : Code) (fs : List (Option Frame)) (cs : List (Option Counted)) wher
   new_past k e zero j q x h = sym (ap (misses_first C fs cs) q ∙ misses_past C fs cs k e zero (subst (IsSeen C fs) q x) h)
   new_past k e (suc c) j q x h = sym (ap (misses_first C fs cs) q)
 
-  pub new_there : (k e c : ℕ) (j : Job) (ws : List Wanted) → j ≡ Does k e c → c ≡ 0 → FewSlots fs → IsSeen C fs j → ws ≡ map (wanted_in C (body_of C e)) (entry C e).needs → flat_map (wanted_missed C cs (led_slot fs k)) ws ≡ misses_first C fs cs j
+  pub new_there : (k e c : ℕ) (j : Job) (ws : List ResolvedNeed) → j ≡ Does k e c → c ≡ 0 → FewSlots fs → IsSeen C fs j → ws ≡ map (wanted_in C (body_of C e)) (entry C e).needs → flat_map (wanted_missed C cs (led_slot fs k)) ws ≡ misses_first C fs cs j
   new_there k e zero j ws q z few x t = misses_listed C fs cs k e zero ws few (subst (IsSeen C fs) q x) t ∙ sym (ap (misses_first C fs cs) q)
   new_there k e (suc c) j ws q z few x t = absurd (cc (z))
 

@@ -19,7 +19,7 @@ use Rattle.task_code.specs.Code.{Code, Control, Kind, Leaf}
 use Rattle.board_instances.specs.View.{rows_view}
 use Rattle.work_queue.specs.Both.{Both, of, with_changed}
 use Rattle.work_queue.specs.Waiting.{with_put}
-use Rattle.work_queue.specs.declared.entry.Entry.{Entry}
+use Rattle.work_queue.specs.declared.entry.QueueEntry.{QueueEntry}
 use Rattle.board_data.specs.Wanted.{FewSlots}
 use Rattle.board_items.specs.Ended.{AreSettled, AreShort, AreToSettle, IsSeen, IsShort, can_begin, missed_at, misses, misses_first, numbers_behind, row_misses, runs_so}
 use Rattle.board_items.specs.Progress.{AreOld, CanFinish, Progress, jobs_behind}
@@ -117,7 +117,7 @@ less_of Control Leaf a = omega arith
 less_of Leaf Control a = omega arith
 less_of Leaf Leaf a = refl
 
-pub put_of : (k l : Kind) (x : Entry) (q : Both) → room_of k (with_changed l (with_put x) q) ≡ room_of k q - one_if (kind_eq k l)
+pub put_of : (k l : Kind) (x : QueueEntry) (q : Both) → room_of k (with_changed l (with_put x) q) ≡ room_of k q - one_if (kind_eq k l)
 put_of Control Control x q = refl
 put_of Control Leaf x q = omega arith
 put_of Leaf Control x q = omega arith

@@ -9,10 +9,10 @@ use Rattle.work_queue.specs.Both.{Both, with_changed}
 use Rattle.work_queue.specs.Entries.{inserted}
 use Rattle.work_queue.specs.Order.{precedes}
 use Rattle.work_queue.specs.Waiting.{with_put}
-use Rattle.work_queue.specs.declared.entry.Entry.{Entry}
+use Rattle.work_queue.specs.declared.entry.QueueEntry.{QueueEntry}
 use Rattle.board_items.specs.View.{numbers_at, queue_view}
 
-numbers_inserted : (z : ℤ) (e : Entry) (xs : List Entry) → IsPermutation (numbers_at z xs ++ (if int_eq e.priority z then e.no ∷ [] else [])) (numbers_at z (inserted e xs))
+numbers_inserted : (z : ℤ) (e : QueueEntry) (xs : List QueueEntry) → IsPermutation (numbers_at z xs ++ (if int_eq e.priority z then e.no ∷ [] else [])) (numbers_at z (inserted e xs))
 numbers_inserted z e [] = IsPermutation-refl _
 numbers_inserted z e (y ∷ xs) = by (precedes e y) (numbers_inserted z e xs)
   where

@@ -1,4 +1,4 @@
--- What the end of an item makes of the other items.
+-- The other items after the end of an item.
 use Rattle.std.specs.List.{list_all}
 use Rattle.std.specs.Ordering.{int_eq}
 use Rattle.std.specs.Prelude.{◌≡◌, ◌⊎◌, ℕ, zero, suc, ℤ, ◌+◌, ◌≤◌, Bool, true, false, not, ◌&&◌, List, [], ◌∷◌, ◌++◌, map, length, filter, Option, Some, None, nat_lt, if◌then◌else◌, IsPermutation}
@@ -29,52 +29,52 @@ seen fs cs =
       newly = [];
     }
 
--- the numbers of so many items behind the first ones
+-- the `count` numbers that follow the first ones
 abbrev pub numbers_behind : (first count : ℕ) → List ℕ
 numbers_behind first zero = []
 numbers_behind first (suc n) = numbers_behind first n ++ (first + suc n) ∷ []
 
 module _ (C : Code) where
-  -- the instance of the job's entry is there, and of the body that has the entry
+  -- the instance of the job's entry exists, and its body has the entry
   abbrev pub IsSeen : List (Option Frame) → Job → Type 0
   IsSeen fs Script = Unit {0}
   IsSeen fs (Does k e c) = (f : Frame) × (slot_at fs k ≡ Some f) × (body_of C e ≡ f.body)
 
-  -- how many inputs the item of a job may wait for
+  -- the number of inputs for which the item of a job may wait
   abbrev pub needs_of : Job → ℕ
   needs_of Script = 0
   needs_of (Does k e c) = length (entry C e).needs
 
-  -- it waits for scalars and closed arrays alone
+  -- the job needs only scalars and closed arrays
   abbrev pub is_plain_job : Job → Bool
   is_plain_job Script = true
   is_plain_job (Does k e c) = list_all is_plain (entry C e).needs
 
-  -- a new one: one that goes on with a loop waits for nothing
+  -- the same number for a new item; one for the rest of a loop waits for nothing
   abbrev pub first_needs : Job → ℕ
   first_needs Script = 0
   first_needs (Does k e zero) = length (entry C e).needs
   first_needs (Does k e (suc c)) = 0
 
-  -- the job of a row is run so, and has this priority
+  -- the job of a row has this kind and this priority
   abbrev pub runs_so : Kind → ℤ → Option Row → Bool
   runs_so k z None = false
   runs_so k z (Some r) = kind_eq (job_kind C r.job) k && int_eq (job_priority C r.job) z
 
   module _ (fs : List (Option Frame)) (cs : List (Option Counted)) where
-    -- what the item of a job misses, and one that is new
+    -- the inputs that the item of a job misses, and those of a new one
     abbrev pub misses : Job → List (Want ℕ)
     misses j = job_missed C (layout_of C) (seen fs cs) j
 
     abbrev pub misses_first : Job → List (Want ℕ)
     misses_first j = missed_first C (layout_of C) (seen fs cs) j
 
-    -- an item that was woken misses nothing, or it waits for an element, and for two inputs at most
+    -- a woken item misses nothing, or needs an element and may wait for at most two inputs
     abbrev pub IsShort : Job → Type 0
     IsShort j = ((needs_of j ≤ 2) × (is_plain_job j ≡ false)) ⊎ (misses j ≡ [])
 
     module _ (rows : List Row) (first : ℕ) where
-      -- what the item of a row misses: one of the first was there before, the others are new
+      -- the inputs that the item of a row misses: rows up to `first` are old, the others are new
       abbrev pub row_misses : ℕ → Option Row → List (Want ℕ)
       row_misses m None = []
       row_misses m (Some r) = if nat_lt first m then misses_first r.job else misses r.job
@@ -88,7 +88,8 @@ module _ (C : Code) where
       abbrev pub waiter_at : ℕ → Waiter
       waiter_at m = record { item = m; missing = missed_at m }
 
-      -- the items of these numbers were settled: those that miss nothing can begin and are in the queue, the others wait; the item that ended is over
+      -- the items of these numbers were settled: those that miss nothing are ready and in the queue, the others wait;
+      -- the item that ended is over
       pub record AreSettled (number : ℕ) (before : List Waiter) (queued : Kind → ℤ → List ℕ) (done : List ℕ) (new : List Row) (waiting : List Waiter) (queue : Kind → ℤ → List ℕ) (newly : List ℕ) : Type 0 where
         pub rows_are : new ≡ marked_by (mark_after number newly) 1 rows
         pub newly_are : IsPermutation (filter can_begin done) newly
@@ -102,11 +103,12 @@ module _ (C : Code) where
         pub others : (m : ℕ) → In m ms → m ≡ number → ⊥
         pub once : Distinct ms
 
-      -- those of these numbers were woken
+      -- each item of these numbers misses nothing, or needs an element and may wait for at most two inputs
       abbrev pub AreShort : List ℕ → Type 0
       AreShort ms = (m : ℕ) (r : Row) → In m ms → row_of rows m ≡ Some r → IsShort r.job
 
--- rows, waiters and a queue that fit: just the items wait that are marked so, once, and just those can begin that are in the queue
+-- consistent rows, waiting items and queue: exactly the items marked as waiting wait, once, and exactly those marked as
+-- ready are in the queue
 pub record ItemsFit (F : Fields) : Type 0 where
   pub waits : (m : ℕ) (r : Row) → row_of F.rows m ≡ Some r → r.mark ≡ Waiting → (w : Waiter) × In w F.waiting × (w.item ≡ m)
   pub waiting : (w : Waiter) → In w F.waiting → (w.missing ≡ [] → ⊥) × ((r : Row) × (row_of F.rows w.item ≡ Some r) × (r.mark ≡ Waiting))

@@ -1,4 +1,4 @@
--- How far the items have been settled, and that there is room for the rest.
+-- The items settled so far, and the room for the rest.
 use Rattle.std.specs.Prelude.{◌≡◌, ◌+◌, ◌-◌, ◌≤◌, ◌++◌, true, drop, length, map, vec_capacity}
 use Rattle.dataflow.specs.System.{In}
 use Rattle.std.specs.Prelude.{ℕ, ℤ, List, Option, Some}
@@ -12,7 +12,7 @@ use Rattle.board_items.specs.View.{queue_view, waiters_view}
 use Rattle.board_items.specs.declared.items.Items.{Items}
 
 module _ (C : Code) (fs : List (Option Frame)) (cs : List (Option Counted)) (rows : List Row) (first number : ℕ) (before : List Waiter) (queued : Kind → ℤ → List ℕ) where
-  -- the items of these numbers were settled, and so many more can be
+  -- the items of these numbers were settled, and `left` more can be
   pub record Progress (done : List ℕ) (left : ℕ) (items : Items) : Type 0 where
     pub settled : AreSettled C fs cs rows first number before queued done (rows_view items.rows.items) (waiters_view items.rules.waiting) (queue_view items.queue) items.newly.items
     pub room : HasRoom C left items
@@ -21,15 +21,15 @@ module _ (C : Code) (fs : List (Option Frame)) (cs : List (Option Counted)) (row
 abbrev pub AreOld : ℕ → List ℕ → Type 0
 AreOld first ms = (m : ℕ) → In m ms → m ≤ first
 
--- the jobs of the rows behind the first ones
+-- the jobs of the rows that follow the first ones
 abbrev pub jobs_behind : ℕ → List Row → List Job
 jobs_behind first rows = map (λ (r : Row). r.job) (drop first rows)
 
--- all items that are to be settled at the end of an item: those that were woken, and those behind the first ones
+-- all items to settle at the end of an item: the woken ones, and those that follow the first ones
 abbrev pub all_to_settle : ℕ → Items → List ℕ
 all_to_settle first items = items.woken.items ++ numbers_behind first (length items.rows.items - first)
 
--- an item that runs can end: it has this job, those to be settled wait, and there is room for them
+-- a running item can end: it has this job, the items to settle wait, and there is room for them
 pub record CanFinish (C : Code) (fs : List (Option Frame)) (cs : List (Option Counted)) (number : ℕ) (job : Job) (first : ℕ) (items : Items) : Type 0 where
   pub row : Row
   pub there : row_of (rows_view items.rows.items) number ≡ Some row

@@ -1,4 +1,4 @@
--- What it leaves that an item waits, or can begin.
+-- The items after one of them was made to wait or made ready.
 use Rattle.std.specs.Prelude.{◌≡◌, ◌+◌, ◌^◌, min, ◌-◌, ◌<◌, ◌≤◌, ◌++◌, ◌∷◌, [], ℕ, ℤ, List, map, pos, vec_capacity, vec_len}
 use Rattle.board_history.specs.Fields as Pure
 use Rattle.board_history.specs.Marking.{mark_at}
@@ -14,12 +14,12 @@ use Rattle.work_queue.specs.declared.entry.Kind.TheVariants.{Control, Leaf}
 use Rattle.board_items.specs.declared.items.Counts.{Counts}
 use Rattle.board_items.specs.declared.items.Items.{Items}
 
--- nothing has changed but how far items are, and in what order they come
+-- nothing has changed apart from the status of items and the queue
 pub record StaysButOrder (old new : Items) : Type 0 where
   pub rules : new.rules ≡ old.rules
   pub woken : new.woken ≡ old.woken
 
--- nothing has changed but what items wait for, and which of them have learnt of their last input
+-- nothing has changed apart from missing inputs and the woken items
 pub record StaysButWaits (old new : Items) : Type 0 where
   pub rows : new.rows ≡ old.rows
   pub queue : new.queue ≡ old.queue
@@ -27,7 +27,7 @@ pub record StaysButWaits (old new : Items) : Type 0 where
   pub apart : new.apart ≡ old.apart
   pub running : new.running ≡ old.running
 
--- nothing has changed but room
+-- nothing has changed apart from capacity
 pub record StaysButRoom (old new : Items) : Type 0 where
   pub rows : new.rows.items ≡ old.rows.items
   pub waiting : new.rules.waiting ≡ old.rules.waiting
@@ -37,23 +37,23 @@ pub record StaysButRoom (old new : Items) : Type 0 where
   pub woken : new.woken.items ≡ old.woken.items
   pub running : new.running ≡ old.running
 
--- the input is known now: who waits waits for it no more, and those whose last it was are noted
+-- the input is known now: no item waits for it, and items that miss nothing more are recorded as woken
 pub record IsTold (i : Input) (old new : Items) : Type 0 where
   pub waiting : new.rules.waiting ≡ still_waiting i old.rules.waiting
   pub noted : IsListed (woken i old.rules.waiting) old.woken.items new.woken.items
   pub room : GivesRoomBack old.rules new.rules
 
--- one less of the kind
+-- one item of the kind less
 abbrev pub one_less : Kind → Counts → Counts
 one_less Control a = record a { controls = a.controls - 1 }
 one_less Leaf a = record a { leaves = a.leaves - 1 }
 
--- one more of the kind, as far as 64 bits count
+-- one item of the kind more, up to the greatest 64-bit number
 abbrev pub one_more : Kind → Counts → Counts
 one_more Control a = record a { controls = min (a.controls + 1) (2 ^ 64 - 1) }
 one_more Leaf a = record a { leaves = min (a.leaves + 1) (2 ^ 64 - 1) }
 
--- the item of number 1 alone, which opens the script and can begin
+-- the item of number 1 alone, which opens the script and is ready
 pub record AreFirst (items : Items) : Type 0 where
   pub rows : rows_view items.rows.items ≡ record { job = Pure.Script; mark = Pure.Ready } ∷ []
   pub waiting : items.rules.waiting ≡ []
@@ -63,7 +63,7 @@ pub record AreFirst (items : Items) : Type 0 where
   pub running : items.running ≡ 0
   pub noted : 0 < vec_capacity items.newly
 
--- the item waits for these inputs from now on, and nothing can begin that could not
+-- the item waits for these inputs now, and no item has become ready
 pub record IsWaiting (number : ℕ) (missing : List (Want ℕ)) (old new : Items) : Type 0 where
   pub inputs : List Input
   pub inputs_are : map want_view inputs ≡ missing
@@ -73,7 +73,7 @@ pub record IsWaiting (number : ℕ) (missing : List (Want ℕ)) (old new : Items
   pub newly : new.newly ≡ old.newly
   pub apart : new.apart ≡ old.apart
 
--- the item can begin from now on, and waits for nothing
+-- the item is ready now, and waits for nothing
 pub record IsReady (number : ℕ) (kind : Kind) (priority : ℤ) (old new : Items) : Type 0 where
   pub rules : new.rules ≡ old.rules
   pub rows : rows_view new.rows.items ≡ mark_at (rows_view old.rows.items) number Pure.Ready
@@ -81,7 +81,7 @@ pub record IsReady (number : ℕ) (kind : Kind) (priority : ℤ) (old new : Item
   pub newly : vec_len old.newly < vec_capacity old.newly → new.newly.items ≡ old.newly.items ++ number ∷ []
   pub apart : new.apart ≡ one_less kind old.apart
 
--- the item waits for what it misses, or can begin where it misses nothing
+-- the item waits for what it misses, or is ready if it misses nothing
 pub record Settles (number : ℕ) (missing : List (Want ℕ)) (kind : Kind) (priority : ℤ) (old new : Items) : Type 0 where
   pub waits : (missing ≡ [] → ⊥) → IsWaiting number missing old new
   pub ready : missing ≡ [] → IsReady number kind priority old new

@@ -1,14 +1,14 @@
--- What items that wait, and the queue of those that can begin, stand for.
+-- The views of waiting items and of the queue.
 use Rattle.std.specs.Ordering.{int_eq}
 use Rattle.std.specs.Prelude.{ℕ, ℤ, List, [], ◌∷◌, map, if◌then◌else◌}
 use Rattle.board_history.specs.Fields as Pure
 use Rattle.task_code.specs.Code.{Control, Kind, Leaf}
 use Rattle.rules.specs.Waiting as Rules
 use Rattle.work_queue.specs.Both.{Both}
-use Rattle.work_queue.specs.declared.entry.Entry.{Entry}
+use Rattle.work_queue.specs.declared.entry.QueueEntry.{QueueEntry}
 use Rattle.board_data.specs.View.{want_view}
 
--- items that wait
+-- waiting items
 abbrev pub waiter_view : Rules.Waiting → Pure.Waiter
 waiter_view w = record { item = w.item; missing = map want_view w.missing }
 
@@ -16,7 +16,7 @@ abbrev pub waiters_view : List Rules.Waiting → List Pure.Waiter
 waiters_view ws = map waiter_view ws
 
 -- the numbers of the entries of a priority
-abbrev pub numbers_at : ℤ → List Entry → List ℕ
+abbrev pub numbers_at : ℤ → List QueueEntry → List ℕ
 numbers_at z [] = []
 numbers_at z (x ∷ xs) = if int_eq x.priority z then x.no ∷ numbers_at z xs else numbers_at z xs
 

@@ -1,4 +1,4 @@
-//! Items that wait, can begin, or run.
+//! The items of a board by status: the row table, the index of waiting items, and the queue of ready items.
 ghost use Rattle.std.specs.Prelude.{◌≡◌, ◌<◌, ◌≤◌, ◌+◌, ◌-◌, ◌++◌, ◌∷◌, ◌^◌, [], ℕ, List, Contains, IsOk, IfOk, IsTrue, None, ◌↔◌, OnOk, length, vec_len, vec_capacity};
 ghost use Rattle.work_queue.specs.Entries.{first_number};
 ghost use Rattle.board_history.specs.Ending.{job_kind, job_priority};
@@ -15,39 +15,39 @@ ghost use Rattle.board_items.specs.Room.{IsRoomy, IsRoomyFor};
 ghost use Rattle.task_code.specs.Code.{Code};
 ghost use Rattle.board_items.specs.Settled.{AreFirst, one_more, IsTold, StaysButRoom, one_less, StaysButOrder, StaysButWaits};
 
-use board_instances::item::{Job, Mark, PackedItem, mark_item};
-use board_instances::opening::Inputs;
+use board_instances::item::{ItemStatus, ItemTask, PackedItem, mark_item};
+use board_instances::pending::MissingInputs;
 use board_program::program::Program;
 use rules::input::Input;
-use rules::listing::Rules;
+use rules::rules_table::Rules;
 use std::alloc::{AllocError, Global};
 use work_queue::entry::Kind;
 use work_queue::queue::Queue;
 
-/// A number of items of each kind.
+/// Item counts by kind.
 #[derive(Clone, Copy, PartialEq, Eq, Debug, Drop)]
 pub struct Counts {
     pub controls: usize,
     pub leaves: usize,
 }
 
-/// The items of a board, so kept that no call looks at all of them.
+/// The items of a board. No call on it visits all items.
 #[derive(Drop)]
 pub struct Items {
     pub rows: Vec<PackedItem>,
     pub rules: Rules,
     pub queue: Queue,
-    /// The items that can begin, and could not before the last event, by rising number.
+    /// The items that the last event enabled, by ascending number.
     pub newly: Vec<u64>,
-    /// The items that have just learnt of their last input.
+    /// The waiting items whose last missing input has just become known.
     pub woken: Vec<u64>,
-    /// The items that wait or run: so much room the queue has.
+    /// Number of items that wait or run, by kind. The queue has room for that many more.
     pub apart: Counts,
     pub running: usize,
 }
 
 impl Counts {
-    /// One more of the kind.
+    /// Increments the count of a kind.
     pub fn add(&mut self, kind: Kind)
         ensures { self.new ≡ one_more kind self.old }
     {
@@ -57,7 +57,7 @@ impl Counts {
         }
     }
 
-    /// One less of the kind.
+    /// Decrements the count of a kind.
     pub fn take(&mut self, kind: Kind)
         ensures { self.new ≡ one_less kind self.old }
     {
@@ -68,14 +68,14 @@ impl Counts {
     }
 }
 
-/// Who runs a job, and its priority.
-pub fn order_of(program: &Program, job: Job) -> (Kind, i32)
+/// Returns the kind and the priority of a task.
+pub fn order_of(program: &Program, job: ItemTask) -> (Kind, i32)
     ensures kind { result.0 ≡ job_kind program.now (job_view job) }
     ensures priority { result.1 ≡ job_priority program.now (job_view job) }
 {
     match job {
-        Job::Script => (Kind::Control, 0),
-        Job::Does {
+        ItemTask::Script => (Kind::Control, 0),
+        ItemTask::Does {
             instance: _,
             entry,
             chunk: _,
@@ -87,11 +87,11 @@ pub fn order_of(program: &Program, job: Job) -> (Kind, i32)
 }
 
 impl Items {
-    /// The item of number 1 alone, which can begin.
+    /// Creates the items before any event: item 1 alone, which is ready.
     ///
     /// # Errors
     ///
-    /// `AllocError` where memory is refused.
+    /// Returns `AllocError` if an allocation fails.
     pub fn new(alloc: Global) -> Result<Items, AllocError>
         ensures { IfOk result AreFirst }
     {
@@ -107,14 +107,14 @@ impl Items {
             },
             running: 0,
         };
-        items.rows.push(PackedItem::script(Mark::Ready))?;
+        items.rows.push(PackedItem::script(ItemStatus::Ready))?;
         items.queue.put(Kind::Control, 0, 1)?;
         items.newly.reserve(1)?;
         Ok(items)
     }
 
-    /// Whether no item runs or can begin.
-    pub fn is_still(&self) -> bool
+    /// Returns true if no item is running or ready.
+    pub fn is_quiescent(&self) -> bool
         ensures { IsTrue result ↔ ((self.now.running ≡ 0) × (first_number self.now.queue.control.entries ≡ None)
             × (first_number self.now.queue.leaf.entries ≡ None)) }
     {
@@ -123,7 +123,8 @@ impl Items {
             && self.queue.first(Kind::Leaf).is_none()
     }
 
-    /// The item, which can begin, runs on the worker. Takes no memory.
+    /// Marks a ready item as running on the worker, and clears the newly enabled items. `order` is its kind and
+    /// priority. Allocates no memory.
     pub fn begin(&mut self, worker: u8, number: u64, order: (Kind, i32))
         ensures stays { StaysButOrder self.old self.new }
         ensures rows { rows_view self.new.rows.items ≡ mark_at (rows_view self.old.rows.items) number (running_mark worker) }
@@ -138,11 +139,15 @@ impl Items {
         self.newly.clear();
         let _there = self.queue.remove(kind, priority, number);
         self.apart.add(kind);
-        mark_item(self.rows.as_mut_slice(), number, Mark::Running(worker));
+        mark_item(
+            self.rows.as_mut_slice(),
+            number,
+            ItemStatus::Running(worker),
+        );
         self.running = self.running.saturating_add(1);
     }
 
-    /// The item, which runs, runs no more. Takes no memory.
+    /// Marks a running item as ready again. `order` is its kind and priority. Allocates no memory.
     pub fn back(&mut self, number: u64, order: (Kind, i32))
         ensures stays { StaysButOrder self.old self.new }
         ensures rows { rows_view self.new.rows.items ≡ mark_at (rows_view self.old.rows.items) number ready_mark }
@@ -158,7 +163,8 @@ impl Items {
         self.make_ready(number, order);
     }
 
-    /// The item can begin from now on. There is room for it.
+    /// Marks an item as ready, and adds it to the queue and to the newly enabled items. The caller has reserved room
+    /// for it.
     #[inline(always)]
     pub(crate) fn make_ready(&mut self, number: u64, order: (Kind, i32))
         ensures apart { self.new.apart ≡ one_less order.0 self.old.apart }
@@ -173,12 +179,13 @@ impl Items {
     {
         let (kind, priority) = order;
         self.apart.take(kind);
-        mark_item(self.rows.as_mut_slice(), number, Mark::Ready);
+        mark_item(self.rows.as_mut_slice(), number, ItemStatus::Ready);
         let _put = self.queue.put(kind, priority, number);
         let _noted = self.newly.push(number);
     }
 
-    /// An input is known from now on. There is room for all that wait.
+    /// Marks an input as known. Each item that now misses nothing more moves from the index to `woken`. The caller has
+    /// reserved room in `woken` for all waiting items; without it, nothing changes.
     pub fn tell(&mut self, input: &Input)
         ensures stays { StaysButWaits self.old self.new }
         ensures told { length self.old.rules.waiting + vec_len self.old.woken ≤ vec_capacity self.old.woken → IsTold input.now self.old self.new }
@@ -194,11 +201,12 @@ impl Items {
         }
     }
 
-    /// Room for the items that an End may enable: those that wait, and so many more. Nothing else changes.
+    /// Reserves memory for the items that an End may enable: all waiting items and `more` further ones. Nothing but
+    /// capacity changes.
     ///
     /// # Errors
     ///
-    /// `AllocError` where memory is refused.
+    /// Returns `AllocError` if an allocation fails.
     pub fn reserve_to_wake(&mut self, more: usize) -> Result<(), AllocError>
         ensures stays { StaysButRoom self.old self.new }
         ensures room { self.new.rules ≡ self.old.rules }
@@ -209,7 +217,7 @@ impl Items {
         ensures capacity { vec_capacity self.old.newly ≤ vec_capacity self.new.newly }
     {
         let waiting = self.rules.waiting();
-        // So many items are more than memory has room for.
+        // A count that overflows is more than memory can hold.
         let Some(all) = waiting.checked_add(more) else {
             return Err(AllocError);
         };
@@ -217,11 +225,11 @@ impl Items {
         self.newly.reserve(all)
     }
 
-    /// Room for so many new items of each kind, which are counted from now on. Nothing else changes.
+    /// Reserves memory for new items, and adds them to the counts in `apart`. Nothing else changes.
     ///
     /// # Errors
     ///
-    /// `AllocError` where memory is refused. Some of the room may be there then.
+    /// Returns `AllocError` if an allocation fails. Some of the memory may have been reserved.
     pub fn reserve_new(&mut self, added: Counts) -> Result<(), AllocError>
         ensures stays { StaysButRoom self.old self.new }
         ensures roomy { OnOk result ((code : Code) → IsRoomy code self.old → IsRoomyFor code added.controls added.leaves self.new) }
@@ -229,7 +237,7 @@ impl Items {
         ensures rows { OnOk result (vec_len self.new.rows + (added.controls + added.leaves) ≤ vec_capacity self.new.rows) }
         ensures rules { OnOk result (added.controls + added.leaves ≤ self.new.rules.room) }
     {
-        // So many items are more than memory has room for.
+        // A count that overflows is more than memory can hold.
         let Some(controls) = self.apart.controls.checked_add(added.controls) else {
             return Err(AllocError);
         };
@@ -247,13 +255,13 @@ impl Items {
         Ok(())
     }
 
-    /// Memory for finding the new items that may wait for more than two inputs, for which these lists are, once there is room
-    /// for the items. Nothing else changes.
+    /// Reserves index memory for the new items that may wait for more than two inputs; `spare` holds their preallocated
+    /// lists. It is called after `reserve_new`. Nothing but capacity changes.
     ///
     /// # Errors
     ///
-    /// `AllocError` where memory is refused.
-    pub fn reserve_to_wait(&mut self, spare: &[Inputs]) -> Result<(), AllocError>
+    /// Returns `AllocError` if an allocation fails.
+    pub fn reserve_to_wait(&mut self, spare: &[MissingInputs]) -> Result<(), AllocError>
         ensures { self.new ≡ self.old }
     {
         if spare.is_empty() {
@@ -263,8 +271,8 @@ impl Items {
     }
 }
 
-// For how many inputs the lists have room.
-fn inputs_in(spare: &[Inputs]) -> usize {
+// Returns the total capacity of the lists, in inputs.
+fn inputs_in(spare: &[MissingInputs]) -> usize {
     let mut inputs = 0_usize;
     for list in spare {
         inputs = inputs.saturating_add(list.capacity());

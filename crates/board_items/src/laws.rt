@@ -1,4 +1,4 @@
-//! What items come to where fields stand for the state of a history.
+//! Theorems about items where the fields of a board stand for the state of a history.
 ghost use Rattle.std.specs.Prelude.{◌≡◌, ◌≤◌, ◌++◌, ℕ, List, [], Option, Some, length, map};
 ghost use Rattle.dataflow.specs.Machine.{Event};
 ghost use Rattle.std.specs.List.{AllZip, filter, flat_map};
@@ -23,9 +23,11 @@ ghost use Rattle.board_items.specs.Room.{AreSpare, IsRoomy, IsRoomyFor, apart_in
 ghost use Rattle.board_items.specs.declared.items.Items.{Items as AllItems};
 ghost use Rattle.board_items.specs.View.{waiters_view};
 
-/// Where the fields stand for the state of a history, the items fit: those wait that are marked so, each once, for something, and
-/// those are in the queue that are marked as ready, each once. Then the items have learnt nothing yet. In an instance of the body that
-/// has an entry, the entry's item is seen.
+/// States the premises of the calls on items, for fields that stand for the state of a history.
+///
+/// The waiting items are those marked as waiting, each once and for at least one input. The queue holds the items
+/// marked as ready, each once. No waiting item has yet been notified of an input. In an instance of a body that has an
+/// entry, the item of that entry can be inspected.
 pub fn fitting_items()
     ensures stands { (C : Code) → IsCode C → (L : Layout) (events : List Event) (F : Fields) → Stands C L events F → ItemsFit F }
     ensures nothing { (F : Fields) (start : List Waiting) → ItemsFit F → F.waiting ≡ waiters_view start → HaveLearnt [] F.waiting start [] }
@@ -33,14 +35,15 @@ pub fn fitting_items()
         → IsSeen C fs (Does k e c) }
 {}
 
-/// New rows for which room was made, and which were counted, leave room for all items that wait or run.
+/// States that new rows leave room for all items that wait or run, if memory was reserved for them and they were
+/// counted.
 pub fn roomy_items()
     ensures placed { (C : Code) (controls leaves : ℕ) (old new : AllItems) (more : List Row) → IsRoomyFor C controls leaves old
         → rows_view new.rows.items ≡ rows_view old.rows.items ++ more → apart_in C Control more ≤ controls → apart_in C Leaf more ≤ leaves →
         new.queue ≡ old.queue → new.apart ≡ old.apart → new.newly ≡ old.newly → IsRoomy C new }
 {}
 
-/// Lists with room for what the items of the instances that are made may wait for, in order, are those for all new items.
+/// States that preallocated lists for the items of new instances, in order, serve all new items.
 pub fn spare_lists()
     ensures made { (C : Code) (made : List Instance) (j : Job) (os : List (Opening Task Place)) (rows : List Row) (lists : List (SmallVec Input)) →
         AllZip (λ n (l : SmallVec Input). n ≤ l.capacity)
@@ -48,8 +51,8 @@ pub fn spare_lists()
         AreSpare C (jobs_behind (length rows) (rows ++ map new_row (jobs_after C made j os))) lists }
 {}
 
-/// The items that have learnt of their last input, and the new ones behind the rows that there were, wait, each once, and the item
-/// that ended is none of them.
+/// States that the woken items and the new items, which follow the old rows, are waiting, each once. The item that
+/// ended is not among them.
 pub fn items_to_settle()
     ensures old { (F : Fields) (jobs : List Job) (known : List (Want ℕ)) (left : List Waiting) (woken : List ℕ) → ItemsFit F
         → HaveLearnt known F.waiting left woken → AreOld (length F.rows) woken }
@@ -60,8 +63,8 @@ pub fn items_to_settle()
         AreToSettle C fs cs (F.rows ++ map new_row jobs) (length F.rows) n (woken ++ numbers_behind (length F.rows) (length jobs)) }
 {}
 
-/// What becomes of rows, waiters, those newly enabled and the queue at the end of an item, where the items that learnt of their
-/// last input, and the new ones, were settled.
+/// States the rows, waiting items, queue and newly enabled items after the end of an item. The premise is that the
+/// woken items and the new items were settled.
 pub fn ended_items()
     ensures waits { (C : Code) (F G : Fields) (n : ℕ) (jobs : List Job) (known : List (Want ℕ)) (left : List Waiting) (woken : List ℕ) → ItemsFit F
         → HaveLearnt known F.waiting left woken →

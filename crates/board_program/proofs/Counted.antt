@@ -18,8 +18,8 @@ use Rattle.board_program.proofs.Homes.{cut, emptied, next, taken, whole}
 use Rattle.board_program.specs.Places.{CountsMore, CountsOf, FindsPlaces, NotesPlace, counts_from, number_of, own_place, place_at, place_in, with_counts}
 use Rattle.board_program.specs.Spots.{place_from}
 use Rattle.board_program.specs.Tables.{first_count, is_place, names_of, own_from, shape_of}
-use Rattle.board_program.specs.declared.places.Places.{Places}
-use Rattle.board_program.specs.declared.program.Own.{Own}
+use Rattle.board_program.specs.declared.variable_index.VariableIndex.{VariableIndex}
+use Rattle.board_program.specs.declared.program.LocalVariable.{LocalVariable}
 
 -- numbers of variables
 both : (n m : ℕ) (b c : Bool) → 2 * n + (if b then 1 else 0) ≡ 2 * m + (if c then 1 else 0) → (n ≡ m) × (b ≡ c)
@@ -44,10 +44,10 @@ numbers_apart w v = by (nat_eq (number_of w) (number_of v)) (variable_eq w v) re
     by false true p q = absurd (no_both (sym p ∙ subst (λ (z : Variable). nat_eq (number_of w) (number_of z) ≡ true) (variable_sound w v q) (nat_same (number_of w))))
 
 -- a list of variables is noted from its end
-pub none_found : (m : Places) (xs : List VariableValue) → ((n : ℕ) → place_at m n ≡ None) → (v : Variable) → place_in m v ≡ place_from (length xs) v (map variable_view (drop (length xs) xs))
+pub none_found : (m : VariableIndex) (xs : List VariableValue) → ((n : ℕ) → place_at m n ≡ None) → (v : Variable) → place_in m v ≡ place_from (length xs) v (map variable_view (drop (length xs) xs))
 none_found m xs h v = h (number_of v) ∙ sym (ap (λ l. place_from (length xs) v (map variable_view l)) (emptied xs (length xs) (omega arith)))
 
-pub one_found : (old new : Places) (xs : List VariableValue) (i : ℕ) (d : VariableValue) → i < length xs → ((v : Variable) → place_in old v ≡ place_from (i + 1) v (map variable_view (drop (i + 1) xs))) → NotesPlace old new (number_of (variable_view (slice_index_or xs i d))) i → (v : Variable) → place_in new v ≡ place_from i v (map variable_view (drop i xs))
+pub one_found : (old new : VariableIndex) (xs : List VariableValue) (i : ℕ) (d : VariableValue) → i < length xs → ((v : Variable) → place_in old v ≡ place_from (i + 1) v (map variable_view (drop (i + 1) xs))) → NotesPlace old new (number_of (variable_view (slice_index_or xs i d))) i → (v : Variable) → place_in new v ≡ place_from i v (map variable_view (drop i xs))
 one_found old new xs i d h before noted v =
     noted.each (number_of v)
     ∙ ap (λ b. if b then Some i else place_in old v) (numbers_apart (variable_view (slice_index_or xs i d)) v)
@@ -55,7 +55,7 @@ one_found old new xs i d h before noted v =
     ∙ ap (λ n. if variable_eq (variable_view (slice_index_or xs i d)) v then Some i else place_from n v (map variable_view (drop n xs))) (sym (next i))
     ∙ sym (ap (λ (l : List VariableValue). place_from i v (map variable_view l)) (cut xs i d h))
 
-pub all_found : (m : Places) (xs : List VariableValue) → ((v : Variable) → place_in m v ≡ place_from 0 v (map variable_view xs)) → FindsPlaces (map variable_view xs) m
+pub all_found : (m : VariableIndex) (xs : List VariableValue) → ((v : Variable) → place_in m v ≡ place_from 0 v (map variable_view xs)) → FindsPlaces (map variable_view xs) m
 all_found m xs h = record { each = h }
 
 -- what a name adds to the count of a variable at a place
@@ -155,7 +155,7 @@ counts_length : (ms : List Variable) (rs : List Name) (n : ℕ) (xs : List Varia
 counts_length ms rs n [] = refl
 counts_length ms rs n (x ∷ xs) = ap suc (counts_length ms rs (suc n) xs)
 
-module _ (m : Places) where
+module _ (m : VariableIndex) where
   -- one name
   pub one_counted : (r : Name) (old : List ℕ) (k x : ℕ) (d : ℕ) → own_place m r ≡ Some k → k < length old → x ≡ slice_index_or old k d + 1 → CountsMore m (r ∷ []) old (set old k x)
   one_counted r old k x d e l q = by r.up r.owned e
@@ -351,27 +351,27 @@ one_more_none (suc n) = ap (λ l. 0 ∷ l) (one_more_none n) ∙ ap (λ m. repli
     later n = omega arith
 
 module _ (cs ds : List ℕ) where
-  abbrev row : ℕ → Variable → Own
+  abbrev row : ℕ → Variable → LocalVariable
   row n v = record { shape = shape_of v.array; reads = slice_index_or cs n 0; writes = slice_index_or ds n 0 }
 
-  pub owns_next : (xs : List VariableValue) (i : ℕ) (d : VariableValue) (all done : List Own) → i < length xs → all ≡ done ++ with_counts i cs ds (map variable_view (drop i xs)) → all ≡ (done ++ record { shape = shape_of (slice_index_or xs i d).array; reads = slice_index_or cs i 0; writes = slice_index_or ds i 0 } ∷ []) ++ with_counts (i + 1) cs ds (map variable_view (drop (i + 1) xs))
+  pub owns_next : (xs : List VariableValue) (i : ℕ) (d : VariableValue) (all done : List LocalVariable) → i < length xs → all ≡ done ++ with_counts i cs ds (map variable_view (drop i xs)) → all ≡ (done ++ record { shape = shape_of (slice_index_or xs i d).array; reads = slice_index_or cs i 0; writes = slice_index_or ds i 0 } ∷ []) ++ with_counts (i + 1) cs ds (map variable_view (drop (i + 1) xs))
   owns_next xs i d all done h e =
       e
       ∙ ap (λ (l : List VariableValue). done ++ with_counts i cs ds (map variable_view l)) (cut xs i d h)
       ∙ ap (λ n. done ++ row i (variable_view (slice_index_or xs i d)) ∷ with_counts n cs ds (map variable_view (drop n xs))) (next i)
       ∙ seam done (row i (variable_view (slice_index_or xs i d))) (with_counts (i + 1) cs ds (map variable_view (drop (i + 1) xs)))
     where
-      seam : (xs : List Own) (x : Own) (ys : List Own) → xs ++ x ∷ ys ≡ (xs ++ x ∷ []) ++ ys
+      seam : (xs : List LocalVariable) (x : LocalVariable) (ys : List LocalVariable) → xs ++ x ∷ ys ≡ (xs ++ x ∷ []) ++ ys
       seam [] x ys = refl
       seam (z ∷ xs) x ys = ap (λ l. z ∷ l) (seam xs x ys)
 
-  pub owns_all : (xs : List VariableValue) (i : ℕ) (all done : List Own) → length xs ≤ i → all ≡ done ++ with_counts i cs ds (map variable_view (drop i xs)) → done ≡ all
+  pub owns_all : (xs : List VariableValue) (i : ℕ) (all done : List LocalVariable) → length xs ≤ i → all ≡ done ++ with_counts i cs ds (map variable_view (drop i xs)) → done ≡ all
   owns_all xs i all done h e = sym (e ∙ ap (λ (l : List VariableValue). done ++ with_counts i cs ds (map variable_view l)) (emptied xs i h) ∙ right done)
     where
-      right : (xs : List Own) → xs ++ [] ≡ xs
+      right : (xs : List LocalVariable) → xs ++ [] ≡ xs
       right [] = refl
       right (x ∷ xs) = ap (λ l. x ∷ l) (right xs)
 
 -- a scalar is found at its first place
-pub scalar_placed : (ms : List Variable) (m : Places) (n : ℕ) → FindsPlaces ms m → place_in m (scalar n) ≡ place_from 0 (scalar n) ms
+pub scalar_placed : (ms : List Variable) (m : VariableIndex) (n : ℕ) → FindsPlaces ms m → place_in m (scalar n) ≡ place_from 0 (scalar n) ms
 scalar_placed ms m n f = f.each (scalar n)

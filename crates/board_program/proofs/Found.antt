@@ -6,7 +6,7 @@ use Rattle.board_history.proofs.Tests.{none_some, some_same}
 use Rattle.task_code.specs.Code.{blank_body, Body, body, Code, nth, Owned}
 use Rattle.task_code.specs.Whole.{IsCode}
 use Rattle.board_program.specs.Spots.{around, found_or, further, go_out, home_of, homes_of, note, noted, own_if, spot_from}
-use Rattle.board_program.specs.declared.spot.Spot.{Spot}
+use Rattle.board_program.specs.declared.lexical_address.LexicalAddress.{LexicalAddress}
 
 -- one list of homes
 set_same : (hs : List (Option ℕ)) (i j b : ℕ) → home_of hs i ≡ Some b → home_of (set hs j (Some b)) i ≡ Some b
@@ -92,26 +92,26 @@ module _ (C : Code) (I : IsCode C) where
       same n = omega arith
 
 -- with more steps
-around_more : (o : Option (ℕ × ℕ)) (f g : ℕ → ℕ → Option Spot) → ((c k : ℕ) (s : Spot) → f c k ≡ Some s → g c k ≡ Some s) → (s : Spot) → around o f ≡ Some s → around o g ≡ Some s
+around_more : (o : Option (ℕ × ℕ)) (f g : ℕ → ℕ → Option LexicalAddress) → ((c k : ℕ) (s : LexicalAddress) → f c k ≡ Some s → g c k ≡ Some s) → (s : LexicalAddress) → around o f ≡ Some s → around o g ≡ Some s
 around_more None f g m s h = none_some h
 around_more (Some p) f g m s h = by (f p.0 p.1) refl h
   where
-    by : (r : Option Spot) → f p.0 p.1 ≡ r → further 1 (f p.0 p.1) ≡ Some s → further 1 (g p.0 p.1) ≡ Some s
+    by : (r : Option LexicalAddress) → f p.0 p.1 ≡ r → further 1 (f p.0 p.1) ≡ Some s → further 1 (g p.0 p.1) ≡ Some s
     by None e h = none_some (sym (ap (further 1) e) ∙ h)
     by (Some t) e h = ap (further 1) (m p.0 p.1 t e) ∙ sym (ap (further 1) e) ∙ h
 
-found_more : (n : Option ℕ) (q r : Option Spot) → ((s : Spot) → q ≡ Some s → r ≡ Some s) → (s : Spot) → found_or n q ≡ Some s → found_or n r ≡ Some s
+found_more : (n : Option ℕ) (q r : Option LexicalAddress) → ((s : LexicalAddress) → q ≡ Some s → r ≡ Some s) → (s : LexicalAddress) → found_or n q ≡ Some s → found_or n r ≡ Some s
 found_more (Some n) q r m s h = h
 found_more None q r m s h = m s h
 
 module _ (C : Code) (hs : List (Option ℕ)) (x : Owned) where
-  one_more : (m b up : ℕ) (s : Spot) → spot_from C hs m b up x ≡ Some s → spot_from C hs (suc m) b up x ≡ Some s
+  one_more : (m b up : ℕ) (s : LexicalAddress) → spot_from C hs m b up x ≡ Some s → spot_from C hs (suc m) b up x ≡ Some s
   one_more zero b up s h = none_some h
   one_more (suc m) b up s h =
       found_more (own_if up (body C b) x) (around (go_out hs (body C b).opener up) (λ c n. spot_from C hs m c n x)) (around (go_out hs (body C b).opener up) (λ c n. spot_from C hs (suc m) c n x))
       (around_more (go_out hs (body C b).opener up) (λ c n. spot_from C hs m c n x) (λ c n. spot_from C hs (suc m) c n x) (λ c k t e. one_more m c k t e)) s h
 
-  more : (k m b up : ℕ) (s : Spot) → spot_from C hs m b up x ≡ Some s → spot_from C hs (k + m) b up x ≡ Some s
+  more : (k m b up : ℕ) (s : LexicalAddress) → spot_from C hs m b up x ≡ Some s → spot_from C hs (k + m) b up x ≡ Some s
   more zero m b up s h = subst (λ n. spot_from C hs n b up x ≡ Some s) (plus m) h
     where
       plus : (m : ℕ) → m ≡ 0 + m
@@ -121,30 +121,30 @@ module _ (C : Code) (hs : List (Option ℕ)) (x : Owned) where
       plus : (k m : ℕ) → suc (k + m) ≡ suc k + m
       plus k m = omega arith
 
-  pub found_to : (m n b up : ℕ) (s : Spot) → m ≤ n → spot_from C hs m b up x ≡ Some s → spot_from C hs n b up x ≡ Some s
+  pub found_to : (m n b up : ℕ) (s : LexicalAddress) → m ≤ n → spot_from C hs m b up x ≡ Some s → spot_from C hs n b up x ≡ Some s
   found_to m n b up s h e = subst (λ k. spot_from C hs k b up x ≡ Some s) (omega (arith, h)) (more (n - m) m b up s e)
 
   -- from a body into the one around it
-  pub record Outward (s : Spot) (c k n : ℕ) : Type 0 where
-    pub spot : Spot
+  pub record Outward (s : LexicalAddress) (c k n : ℕ) : Type 0 where
+    pub spot : LexicalAddress
     pub found : spot_from C hs n c k x ≡ Some spot
     pub levels : s.levels ≡ suc spot.levels
     pub slot : s.slot ≡ spot.slot
 
-  pub outward_from : (n b up c k : ℕ) (s : Spot) → own_if up (body C b) x ≡ None → go_out hs (body C b).opener up ≡ Some (c, k) → spot_from C hs n b up x ≡ Some s → Outward s c k n
+  pub outward_from : (n b up c k : ℕ) (s : LexicalAddress) → own_if up (body C b) x ≡ None → go_out hs (body C b).opener up ≡ Some (c, k) → spot_from C hs n b up x ≡ Some s → Outward s c k n
   outward_from zero b up c k s o g h = none_some h
   outward_from (suc n) b up c k s o g h =
       by (spot_from C hs n c k x) refl (sym (ap (λ r. found_or r (around (go_out hs (body C b).opener up) (λ c n'. spot_from C hs n c n' x))) o ∙ ap (λ r. around r (λ c n'. spot_from C hs n c n' x)) g) ∙ h)
     where
-      by : (r : Option Spot) → spot_from C hs n c k x ≡ r → further 1 (spot_from C hs n c k x) ≡ Some s → Outward s c k (suc n)
+      by : (r : Option LexicalAddress) → spot_from C hs n c k x ≡ r → further 1 (spot_from C hs n c k x) ≡ Some s → Outward s c k (suc n)
       by None e q = none_some (sym (ap (further 1) e) ∙ q)
       by (Some t) e q =
           let same : record { levels = 1 + t.levels; slot = t.slot } ≡ s = some_same (sym (ap (further 1) e) ∙ q) in
           record {
             spot = t;
             found = one_more n c k t e;
-            levels = sym (ap (λ (y : Spot). y.levels) same) ∙ one t.levels;
-            slot = sym (ap (λ (y : Spot). y.slot) same);
+            levels = sym (ap (λ (y : LexicalAddress). y.levels) same) ∙ one t.levels;
+            slot = sym (ap (λ (y : LexicalAddress). y.slot) same);
           }
         where
           one : (m : ℕ) → 1 + m ≡ suc m

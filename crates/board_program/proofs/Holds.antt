@@ -18,7 +18,7 @@ use Rattle.board_program.proofs.Homes.{plus, taken, whole}
 use Rattle.board_program.specs.Spots.{spot_in}
 use Rattle.board_program.specs.Tables.{GainsHold, GainsNames, GainsRights, HoldsOf, at_name, at_spot, hold_times, named_by, names_of, outside}
 use Rattle.board_program.specs.declared.program.Hold.{Hold}
-use Rattle.board_program.specs.declared.spot.Spot.{Spot}
+use Rattle.board_program.specs.declared.lexical_address.LexicalAddress.{LexicalAddress}
 
 -- one hold more, or a hold that grows
 swap : (a b c e x : ℕ) → a + b ≡ c + e → (x + a) + b ≡ (x + c) + e
@@ -27,12 +27,12 @@ swap a b c e x h = omega (arith, h)
 turn : (a b x : ℕ) → (a + x) + b ≡ (b + x) + a
 turn a b x = omega arith
 
-times_set : (c : Hold → ℕ) (f : Spot → Slot) (d : ℕ) (hs : List Hold) (i : ℕ) (x h : Hold) → i < length hs → hold_times f c d (set hs i h) + (if slot_is d (f (slice_index_or hs i x).spot) then c (slice_index_or hs i x) else 0) ≡ hold_times f c d hs + (if slot_is d (f h.spot) then c h else 0)
+times_set : (c : Hold → ℕ) (f : LexicalAddress → Slot) (d : ℕ) (hs : List Hold) (i : ℕ) (x h : Hold) → i < length hs → hold_times f c d (set hs i h) + (if slot_is d (f (slice_index_or hs i x).spot) then c (slice_index_or hs i x) else 0) ≡ hold_times f c d hs + (if slot_is d (f h.spot) then c h else 0)
 times_set c f d [] i x h l = absurd (omega (arith, l))
 times_set c f d (y ∷ hs) zero x h l = turn (if slot_is d (f h.spot) then c h else 0) (if slot_is d (f y.spot) then c y else 0) (hold_times f c d hs)
 times_set c f d (y ∷ hs) (suc i) x h l = swap _ _ _ _ (if slot_is d (f y.spot) then c y else 0) (times_set c f d hs i x h (omega (arith, l)))
 
-times_push : (c : Hold → ℕ) (f : Spot → Slot) (d : ℕ) (hs : List Hold) (h : Hold) → hold_times f c d (hs ++ h ∷ []) ≡ hold_times f c d hs + (if slot_is d (f h.spot) then c h else 0)
+times_push : (c : Hold → ℕ) (f : LexicalAddress → Slot) (d : ℕ) (hs : List Hold) (h : Hold) → hold_times f c d (hs ++ h ∷ []) ≡ hold_times f c d hs + (if slot_is d (f h.spot) then c h else 0)
 times_push c f d [] h = let x = (if slot_is d (f h.spot) then c h else 0) in sum x
   where
     sum : (x : ℕ) → x + 0 ≡ 0 + x
@@ -51,8 +51,8 @@ set_gains hs i x h l e =
     let y = slice_index_or hs i x in
     let z : Hold = record { spot = y.spot; reads = y.reads + h.reads; writes = y.writes + h.writes } in
     record {
-      reads = λ f d. grown (slot_is d (f y.spot)) _ _ y.reads h.reads (times_set (λ a. a.reads) f d hs i x z l) ∙ ap (λ (s : Spot). hold_times f (λ a. a.reads) d hs + (if slot_is d (f s) then h.reads else 0)) e;
-      writes = λ f d. grown (slot_is d (f y.spot)) _ _ y.writes h.writes (times_set (λ a. a.writes) f d hs i x z l) ∙ ap (λ (s : Spot). hold_times f (λ a. a.writes) d hs + (if slot_is d (f s) then h.writes else 0)) e;
+      reads = λ f d. grown (slot_is d (f y.spot)) _ _ y.reads h.reads (times_set (λ a. a.reads) f d hs i x z l) ∙ ap (λ (s : LexicalAddress). hold_times f (λ a. a.reads) d hs + (if slot_is d (f s) then h.reads else 0)) e;
+      writes = λ f d. grown (slot_is d (f y.spot)) _ _ y.writes h.writes (times_set (λ a. a.writes) f d hs i x z l) ∙ ap (λ (s : LexicalAddress). hold_times f (λ a. a.writes) d hs + (if slot_is d (f s) then h.writes else 0)) e;
     }
 
 pub push_gains : (hs : List Hold) (h : Hold) → GainsHold hs (hs ++ h ∷ []) h
@@ -107,12 +107,12 @@ module _ (C : Code) (b : ℕ) where
     writes_are = λ f d. nothing l f d (hold_times f (λ x. x.writes) d hs);
   }
     where
-      nothing : (k : ℕ) (f : Spot → Slot) (d n : ℕ) → n ≡ n + named_by k (at_name C b f) d (outside C b (r ∷ []))
+      nothing : (k : ℕ) (f : LexicalAddress → Slot) (d n : ℕ) → n ≡ n + named_by k (at_name C b f) d (outside C b (r ∷ []))
       nothing k f d n =
           plus_none n
           ∙ sym (ap (λ rs. n + named_by k (at_name C b f) d rs) (other_out r h) ∙ ap (λ o. n + ((if slot_is d (at_spot f o) then k else 0) + 0)) e)
 
-  pub gains_one : (k l : ℕ) (r : Name) (s : Spot) (hs gs : List Hold) → is_declared C b r ≡ false → spot_in C b r ≡ Some s → GainsHold hs gs (record { spot = s; reads = k; writes = l }) → GainsNames C b k l (r ∷ []) hs gs
+  pub gains_one : (k l : ℕ) (r : Name) (s : LexicalAddress) (hs gs : List Hold) → is_declared C b r ≡ false → spot_in C b r ≡ Some s → GainsHold hs gs (record { spot = s; reads = k; writes = l }) → GainsNames C b k l (r ∷ []) hs gs
   gains_one k l r s hs gs h e g = record {
     reads_are = λ f d. g.reads f d ∙ one k f d (hold_times f (λ x. x.reads) d hs);
     writes_are = λ f d. g.writes f d ∙ one l f d (hold_times f (λ x. x.writes) d hs);
@@ -121,7 +121,7 @@ module _ (C : Code) (b : ℕ) where
       alone : (n x : ℕ) → n + x ≡ n + (x + 0)
       alone n x = omega arith
 
-      one : (k : ℕ) (f : Spot → Slot) (d n : ℕ) → n + (if slot_is d (f s) then k else 0) ≡ n + named_by k (at_name C b f) d (outside C b (r ∷ []))
+      one : (k : ℕ) (f : LexicalAddress → Slot) (d n : ℕ) → n + (if slot_is d (f s) then k else 0) ≡ n + named_by k (at_name C b f) d (outside C b (r ∷ []))
       one k f d n =
           alone n (if slot_is d (f s) then k else 0)
           ∙ sym (ap (λ rs. n + named_by k (at_name C b f) d rs) (other_out r h) ∙ ap (λ o. n + ((if slot_is d (at_spot f o) then k else 0) + 0)) e)
@@ -231,8 +231,8 @@ module _ (C : Code) (b : ℕ) where
   held_counted g d [] = refl
   held_counted g d (r ∷ rs) = ap (λ n. (if slot_is d (g r) then 1 else 0) + n) (held_counted g d rs) ∙ sym (held_add g d r (counted_names rs))
 
-  pub body_reads : (hs : List Hold) → HoldsOf C b (body C b).entries hs → (f : Spot → Slot) (d : ℕ) → hold_times f (λ x. x.reads) d hs ≡ held_times (at_name C b f) d (outer_holds C (λ e. e.reads) b)
+  pub body_reads : (hs : List Hold) → HoldsOf C b (body C b).entries hs → (f : LexicalAddress → Slot) (d : ℕ) → hold_times f (λ x. x.reads) d hs ≡ held_times (at_name C b f) d (outer_holds C (λ e. e.reads) b)
   body_reads hs x f d = x.reads f d ∙ held_counted (at_name C b f) d (outside C b (names_in C (λ e. e.reads) b))
 
-  pub body_writes : (hs : List Hold) → HoldsOf C b (body C b).entries hs → (f : Spot → Slot) (d : ℕ) → hold_times f (λ x. x.writes) d hs ≡ held_times (at_name C b f) d (outer_holds C (λ e. e.writes) b)
+  pub body_writes : (hs : List Hold) → HoldsOf C b (body C b).entries hs → (f : LexicalAddress → Slot) (d : ℕ) → hold_times f (λ x. x.writes) d hs ≡ held_times (at_name C b f) d (outer_holds C (λ e. e.writes) b)
   body_writes hs x f d = x.writes f d ∙ held_counted (at_name C b f) d (outside C b (names_in C (λ e. e.writes) b))

@@ -15,7 +15,7 @@ use Rattle.task_code.specs.Whole.{Declared, Fixes, IsCode, Seen, SeenFrom}
 use Rattle.board_program.proofs.Found.{found_to, home_found, outward_from}
 use Rattle.board_program.proofs.Spots.{blank}
 use Rattle.board_program.specs.Spots.{around, at_home, found_or, further, go_out, homes_of, layout_of, parameter_slot, levels_of, own_if, place_from, slot_of, spot_from, spot_in}
-use Rattle.board_program.specs.declared.spot.Spot.{Spot}
+use Rattle.board_program.specs.declared.lexical_address.LexicalAddress.{LexicalAddress}
 
 -- places
 place_of : (v : Variable) (n : ℕ) (ws : List Variable) → In v ws → (k : ℕ) × (place_from n v ws ≡ Some k) × (k < n + length ws)
@@ -66,7 +66,7 @@ one_entry i j o (inl p) (inr q) = (let e : ByWait i ≡ ByStep j = sym p ∙ q i
 one_entry i j o (inr p) (inl q) = (let e : ByStep i ≡ ByWait j = sym p ∙ q in absurd (cc))
 one_entry i j o (inr p) (inr q) = (let e : ByStep i ≡ ByStep j = sym p ∙ q in cc)
 
-some_found : (o : Option ℕ) (t : Spot) → (s : Spot) × (found_or o (Some t) ≡ Some s)
+some_found : (o : Option ℕ) (t : LexicalAddress) → (s : LexicalAddress) × (found_or o (Some t) ≡ Some s)
 some_found None t = (t, refl)
 some_found (Some n) t = (record { levels = 0; slot = n }, refl)
 
@@ -175,7 +175,7 @@ module _ (C : Code) where
 
     -- where names lead
     abbrev Leads : ℕ → ℕ → Name → Type 0
-    Leads m b r = (s : Spot) × (spot_from C (homes_of C) m b r.up r.owned ≡ Some s)
+    Leads m b r = (s : LexicalAddress) × (spot_from C (homes_of C) m b r.up r.owned ≡ Some s)
 
     own_found : (m b : ℕ) (v : Variable) → In v (body C b).makes → (k : ℕ) × (k < length (body C b).makes) × (place_from 0 v (body C b).makes ≡ Some k) × (spot_from C (homes_of C) (suc m) b 0 (Local v) ≡ Some (record { levels = 0; slot = k }))
     own_found m b v h =
@@ -191,7 +191,7 @@ module _ (C : Code) where
     parameter_found m b k a e =
         ap (λ (o : Opener). found_or (parameter_slot (length (body C b).makes) k o) (around (go_out (homes_of C) (body C b).opener 0) (λ c n. spot_from C (homes_of C) m c n (Parameter k a)))) e
 
-    further_found : (m b up c k : ℕ) (x : Owned) → go_out (homes_of C) (body C b).opener up ≡ Some (c, k) → (t : Spot) → spot_from C (homes_of C) m c k x ≡ Some t → (s : Spot) × (spot_from C (homes_of C) (suc m) b up x ≡ Some s)
+    further_found : (m b up c k : ℕ) (x : Owned) → go_out (homes_of C) (body C b).opener up ≡ Some (c, k) → (t : LexicalAddress) → spot_from C (homes_of C) m c k x ≡ Some t → (s : LexicalAddress) × (spot_from C (homes_of C) (suc m) b up x ≡ Some s)
     further_found m b up c k x g t h =
         let p = some_found (own_if up (body C b) x) (record { levels = 1 + t.levels; slot = t.slot }) in
         (p.0, ap (λ r. found_or (own_if up (body C b) x) (around r (λ c n. spot_from C (homes_of C) m c n x))) g ∙ ap (λ r. found_or (own_if up (body C b) x) (further 1 r)) h ∙ p.1)
@@ -253,14 +253,14 @@ module _ (C : Code) where
     reached_found (reached_inside c i b w rc ih iw) = opened_found c i b w ih iw (reached_found rc)
 
     -- each name of a body that runs open leads somewhere
-    pub leads_somewhere : (b : ℕ) (r : Name) → Reached C b → In r (all_names C b) → (s : Spot) × (spot_in C b r ≡ Some s)
+    pub leads_somewhere : (b : ℕ) (r : Name) → Reached C b → In r (all_names C b) → (s : LexicalAddress) × (spot_in C b r ≡ Some s)
     leads_somewhere b r reached h =
         let p = reached_found reached in
         let n = name_of b r h in
         let q = p.leads r h in
         (q.0, found_to C (homes_of C) r.owned (length p.around_it) (length C.bodies) b r.up q.0 (chain_fits p.nested (there_in b n.by n.there)) q.1)
 
-    pub need_leads : (b i : ℕ) (n : Need) (r : Name) → Reached C b → In i (body C b).entries → In n (entry C i).needs → In r (needed n) → (s : Spot) × (spot_in C b r ≡ Some s)
+    pub need_leads : (b i : ℕ) (n : Need) (r : Name) → Reached C b → In i (body C b).entries → In n (entry C i).needs → In r (needed n) → (s : LexicalAddress) × (spot_in C b r ≡ Some s)
     need_leads b i n r reached ih hn hr = leads_somewhere b r reached (of_reads b i r ih (I.needs i n r hn hr))
 
     -- a body's own names
@@ -291,7 +291,7 @@ module _ (C : Code) where
         by None q = q
         by (Some k) q = absurd (n (record { variable = v; is = refl; made = place_in v 0 (body C b).makes k q }))
 
-    laid_out : (b c up k : ℕ) (x : Owned) → own_if up (body C b) x ≡ None → go_out (homes_of C) (body C b).opener up ≡ Some (c, k) → (s : Spot) → spot_in C b (record { up = up; owned = x }) ≡ Some s → ((layout_of C).levels b (record { up = up; owned = x }) ≡ suc ((layout_of C).levels c (record { up = k; owned = x }))) × ((layout_of C).slot b (record { up = up; owned = x }) ≡ (layout_of C).slot c (record { up = k; owned = x }))
+    laid_out : (b c up k : ℕ) (x : Owned) → own_if up (body C b) x ≡ None → go_out (homes_of C) (body C b).opener up ≡ Some (c, k) → (s : LexicalAddress) → spot_in C b (record { up = up; owned = x }) ≡ Some s → ((layout_of C).levels b (record { up = up; owned = x }) ≡ suc ((layout_of C).levels c (record { up = k; owned = x }))) × ((layout_of C).slot b (record { up = up; owned = x }) ≡ (layout_of C).slot c (record { up = k; owned = x }))
     laid_out b c up k x o g s h =
         let p = outward_from C (homes_of C) x (length C.bodies) b up c k s o g h in (
           ap levels_of h ∙ p.levels ∙ ap suc (sym (ap levels_of p.found)),

@@ -6,7 +6,7 @@ use Rattle.std.proofs.lemmas.List.{length-set, get_or-set_same, get_or-set_other
 use Rattle.indexmap.specs.IndexMap.{get, index_map_len, IsEmpty}
 use Rattle.task_code.proofs.Equal.{nat_same, nat_sound}
 use Rattle.board_program.specs.Places.{NotesPlace, entry_or, entry_place, index_from, place_at}
-use Rattle.board_program.specs.declared.places.Places.{Places}
+use Rattle.board_program.specs.declared.variable_index.VariableIndex.{VariableIndex}
 
 -- nothing has a place where the table has zeros alone and the map is empty
 zero_there : (n k : ℕ) → ◌≡◌ {A = ℕ} (slice_index_or (replicate n 0) k 0) 0
@@ -14,7 +14,7 @@ zero_there zero k = refl
 zero_there (suc n) zero = refl
 zero_there (suc n) (suc k) = zero_there n k
 
-pub blank : (m : Places) (n : ℕ) → m.table.items ≡ replicate n 0 → IsEmpty m.far → (q : ℕ) → place_at m q ≡ None
+pub blank : (m : VariableIndex) (n : ℕ) → m.table.items ≡ replicate n 0 → IsEmpty m.far → (q : ℕ) → place_at m q ≡ None
 blank m n h e q = by (index_from m.least (length m.table.items) q)
   where
     by : (o : Option ℕ) → entry_or m.table.items (get nat_eq m.far q) o ≡ None
@@ -22,7 +22,7 @@ blank m n h e q = by (index_from m.least (length m.table.items) q)
     by (Some k) = ap (λ t. entry_place (slice_index_or t k 0)) h ∙ ap entry_place (zero_there n k)
 
 -- a map of none has no place
-pub none_far : (m : Places) (n : ℕ) → index_map_len m.far ≡ 0 → get nat_eq m.far n ≡ None
+pub none_far : (m : VariableIndex) (n : ℕ) → index_map_len m.far ≡ 0 → get nat_eq m.far n ≡ None
 none_far m n h = by m.far.entries h
   where
     by : (es : List (ℕ × ℕ)) → length es ≡ 0 → lookup (nat_eq n) es ≡ None
@@ -92,7 +92,7 @@ module _ (least : ℕ) (t : List ℕ) (far : Option ℕ) (n q : ℕ) where
       by (Some j) true e b = none_some (sym (at_n b) ∙ e)
       by (Some j) false e b = refl
 
-module _ (old new : Places) (n p : ℕ) where
+module _ (old new : VariableIndex) (n p : ℕ) where
   pub noted_near : (k e : ℕ) → index_from old.least (length old.table.items) n ≡ Some k → e ≡ p + 1 → new.least ≡ old.least → new.table.items ≡ set old.table.items k e → new.far ≡ old.far → NotesPlace old new n p
   noted_near k e h s l t f = record { each = λ q. start q ∙ in_table old.least old.table.items (get nat_eq old.far q) n q k p h }
     where

@@ -18,7 +18,7 @@ use Rattle.board_program.proofs.Laid.{leads_somewhere}
 use Rattle.board_program.specs.Spots.{frame_slot, layout_of, levels_of, slot_of, spot_in}
 use Rattle.board_program.specs.Tables.{IsBodyTable, at_name, at_spot, first_spot, hold_times, led_times, spots_in}
 use Rattle.board_program.specs.declared.program.BodyTable.{BodyTable}
-use Rattle.board_program.specs.declared.spot.Spot.{Spot}
+use Rattle.board_program.specs.declared.lexical_address.LexicalAddress.{LexicalAddress}
 
 plus : (n : ℕ) → 0 + n ≡ n
 plus n = omega arith
@@ -30,8 +30,8 @@ held_same f g d (h ∷ hs) same =
     let r = held_same f g d hs (λ y i. same y (inr i)) in
     λ z. (if slot_is d (e z) then h.count else 0) + r z
 
-module _ (C : Code) (I : IsCode C) (b : ℕ) (reached : Reached C b) (fs : List (Option Frame)) (k : ℕ) (f : Spot → Slot) (same : (s : Spot) → f s ≡ frame_slot fs k s) where
-  by_spot : (r : Name) (s : Spot) → spot_in C b r ≡ Some s → slot_for (layout_of C) fs k b r ≡ f s
+module _ (C : Code) (I : IsCode C) (b : ℕ) (reached : Reached C b) (fs : List (Option Frame)) (k : ℕ) (f : LexicalAddress → Slot) (same : (s : LexicalAddress) → f s ≡ frame_slot fs k s) where
+  by_spot : (r : Name) (s : LexicalAddress) → spot_in C b r ≡ Some s → slot_for (layout_of C) fs k b r ≡ f s
   by_spot r s e = (λ i. frame_slot fs k (record { levels = levels_of (e i); slot = slot_of (e i) })) ∙ sym (same s)
 
   -- a name of the body

@@ -6,7 +6,7 @@ use Rattle.task_code.specs.Places.{variable_eq}
 use Rattle.task_code.specs.View.{variable_view}
 use Rattle.task_code.specs.declared.entry.Variable.{Variable}
 use Rattle.board_program.specs.Spots.{around, found_or, further, go_out, own_if, place_from, spot_from}
-use Rattle.board_program.specs.declared.spot.Spot.{Spot}
+use Rattle.board_program.specs.declared.lexical_address.LexicalAddress.{LexicalAddress}
 
 next : (n : ℕ) → suc n ≡ n + 1
 next n = omega arith
@@ -52,7 +52,7 @@ module _ (C : Code) (hs : List (Option ℕ)) (x : Owned) where
   step : (n m b up : ℕ) → m ≡ suc n → spot_from C hs m b up x ≡ found_or (own_if up (body C b) x) (around (go_out hs (body C b).opener up) (λ c k. spot_from C hs n c k x))
   step n m b up e = ap (λ k. spot_from C hs k b up x) e
 
-further_more : (n : ℕ) (r : Option Spot) → further n (further 1 r) ≡ further (n + 1) r
+further_more : (n : ℕ) (r : Option LexicalAddress) → further n (further 1 r) ≡ further (n + 1) r
 further_more n None = refl
 further_more n (Some s) = ap (λ k. Some (record { levels = k; slot = s.slot })) (sums n s.levels)
   where

@@ -9,7 +9,7 @@ use Rattle.board_program.proofs.Homes.{cut, emptied, next, plus}
 use Rattle.board_program.specs.Spots.{spot_in}
 use Rattle.board_program.specs.Tables.{AllFrom, IsEntryTable, body_of, spots_in}
 use Rattle.board_program.specs.declared.program.EntryTable.{EntryTable}
-use Rattle.board_program.specs.declared.spot.Spot.{Spot}
+use Rattle.board_program.specs.declared.lexical_address.LexicalAddress.{LexicalAddress}
 
 module _ {X : Type 0} (P : ℕ → X → Type 0) where
   pub all_more : (n : ℕ) (xs : List X) (x : X) → AllFrom P n xs → P (n + length xs) x → AllFrom P n (xs ++ x ∷ [])
@@ -35,7 +35,7 @@ module _ {X : Type 0} (P : ℕ → X → Type 0) where
 
 -- where names lead
 module _ (C : Code) (b : ℕ) where
-  pub spots_some : (xs : List NameValue) (i : ℕ) (d : NameValue) (s : Spot) → i < length xs → spot_in C b (name_view (slice_index_or xs i d)) ≡ Some s → spots_in C b (map name_view (drop i xs)) ≡ s ∷ spots_in C b (map name_view (drop (i + 1) xs))
+  pub spots_some : (xs : List NameValue) (i : ℕ) (d : NameValue) (s : LexicalAddress) → i < length xs → spot_in C b (name_view (slice_index_or xs i d)) ≡ Some s → spots_in C b (map name_view (drop i xs)) ≡ s ∷ spots_in C b (map name_view (drop (i + 1) xs))
   spots_some xs i d s h e =
       ap (λ (l : List NameValue). spots_in C b (map name_view l)) (cut xs i d h)
       ∙ ap (λ n. spots_in C b (name_view (slice_index_or xs i d) ∷ map name_view (drop n xs))) (next i)

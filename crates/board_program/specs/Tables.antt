@@ -1,8 +1,8 @@
--- What is worked out of an entry and of a body, as it follows from the code.
+-- The tables of an entry and of a body, as determined by the code.
 use Rattle.std.specs.Prelude.{◌≡◌, nat_eq, nat_lt, not, ℕ, suc, ◌+◌, Bool, true, false, List, [], ◌∷◌, map, length, Option, Some, None, if◌then◌else◌}
 use Rattle.std.specs.List.{filter, filter_map, flat_map, list_all, list_any}
-use Rattle.data_store.specs.declared.datum.Shape.{Shape}
-use Rattle.data_store.specs.declared.datum.Shape.TheVariants.{Single, Keyed}
+use Rattle.data_store.specs.declared.datum.DatumKind.{DatumKind}
+use Rattle.data_store.specs.declared.datum.DatumKind.TheVariants.{Single, Keyed}
 use Rattle.board_history.specs.Ending.{held_times, slot_is}
 use Rattle.board_history.specs.Fields.{Absent, Slot}
 use Rattle.board_history.specs.Static.{name_times, names_in, outer_holds}
@@ -14,14 +14,14 @@ use Rattle.board_program.specs.Spots.{home_of, homes_of, place_from, spot_in}
 use Rattle.board_program.specs.declared.program.BodyTable.{BodyTable}
 use Rattle.board_program.specs.declared.program.EntryTable.{EntryTable}
 use Rattle.board_program.specs.declared.program.Hold.{Hold}
-use Rattle.board_program.specs.declared.program.Own.{Own}
-use Rattle.board_program.specs.declared.program.Passed.{Passed}
-use Rattle.board_program.specs.declared.program.Passed.TheVariants as Passes
-use Rattle.board_program.specs.declared.program.Wanted.{Wanted}
-use Rattle.board_program.specs.declared.program.Wanted.TheVariants as Wants
-use Rattle.board_program.specs.declared.spot.Spot.{Spot}
+use Rattle.board_program.specs.declared.program.LocalVariable.{LocalVariable}
+use Rattle.board_program.specs.declared.program.PassedArgument.{PassedArgument}
+use Rattle.board_program.specs.declared.program.PassedArgument.TheVariants as Passes
+use Rattle.board_program.specs.declared.program.ResolvedNeed.{ResolvedNeed}
+use Rattle.board_program.specs.declared.program.ResolvedNeed.TheVariants as Wants
+use Rattle.board_program.specs.declared.lexical_address.LexicalAddress.{LexicalAddress}
 
--- the body that has an entry; one that no body has is taken for one of the script's
+-- the body that contains an entry; an entry without a body is attributed to the script
 abbrev pub body_or_script : Option ℕ → ℕ
 body_or_script None = 0
 body_or_script (Some b) = b
@@ -29,12 +29,13 @@ body_or_script (Some b) = b
 abbrev pub body_of : Code → ℕ → ℕ
 body_of C i = body_or_script (home_of (homes_of C) i)
 
--- what a variable is
-abbrev pub shape_of : Bool → Shape
+-- the datum kind of a variable
+abbrev pub shape_of : Bool → DatumKind
 shape_of false = Single
 shape_of true = Keyed
 
--- a variable has its datum at its first place among those that the body declares, which begins with a count of each of these names that is the variable
+-- the datum of a variable is at its first index among those that the body declares; its initial count is the number of
+-- these names that are the variable
 abbrev pub is_place : ℕ → Option ℕ → Bool
 is_place n None = false
 is_place n (Some k) = nat_eq n k
@@ -42,12 +43,12 @@ is_place n (Some k) = nat_eq n k
 abbrev pub first_count : List Variable → ℕ → Variable → List Name → ℕ
 first_count makes n v rs = if is_place n (place_from 0 v makes) then name_times (here v) rs else 0
 
--- a body's own datum at a place, with what it is and the counts that it begins with
-abbrev pub own_row : List Variable → (reads writes : List Name) → ℕ → Variable → Own
+-- a body's own datum at an index, with its kind and its initial counts
+abbrev pub own_row : List Variable → (reads writes : List Name) → ℕ → Variable → LocalVariable
 own_row makes rs ws n v = record { shape = shape_of v.array; reads = first_count makes n v rs; writes = first_count makes n v ws }
 
--- all from a place on
-abbrev pub own_from : List Variable → (reads writes : List Name) → ℕ → List Variable → List Own
+-- all from an index on
+abbrev pub own_from : List Variable → (reads writes : List Name) → ℕ → List Variable → List LocalVariable
 own_from makes rs ws n [] = []
 own_from makes rs ws n (v ∷ vs) = own_row makes rs ws n v ∷ own_from makes rs ws (suc n) vs
 
@@ -57,32 +58,32 @@ is_kind Control Leaf = false
 is_kind Leaf Control = false
 is_kind Leaf Leaf = true
 
--- what holds come to for a datum, where spots stand for slots
-abbrev pub at_spot : (Spot → Slot) → Option Spot → Slot
+-- the sum of the holds on a datum, where addresses stand for slots
+abbrev pub at_spot : (LexicalAddress → Slot) → Option LexicalAddress → Slot
 at_spot f None = Absent
 at_spot f (Some s) = f s
 
-module _ (f : Spot → Slot) where
+module _ (f : LexicalAddress → Slot) where
   abbrev pub hold_times : (Hold → ℕ) → ℕ → List Hold → ℕ
   hold_times count d [] = 0
   hold_times count d (h ∷ hs) = (if slot_is d (f h.spot) then count h else 0) + hold_times count d hs
 
-  -- how often spots lead to a datum
-  abbrev pub led_times : ℕ → List Spot → ℕ
+  -- the number of addresses that refer to a datum
+  abbrev pub led_times : ℕ → List LexicalAddress → ℕ
   led_times d [] = 0
   led_times d (p ∷ ps) = (if slot_is d (f p) then 1 else 0) + led_times d ps
 
--- what so many holds for each of these names come to for a datum
+-- the sum of k holds for each of these names that refers to a datum
 abbrev pub named_by : ℕ → (Name → Slot) → ℕ → List Name → ℕ
 named_by k f d [] = 0
 named_by k f d (r ∷ rs) = (if slot_is d (f r) then k else 0) + named_by k f d rs
 
 -- holds to which one more is added
 pub record GainsHold (old new : List Hold) (h : Hold) : Type 0 where
-  pub reads : (f : Spot → Slot) (d : ℕ) → hold_times f (λ x. x.reads) d new ≡ hold_times f (λ x. x.reads) d old + (if slot_is d (f h.spot) then h.reads else 0)
-  pub writes : (f : Spot → Slot) (d : ℕ) → hold_times f (λ x. x.writes) d new ≡ hold_times f (λ x. x.writes) d old + (if slot_is d (f h.spot) then h.writes else 0)
+  pub reads : (f : LexicalAddress → Slot) (d : ℕ) → hold_times f (λ x. x.reads) d new ≡ hold_times f (λ x. x.reads) d old + (if slot_is d (f h.spot) then h.reads else 0)
+  pub writes : (f : LexicalAddress → Slot) (d : ℕ) → hold_times f (λ x. x.writes) d new ≡ hold_times f (λ x. x.writes) d old + (if slot_is d (f h.spot) then h.writes else 0)
 
--- a closed array is waited for
+-- the need is a closed array
 abbrev pub is_closed : Need → Bool
 is_closed (Stored r) = false
 is_closed (Closed r) = true
@@ -90,24 +91,24 @@ is_closed (At a r) = false
 is_closed (AtKey a k) = false
 
 module _ (C : Code) where
-  -- what a need waits for, by where its names lead
-  abbrev pub wanted_in : ℕ → Need → Wanted
+  -- a need with its names resolved
+  abbrev pub wanted_in : ℕ → Need → ResolvedNeed
   wanted_in b (Pure.Stored r) = Wants.Stored (spot_in C b r)
   wanted_in b (Pure.Closed r) = Wants.Closed (spot_in C b r)
   wanted_in b (Pure.At a r) = Wants.At (spot_in C b a) (spot_in C b r)
   wanted_in b (Pure.AtKey a k) = Wants.AtKey (spot_in C b a) k
 
-  -- what a call hands over
-  abbrev pub passed_in : ℕ → Argument → Passed
+  -- the argument that a call passes
+  abbrev pub passed_in : ℕ → Argument → PassedArgument
   passed_in b (Named r) = Passes.Named (spot_in C b r)
   passed_in b (Fixed v) = Passes.Fixed
 
-  -- where names lead, but for those that lead nowhere
-  abbrev pub spots_in : ℕ → List Name → List Spot
+  -- the addresses of names, except for those that do not resolve
+  abbrev pub spots_in : ℕ → List Name → List LexicalAddress
   spots_in b rs = filter_map (spot_in C b) rs
 
-  -- where the first of names leads
-  abbrev pub first_spot : ℕ → List Name → Option Spot
+  -- the address of the first of these names
+  abbrev pub first_spot : ℕ → List Name → Option LexicalAddress
   first_spot b [] = None
   first_spot b (r ∷ rs) = spot_in C b r
 
@@ -124,7 +125,7 @@ module _ (C : Code) where
   turn_slot None = None
   turn_slot (Some w) = node_slot w.body w.turn
 
-  -- what is worked out of an entry that the body b has
+  -- the table of an entry that the body b contains
   pub record IsEntryTable (b i : ℕ) (t : EntryTable) : Type 0 where
     pub kind : t.kind ≡ kind_of (entry C i).act
     pub priority : t.priority ≡ (entry C i).priority
@@ -139,52 +140,52 @@ module _ (C : Code) where
     pub value : t.value ≡ value_slot (loop_of (entry C i).act)
     pub turn : t.turn ≡ turn_slot (loop_of (entry C i).act)
 
-  -- how many of these entries are run so
+  -- the number of these entries of a kind
   abbrev pub runs_as : Kind → ℕ → Bool
   runs_as k i = is_kind k (kind_of (entry C i).act)
 
   abbrev pub run_as : Kind → List ℕ → ℕ
   run_as k js = length (filter (runs_as k) js)
 
-  -- the names that are not the body's own
+  -- the names that the body does not declare
   abbrev pub outside : ℕ → List Name → List Name
   outside b rs = filter (λ r. not (is_declared C b r)) rs
 
-  abbrev pub at_name : ℕ → (Spot → Slot) → Name → Slot
+  abbrev pub at_name : ℕ → (LexicalAddress → Slot) → Name → Slot
   at_name b f r = at_spot f (spot_in C b r)
 
-  -- holds to which so many are added for each of the names that are not the body's own
+  -- holds to which `reads` and `writes` are added for each of the names that the body does not declare
   pub record GainsNames (b reads writes : ℕ) (rs : List Name) (old new : List Hold) : Type 0 where
-    pub reads_are : (f : Spot → Slot) (d : ℕ) → hold_times f (λ x. x.reads) d new ≡ hold_times f (λ x. x.reads) d old + named_by reads (at_name b f) d (outside b rs)
-    pub writes_are : (f : Spot → Slot) (d : ℕ) → hold_times f (λ x. x.writes) d new ≡ hold_times f (λ x. x.writes) d old + named_by writes (at_name b f) d (outside b rs)
+    pub reads_are : (f : LexicalAddress → Slot) (d : ℕ) → hold_times f (λ x. x.reads) d new ≡ hold_times f (λ x. x.reads) d old + named_by reads (at_name b f) d (outside b rs)
+    pub writes_are : (f : LexicalAddress → Slot) (d : ℕ) → hold_times f (λ x. x.writes) d new ≡ hold_times f (λ x. x.writes) d old + named_by writes (at_name b f) d (outside b rs)
 
-  -- holds to which one is added for each of an entry's rights that is not the body's own
+  -- holds to which one is added for each of an entry's rights whose name the body does not declare
   pub record GainsRights (b : ℕ) (e : Entry) (old new : List Hold) : Type 0 where
-    pub reads_are : (f : Spot → Slot) (d : ℕ) → hold_times f (λ x. x.reads) d new ≡ hold_times f (λ x. x.reads) d old + named_by 1 (at_name b f) d (outside b e.reads)
-    pub writes_are : (f : Spot → Slot) (d : ℕ) → hold_times f (λ x. x.writes) d new ≡ hold_times f (λ x. x.writes) d old + named_by 1 (at_name b f) d (outside b e.writes)
+    pub reads_are : (f : LexicalAddress → Slot) (d : ℕ) → hold_times f (λ x. x.reads) d new ≡ hold_times f (λ x. x.reads) d old + named_by 1 (at_name b f) d (outside b e.reads)
+    pub writes_are : (f : LexicalAddress → Slot) (d : ℕ) → hold_times f (λ x. x.writes) d new ≡ hold_times f (λ x. x.writes) d old + named_by 1 (at_name b f) d (outside b e.writes)
 
-  -- holds of the names that some entries have among their rights
+  -- holds of the names among the rights of these entries
   abbrev pub names_of : (Entry → List Name) → List ℕ → List Name
   names_of rights js = flat_map (λ j. rights (entry C j)) js
 
   pub record HoldsOf (b : ℕ) (js : List ℕ) (hs : List Hold) : Type 0 where
-    pub reads : (f : Spot → Slot) (d : ℕ) → hold_times f (λ x. x.reads) d hs ≡ named_by 1 (at_name b f) d (outside b (names_of (λ e. e.reads) js))
-    pub writes : (f : Spot → Slot) (d : ℕ) → hold_times f (λ x. x.writes) d hs ≡ named_by 1 (at_name b f) d (outside b (names_of (λ e. e.writes) js))
+    pub reads : (f : LexicalAddress → Slot) (d : ℕ) → hold_times f (λ x. x.reads) d hs ≡ named_by 1 (at_name b f) d (outside b (names_of (λ e. e.reads) js))
+    pub writes : (f : LexicalAddress → Slot) (d : ℕ) → hold_times f (λ x. x.writes) d hs ≡ named_by 1 (at_name b f) d (outside b (names_of (λ e. e.writes) js))
 
   -- an entry waits for more than two inputs
   abbrev pub waits_long : ℕ → Bool
   waits_long i = nat_lt 2 (length (entry C i).needs)
 
-  -- what is worked out of a body
+  -- the table of a body
   pub record IsBodyTable (b : ℕ) (t : BodyTable) : Type 0 where
     pub own : t.own.items ≡ own_from (body C b).makes (names_in C (λ e. e.reads) b) (names_in C (λ e. e.writes) b) 0 (body C b).makes
-    pub reads : (f : Spot → Slot) (d : ℕ) → hold_times f (λ x. x.reads) d t.outer.items ≡ held_times (at_name b f) d (outer_holds C (λ e. e.reads) b)
-    pub writes : (f : Spot → Slot) (d : ℕ) → hold_times f (λ x. x.writes) d t.outer.items ≡ held_times (at_name b f) d (outer_holds C (λ e. e.writes) b)
+    pub reads : (f : LexicalAddress → Slot) (d : ℕ) → hold_times f (λ x. x.reads) d t.outer.items ≡ held_times (at_name b f) d (outer_holds C (λ e. e.reads) b)
+    pub writes : (f : LexicalAddress → Slot) (d : ℕ) → hold_times f (λ x. x.writes) d t.outer.items ≡ held_times (at_name b f) d (outer_holds C (λ e. e.writes) b)
     pub controls : t.controls ≡ run_as Control (body C b).entries
     pub leaves : t.leaves ≡ run_as Leaf (body C b).entries
     pub long : t.long ≡ list_any waits_long (body C b).entries
 
--- each member fits its place, counted from a number on
+-- each member satisfies the condition for its index, counted from a number on
 abbrev pub AllFrom : {X : Type 0} → (ℕ → X → Type 0) → ℕ → List X → Type 0
 AllFrom P n [] = Unit {0}
 AllFrom P n (x ∷ xs) = P n x × AllFrom P (suc n) xs

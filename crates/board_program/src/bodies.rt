@@ -1,4 +1,4 @@
-//! What an instance of a body begins with: the counts of its own data, and what it adds to those outside.
+//! Body tables: the initial counts of a body's own data, and the holds that each instance adds to data outside.
 ghost use Rattle.std.specs.Prelude.{◌≡◌, ◌+◌, ◌<◌, ◌≤◌, ◌∷◌, [], map, replicate, slice_index_or, if◌then◌else◌, IfOk, OnOk};
 ghost use Rattle.std.specs.List.{list_any};
 ghost use Rattle.task_code.specs.Code.{Control, body as body_at, kind_of};
@@ -7,17 +7,21 @@ ghost use Rattle.board_program.specs.Places.{CountsMore, CountsOf, FindsPlaces, 
 ghost use Rattle.board_program.specs.Program.{IsLeads};
 ghost use Rattle.board_program.specs.Tables.{GainsNames, GainsRights, HoldsOf, IsBodyTable, is_kind, names_of, run_as, shape_of, waits_long};
 
-use crate::outer::Outer;
-use crate::places::Places;
-use crate::program::{BodyTable, Hold, Own};
-use crate::spot::Leads;
-use data_store::store::Shape;
+use crate::lexical_address::NameResolver;
+use crate::outer_holds::OuterHolds;
+use crate::program::{BodyTable, Hold, LocalVariable};
+use crate::variable_index::VariableIndex;
+use data_store::store::DatumKind;
 use std::alloc::{AllocError, Global};
 use task_code::code::{Body, Code};
 use task_code::entry::{Entry, Kind, Name, Variable};
 
-/// One more, or want of memory where 64 bits do not tell it.
-fn one_more(count: u64) -> Result<u64, AllocError>
+/// Returns the count plus 1.
+///
+/// # Errors
+///
+/// Returns `AllocError` if the sum does not fit in 64 bits.
+fn checked_successor(count: u64) -> Result<u64, AllocError>
     ensures { IfOk result (λ more. more ≡ count + 1) }
 {
     match count.checked_add(1) {
@@ -26,23 +30,35 @@ fn one_more(count: u64) -> Result<u64, AllocError>
     }
 }
 
-/// Counts a name at the place of its variable, if it is one of the block's own.
+/// Increments the count of the variable that a name refers to, if the block declares it.
+///
+/// # Errors
+///
+/// Returns `AllocError` if the count does not fit in 64 bits.
 #[tactic(auto, using(crate::proofs::Counted::one_counted, crate::proofs::Counted::past_counted, crate::proofs::Counted::none_counted))]
-fn count_name(counts: &mut Vec<u64>, places: &Places, name: Name) -> Result<(), AllocError>
+fn count_name(counts: &mut Vec<u64>, places: &VariableIndex, name: Name) -> Result<(), AllocError>
     ensures { OnOk result (CountsMore places.now (name_view name ∷ []) counts.old.items counts.new.items) }
 {
     let Some(place) = places.of_name(name) else {
         return Ok(());
     };
     if place < counts.len() {
-        counts[place] = one_more(counts[place])?;
+        counts[place] = checked_successor(counts[place])?;
     }
     Ok(())
 }
 
-/// The same for each of the names.
+/// Increments the counts of the variables that the names refer to, for the variables that the block declares.
+///
+/// # Errors
+///
+/// Returns `AllocError` if a count does not fit in 64 bits.
 #[tactic(auto, using(crate::proofs::Counted::counted_none, crate::proofs::Counted::counted_next, crate::proofs::Counted::counted_all))]
-fn count_names(counts: &mut Vec<u64>, places: &Places, names: &[Name]) -> Result<(), AllocError>
+fn count_names(
+    counts: &mut Vec<u64>,
+    places: &VariableIndex,
+    names: &[Name],
+) -> Result<(), AllocError>
     ensures { OnOk result (CountsMore places.now (map name_view names.now) counts.old.items counts.new.items) }
 {
     for at in 0..names.len() {
@@ -51,7 +67,7 @@ fn count_names(counts: &mut Vec<u64>, places: &Places, names: &[Name]) -> Result
     Ok(())
 }
 
-/// As many counts of nothing.
+/// Creates a list of `many` counts of 0.
 #[tactic(auto, using(crate::proofs::Counted::one_more_none))]
 fn no_counts(alloc: Global, many: usize) -> Result<Vec<u64>, AllocError>
     ensures { IfOk result (λ counts. counts.items ≡ replicate many 0) }
@@ -63,14 +79,18 @@ fn no_counts(alloc: Global, many: usize) -> Result<Vec<u64>, AllocError>
     Ok(counts)
 }
 
-/// What a datum is.
-fn shape_of(array: bool) -> Shape
+/// Returns the datum kind of an array or a scalar.
+fn shape_of(array: bool) -> DatumKind
     ensures { result ≡ shape_of array }
 {
-    if array { Shape::Keyed } else { Shape::Single }
+    if array {
+        DatumKind::Keyed
+    } else {
+        DatumKind::Single
+    }
 }
 
-/// The count at a place.
+/// Returns the count at this index, or 0 beyond the end.
 fn count_at(counts: &[u64], place: usize) -> u64
     ensures { result ≡ slice_index_or counts.now place 0 }
 {
@@ -81,19 +101,19 @@ fn count_at(counts: &[u64], place: usize) -> u64
     }
 }
 
-/// Variables with their counts.
+/// Creates the table of local variables from the variables and their counts.
 #[tactic(auto, using(crate::proofs::Counted::owns_next, crate::proofs::Counted::owns_all))]
 fn with_counts(
     alloc: Global,
     makes: &[Variable],
     reads: &[u64],
     writes: &[u64],
-) -> Result<Vec<Own>, AllocError>
+) -> Result<Vec<LocalVariable>, AllocError>
     ensures { IfOk result (λ own. own.items ≡ with_counts 0 reads.now writes.now (map variable_view makes.now)) }
 {
     let mut own = Vec::with_capacity(alloc, makes.len())?;
     for at in 0..makes.len() {
-        own.push(Own {
+        own.push(LocalVariable {
             shape: shape_of(makes[at].array),
             reads: count_at(reads, at),
             writes: count_at(writes, at),
@@ -102,17 +122,19 @@ fn with_counts(
     Ok(own)
 }
 
-/// Holds what a name stands for, so many times of each kind, unless the body declares it.
+/// Adds the given reads and writes to the hold on the datum of a name, unless the body declares the name.
+///
+/// A name that does not resolve adds nothing.
 #[tactic(auto, using(crate::proofs::Counted::declared_if, crate::proofs::Holds::gains_own, crate::proofs::Holds::gains_nowhere, crate::proofs::Holds::gains_one))]
 fn hold_name(
     code: &Code,
-    leads: &Leads,
-    places: &Places,
+    leads: &NameResolver,
+    places: &VariableIndex,
     body: u32,
     name: Name,
     reads: u64,
     writes: u64,
-    outer: &mut Outer,
+    outer: &mut OuterHolds,
 ) -> Result<(), AllocError>
     requires leads { IsLeads code.now leads.now }
     requires places { FindsPlaces (body_at code.now body).makes places.now }
@@ -132,17 +154,17 @@ fn hold_name(
     Ok(())
 }
 
-/// The same for each of the names.
+/// Adds the given reads and writes to the hold on the datum of each name that the body does not declare.
 #[tactic(auto, using(crate::proofs::Holds::gains_none, crate::proofs::Holds::gains_next, crate::proofs::Holds::gains_all))]
 fn hold_names(
     code: &Code,
-    leads: &Leads,
-    places: &Places,
+    leads: &NameResolver,
+    places: &VariableIndex,
     body: u32,
     names: &[Name],
     reads: u64,
     writes: u64,
-    outer: &mut Outer,
+    outer: &mut OuterHolds,
 ) -> Result<(), AllocError>
     requires leads { IsLeads code.now leads.now }
     requires places { FindsPlaces (body_at code.now body).makes places.now }
@@ -154,15 +176,16 @@ fn hold_names(
     Ok(())
 }
 
-/// Holds what an entry may read once for reads, and what it may write once for writes, unless the body declares it.
+/// Adds one read for each name that an entry may read, and one write for each name that it may write. Names that the
+/// body declares are left out.
 #[tactic(auto, using(crate::proofs::Holds::gains_rights))]
 fn hold_rights(
     code: &Code,
-    leads: &Leads,
-    places: &Places,
+    leads: &NameResolver,
+    places: &VariableIndex,
     body: u32,
     entry: &Entry,
-    outer: &mut Outer,
+    outer: &mut OuterHolds,
 ) -> Result<(), AllocError>
     requires leads { IsLeads code.now leads.now }
     requires places { FindsPlaces (body_at code.now body).makes places.now }
@@ -175,7 +198,7 @@ fn hold_rights(
     Ok(())
 }
 
-/// 1 for a control entry, and 0 for any other.
+/// Returns 1 for a control entry and 0 for a leaf.
 fn control_count(entry: &Entry) -> usize
     ensures count { result ≡ (if is_kind Control (kind_of (entry_view entry.now).act) then 1 else 0) }
     ensures most { result ≤ 1 }
@@ -186,8 +209,8 @@ fn control_count(entry: &Entry) -> usize
     }
 }
 
-/// What the rights of a body's entries come to: how many of the names are each of its own variables, the holds on data that it does
-/// not declare, and how many of the entries are control entries.
+/// The rights of all entries of a body, summed up: read and write counts of its own variables, the holds on data that
+/// it does not declare, and the number of control entries.
 #[derive(Drop)]
 struct Rights {
     reads: Vec<u64>,
@@ -196,13 +219,13 @@ struct Rights {
     controls: usize,
 }
 
-/// What the rights of these entries come to, in one pass over them.
+/// Sums up the rights of these entries in one pass. `many`: the number of variables that the body declares.
 #[tactic(auto, using(crate::proofs::Counted::all_none, crate::proofs::Holds::holds_none, crate::proofs::Counted::all_entries, crate::proofs::Holds::holds_all, crate::proofs::Counts::control_all))]
 fn rights_of(
     alloc: Global,
     code: &Code,
-    leads: &Leads,
-    places: &Places,
+    leads: &NameResolver,
+    places: &VariableIndex,
     body: u32,
     entries: &[u32],
     many: usize,
@@ -216,7 +239,7 @@ fn rights_of(
 {
     let mut reads = no_counts(alloc, many)?;
     let mut writes = no_counts(alloc, many)?;
-    let mut outer = Outer::none(alloc);
+    let mut outer = OuterHolds::none(alloc);
     let mut controls = 0;
     for at in 0..entries.len() {
         if let Some(entry) = code.entry(entries[at]) {
@@ -234,7 +257,7 @@ fn rights_of(
     })
 }
 
-/// Whether the entry of this number waits for more than two inputs. One that is not there waits for none.
+/// Returns true if the entry of this number waits for more than two inputs. A number without an entry has no inputs.
 #[tactic(auto, using(crate::proofs::Counts::blank_there))]
 fn is_long(code: &Code, number: u32) -> bool
     ensures { result ≡ waits_long code.now number }
@@ -245,7 +268,7 @@ fn is_long(code: &Code, number: u32) -> bool
     }
 }
 
-/// Whether one of these entries does.
+/// Returns true if one of these entries waits for more than two inputs.
 fn has_long(code: &Code, entries: &[u32]) -> bool
     ensures { result ≡ list_any (waits_long code.now) entries.now }
 {
@@ -257,13 +280,13 @@ fn has_long(code: &Code, entries: &[u32]) -> bool
     false
 }
 
-/// What is worked out of a body.
+/// Creates the table of a body.
 #[tactic(auto, using(crate::proofs::Counted::own_told, crate::proofs::Holds::body_reads, crate::proofs::Holds::body_writes, crate::proofs::Counts::leaves_left))]
 pub fn body_table(
     alloc: Global,
     code: &Code,
-    leads: &Leads,
-    places: &Places,
+    leads: &NameResolver,
+    places: &VariableIndex,
     number: u32,
     body: &Body,
 ) -> Result<BodyTable, AllocError>

@@ -1,10 +1,11 @@
-//! Code with what a board works out of it once: where its names lead, and how an instance of each body changes the counts of data.
+//! Program tables, computed once from code before any run: resolved names, entry tables, and the data counts of each
+//! body.
 #![tactic(auto)]
 
 mod bodies;
 pub mod laws;
-mod naming;
-mod outer;
-pub mod places;
+pub mod lexical_address;
+mod name_count;
+mod outer_holds;
 pub mod program;
-pub mod spot;
+pub mod variable_index;

@@ -1,4 +1,4 @@
-//! Code with what is worked out once from it: where its names lead, and how an instance of each body changes the counts of data.
+//! The program: code with its entry tables and body tables.
 
 ghost use Rattle.std.specs.Prelude.{◌≡◌, ◌<◌, ◌≤◌, ◌^◌, ◌++◌, length, map, option_map, IfOk, MatchOption, OnOk};
 ghost use Rattle.std.specs.List.{list_all, list_any};
@@ -12,9 +12,9 @@ ghost use Rattle.board_program.specs.Spots.{home_of, place_from};
 ghost use Rattle.board_program.specs.Tables.{AllFrom, IsBodyTable, IsEntryTable, body_of, body_or_script, first_spot, is_closed, passed_in, spots_in, turn_slot, value_slot, wanted_in};
 
 use crate::bodies::body_table;
-use crate::naming::most_names;
-use crate::spot::{Leads, Spot};
-use data_store::store::Shape;
+use crate::lexical_address::{LexicalAddress, NameResolver};
+use crate::name_count::most_names;
+use data_store::store::DatumKind;
 use smallvec::SmallVec;
 use std::alloc::{AllocError, Global};
 use std::marker::Model;
@@ -24,119 +24,128 @@ use task_code::entry::{Act, Argument, Entry, Loop, Name, Need, Owned, Variable};
 use values::key::Key;
 use work_queue::entry::Kind;
 
-/// What an entry waits for, by where its names lead.
+/// A need with its names resolved in the body of its entry.
 #[derive(Drop)]
-pub enum Wanted {
-    Stored(Option<Spot>),
-    Closed(Option<Spot>),
-    At(Option<Spot>, Option<Spot>),
-    AtKey(Option<Spot>, Key),
+pub enum ResolvedNeed {
+    Stored(Option<LexicalAddress>),
+    Closed(Option<LexicalAddress>),
+    At(Option<LexicalAddress>, Option<LexicalAddress>),
+    AtKey(Option<LexicalAddress>, Key),
 }
 
-impl Default for Wanted {
-    fn default() -> Wanted {
-        Wanted::Stored(None)
+impl Default for ResolvedNeed {
+    fn default() -> ResolvedNeed {
+        ResolvedNeed::Stored(None)
     }
 }
 
-/// The places that names lead to. An entry mostly has one or two.
-pub type Spots = SmallVec<Spot, 2>;
+/// The addresses that names resolve to. Most entries have one or two.
+pub type Spots = SmallVec<LexicalAddress, 2>;
 
-/// What a call hands over: what a name stands for, or the literal at its place among the arguments.
+/// An argument that a call passes: the address of a name, or the literal at its index among the arguments.
 #[derive(Clone, Copy, PartialEq, Eq, Debug, Drop)]
-pub enum Passed {
-    Named(Option<Spot>),
+pub enum PassedArgument {
+    Named(Option<LexicalAddress>),
     Fixed,
 }
 
-/// What is worked out of an entry.
+/// The precomputed table of an entry.
 #[derive(Drop)]
 pub struct EntryTable {
-    /// The offset that the paths of the blocks that it opens have.
+    /// The offset in the paths of the blocks that the entry opens.
     pub mark: u32,
     pub kind: Kind,
     pub priority: i32,
-    pub needs: SmallVec<Wanted, 1>,
-    /// Whether it waits for scalars and closed arrays alone, and so for no element.
+    pub needs: SmallVec<ResolvedNeed, 1>,
+    /// Whether the entry waits for scalars and closed arrays alone, and thus for no element.
     pub plain: bool,
-    /// Whether it waits for a closed array.
+    /// Whether the entry waits for a closed array.
     pub closed: bool,
     pub reads: Spots,
     pub writes: Spots,
-    /// What it stores into.
-    pub target: Option<Spot>,
-    /// What it hands over, if it is a call.
-    pub arguments: Vec<Passed>,
-    /// The slots of its turns' variables, if it is a loop.
+    /// The address that the entry stores into.
+    pub target: Option<LexicalAddress>,
+    /// The arguments that a call passes. Empty for other entries.
+    pub arguments: Vec<PassedArgument>,
+    /// The slots of the variables of a loop's turns. `None` for other entries.
     pub value: Option<usize>,
     pub turn: Option<usize>,
 }
 
-/// A variable of a body, with the holds on its datum that an instance begins with.
+/// A variable of a body, with the initial hold counts of its datum in a new instance.
 #[derive(Clone, Copy, PartialEq, Eq, Debug, Drop)]
-pub struct Own {
-    pub shape: Shape,
+pub struct LocalVariable {
+    pub shape: DatumKind,
     pub reads: u64,
     pub writes: u64,
 }
 
-/// Holds that an instance of a body adds to a datum outside of it.
+/// The holds that an instance of a body adds to a datum outside of it.
 #[derive(Clone, Copy, PartialEq, Eq, Debug, Drop)]
 pub struct Hold {
-    pub spot: Spot,
+    pub spot: LexicalAddress,
     pub reads: u64,
     pub writes: u64,
 }
 
-/// What is worked out of a body.
+/// The precomputed table of a body.
 #[derive(Drop)]
 pub struct BodyTable {
-    pub own: Vec<Own>,
+    pub own: Vec<LocalVariable>,
     pub outer: Vec<Hold>,
-    /// How many of its entries are control entries, and how many leaf entries.
+    /// The numbers of control entries and of leaf entries.
     pub controls: usize,
     pub leaves: usize,
-    /// Whether one of its entries waits for more than two inputs.
+    /// Whether an entry of the body waits for more than two inputs.
     pub long: bool,
 }
 
-/// Code with what is worked out of it.
+/// Code with the tables computed from it.
 #[derive(Drop)]
-pub struct Laid {
+pub struct ProgramTables {
     code: Code,
-    leads: Leads,
+    leads: NameResolver,
     entries: Vec<EntryTable>,
     bodies: Vec<BodyTable>,
-    /// No entry reads or writes more names.
+    /// An upper bound of the number of names that any entry reads or writes.
     most_names: usize,
 }
 
-/// Code with what a board works out of it once. Its copies share all of that, whichever threads they are on.
+/// Code with all tables that a board needs. Copies share them, also across threads.
 #[derive(Drop)]
 pub struct Program {
-    laid: Arc<Laid>,
+    laid: Arc<ProgramTables>,
 }
 
-/// What a need comes to, by where its names lead from the body.
-fn wanted_of(code: &Code, leads: &Leads, body: u32, need: &Need) -> Result<Wanted, AllocError>
+/// Resolves the names of a need in the body.
+///
+/// # Errors
+///
+/// Returns `AllocError` if the text of a key has too many owners to count.
+fn wanted_of(
+    code: &Code,
+    leads: &NameResolver,
+    body: u32,
+    need: &Need,
+) -> Result<ResolvedNeed, AllocError>
     requires { IsLeads code.now leads.now }
     ensures { IfOk result (λ wanted. wanted ≡ wanted_in code.now body (need_view need.now)) }
 {
     match need {
-        Need::Stored(name) => Ok(Wanted::Stored(leads.spot_in(code, body, *name))),
-        Need::Closed(name) => Ok(Wanted::Closed(leads.spot_in(code, body, *name))),
-        Need::At(array, index) => Ok(Wanted::At(
+        Need::Stored(name) => Ok(ResolvedNeed::Stored(leads.spot_in(code, body, *name))),
+        Need::Closed(name) => Ok(ResolvedNeed::Closed(leads.spot_in(code, body, *name))),
+        Need::At(array, index) => Ok(ResolvedNeed::At(
             leads.spot_in(code, body, *array),
             leads.spot_in(code, body, *index),
         )),
-        Need::AtKey(array, key) => Ok(Wanted::AtKey(
+        Need::AtKey(array, key) => Ok(ResolvedNeed::AtKey(
             leads.spot_in(code, body, *array),
             key.share()?,
         )),
     }
 }
 
-/// Whether it is no element that is waited for.
+/// Returns true unless the need is an element.
 fn is_plain(need: &Need) -> bool
     ensures { result ≡ is_plain (need_view need.now) }
 {
@@ -146,7 +155,7 @@ fn is_plain(need: &Need) -> bool
     }
 }
 
-/// Whether it is a closed array that is waited for.
+/// Returns true if the need is a closed array.
 fn is_closed(need: &Need) -> bool
     ensures { result ≡ is_closed (need_view need.now) }
 {
@@ -156,7 +165,7 @@ fn is_closed(need: &Need) -> bool
     }
 }
 
-/// Whether all of them are.
+/// Returns true if none of the needs is an element.
 fn are_plain(needs: &[Need]) -> bool
     ensures { result ≡ list_all is_plain (map need_view needs.now) }
 {
@@ -168,7 +177,7 @@ fn are_plain(needs: &[Need]) -> bool
     true
 }
 
-/// Whether one of them is.
+/// Returns true if one of the needs is a closed array.
 fn has_closed(needs: &[Need]) -> bool
     ensures { result ≡ list_any is_closed (map need_view needs.now) }
 {
@@ -183,10 +192,10 @@ fn has_closed(needs: &[Need]) -> bool
 fn needs_of(
     alloc: Global,
     code: &Code,
-    leads: &Leads,
+    leads: &NameResolver,
     body: u32,
     needs: &[Need],
-) -> Result<SmallVec<Wanted, 1>, AllocError>
+) -> Result<SmallVec<ResolvedNeed, 1>, AllocError>
     requires { IsLeads code.now leads.now }
     ensures { IfOk result (λ wanted. wanted.items ≡ map (wanted_in code.now body) (map need_view needs.now)) }
 {
@@ -197,12 +206,12 @@ fn needs_of(
     Ok(wanted)
 }
 
-/// Where the names lead that lead anywhere.
+/// Resolves the names in the body, and leaves out those that refer to nothing.
 #[tactic(auto, using(crate::proofs::Tables::spots_some, crate::proofs::Tables::spots_none, crate::proofs::Tables::spots_end))]
 fn spots_of(
     alloc: Global,
     code: &Code,
-    leads: &Leads,
+    leads: &NameResolver,
     body: u32,
     names: &[Name],
 ) -> Result<Spots, AllocError>
@@ -218,7 +227,7 @@ fn spots_of(
     Ok(spots)
 }
 
-/// The name that an entry stores into.
+/// Returns the name that an entry stores into, if it stores into one.
 fn target_of(entry: &Entry) -> Option<Name>
     ensures { option_to_list (option_map name_view result) ≡ stored_of (entry_view entry.now).node (entry_view entry.now).act }
 {
@@ -237,8 +246,13 @@ fn target_of(entry: &Entry) -> Option<Name>
     }
 }
 
-/// Where that name leads.
-fn target_spot(code: &Code, leads: &Leads, body: u32, entry: &Entry) -> Option<Spot>
+/// Returns the address that an entry stores into, if its target resolves.
+fn target_spot(
+    code: &Code,
+    leads: &NameResolver,
+    body: u32,
+    entry: &Entry,
+) -> Option<LexicalAddress>
     requires { IsLeads code.now leads.now }
     ensures { result ≡ first_spot code.now body (stored_of (entry_view entry.now).node (entry_view entry.now).act) }
 {
@@ -248,11 +262,11 @@ fn target_spot(code: &Code, leads: &Leads, body: u32, entry: &Entry) -> Option<S
     }
 }
 
-/// What a call hands over for its inputs.
+/// Appends the arguments that a call passes for its inputs.
 fn push_inputs(
-    passed: &mut Vec<Passed>,
+    passed: &mut Vec<PassedArgument>,
     code: &Code,
-    leads: &Leads,
+    leads: &NameResolver,
     body: u32,
     inputs: &[Argument],
 ) -> Result<(), AllocError>
@@ -265,22 +279,22 @@ fn push_inputs(
     Ok(())
 }
 
-/// What it hands over for one input.
-fn passed_of(code: &Code, leads: &Leads, body: u32, input: &Argument) -> Passed
+/// Returns the argument that a call passes for one input.
+fn passed_of(code: &Code, leads: &NameResolver, body: u32, input: &Argument) -> PassedArgument
     requires { IsLeads code.now leads.now }
     ensures { result ≡ passed_in code.now body (argument_view input.now) }
 {
     match input {
-        Argument::Named(name) => Passed::Named(leads.spot_in(code, body, *name)),
-        Argument::Fixed(_) => Passed::Fixed,
+        Argument::Named(name) => PassedArgument::Named(leads.spot_in(code, body, *name)),
+        Argument::Fixed(_) => PassedArgument::Fixed,
     }
 }
 
-/// The same for its outputs.
+/// Appends the arguments that a call passes for its outputs.
 fn push_outputs(
-    passed: &mut Vec<Passed>,
+    passed: &mut Vec<PassedArgument>,
     code: &Code,
-    leads: &Leads,
+    leads: &NameResolver,
     body: u32,
     outputs: &[Name],
 ) -> Result<(), AllocError>
@@ -288,19 +302,20 @@ fn push_outputs(
     ensures { OnOk result (passed.new.items ≡ passed.old.items ++ map (passed_in code.now body) (map Named (map name_view outputs.now))) }
 {
     for output in outputs {
-        passed.push(Passed::Named(leads.spot_in(code, body, *output)))?;
+        passed.push(PassedArgument::Named(leads.spot_in(code, body, *output)))?;
     }
     Ok(())
 }
 
-/// What an entry hands over to the body that it opens, in the order of the parameters.
+/// Returns the arguments that an entry passes to the body that it opens, in the order of the parameters. Only calls
+/// pass any.
 fn arguments_of(
     alloc: Global,
     code: &Code,
-    leads: &Leads,
+    leads: &NameResolver,
     body: u32,
     act: &Act,
-) -> Result<Vec<Passed>, AllocError>
+) -> Result<Vec<PassedArgument>, AllocError>
     requires { IsLeads code.now leads.now }
     ensures { IfOk result (λ passed. passed.items ≡ map (passed_in code.now body) (arguments (act_view act.now))) }
 {
@@ -318,9 +333,9 @@ fn arguments_of(
     Ok(passed)
 }
 
-/// The slot of a scalar of the body, told by its node.
+/// Returns the slot of the scalar of this node in the body, if the body declares it.
 #[tactic(auto, using(crate::proofs::Counted::scalar_placed, crate::proofs::Counts::no_place))]
-fn scalar_slot(leads: &Leads, body: u32, node: u32) -> Option<usize>
+fn scalar_slot(leads: &NameResolver, body: u32, node: u32) -> Option<usize>
     ensures { (C : Code) → IsLeads C leads.now → result ≡ place_from 0 (scalar node) (body_at C body).makes }
 {
     match leads.places(body) {
@@ -329,7 +344,7 @@ fn scalar_slot(leads: &Leads, body: u32, node: u32) -> Option<usize>
     }
 }
 
-/// The loop that an entry is.
+/// Returns the loop of a loop entry.
 fn loop_of(act: &Act) -> Option<Loop>
     ensures { option_map loop_view result ≡ loop_of (act_view act.now) }
 {
@@ -339,8 +354,8 @@ fn loop_of(act: &Act) -> Option<Loop>
     }
 }
 
-/// The slot of the value in the turns of a loop.
-fn value_slot(leads: &Leads, act: &Act) -> Option<usize>
+/// Returns the slot of the value in the turns of a loop.
+fn value_slot(leads: &NameResolver, act: &Act) -> Option<usize>
     ensures { (C : Code) → IsLeads C leads.now → result ≡ value_slot C (loop_of (act_view act.now)) }
 {
     match loop_of(act) {
@@ -349,8 +364,8 @@ fn value_slot(leads: &Leads, act: &Act) -> Option<usize>
     }
 }
 
-/// The slot of the key or number of the turn.
-fn turn_slot(leads: &Leads, act: &Act) -> Option<usize>
+/// Returns the slot of the key or number in the turns of a loop.
+fn turn_slot(leads: &NameResolver, act: &Act) -> Option<usize>
     ensures { (C : Code) → IsLeads C leads.now → result ≡ turn_slot C (loop_of (act_view act.now)) }
 {
     match loop_of(act) {
@@ -362,11 +377,15 @@ fn turn_slot(leads: &Leads, act: &Act) -> Option<usize>
     }
 }
 
-/// What is worked out of the entry of this number, which the body has.
+/// Creates the table of the entry of this number, with its names resolved in `body`.
+///
+/// # Errors
+///
+/// Returns `AllocError` if an allocation fails, or if the offset of the entry does not fit in 32 bits.
 fn entry_table(
     alloc: Global,
     code: &Code,
-    leads: &Leads,
+    leads: &NameResolver,
     body: u32,
     number: u32,
     entry: &Entry,
@@ -394,9 +413,9 @@ fn entry_table(
     })
 }
 
-/// The body that has an entry. One that no body has is taken for one of the script's.
-fn body_of(leads: &Leads, number: u32) -> u32
-    ensures { result ≡ body_or_script (home_of leads.now.homes.items number) }
+/// Returns the body of an entry. An entry without a body is attributed to the script.
+fn body_of(leads: &NameResolver, number: u32) -> u32
+    ensures { result ≡ body_or_script (home_of leads.now.entry_bodies.items number) }
 {
     match leads.home(number) {
         Some(body) => body,
@@ -404,8 +423,12 @@ fn body_of(leads: &Leads, number: u32) -> u32
     }
 }
 
-/// What is worked out of all entries.
-fn entry_tables(alloc: Global, code: &Code, leads: &Leads) -> Result<Vec<EntryTable>, AllocError>
+/// Creates the tables of all entries.
+fn entry_tables(
+    alloc: Global,
+    code: &Code,
+    leads: &NameResolver,
+) -> Result<Vec<EntryTable>, AllocError>
     requires { IsLeads code.now leads.now }
     ensures each { IfOk result (λ tables. AllFrom (λ i t. IsEntryTable code.now (body_of code.now i) i t) 0 tables.items) }
     ensures all { IfOk result (λ tables. length tables.items ≡ length code.now.entries) }
@@ -422,8 +445,12 @@ fn entry_tables(alloc: Global, code: &Code, leads: &Leads) -> Result<Vec<EntryTa
     Ok(tables)
 }
 
-/// What is worked out of all bodies.
-fn body_tables(alloc: Global, code: &Code, leads: &Leads) -> Result<Vec<BodyTable>, AllocError>
+/// Creates the tables of all bodies.
+fn body_tables(
+    alloc: Global,
+    code: &Code,
+    leads: &NameResolver,
+) -> Result<Vec<BodyTable>, AllocError>
     requires leads { IsLeads code.now leads.now }
     requires few { length code.now.bodies < 2 ^ 32 }
     ensures each { IfOk result (λ tables. AllFrom (λ b t. IsBodyTable code.now b t) 0 tables.items) }
@@ -440,19 +467,19 @@ fn body_tables(alloc: Global, code: &Code, leads: &Leads) -> Result<Vec<BodyTabl
     Ok(tables)
 }
 
-/// Works out of the code all that there is to be worked out.
-fn lay(alloc: Global, code: Code) -> Result<Laid, AllocError>
+/// Computes all tables of the code.
+fn build_tables(alloc: Global, code: Code) -> Result<ProgramTables, AllocError>
     ensures laid { IfOk result IsProgram }
     ensures code { IfOk result (λ laid. laid.code ≡ code) }
 {
     if code.body_count() > u32::MAX as usize {
         return Err(AllocError);
     }
-    let leads = Leads::new(alloc, &code)?;
+    let leads = NameResolver::new(alloc, &code)?;
     let entries = entry_tables(alloc, &code, &leads)?;
     let bodies = body_tables(alloc, &code, &leads)?;
     let most_names = most_names(&code);
-    Ok(Laid {
+    Ok(ProgramTables {
         code,
         leads,
         entries,
@@ -479,21 +506,25 @@ impl Model for Program {
 }
 
 impl Program {
-    /// The code with all that is worked out of it. Code of 2^32 bodies or more, or of more names than 64 bits count, is
-    /// refused as want of memory.
+    /// Creates the program of this code, with all of its tables.
+    ///
+    /// # Errors
+    ///
+    /// Returns `AllocError` if an allocation fails. The same error reports code of 2^32 bodies or more, an offset of
+    /// more than 32 bits, and a count of more than 64 bits.
     pub fn new(alloc: Global, code: Code) -> Result<Program, AllocError>
         ensures { IfOk result (λ program. program ≡ code) }
     {
         Ok(Program {
-            laid: Arc::new(alloc, lay(alloc, code)?)?,
+            laid: Arc::new(alloc, build_tables(alloc, code)?)?,
         })
     }
 
-    /// The same program, which nothing is worked out or copied for.
+    /// Returns another pointer to the program. Nothing is computed or copied.
     ///
     /// # Errors
     ///
-    /// `AllocError` where there are too many copies to count.
+    /// Returns `AllocError` if there are too many copies to count.
     pub fn share(&self) -> Result<Program, AllocError>
         ensures { IfOk result (λ program. program ≡ self.now) }
     {
@@ -502,14 +533,14 @@ impl Program {
         })
     }
 
-    /// The code.
+    /// Returns the code.
     pub fn code(&self) -> &Code
         ensures { result.now ≡ self.now }
     {
         &self.laid.code
     }
 
-    /// So many names that no entry reads or writes more.
+    /// Returns an upper bound of the number of names that any entry reads or writes.
     pub fn most_names(&self) -> usize
         ensures names { AreAtMost self.now result }
         ensures whole { IsCode self.now }
@@ -518,7 +549,7 @@ impl Program {
         self.laid.most_names
     }
 
-    /// What is worked out of the entry of this number, where there is one.
+    /// Returns the table of the entry of this number, or `None` if there is none.
     #[tactic(auto, using(crate::proofs::Tables::all_at))]
     pub fn entry(&self, number: u32) -> Option<&EntryTable>
         ensures { MatchOption result (length self.now.entries ≤ number)
@@ -530,7 +561,7 @@ impl Program {
         Some(&self.laid.entries[number as usize])
     }
 
-    /// What is worked out of the body of this number, where there is one.
+    /// Returns the table of the body of this number, or `None` if there is none.
     #[tactic(auto, using(crate::proofs::Tables::all_at))]
     pub fn body(&self, number: u32) -> Option<&BodyTable>
         ensures { MatchOption result (length self.now.bodies ≤ number) (λ table. (number < length self.now.bodies) × IsBodyTable self.now number table.now) }
@@ -541,12 +572,12 @@ impl Program {
         Some(&self.laid.bodies[number as usize])
     }
 
-    /// What the need comes to, seen from the body.
+    /// Resolves a need in the body.
     ///
     /// # Errors
     ///
-    /// `AllocError` where a text has too many owners to count.
-    pub fn wanted(&self, body: u32, need: &Need) -> Result<Wanted, AllocError>
+    /// Returns `AllocError` if the text of a key has too many owners to count.
+    pub fn wanted(&self, body: u32, need: &Need) -> Result<ResolvedNeed, AllocError>
         ensures { IfOk result (λ wanted. wanted ≡ wanted_in self.now body (need_view need.now)) }
     {
         wanted_of(&self.laid.code, &self.laid.leads, body, need)

@@ -8,7 +8,7 @@ use Rattle.values.specs.Keys.{key_below, same_key}
 use Rattle.values.proofs.Keys.{above_differs, below_differs, key_below-asymmetric}
 use Rattle.task_code.specs.Places as Places
 use Rattle.task_code.proofs.Equal.{nat_sound}
-use Rattle.paths.specs.declared.statements.Statement.{Statement}
+use Rattle.paths.specs.declared.statements.StatementInstance.{StatementInstance}
 use Rattle.paths.specs.declared.steps.Step.{Step}
 use Rattle.board_instances.specs.View.{step_view}
 use Rattle.paths.specs.Order.{path_below}
@@ -42,7 +42,7 @@ unreversed p q e = sym (reverse-reverse p) ∙ ap reverse e ∙ reverse-reverse 
 abbrev Before : ℕ → List Step → ℕ → List Step → Type 0
 Before a p b q = (path_below p q ≡ true) ⊎ ((p ≡ q) × (a < b))
 
-before : (s t : Statement) → comes_before s t → Before s.at s.path.items t.at t.path.items
+before : (s t : StatementInstance) → comes_before s t → Before s.at s.path.items t.at t.path.items
 before s t (inl h) = inl h
 before s t (inr h) = inr (same_path s.path.items t.path.items (unreversed (path_view s.path.items) (path_view t.path.items) h.0), below_sound s.at t.at h.1)
 
@@ -53,7 +53,7 @@ one_before a b p q (inr h) (inl k) = (let same = subst (λ (r : List Step). path
 one_before a b p q (inr h) (inr k) = omega (arith, h.1, k.1)
 
 -- a statement does not come before one that comes before it, nor before itself, wherever their paths lie
-never_back : (s t u v : Statement) → comes_before s t → comes_before u v → place_view u ≡ place_view t → place_view v ≡ place_view s → ⊥
+never_back : (s t u v : StatementInstance) → comes_before s t → comes_before u v → place_view u ≡ place_view t → place_view v ≡ place_view s → ⊥
 never_back s t u v h k first second =
     let p : u.path.items ≡ t.path.items = same_path u.path.items t.path.items (ap (λ (x : ℕ × List Places.Step). x.1) first) in
     let q : v.path.items ≡ s.path.items = same_path v.path.items s.path.items (ap (λ (x : ℕ × List Places.Step). x.1) second) in
@@ -65,36 +65,36 @@ never_back s t u v h k first second =
     one_before s.at t.at s.path.items t.path.items (before s t h) back
 
 -- each statement of the one list is, for what it stands for, one of the other
-abbrev pub AreAmong : List Statement → List Statement → Type 0
-AreAmong xs ys = (t : Statement) → In t xs → (u : Statement) × In u ys × (place_view u ≡ place_view t)
+abbrev pub AreAmong : List StatementInstance → List StatementInstance → Type 0
+AreAmong xs ys = (t : StatementInstance) → In t xs → (u : StatementInstance) × In u ys × (place_view u ≡ place_view t)
 
-module _ (x y : Statement) (xs ys : List Statement) (ox : InTextOrder (x ∷ xs)) (oy : InTextOrder (y ∷ ys)) (to : AreAmong (x ∷ xs) (y ∷ ys)) (from : AreAmong (y ∷ ys) (x ∷ xs)) where
+module _ (x y : StatementInstance) (xs ys : List StatementInstance) (ox : InTextOrder (x ∷ xs)) (oy : InTextOrder (y ∷ ys)) (to : AreAmong (x ∷ xs) (y ∷ ys)) (from : AreAmong (y ∷ ys) (x ∷ xs)) where
   same_head : place_view x ≡ place_view y
   same_head = by (to x (inl refl))
     where
-      by : (u : Statement) × In u (y ∷ ys) × (place_view u ≡ place_view x) → place_view x ≡ place_view y
+      by : (u : StatementInstance) × In u (y ∷ ys) × (place_view u ≡ place_view x) → place_view x ≡ place_view y
       by (u, inl p, e) = sym e ∙ ap place_view p
       by (u, inr i, e) = other (from y (inl refl))
         where
-          other : (v : Statement) × In v (x ∷ xs) × (place_view v ≡ place_view y) → place_view x ≡ place_view y
+          other : (v : StatementInstance) × In v (x ∷ xs) × (place_view v ≡ place_view y) → place_view x ≡ place_view y
           other (v, inl q, d) = sym (ap place_view q) ∙ d
           other (v, inr j, d) = absurd (never_back x v y u (ox.0 v j) (oy.0 u i) (sym d) e)
 
   to_rest : AreAmong xs ys
   to_rest t i = by (to t (inr i))
     where
-      by : (u : Statement) × In u (y ∷ ys) × (place_view u ≡ place_view t) → (u : Statement) × In u ys × (place_view u ≡ place_view t)
+      by : (u : StatementInstance) × In u (y ∷ ys) × (place_view u ≡ place_view t) → (u : StatementInstance) × In u ys × (place_view u ≡ place_view t)
       by (u, inr j, e) = (u, j, e)
       by (u, inl p, e) = (let same : place_view x ≡ place_view t = same_head ∙ sym (ap place_view p) ∙ e in absurd (never_back x t x t (ox.0 t i) (ox.0 t i) same (sym same)))
 
   from_rest : AreAmong ys xs
   from_rest t i = by (from t (inr i))
     where
-      by : (u : Statement) × In u (x ∷ xs) × (place_view u ≡ place_view t) → (u : Statement) × In u xs × (place_view u ≡ place_view t)
+      by : (u : StatementInstance) × In u (x ∷ xs) × (place_view u ≡ place_view t) → (u : StatementInstance) × In u xs × (place_view u ≡ place_view t)
       by (u, inr j, e) = (u, j, e)
       by (u, inl p, e) = (let same : place_view y ≡ place_view t = sym same_head ∙ sym (ap place_view p) ∙ e in absurd (never_back y t y t (oy.0 t i) (oy.0 t i) same (sym same)))
 
-pub one_listing : (xs ys : List Statement) → InTextOrder xs → InTextOrder ys → AreAmong xs ys → AreAmong ys xs → map place_view xs ≡ map place_view ys
+pub one_listing : (xs ys : List StatementInstance) → InTextOrder xs → InTextOrder ys → AreAmong xs ys → AreAmong ys xs → map place_view xs ≡ map place_view ys
 one_listing [] [] ox oy to from = refl
 one_listing [] (y ∷ ys) ox oy to from = absurd (from y (inl refl)).1
 one_listing (x ∷ xs) [] ox oy to from = absurd (to x (inl refl)).1

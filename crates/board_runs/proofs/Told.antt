@@ -17,7 +17,7 @@ use Rattle.values.specs.declared.fault.OpFault.TheVariants as Op
 use Rattle.paths.specs.declared.faults.Fault.{Fault}
 use Rattle.paths.specs.declared.faults.FaultKind.{FaultKind}
 use Rattle.paths.specs.declared.faults.FaultKind.TheVariants as Kind
-use Rattle.paths.specs.declared.statements.Statement.{Statement}
+use Rattle.paths.specs.declared.statements.StatementInstance.{StatementInstance}
 use Rattle.board.specs.Blocked.{AreBlocked, IsFaultOf, path_of}
 use Rattle.board.specs.Board.{Seen}
 use Rattle.board_effects.specs.Effects.{kind_of_fault}
@@ -99,13 +99,13 @@ module _ (C : Code) (whole : IsCode C) (es : List Event) (s t : CodeState) (x : 
   same_ends Ends.Limit Ends.Limit a b = tt
 
 -- where both states are quiet, the blocked statements of the one are those of the other
-among : (C : Code) (whole : IsCode C) (es : List Event) (s t : CodeState) → Run C es s → Run C es t → Quiet C s → (xs ys : List Statement) → AreBlocked C s xs → AreBlocked C t ys → AreAmong xs ys
+among : (C : Code) (whole : IsCode C) (es : List Event) (s t : CodeState) → Run C es s → Run C es t → Quiet C s → (xs ys : List StatementInstance) → AreBlocked C s xs → AreBlocked C t ys → AreAmong xs ys
 among C whole es s t x y q xs ys a b v i =
     let u = b.all v.at (path_of v) (blocked_too C whole es s t x y q v.at (path_of v) (a.only v i)) in
     let path = unreversed (path_view u.0.path.items) (path_view v.path.items) u.3 in
     (u.0, u.1, λ k. (u.2 k, path k))
 
-same_blocked : (C : Code) (whole : IsCode C) (es : List Event) (s t : CodeState) → Run C es s → Run C es t → (l m : ℕ) (v w : List ℕ) (e f : End) (xs ys : List Statement)
+same_blocked : (C : Code) (whole : IsCode C) (es : List Event) (s t : CodeState) → Run C es s → Run C es t → (l m : ℕ) (v w : List ℕ) (e f : End) (xs ys : List StatementInstance)
     → SameEnd e f → EndsAs (here C s es l v) e → EndsAs (here C t es m w) f → AreBlockedAt (here C s es l v) e xs → AreBlockedAt (here C t es m w) f ys → map place_view xs ≡ map place_view ys
 same_blocked C whole es s t x y l m v w (Ends.Fault f) (Ends.Fault g) xs ys same p q a b = ap (λ zs. map place_view zs) (a ∙ sym b)
 same_blocked C whole es s t x y l m v w (Ends.Fault f) Ends.Quiet xs ys same p q a b = absurd same

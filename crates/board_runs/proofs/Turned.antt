@@ -6,7 +6,7 @@ use Rattle.dataflow.specs.Machine.{Begin, End}
 use Rattle.task_code.specs.Code.{Code}
 use Rattle.task_code.specs.Machine.{CodeItem, CodeStep}
 use Rattle.board.specs.Board.{Accepts, Seen}
-use Rattle.board_runs.specs.declared.turn.Turn.TheVariants.{Whole}
+use Rattle.board_runs.specs.declared.step.StepOutcome.TheVariants.{Whole}
 use Rattle.board_runs.specs.Report.{IsOver}
 use Rattle.board_runs.specs.Turns.{NoneReady, RanTo, Turns, TurnsTo, starts}
 use Rattle.board_runs.proofs.Idle.{AllIdle, IdleOrFault, turn_idle}

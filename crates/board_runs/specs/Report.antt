@@ -1,4 +1,4 @@
--- What a report tells.
+-- The contents of a report.
 use Rattle.std.specs.Prelude.{◌≡◌, ◌⊎◌, ℕ, true, false, ◌<◌, ◌≤◌, List, [], map, length, slice_index, None, codes}
 use Rattle.std.specs.Fmt.{signed_decimal}
 use Rattle.dataflow.specs.Events.{tally}
@@ -8,7 +8,7 @@ use Rattle.values.specs.declared.value.Scalar.TheVariants.{Number, Truth, Text}
 use Rattle.task_code.specs.Code.{Code}
 use Rattle.task_code.specs.Machine.{Quiet, Run}
 use Rattle.task_code.specs.View.{event_view}
-use Rattle.paths.specs.declared.statements.Statement.{Statement}
+use Rattle.paths.specs.declared.statements.StatementInstance.{StatementInstance}
 use Rattle.board.specs.Blocked.{AreBlocked, IsFaultOf}
 use Rattle.board.specs.Board.{AreByWorkers, IsGoing, Seen}
 use Rattle.board.specs.Numbers.{AreNumbered}
@@ -16,35 +16,36 @@ use Rattle.board_runs.specs.declared.report.End.{End}
 use Rattle.board_runs.specs.declared.report.End.TheVariants as Ends
 use Rattle.board_runs.specs.declared.report.Report.{Report}
 
--- nothing is left to be done: the state is quiet, a fault was met, or the limit is reached
+-- nothing is left to do: the state is quiet, there is a fault, or the limit is reached
 abbrev pub IsOver : Seen → Type 0
 IsOver b = Quiet b.code b.state ⊎ ¬ IsGoing b
 
--- a fault was met, the state is quiet, or there are as many events as the limit allows
+-- there is a fault, the state is quiet, or the number of events has reached the limit
 abbrev pub EndsAs : Seen → End → Type 0
 EndsAs b (Ends.Fault f) = IsFaultOf b.code b.state f
 EndsAs b Ends.Quiet = Quiet b.code b.state
 EndsAs b Ends.Limit = (b.state.fault ≡ None) × ¬ Quiet b.code b.state × (length b.history ≡ b.limit)
 
--- where the end is quiet, these are the blocked statements; else there are none in the report
-abbrev pub AreBlockedAt : Seen → End → List Statement → Type 0
+-- if the end is quiet, these are the blocked statements; otherwise the report has none
+abbrev pub AreBlockedAt : Seen → End → List StatementInstance → Type 0
 AreBlockedAt b Ends.Quiet statements = AreBlocked b.code b.state statements
 AreBlockedAt b (Ends.Fault f) statements = statements ≡ []
 AreBlockedAt b Ends.Limit statements = statements ≡ []
 
--- how many events each of the 64 workers has
+-- the number of events of each of the 64 workers
 pub record AreTallies (events : List Event) (tallies : List ℕ) : Type 0 where
   pub workers : length tallies ≡ 64
   pub each : (w : ℕ) → w < 64 → slice_index tallies w ≡ tally events w
 
--- the bytes of a line: of a text its own, of a number its decimal digits, of a truth value its name. Code of a script prints texts alone
+-- the bytes of a line: those of a text, the decimal digits of a number, the name of a truth value. The code of a script
+-- prints texts alone
 abbrev pub line_bytes : Scalar → List ℕ
 line_bytes (Text bytes) = bytes
 line_bytes (Number n) = signed_decimal n
 line_bytes (Truth true) = codes "true"
 line_bytes (Truth false) = codes "false"
 
--- the report tells what a board shows
+-- the report agrees with the board
 pub record Tells (b : Seen) (r : Report) : Type 0 where
   pub code : r.program ≡ b.code
   pub history : map event_view r.history.items ≡ b.history
@@ -55,7 +56,7 @@ pub record Tells (b : Seen) (r : Report) : Type 0 where
   pub blocked : AreBlockedAt b r.end r.blocked.items
   pub tallies : AreTallies b.history r.tallies
 
--- the report is one of a run of the code, of at most so many events
+-- the report is one of a run of the code with at most `limit` events
 pub record Reports (C : Code) (limit : ℕ) (r : Report) : Type 0 where
   pub board : Seen
   pub code : board.code ≡ C

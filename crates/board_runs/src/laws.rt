@@ -1,4 +1,4 @@
-//! What tells a report.
+//! Laws: the code and the events determine a report.
 ghost use Rattle.std.specs.Prelude.{◌≡◌, ℕ};
 ghost use Rattle.task_code.specs.Code.{Code};
 ghost use Rattle.task_code.specs.Whole.{IsCode};
@@ -6,8 +6,7 @@ ghost use Rattle.board_runs.specs.declared.report.Report.{Report};
 ghost use Rattle.board_runs.specs.Report.{Reports};
 ghost use Rattle.board_runs.specs.Same.{SameReport};
 
-/// A report is told by its code and its events: two of the same events tell the same, whoever ran them, and with whatever
-/// limits.
+/// Proves that two reports of the same code and the same events agree, whatever their limits.
 pub fn reports_are_told()
     ensures { (C : Code) → IsCode C → (limit other : ℕ) (r s : Report) → Reports C limit r → Reports C other s
         → r.history.items ≡ s.history.items → SameReport r s }

@@ -1,8 +1,8 @@
-//! What is said of a run when it is over, and the runs of one thread.
+//! Single-threaded runs of a program on a board, and the report of a completed run.
 #![tactic(auto)]
 
 pub mod laws;
 pub mod one;
 pub mod report;
+pub mod step;
 mod tally;
-pub mod turn;

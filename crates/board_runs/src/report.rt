@@ -1,27 +1,27 @@
-//! What is said of a run when it is over.
+//! Reports of completed runs.
 ghost use Rattle.std.specs.Prelude.{◌≡◌, IfOk, map};
 ghost use Rattle.board_runs.specs.Report.{AreBlockedAt, AreTallies, EndsAs, IsOver, Reports, Tells, line_bytes};
 
 use crate::tally::tallies;
-use board::{Board, Fault, Remains, Statement, Step};
+use board::{Board, BoardParts, Fault, StatementInstance, Step};
 use board_program::program::Program;
-use packed_events::PackedEvent;
 use std::alloc::{AllocError, Global};
+use task_code::packed_event::PackedEvent;
 use values::text::Text;
 use values::value::Scalar;
 
-/// How a run ended.
+/// The way in which a run ended.
 #[derive(Debug, Drop)]
 pub enum End {
-    /// No item runs, and none can begin.
+    /// No item runs, and none is ready.
     Quiet,
-    /// This fault was met.
+    /// The run stopped at this fault.
     Fault(Fault),
-    /// There were as many events as were allowed.
+    /// The maximum number of events was reached.
     Limit,
 }
 
-/// A run of a program that is over.
+/// The report of a completed run of a program.
 pub struct Report {
     pub program: Program,
     /// The events, in the order in which they happened.
@@ -29,14 +29,13 @@ pub struct Report {
     /// The lines, in the order in which they were printed.
     pub lines: Vec<Text>,
     pub end: End,
-    /// The statements that never got what they wait for, by their paths and then by their offsets, each once. There are
-    /// none unless the end is `Quiet`.
-    pub blocked: Vec<Statement>,
-    /// The number of events of each worker, by its number.
+    /// The blocked statements, each once, ordered by path and then by offset. Empty unless the end is `Quiet`.
+    pub blocked: Vec<StatementInstance>,
+    /// The number of events of each worker, indexed by the worker's number.
     pub tallies: [u32; 64],
 }
 
-// Written out, so that who owns a report lets it go by one call.
+// Written out, so that the owner of a report drops it by one call.
 impl Drop for Report {
     fn drop(self) {
         let Report {
@@ -50,35 +49,40 @@ impl Drop for Report {
     }
 }
 
-/// How a run ended, and what is counted of it.
+/// The end of a run, its blocked statements and its event counts.
 #[derive(Drop)]
-struct Shown {
+struct RunSummary {
     end: End,
-    blocked: Vec<Statement>,
+    blocked: Vec<StatementInstance>,
     tallies: [u32; 64],
 }
 
-/// How a board ended on which nothing is left to be done, and what is counted of its events.
-fn shown_by(alloc: Global, board: &Board) -> Result<Shown, AllocError>
+/// Summarizes the run of a board on which nothing is left to do.
+fn summary_of(alloc: Global, board: &Board) -> Result<RunSummary, AllocError>
     requires { IsOver board.now }
     ensures end { IfOk result (λ shown. EndsAs board.now shown.end) }
     ensures blocked { IfOk result (λ shown. AreBlockedAt board.now shown.end shown.blocked.items) }
     ensures tallies { IfOk result (λ shown. AreTallies board.now.history shown.tallies) }
 {
     let (end, blocked) = end_of(alloc, board)?;
-    Ok(Shown {
+    Ok(RunSummary {
         end,
         blocked,
         tallies: tallies(board.history()),
     })
 }
 
-/// What is said of a run of this program, with its events and lines.
-fn reported(shown: Shown, program: Program, history: Vec<PackedEvent>, lines: Vec<Text>) -> Report
+/// Creates a report from a summary, the program, its events and its lines.
+fn build_report(
+    shown: RunSummary,
+    program: Program,
+    history: Vec<PackedEvent>,
+    lines: Vec<Text>,
+) -> Report
     ensures shown { (result.end ≡ shown.end) × (result.blocked ≡ shown.blocked) × (result.tallies ≡ shown.tallies) }
     ensures rest { (result.program ≡ program) × (result.history ≡ history) × (result.lines ≡ lines) }
 {
-    let Shown {
+    let RunSummary {
         end,
         blocked,
         tallies,
@@ -93,11 +97,12 @@ fn reported(shown: Shown, program: Program, history: Vec<PackedEvent>, lines: Ve
     }
 }
 
-/// What is said of a board on which nothing is left to be done.
+/// Creates the report of a board on which nothing is left to do. The events are copied, and the board is kept.
+///
 ///
 /// # Errors
 ///
-/// `AllocError` where memory that was asked for was refused.
+/// Returns `AllocError` if an allocation fails.
 pub fn report_of(alloc: Global, board: &Board) -> Result<Report, AllocError>
     requires { IsOver board.now }
     ensures tells { IfOk result (λ report. Tells board.now report) }
@@ -106,33 +111,35 @@ pub fn report_of(alloc: Global, board: &Board) -> Result<Report, AllocError>
     let history = Vec::from_slice(alloc, board.history().as_slice())?;
     let lines = texts(alloc, board.lines())?;
     let program = board.program().share()?;
-    let shown = shown_by(alloc, board)?;
-    Ok(reported(shown, program, history, lines))
+    let shown = summary_of(alloc, board)?;
+    Ok(build_report(shown, program, history, lines))
 }
 
-/// The same of a board that is not needed any more: its program, events and texts are the report's.
+/// Creates the report of a board that is no longer needed. The report takes over its program, events and texts without
+/// copying them.
+///
 ///
 /// # Errors
 ///
-/// `AllocError` where memory that was asked for was refused.
+/// Returns `AllocError` if an allocation fails.
 pub fn last_report(alloc: Global, board: Board) -> Result<Report, AllocError>
     requires { IsOver board }
     ensures tells { IfOk result (λ report. Tells board report) }
     ensures reports { IfOk result (λ report. Reports board.code board.limit report) }
 {
     let _run = board.history();
-    let shown = shown_by(alloc, &board)?;
-    let Remains {
+    let shown = summary_of(alloc, &board)?;
+    let BoardParts {
         program,
         history,
         lines,
-    } = board.into_remains();
-    let lines = own_texts(alloc, lines)?;
-    Ok(reported(shown, program, history, lines))
+    } = board.into_parts();
+    let lines = into_texts(alloc, lines)?;
+    Ok(build_report(shown, program, history, lines))
 }
 
-/// How a run ended, and the statements that are blocked where it ended quiet.
-fn end_of(alloc: Global, board: &Board) -> Result<(End, Vec<Statement>), AllocError>
+/// Returns the end of a run, and the blocked statements if it ended quiet.
+fn end_of(alloc: Global, board: &Board) -> Result<(End, Vec<StatementInstance>), AllocError>
     requires { IsOver board.now }
     ensures end { IfOk result (λ found. EndsAs board.now found.0) }
     ensures blocked { IfOk result (λ found. AreBlockedAt board.now found.0 found.1.items) }
@@ -147,7 +154,7 @@ fn end_of(alloc: Global, board: &Board) -> Result<(End, Vec<Statement>), AllocEr
     Ok((End::Limit, Vec::new(alloc)))
 }
 
-/// The same fault, at the same statement.
+/// Copies a fault.
 fn copied(alloc: Global, fault: &Fault) -> Result<Fault, AllocError>
     ensures kind { IfOk result (λ copy. copy.kind ≡ fault.now.kind) }
     ensures at { IfOk result (λ copy. copy.statement.at ≡ fault.now.statement.at) }
@@ -155,14 +162,14 @@ fn copied(alloc: Global, fault: &Fault) -> Result<Fault, AllocError>
 {
     Ok(Fault {
         kind: fault.kind,
-        statement: Statement {
+        statement: StatementInstance {
             at: fault.statement.at,
             path: steps(alloc, &fault.statement.path)?,
         },
     })
 }
 
-/// The same steps.
+/// Copies a path.
 fn steps(alloc: Global, path: &Vec<Step>) -> Result<Vec<Step>, AllocError>
     ensures { IfOk result (λ copies. copies.items ≡ path.now.items) }
 {
@@ -173,7 +180,7 @@ fn steps(alloc: Global, path: &Vec<Step>) -> Result<Vec<Step>, AllocError>
     Ok(copies)
 }
 
-/// The texts of lines.
+/// Returns the texts of lines.
 fn texts(alloc: Global, lines: &Vec<Scalar>) -> Result<Vec<Text>, AllocError>
     ensures { IfOk result (λ texts. texts.items ≡ map line_bytes lines.now.items) }
 {
@@ -184,19 +191,19 @@ fn texts(alloc: Global, lines: &Vec<Scalar>) -> Result<Vec<Text>, AllocError>
     Ok(texts)
 }
 
-/// The texts of lines that nobody else needs.
-fn own_texts(alloc: Global, lines: Vec<Scalar>) -> Result<Vec<Text>, AllocError>
+/// Converts lines into texts. Lines that are texts are moved, not copied.
+fn into_texts(alloc: Global, lines: Vec<Scalar>) -> Result<Vec<Text>, AllocError>
     ensures { IfOk result (λ texts. texts.items ≡ map line_bytes lines.items) }
 {
     let mut texts = Vec::with_capacity(alloc, lines.len())?;
     for line in lines {
-        texts.push(own_text(alloc, line)?)?;
+        texts.push(into_text(alloc, line)?)?;
     }
     Ok(texts)
 }
 
-/// The text of a line that nobody else needs. Code of a script prints texts alone.
-fn own_text(alloc: Global, line: Scalar) -> Result<Text, AllocError>
+/// Converts a line into its text. The code of a script prints texts alone.
+fn into_text(alloc: Global, line: Scalar) -> Result<Text, AllocError>
     ensures { IfOk result (λ text. text ≡ line_bytes line) }
 {
     match line {
@@ -205,7 +212,7 @@ fn own_text(alloc: Global, line: Scalar) -> Result<Text, AllocError>
     }
 }
 
-/// The text of a line. Code of a script prints texts alone, which are shared.
+/// Returns the text of a line. The code of a script prints texts alone, and those are shared.
 fn text_of(alloc: Global, line: &Scalar) -> Result<Text, AllocError>
     ensures { IfOk result (λ text. text ≡ line_bytes line.now) }
 {

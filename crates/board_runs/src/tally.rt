@@ -1,16 +1,16 @@
-//! How many events each worker has.
+//! Event counts of workers.
 ghost use Rattle.std.specs.Prelude.{◌≡◌, ◌<◌, ◌≤◌, ◌+◌, length, map, slice_index, slice_set};
 ghost use Rattle.task_code.specs.View.{event_view};
 ghost use Rattle.dataflow.specs.Events.{worker_of};
 ghost use Rattle.board_runs.specs.Report.{AreTallies};
 
-use packed_events::PackedEvent;
 use task_code::event::Event;
+use task_code::packed_event::PackedEvent;
 
-/// Workers are numbered from 0 on.
+/// The number of workers, which are numbered from 0.
 const WORKERS: usize = 64;
 
-/// The number of events of each worker. None is greater than the number of all events.
+/// Returns the number of events of each worker. None exceeds the number of all events.
 pub(crate) fn tallies(history: &Vec<PackedEvent>) -> [u32; WORKERS]
     requires { length history.now.items ≤ u32.MAX }
     ensures { AreTallies (map event_view history.now.items) result }
@@ -22,7 +22,7 @@ pub(crate) fn tallies(history: &Vec<PackedEvent>) -> [u32; WORKERS]
     tallies
 }
 
-/// One event more of this worker, if it is one of those that are counted.
+/// Increments the count of this worker, if its number is less than `WORKERS`.
 fn count(tallies: &mut [u32; WORKERS], worker: usize)
     requires { slice_index tallies.old worker < u32.MAX }
     ensures { tallies.new ≡ slice_set tallies.old worker (slice_index tallies.old worker + 1) }
@@ -32,7 +32,7 @@ fn count(tallies: &mut [u32; WORKERS], worker: usize)
     }
 }
 
-/// The worker that an event names.
+/// Returns the worker of an event.
 fn worker_of_event(event: &PackedEvent) -> usize
     ensures { result ≡ worker_of (event_view event.now) }
 {

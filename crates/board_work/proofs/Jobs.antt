@@ -2,8 +2,8 @@
 use Rattle.std.proofs.Common.{◌≡◌, ap}
 use Rattle.std.specs.Bool.{Decides}
 use Rattle.task_code.specs.Code.{Entry}
-use Rattle.board_compute.specs.Same.{entry_eq}
-use Rattle.board_compute.proofs.Comparisons.{same_entry}
+use Rattle.board_work.specs.Same.{entry_eq}
+use Rattle.board_work.proofs.Comparisons.{same_entry}
 use Rattle.board_work.specs.Assigned.{runs}
 
 pub same_job : (e f : Entry) → Decides (entry_eq f e) (runs f ≡ runs e)

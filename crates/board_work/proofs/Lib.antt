@@ -1,2 +1,5 @@
 mod Jobs
 mod Meanings
+mod Chains
+mod Answered
+pub mod Comparisons

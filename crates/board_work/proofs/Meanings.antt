@@ -6,9 +6,9 @@ use Rattle.values.specs.declared.key.Key.{Key}
 use Rattle.values.specs.declared.value.Scalar.{Scalar}
 use Rattle.task_code.specs.Code.{Act, Cell, Read, Call, Set, Fill, Copy, Put, Print, Assert, If, Range, Each, Wait}
 use Rattle.task_code.specs.Compute as Pure
-use Rattle.board_compute.specs.declared.outcome.Outcome.{Outcome}
-use Rattle.board_compute.specs.declared.outcome.Outcome.TheVariants as Of
-use Rattle.board_compute.specs.Outcome.{computed_in, control_in, control_result, result_in}
+use Rattle.board_work.specs.declared.outcome.Outcome.{Outcome}
+use Rattle.board_work.specs.declared.outcome.Outcome.TheVariants as Of
+use Rattle.board_work.specs.Outcome.{computed_in, control_in, control_result, result_in}
 use Rattle.board_work.specs.Assigned.{Task, opens_script, runs, job_computed, job_control, job_result, meaning}
 
 pub computed_of_parts : (a : Act) (xs : List (Answer Key Scalar)) (o : Outcome) → result_in o ≡ Pure.leaf_result a xs → control_in o ≡ control_result a xs → computed_in a o ≡ Pure.compute a xs

@@ -1,4 +1,4 @@
--- What an item is given to do, and what comes of it.
+-- The work of an item, and its result.
 use Rattle.std.specs.Prelude.{ℕ, List, Option, Some, None, Result}
 use Rattle.std.specs.Arc.{arc_value}
 use Rattle.dataflow.specs.System.{Answer}
@@ -9,49 +9,49 @@ use Rattle.values.specs.declared.value.Value.{Value}
 use Rattle.task_code.specs.Code.{Entry, Kind, Control, kind_of}
 use Rattle.task_code.specs.Compute as Pure
 use Rattle.task_code.specs.View.{entry_view}
-use Rattle.board_work.specs.declared.work.Job.{Job}
-use Rattle.board_work.specs.declared.work.Job.TheVariants as Does
-use Rattle.board_compute.specs.declared.outcome.Outcome.{Outcome}
-use Rattle.board_compute.specs.declared.outcome.Outcome.TheVariants as Of
-use Rattle.board_compute.specs.Outcome.{computed_in, control_result}
-use Rattle.board_compute.specs.View.{computed_view}
+use Rattle.board_work.specs.declared.work.WorkTask.{WorkTask}
+use Rattle.board_work.specs.declared.work.WorkTask.TheVariants as Does
+use Rattle.board_work.specs.declared.outcome.Outcome.{Outcome}
+use Rattle.board_work.specs.declared.outcome.Outcome.TheVariants as Of
+use Rattle.board_work.specs.Outcome.{computed_in, control_result}
+use Rattle.board_work.specs.View.{computed_view}
 
--- what an item is for: it opens the script, or it is an entry's
+-- the task of an item: it opens the script, or it runs an entry
 pub data Task : Type 0 where
   opens_script : Task
   runs : Entry → Task
 
--- an item that runs, with the answers to its needs
+-- a running item, with the answers to its needs
 pub record Assigned : Type 0 where
   pub item : ℕ
   pub job : Task
   pub answers : List (Answer Key Scalar)
 
-abbrev pub job_view : Job → Task
+abbrev pub job_view : WorkTask → Task
 job_view Does.Script = opens_script
 job_view (Does.Entry e) = runs (entry_view (arc_value e))
 
--- who runs it
+-- the kind of the item
 abbrev pub job_kind : Task → Kind
 job_kind opens_script = Control
 job_kind (runs e) = kind_of e.act
 
--- what a leaf item stores or prints, or its fault
+-- the value that a leaf item stores or prints, or its fault
 abbrev pub job_result : Task → List (Answer Key Scalar) → Option (Result Value OpFault)
 job_result opens_script xs = None
 job_result (runs e) xs = Pure.leaf_result e.act xs
 
--- what the end of a control item needs
+-- the result that the end of a control item needs
 abbrev pub job_control : Task → List (Answer Key Scalar) → Option Pure.Computed
 job_control opens_script xs = Some Pure.Opens
 job_control (runs e) xs = control_result e.act xs
 
--- all that an item computes
+-- the whole result of an item
 abbrev pub job_computed : Task → List (Answer Key Scalar) → Pure.Computed
 job_computed opens_script xs = Pure.Opens
 job_computed (runs e) xs = Pure.compute e.act xs
 
--- what an outcome means for the job that it is of
+-- the meaning of an outcome for its job
 abbrev pub meaning : Task → Outcome → Pure.Computed
 meaning opens_script (Of.Leaf v) = Pure.given v
 meaning opens_script (Of.Control c) = computed_view c

@@ -1,4 +1,10 @@
-//! The work of an item: what it is given to do, and what comes of it, apart from the machine that runs it.
+//! Units of work that a machine passes to its workers: an item with its answers, and the computed outcome that comes
+//! back.
 #![tactic(auto)]
 
+pub mod answer;
+pub mod evaluation;
+mod numbers;
+pub mod outcome;
+pub mod view_eq;
 pub mod work;

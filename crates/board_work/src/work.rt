@@ -1,14 +1,14 @@
-//! Items that run, and what they come to.
+//! Running items and their outcomes: `Work` before the computation, `Done` after it.
 ghost use Rattle.std.specs.Prelude.{◌≡◌, ◌↔◌, [], IfOk, IfErr, IsTrue};
 ghost use Rattle.std.specs.Option.{option_copied};
 ghost use Rattle.task_code.specs.View.{entry_view};
-ghost use Rattle.board_compute.specs.View.{answers_view};
-ghost use Rattle.board_compute.specs.Outcome.{result_in, control_in};
+ghost use Rattle.board_work.specs.View.{answers_view};
+ghost use Rattle.board_work.specs.Outcome.{result_in, control_in};
 ghost use Rattle.board_work.specs.Assigned.{opens_script, runs, job_view, job_kind, job_result, job_control, job_computed, meaning};
 
-use board_compute::answer::Answer;
-use board_compute::outcome::{Computed, Outcome, outcome_of};
-use board_compute::same::is_same_entry;
+use crate::answer::Answer;
+use crate::outcome::{ControlResult, Outcome, outcome_of};
+use crate::view_eq::is_same_entry;
 use std::alloc::{AllocError, Global};
 use std::marker::Model;
 use std::sync::Arc;
@@ -16,25 +16,25 @@ use task_code::entry::{Entry, Kind};
 use values::fault::OpFault;
 use values::value::Value;
 
-/// What an item is for: the opening of the script, or an entry.
+/// The task of an item: the opening of the script, or an entry.
 #[derive(Drop)]
-pub enum Job {
+pub enum WorkTask {
     Script,
     Entry(Arc<Entry>),
 }
 
-/// An item that runs, with the answers to its entry's needs. Any thread can compute it.
+/// A running item with the answers to the needs of its entry. Any thread can compute it.
 #[derive(Drop)]
 pub struct Work {
     item: u64,
-    job: Job,
+    job: WorkTask,
     answers: Vec<Answer>,
 }
 
 impl Model for Work {
     ghost use Rattle.std.specs.Coded.{codes};
     ghost use Rattle.task_code.specs.Tokens.{expr_code, exprs_code};
-    ghost use Rattle.board_compute.specs.View.{answers_view};
+    ghost use Rattle.board_work.specs.View.{answers_view};
     ghost use Rattle.board_work.specs.Assigned.{Assigned, job_view};
 
     ghost Value = { Assigned };
@@ -44,11 +44,11 @@ impl Model for Work {
     ghost view = { λ w. record { item = w.item; job = job_view w.job; answers = answers_view w.answers.items } };
 }
 
-/// Work with what it comes to. Only `Work::compute` makes one.
+/// A computed item: its work together with the outcome. Only `Work::compute` creates one.
 #[derive(Drop)]
 pub struct Done {
     item: u64,
-    job: Job,
+    job: WorkTask,
     answers: Vec<Answer>,
     outcome: Outcome,
 }
@@ -57,8 +57,8 @@ impl Model for Done {
     ghost use Rattle.std.specs.Prelude.{◌≡◌};
     ghost use Rattle.std.specs.Coded.{codes};
     ghost use Rattle.task_code.specs.Tokens.{expr_code, exprs_code};
-    ghost use Rattle.board_compute.specs.View.{answers_view};
-    ghost use Rattle.board_compute.specs.Outcome.{result_in, control_in};
+    ghost use Rattle.board_work.specs.View.{answers_view};
+    ghost use Rattle.board_work.specs.Outcome.{result_in, control_in};
     ghost use Rattle.board_work.specs.Assigned.{Assigned, job_view, job_result, job_control};
 
     ghost Value = { Assigned };
@@ -71,35 +71,35 @@ impl Model for Done {
 }
 
 impl Work {
-    /// The work of an item.
-    pub fn new(item: u64, job: Job, answers: Vec<Answer>) -> Work
+    /// Creates the work of an item.
+    pub fn new(item: u64, job: WorkTask, answers: Vec<Answer>) -> Work
         ensures { result ≡ record { item = item; job = job_view job; answers = answers_view answers.items } }
     {
         Work { item, job, answers }
     }
 
-    /// The item's number.
+    /// Returns the number of the item.
     pub fn item(&self) -> u64
         ensures { result ≡ self.now.item }
     {
         self.item
     }
 
-    /// Who runs the item.
+    /// Returns the kind of the item.
     pub fn kind(&self) -> Kind
         ensures { result ≡ job_kind self.now.job }
     {
         match &self.job {
-            Job::Script => Kind::Control,
-            Job::Entry(entry) => entry.act.kind(),
+            WorkTask::Script => Kind::Control,
+            WorkTask::Entry(entry) => entry.act.kind(),
         }
     }
 
-    /// Does the work: it works out what the entry computes from its answers.
+    /// Computes the outcome of the entry from its answers.
     ///
     /// # Errors
     ///
-    /// `AllocError`, beside the same work, where memory that was asked for was refused.
+    /// Returns the unchanged work and `AllocError` if an allocation fails.
     pub fn compute(self) -> Result<Done, (Work, AllocError)>
         ensures ok { IfOk result (λ done. done ≡ self) }
         ensures err { IfErr result (λ refused. refused.0 ≡ self) }
@@ -118,27 +118,29 @@ impl Work {
     }
 }
 
-/// What an item computes for its job.
-fn job_outcome(alloc: Global, job: &Job, answers: &[Answer]) -> Result<Outcome, AllocError>
+/// Computes the outcome of a task from its answers.
+fn job_outcome(alloc: Global, job: &WorkTask, answers: &[Answer]) -> Result<Outcome, AllocError>
     ensures leaf { IfOk result (λ o. result_in o ≡ job_result (job_view job.now) (answers_view answers.now)) }
     ensures control { IfOk result (λ o. control_in o ≡ job_control (job_view job.now) (answers_view answers.now)) }
 {
     match job {
-        Job::Script => Ok(Outcome::Control(Computed::Opens)),
-        Job::Entry(entry) => outcome_of(alloc, &entry.act, answers),
+        WorkTask::Script => Ok(Outcome::Control(ControlResult::Opens)),
+        WorkTask::Entry(entry) => outcome_of(alloc, &entry.act, answers),
     }
 }
 
 impl Done {
-    /// The item's number.
+    /// Returns the number of the item.
     pub fn item(&self) -> u64
         ensures { result ≡ self.now.item }
     {
         self.item
     }
 
-    /// For a leaf item what its end stores or prints, or its fault; else none. A literal's elements are a map, an `assert`
-    /// that holds is true.
+    /// Returns the result of a leaf item, or `None` for a control item.
+    ///
+    /// The result is the value that its end stores or prints, or its fault. The elements of an array literal are a map,
+    /// and an `assert` that holds is true.
     pub fn result(&self) -> Option<&Result<Value, OpFault>>
         ensures { option_copied result ≡ job_result self.now.job self.now.answers }
     {
@@ -148,31 +150,32 @@ impl Done {
         }
     }
 
-    /// Whether it is the opening of the script.
+    /// Returns true if the task is the opening of the script.
     pub fn is_script(&self) -> bool
         ensures { IsTrue result ↔ (self.now.job ≡ opens_script) }
     {
-        matches!(&self.job, Job::Script)
+        matches!(&self.job, WorkTask::Script)
     }
 
-    /// Whether it is of this entry, told by what the entry stands for and not by where it lies. Takes no memory.
+    /// Returns true if the task is an entry equal to this one. Entries are compared by value, not by address. Does not
+    /// allocate.
     pub fn is_of(&self, entry: &Entry) -> bool
         ensures { IsTrue result ↔ (self.now.job ≡ runs (entry_view entry.now)) }
     {
         match &self.job {
-            Job::Script => false,
-            Job::Entry(own) => is_same_entry(own, entry),
+            WorkTask::Script => false,
+            WorkTask::Entry(own) => is_same_entry(own, entry),
         }
     }
 
-    /// The answers from which it was computed.
+    /// Returns the answers from which the outcome was computed.
     pub fn answers(&self) -> &Vec<Answer>
         ensures { answers_view result.now.items ≡ self.now.answers }
     {
         &self.answers
     }
 
-    /// The list that had the answers, emptied, with the room that it has.
+    /// Returns the list that held the answers, empty but with its capacity.
     pub fn into_list(self) -> Vec<Answer>
         ensures { result.items ≡ [] }
     {
@@ -181,7 +184,7 @@ impl Done {
         list
     }
 
-    /// What the item computed.
+    /// Returns the outcome of the item.
     #[tactic(auto, using(crate::proofs::Meanings::meaning_of_parts))]
     pub fn outcome(&self) -> &Outcome
         ensures leaf { result_in result.now ≡ job_result self.now.job self.now.answers }

@@ -1,29 +1,32 @@
-//! The bodies of a listing, by the offsets of their `{`.
+//! The order of the bodies in a listing: by the offsets of their `{`.
 
-use crate::found::Found;
+use crate::source_map::SourceMap;
 use std::alloc::{AllocError, Global};
 
-/// A body's number in the code, with the offset of its `{`.
+/// The number of a body in the code, with the offset of its `{`.
 #[derive(Clone, Copy, PartialEq, Eq, Debug, Drop)]
-pub struct Seat {
+pub struct BodyPosition {
     pub from: usize,
     pub body: u32,
 }
 
-/// The bodies in the order of their offsets.
+/// Returns the bodies in the order of their offsets.
 ///
 /// # Errors
 ///
-/// Want of memory alone.
-pub fn in_order(alloc: Global, found: &Found<'_>) -> Result<Vec<Seat>, AllocError> {
-    let mut seats = Vec::new(alloc);
-    add_seats(&mut seats, found)?;
-    seats.sort_by(|a, b| a.from.cmp(&b.from))?;
-    Ok(seats)
+/// Returns `AllocError` if an allocation fails.
+pub fn in_order(alloc: Global, found: &SourceMap<'_>) -> Result<Vec<BodyPosition>, AllocError> {
+    let mut positions = Vec::new(alloc);
+    add_positions(&mut positions, found)?;
+    positions.sort_by(|a, b| a.from.cmp(&b.from))?;
+    Ok(positions)
 }
 
-/// Adds each body.
-fn add_seats(seats: &mut Vec<Seat>, found: &Found<'_>) -> Result<(), AllocError> {
+/// Appends the position of each body.
+fn add_positions(
+    positions: &mut Vec<BodyPosition>,
+    found: &SourceMap<'_>,
+) -> Result<(), AllocError> {
     for number in 0..found.count() {
         let body = if number <= u32::MAX as usize {
             number as u32
@@ -31,7 +34,7 @@ fn add_seats(seats: &mut Vec<Seat>, found: &Found<'_>) -> Result<(), AllocError>
             u32::MAX
         };
         match found.stand(body) {
-            Some(stand) => seats.push(Seat {
+            Some(stand) => positions.push(BodyPosition {
                 from: stand.from,
                 body,
             })?,
@@ -41,23 +44,23 @@ fn add_seats(seats: &mut Vec<Seat>, found: &Found<'_>) -> Result<(), AllocError>
     Ok(())
 }
 
-/// For each body of the code its number in the listing.
+/// Returns the number in the listing of each body of the code.
 ///
 /// # Errors
 ///
-/// Want of memory alone.
-pub fn places(alloc: Global, seats: &Vec<Seat>) -> Result<Vec<usize>, AllocError> {
+/// Returns `AllocError` if an allocation fails.
+pub fn places(alloc: Global, positions: &Vec<BodyPosition>) -> Result<Vec<usize>, AllocError> {
     let mut places = Vec::new(alloc);
-    for _seat in seats {
+    for _seat in positions {
         places.push(0)?;
     }
-    for place in 0..seats.len() {
-        put_place(&mut places, seats[place].body, place);
+    for place in 0..positions.len() {
+        put_place(&mut places, positions[place].body, place);
     }
     Ok(places)
 }
 
-/// Puts a number to a body.
+/// Stores the number in the listing of a body.
 fn put_place(places: &mut Vec<usize>, body: u32, place: usize) {
     match places.get_mut(body as usize) {
         Some(kept) => *kept = place,

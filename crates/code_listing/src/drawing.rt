@@ -1,30 +1,30 @@
-//! What a listing is made of.
+//! The inputs of a listing or a graph.
 
-use crate::found::Found;
-use crate::givers::Givers;
-use crate::needs::Scope;
+use crate::needs::ListingContext;
+use crate::producers::Producers;
+use crate::source_map::SourceMap;
 use flow::script::Function;
 use std::alloc::Allocator;
 use task_code::code::Code;
 
-/// A script's code, what its listing shows of the script, for each body of the code its number in the listing, and which entry
-/// gives what.
+/// The inputs of a listing: the code, the source map and functions of its script, the listing number of each body, and
+/// the producers of unnamed values.
 #[derive(Drop)]
 pub struct Drawing<'a, 's, A: Allocator> {
     pub code: &'a Code,
-    pub found: &'a Found<'s>,
+    pub found: &'a SourceMap<'s>,
     pub functions: &'a Vec<Function<A>, A>,
     pub places: &'a Vec<usize>,
-    pub givers: &'a Givers,
+    pub producers: &'a Producers,
 }
 
 impl<'a, 's, A: Allocator> Drawing<'a, 's, A> {
-    /// Where the names of an entry are looked up, that has this number in a body of this function.
-    pub fn scope(&self, function: u32, number: usize) -> Scope<'a, 's, A> {
-        Scope {
+    /// Returns the lookup context of the entry of this number in a body of this function.
+    pub fn scope(&self, function: u32, number: usize) -> ListingContext<'a, 's, A> {
+        ListingContext {
             found: self.found,
             functions: self.functions,
-            givers: self.givers,
+            producers: self.producers,
             function,
             number,
         }

@@ -1,59 +1,69 @@
-//! A script's code as a graph, written for `dot`.
+//! The graph of a script's code, written for `dot`.
 //!
-//! Each body is a cluster, with a point for its opening, a box for each entry and an ellipse for each variable. An entry has an
-//! edge from whatever it waits for, a dashed one to the point of each body that it opens, and one with an empty head to each
-//! variable that it stores.
+//! Each body is a cluster, with a point for its opening, a box for each entry and an ellipse for each variable. An
+//! entry has an edge from each of its needs, and a dashed edge to the point of each body that it opens. It also has an
+//! edge with an empty head to each variable that it stores.
 
-use crate::bodies::{Seat, in_order, places};
+use crate::bodies::{BodyPosition, in_order, places};
 use crate::drawing::Drawing;
-use crate::found::{Stand, What, find};
-use crate::givers::Givers;
-use crate::needs::Scope;
-use crate::page::Page;
+use crate::needs::ListingContext;
+use crate::producers::Producers;
+use crate::source_map::{BodyInfo, BodyKind, find};
 use crate::text::{add_act, add_title};
+use crate::text_buffer::TextBuffer;
 use flow::script::Flow;
-use flow::statement::Variable as Named;
+use flow::statement;
 use std::alloc::{AllocError, Allocator, Global};
 use task_code::code::{Body, Code};
 use task_code::entry::{Act, Entry, Name, Need, Owned, Variable};
 
-/// The graph of a script's code: its bodies, by the offsets of their `{`, and the entries of each. The code is that of the flow.
+/// Returns the graph of the code of a script: its bodies, ordered by the offsets of their `{`, and the entries of each.
+/// The code has to be that of the flow.
 ///
 /// # Errors
 ///
-/// Want of memory alone.
+/// Returns `AllocError` if an allocation fails.
 pub fn graph<A: Allocator>(
     alloc: Global,
     flow: &Flow<A>,
     code: &Code,
 ) -> Result<Vec<u8>, AllocError> {
     let found = find(alloc, flow)?;
-    let seats = in_order(alloc, &found)?;
-    let places = places(alloc, &seats)?;
-    let givers = Givers::find(alloc, code, &seats)?;
+    let positions = in_order(alloc, &found)?;
+    let places = places(alloc, &positions)?;
+    let producers = Producers::find(alloc, code, &positions)?;
     let drawing = Drawing {
         code,
         found: &found,
         functions: &flow.functions,
         places: &places,
-        givers: &givers,
+        producers: &producers,
     };
-    let mut page = Page::new(alloc);
-    add_bodies(&mut page, &drawing, &seats);
+    let mut page = TextBuffer::new(alloc);
+    add_bodies(&mut page, &drawing, &positions);
     page.finish()
 }
 
-/// Adds the bodies, between the first line and the last.
-fn add_bodies<A: Allocator>(page: &mut Page, drawing: &Drawing<'_, '_, A>, seats: &Vec<Seat>) {
+/// Writes the bodies, between the first line and the last.
+fn add_bodies<A: Allocator>(
+    page: &mut TextBuffer,
+    drawing: &Drawing<'_, '_, A>,
+    positions: &Vec<BodyPosition>,
+) {
     page.add(b"digraph code {\n  node [shape=box];\n");
-    for place in 0..seats.len() {
-        add_body(page, drawing, seats[place].body, place);
+    for place in 0..positions.len() {
+        add_body(page, drawing, positions[place].body, place);
     }
     page.add(b"}\n");
 }
 
-/// Adds a body and the edges of its entries.
-fn add_body<A: Allocator>(page: &mut Page, drawing: &Drawing<'_, '_, A>, body: u32, place: usize) {
+/// Writes a body and the edges of its entries.
+fn add_body<A: Allocator>(
+    page: &mut TextBuffer,
+    drawing: &Drawing<'_, '_, A>,
+    body: u32,
+    place: usize,
+) {
     let Some(stand) = drawing.found.stand(body) else {
         return;
     };
@@ -72,9 +82,9 @@ fn add_body<A: Allocator>(page: &mut Page, drawing: &Drawing<'_, '_, A>, body: u
     );
 }
 
-/// Adds the variables and boxes of a body, and its end.
+/// Writes the variables and boxes of a body, and its end.
 fn add_content<A: Allocator>(
-    page: &mut Page,
+    page: &mut TextBuffer,
     drawing: &Drawing<'_, '_, A>,
     body: &Body,
     place: usize,
@@ -84,11 +94,11 @@ fn add_content<A: Allocator>(
     page.add(b"  }\n");
 }
 
-/// Adds the first lines of a body: its title, and the point of its opening.
+/// Writes the first lines of a body: its title, and the point of its opening.
 fn add_opening<A: Allocator>(
-    page: &mut Page,
+    page: &mut TextBuffer,
     drawing: &Drawing<'_, '_, A>,
-    stand: Stand,
+    stand: BodyInfo,
     place: usize,
 ) {
     page.add_counted(b"  subgraph cluster_", place);
@@ -98,9 +108,13 @@ fn add_opening<A: Allocator>(
     page.add(b" [shape=point];\n")
 }
 
-/// Adds the inputs and outputs of a function to its body.
-fn add_parameters<A: Allocator>(page: &mut Page, drawing: &Drawing<'_, '_, A>, stand: Stand) {
-    if stand.what != What::Function || stand.function == 0 {
+/// Writes the inputs and outputs of a function into its body.
+fn add_parameters<A: Allocator>(
+    page: &mut TextBuffer,
+    drawing: &Drawing<'_, '_, A>,
+    stand: BodyInfo,
+) {
+    if stand.what != BodyKind::Function || stand.function == 0 {
         return;
     }
     match drawing.functions.get(stand.function as usize - 1) {
@@ -117,12 +131,12 @@ fn add_parameters<A: Allocator>(page: &mut Page, drawing: &Drawing<'_, '_, A>, s
     }
 }
 
-/// Adds inputs or outputs of a function, the first at this place.
+/// Writes inputs or outputs of a function, numbered from `first`.
 fn add_each<A: Allocator>(
-    page: &mut Page,
+    page: &mut TextBuffer,
     function: u32,
     first: usize,
-    variables: &Vec<Named<A>, A>,
+    variables: &Vec<statement::Variable<A>, A>,
 ) {
     let mut place = first;
     for variable in variables {
@@ -133,9 +147,9 @@ fn add_each<A: Allocator>(
     }
 }
 
-/// Adds the variables that a body makes and that have names.
+/// Writes the variables that a body declares and that have names.
 fn add_variables<A: Allocator>(
-    page: &mut Page,
+    page: &mut TextBuffer,
     drawing: &Drawing<'_, '_, A>,
     variables: &[Variable],
 ) {
@@ -147,22 +161,22 @@ fn add_variables<A: Allocator>(
     }
 }
 
-/// Adds a variable with its name.
-fn add_variable(page: &mut Page, node: u32, name: &[u8]) {
+/// Writes a variable with its name.
+fn add_variable(page: &mut TextBuffer, node: u32, name: &[u8]) {
     page.add_counted(b"    v", node as usize);
     add_ellipse(page, name);
 }
 
-/// Adds what a variable looks like, behind its point.
-fn add_ellipse(page: &mut Page, name: &[u8]) {
+/// Writes the attributes of a variable after its point.
+fn add_ellipse(page: &mut TextBuffer, name: &[u8]) {
     page.add(b" [shape=ellipse, label=\"");
     page.add(name);
     page.add(b"\"];\n")
 }
 
-/// Adds the boxes of entries.
+/// Writes the boxes of entries.
 fn add_boxes<A: Allocator>(
-    page: &mut Page,
+    page: &mut TextBuffer,
     drawing: &Drawing<'_, '_, A>,
     entries: &[u32],
     place: usize,
@@ -175,8 +189,8 @@ fn add_boxes<A: Allocator>(
     }
 }
 
-/// Adds the box of an entry.
-fn add_box(page: &mut Page, entry: &Entry, place: usize, k: usize) {
+/// Writes the box of an entry.
+fn add_box(page: &mut TextBuffer, entry: &Entry, place: usize, k: usize) {
     page.add(b"    ");
     add_entry(page, place, k);
     page.add_counted(b" [label=\"", k);
@@ -184,21 +198,21 @@ fn add_box(page: &mut Page, entry: &Entry, place: usize, k: usize) {
     page.add(b"\"];\n")
 }
 
-/// Adds the point of an entry.
-fn add_entry(page: &mut Page, place: usize, k: usize) {
+/// Writes the point of an entry.
+fn add_entry(page: &mut TextBuffer, place: usize, k: usize) {
     page.add_counted(b"e", place);
     page.add_counted(b"_", k);
 }
 
-/// Adds the point of an input or output.
-fn add_parameter(page: &mut Page, function: u32, place: usize) {
+/// Writes the point of an input or output.
+fn add_parameter(page: &mut TextBuffer, function: u32, place: usize) {
     page.add_counted(b"p", function as usize);
     page.add_counted(b"_", place);
 }
 
-/// Adds the edges of the entries of a body.
+/// Writes the edges of the entries of a body.
 fn add_edges<A: Allocator>(
-    page: &mut Page,
+    page: &mut TextBuffer,
     drawing: &Drawing<'_, '_, A>,
     function: u32,
     entries: &[u32],
@@ -217,15 +231,25 @@ fn add_edges<A: Allocator>(
     }
 }
 
-/// Adds an edge from each thing that an entry waits for.
-fn add_needs<A: Allocator>(page: &mut Page, scope: &Scope<'_, '_, A>, place: usize, entry: &Entry) {
+/// Writes an edge from each need of an entry.
+fn add_needs<A: Allocator>(
+    page: &mut TextBuffer,
+    scope: &ListingContext<'_, '_, A>,
+    place: usize,
+    entry: &Entry,
+) {
     for need in &entry.needs {
         add_edge(page, scope, place, need);
     }
 }
 
-/// Adds the edges from what is waited for.
-fn add_edge<A: Allocator>(page: &mut Page, scope: &Scope<'_, '_, A>, place: usize, need: &Need) {
+/// Writes the edges from one need.
+fn add_edge<A: Allocator>(
+    page: &mut TextBuffer,
+    scope: &ListingContext<'_, '_, A>,
+    place: usize,
+    need: &Need,
+) {
     match need {
         Need::Stored(scalar) => add_need(page, scope, place, scalar, b""),
         Need::Closed(array) => add_need(page, scope, place, array, b" [label=\"[]\"]"),
@@ -237,10 +261,10 @@ fn add_edge<A: Allocator>(page: &mut Page, scope: &Scope<'_, '_, A>, place: usiz
     }
 }
 
-/// Adds the edge from what a name stands for.
+/// Writes the edge from the variable or producer of a name.
 fn add_need<A: Allocator>(
-    page: &mut Page,
-    scope: &Scope<'_, '_, A>,
+    page: &mut TextBuffer,
+    scope: &ListingContext<'_, '_, A>,
     place: usize,
     name: &Name,
     label: &[u8],
@@ -253,30 +277,40 @@ fn add_need<A: Allocator>(
     page.add(b";\n")
 }
 
-/// Adds the point of what a name stands for: a variable, or the entry that gives the value.
-fn add_point<A: Allocator>(page: &mut Page, scope: &Scope<'_, '_, A>, place: usize, name: &Name) {
+/// Writes the point of a name: its variable, or the entry that produces its value.
+fn add_point<A: Allocator>(
+    page: &mut TextBuffer,
+    scope: &ListingContext<'_, '_, A>,
+    place: usize,
+    name: &Name,
+) {
     match name.owned {
         Owned::Parameter(at, _) => add_parameter(page, scope.function, at),
         Owned::Local(variable) => {
             if has_name(scope, name) {
                 page.add_counted(b"v", variable.node as usize)
             } else {
-                add_entry(page, place, scope.givers.of(variable.node))
+                add_entry(page, place, scope.producers.of(variable.node))
             }
         }
     }
 }
 
-/// Whether what a name stands for has a name in the script.
-fn has_name<A: Allocator>(scope: &Scope<'_, '_, A>, name: &Name) -> bool {
+/// Returns true if the name refers to a parameter, or to a variable with a name in the script.
+fn has_name<A: Allocator>(scope: &ListingContext<'_, '_, A>, name: &Name) -> bool {
     match name.owned {
         Owned::Parameter(_, _) => true,
         Owned::Local(variable) => scope.found.name(variable.node).is_some(),
     }
 }
 
-/// Adds an edge to each variable that an entry stores.
-fn add_stores<A: Allocator>(page: &mut Page, scope: &Scope<'_, '_, A>, place: usize, act: &Act) {
+/// Writes an edge to each variable that an entry stores.
+fn add_stores<A: Allocator>(
+    page: &mut TextBuffer,
+    scope: &ListingContext<'_, '_, A>,
+    place: usize,
+    act: &Act,
+) {
     match act {
         Act::Set(name, _) | Act::Fill(name, _) | Act::Copy(name) | Act::Put(name, _, _) => {
             add_store(page, scope, place, name);
@@ -286,10 +320,10 @@ fn add_stores<A: Allocator>(page: &mut Page, scope: &Scope<'_, '_, A>, place: us
     }
 }
 
-/// Adds an edge to each output of a call.
+/// Writes an edge to each output of a call.
 fn add_outputs<A: Allocator>(
-    page: &mut Page,
-    scope: &Scope<'_, '_, A>,
+    page: &mut TextBuffer,
+    scope: &ListingContext<'_, '_, A>,
     place: usize,
     outputs: &Vec<Name>,
 ) {
@@ -298,8 +332,13 @@ fn add_outputs<A: Allocator>(
     }
 }
 
-/// Adds the edge to a variable, where it has a name.
-fn add_store<A: Allocator>(page: &mut Page, scope: &Scope<'_, '_, A>, place: usize, name: &Name) {
+/// Writes the edge to a variable, if it has a name.
+fn add_store<A: Allocator>(
+    page: &mut TextBuffer,
+    scope: &ListingContext<'_, '_, A>,
+    place: usize,
+    name: &Name,
+) {
     if !has_name(scope, name) {
         return;
     }
@@ -310,8 +349,8 @@ fn add_store<A: Allocator>(page: &mut Page, scope: &Scope<'_, '_, A>, place: usi
     page.add(b" [arrowhead=empty];\n")
 }
 
-/// Adds an edge to each body that an entry opens.
-fn add_opened(page: &mut Page, places: &Vec<usize>, place: usize, k: usize, act: &Act) {
+/// Writes an edge to each body that an entry opens.
+fn add_opened(page: &mut TextBuffer, places: &Vec<usize>, place: usize, k: usize, act: &Act) {
     match act {
         Act::Call { body, .. } => add_body_edge(page, places, place, k, *body),
         Act::If(_, then, None) => add_body_edge(page, places, place, k, *then),
@@ -326,8 +365,8 @@ fn add_opened(page: &mut Page, places: &Vec<usize>, place: usize, k: usize, act:
     }
 }
 
-/// Adds the edge to a body.
-fn add_body_edge(page: &mut Page, places: &Vec<usize>, place: usize, k: usize, body: u32) {
+/// Writes the edge to a body.
+fn add_body_edge(page: &mut TextBuffer, places: &Vec<usize>, place: usize, k: usize, body: u32) {
     match places.get(body as usize) {
         None => {}
         Some(opened) => {

@@ -1,11 +1,11 @@
-//! The listing of a script's code: its bodies and their entries, as text; and the same drawn, as text for `dot`.
+//! Listing of the code of a script: its bodies and entries as text, and as a graph in the language of `dot`.
 #![tactic(auto)]
 
 mod bodies;
 mod drawing;
-mod found;
-mod givers;
 pub mod graph;
 mod needs;
-mod page;
+mod producers;
+mod source_map;
 pub mod text;
+mod text_buffer;

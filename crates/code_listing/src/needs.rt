@@ -1,32 +1,38 @@
-//! What an entry waits for, as a listing shows it.
+//! The needs of an entry in a listing.
 
-use crate::found::Found;
-use crate::givers::Givers;
-use crate::page::Page;
+use crate::producers::Producers;
+use crate::source_map::SourceMap;
+use crate::text_buffer::TextBuffer;
 use flow::script::Function;
 use std::alloc::Allocator;
 use task_code::entry::{Entry, Name, Need, Owned};
 
-/// Where the names of an entry are looked up: in the script, in the function of this number, and among the entries that give
-/// values; with the entry's own number in its body, from 1 on.
+/// The lookup context of an entry.
+///
+/// It has the source map, the functions, the producers, and two numbers: that of the function (0 for the script), and
+/// that of the entry in its body, from 1.
 #[derive(Drop)]
-pub struct Scope<'a, 's, A: Allocator> {
-    pub found: &'a Found<'s>,
+pub struct ListingContext<'a, 's, A: Allocator> {
+    pub found: &'a SourceMap<'s>,
     pub functions: &'a Vec<Function<A>, A>,
-    pub givers: &'a Givers,
+    pub producers: &'a Producers,
     pub function: u32,
     pub number: usize,
 }
 
-/// Adds what an entry waits for, each behind a space.
-pub fn needs<A: Allocator>(page: &mut Page, scope: &Scope<'_, '_, A>, entry: &Entry) {
+/// Writes the needs of an entry, each preceded by a space.
+pub fn needs<A: Allocator>(
+    page: &mut TextBuffer,
+    scope: &ListingContext<'_, '_, A>,
+    entry: &Entry,
+) {
     for need in &entry.needs {
         add_need(page, scope, need);
     }
 }
 
-/// Adds what is waited for.
-fn add_need<A: Allocator>(page: &mut Page, scope: &Scope<'_, '_, A>, need: &Need) {
+/// Writes a need. An index precedes its array.
+fn add_need<A: Allocator>(page: &mut TextBuffer, scope: &ListingContext<'_, '_, A>, need: &Need) {
     match need {
         Need::Stored(scalar) => add_name(page, scope, scalar),
         Need::Closed(array) => add_array(page, scope, array, b"[]"),
@@ -38,14 +44,19 @@ fn add_need<A: Allocator>(page: &mut Page, scope: &Scope<'_, '_, A>, need: &Need
     }
 }
 
-/// Adds the name of an array behind a space, and what of the array is waited for.
-fn add_array<A: Allocator>(page: &mut Page, scope: &Scope<'_, '_, A>, array: &Name, part: &[u8]) {
+/// Writes a space, the name of an array, and the suffix `part`.
+fn add_array<A: Allocator>(
+    page: &mut TextBuffer,
+    scope: &ListingContext<'_, '_, A>,
+    array: &Name,
+    part: &[u8],
+) {
     add_name(page, scope, array);
     page.add(part);
 }
 
-/// Adds a name behind a space.
-fn add_name<A: Allocator>(page: &mut Page, scope: &Scope<'_, '_, A>, name: &Name) {
+/// Writes a space and a name.
+fn add_name<A: Allocator>(page: &mut TextBuffer, scope: &ListingContext<'_, '_, A>, name: &Name) {
     page.add(b" ");
     match name.owned {
         Owned::Parameter(place, _) => add_parameter(page, scope, place),
@@ -53,8 +64,12 @@ fn add_name<A: Allocator>(page: &mut Page, scope: &Scope<'_, '_, A>, name: &Name
     }
 }
 
-/// Adds the name of an input or output.
-fn add_parameter<A: Allocator>(page: &mut Page, scope: &Scope<'_, '_, A>, place: usize) {
+/// Writes the name of a parameter of the function of the entry. Writes nothing in the script's own bodies.
+fn add_parameter<A: Allocator>(
+    page: &mut TextBuffer,
+    scope: &ListingContext<'_, '_, A>,
+    place: usize,
+) {
     if scope.function == 0 {
         return;
     }
@@ -64,8 +79,8 @@ fn add_parameter<A: Allocator>(page: &mut Page, scope: &Scope<'_, '_, A>, place:
     }
 }
 
-/// Adds the name of a function's input or output.
-fn add_parameter_of<A: Allocator>(page: &mut Page, function: &Function<A>, place: usize) {
+/// Writes the name of the input or output of a function at this index, inputs first.
+fn add_parameter_of<A: Allocator>(page: &mut TextBuffer, function: &Function<A>, place: usize) {
     if place < function.inputs.len() {
         return page.add(function.inputs[place].name.as_slice());
     }
@@ -75,10 +90,10 @@ fn add_parameter_of<A: Allocator>(page: &mut Page, function: &Function<A>, place
     }
 }
 
-/// Adds the name of a variable, or `#` with the number of the entry that gives the value.
-fn add_local<A: Allocator>(page: &mut Page, scope: &Scope<'_, '_, A>, node: u32) {
+/// Writes the name of a variable, or `#` and the number of the entry that produces the value.
+fn add_local<A: Allocator>(page: &mut TextBuffer, scope: &ListingContext<'_, '_, A>, node: u32) {
     match scope.found.name(node) {
         Some(name) => page.add(name),
-        None => page.add_counted(b"#", scope.givers.of(node)),
+        None => page.add_counted(b"#", scope.producers.of(node)),
     }
 }

@@ -1,46 +1,52 @@
-//! Bodies and entries.
+//! The textual listing: bodies and entries.
 
 use crate::bodies::{in_order, places};
 use crate::drawing::Drawing;
-use crate::found::{Stand, What, find};
-use crate::givers::Givers;
-use crate::needs::{Scope, needs};
-use crate::page::Page;
+use crate::needs::{ListingContext, needs};
+use crate::producers::Producers;
+use crate::source_map::{BodyInfo, BodyKind, find};
+use crate::text_buffer::TextBuffer;
 use flow::script::{Flow, Function};
 use std::alloc::{AllocError, Allocator, Global};
 use task_code::code::Code;
 use task_code::entry::{Act, Entry, Kind};
 
-/// The text of a script's code: its bodies, by the offsets of their `{`, and the entries of each. The code is that of the flow.
+/// Returns the listing of the code of a script: its bodies, ordered by the offsets of their `{`, and the entries of
+/// each. The code has to be that of the flow.
 ///
 /// # Errors
 ///
-/// Want of memory alone.
+/// Returns `AllocError` if an allocation fails.
 pub fn listing<A: Allocator>(
     alloc: Global,
     flow: &Flow<A>,
     code: &Code,
 ) -> Result<Vec<u8>, AllocError> {
     let found = find(alloc, flow)?;
-    let seats = in_order(alloc, &found)?;
-    let places = places(alloc, &seats)?;
-    let givers = Givers::find(alloc, code, &seats)?;
+    let positions = in_order(alloc, &found)?;
+    let places = places(alloc, &positions)?;
+    let producers = Producers::find(alloc, code, &positions)?;
     let drawing = Drawing {
         code,
         found: &found,
         functions: &flow.functions,
         places: &places,
-        givers: &givers,
+        producers: &producers,
     };
-    let mut page = Page::new(alloc);
-    for place in 0..seats.len() {
-        add_body(&mut page, &drawing, seats[place].body, place);
+    let mut page = TextBuffer::new(alloc);
+    for place in 0..positions.len() {
+        add_body(&mut page, &drawing, positions[place].body, place);
     }
     page.finish()
 }
 
-/// Adds a body and its entries.
-fn add_body<A: Allocator>(page: &mut Page, drawing: &Drawing<'_, '_, A>, body: u32, place: usize) {
+/// Writes a body and its entries.
+fn add_body<A: Allocator>(
+    page: &mut TextBuffer,
+    drawing: &Drawing<'_, '_, A>,
+    body: u32,
+    place: usize,
+) {
     let Some(stand) = drawing.found.stand(body) else {
         return;
     };
@@ -52,16 +58,16 @@ fn add_body<A: Allocator>(page: &mut Page, drawing: &Drawing<'_, '_, A>, body: u
     add_entries(page, drawing, stand.function, body.entries.as_slice());
 }
 
-/// Adds the title of a body.
+/// Writes the title of a body.
 pub fn add_title<A: Allocator>(
-    page: &mut Page,
+    page: &mut TextBuffer,
     functions: &Vec<Function<A>, A>,
-    stand: Stand,
+    stand: BodyInfo,
     place: usize,
 ) {
     page.add_counted(b"body ", place);
-    page.add(what_text(stand.what).as_bytes());
-    if stand.what == What::Function && stand.function > 0 {
+    page.add(kind_name(stand.what).as_bytes());
+    if stand.what == BodyKind::Function && stand.function > 0 {
         match functions.get(stand.function as usize - 1) {
             Some(function) => page.add(function.name.as_slice()),
             None => {}
@@ -69,21 +75,21 @@ pub fn add_title<A: Allocator>(
     }
 }
 
-/// The word for what a body is, behind a space.
-fn what_text(what: What) -> &'static str {
+/// Returns the word for a kind of body, preceded by a space.
+fn kind_name(what: BodyKind) -> &'static str {
     match what {
-        What::Script => " script",
-        What::Function => " function ",
-        What::Then => " then",
-        What::Else => " else",
-        What::Loop => " loop",
-        What::Wait => " wait",
+        BodyKind::Script => " script",
+        BodyKind::Function => " function ",
+        BodyKind::Then => " then",
+        BodyKind::Else => " else",
+        BodyKind::Loop => " loop",
+        BodyKind::Wait => " wait",
     }
 }
 
-/// Adds the entries of a body.
+/// Writes the entries of a body.
 fn add_entries<A: Allocator>(
-    page: &mut Page,
+    page: &mut TextBuffer,
     drawing: &Drawing<'_, '_, A>,
     function: u32,
     entries: &[u32],
@@ -99,10 +105,10 @@ fn add_entries<A: Allocator>(
     }
 }
 
-/// Adds an entry's line.
+/// Writes the line of an entry.
 fn add_entry<A: Allocator>(
-    page: &mut Page,
-    scope: &Scope<'_, '_, A>,
+    page: &mut TextBuffer,
+    scope: &ListingContext<'_, '_, A>,
     places: &Vec<usize>,
     entry: &Entry,
 ) {
@@ -113,15 +119,15 @@ fn add_entry<A: Allocator>(
     page.add(b"\n");
 }
 
-/// Adds who runs an entry, what it does, where it stands in the script, and its priority.
-pub fn add_act(page: &mut Page, entry: &Entry) {
+/// Writes the kind of an entry, its act, its mark in the script, and its priority.
+pub fn add_act(page: &mut TextBuffer, entry: &Entry) {
     page.add(kind_text(entry.act.kind()).as_bytes());
     page.add_counted(act_text(&entry.act).as_bytes(), entry.mark);
     page.add(b" ");
     page.add_priority(entry.priority);
 }
 
-/// The word for who runs an entry, behind a space.
+/// Returns the word for a kind of entry, preceded by a space.
 pub fn kind_text(kind: Kind) -> &'static str {
     match kind {
         Kind::Control => " control",
@@ -129,7 +135,7 @@ pub fn kind_text(kind: Kind) -> &'static str {
     }
 }
 
-/// The word for what an entry does, between spaces.
+/// Returns the word for an act, between spaces.
 pub fn act_text(act: &Act) -> &'static str {
     match act {
         Act::Cell(_) => " cell ",
@@ -148,8 +154,8 @@ pub fn act_text(act: &Act) -> &'static str {
     }
 }
 
-/// Adds the bodies that an entry opens.
-fn add_opened(page: &mut Page, places: &Vec<usize>, act: &Act) {
+/// Writes the bodies that an entry opens.
+fn add_opened(page: &mut TextBuffer, places: &Vec<usize>, act: &Act) {
     match act {
         Act::Call { body, .. } => add_first(page, places, *body),
         Act::If(_, then, None) => add_first(page, places, *then),
@@ -164,14 +170,14 @@ fn add_opened(page: &mut Page, places: &Vec<usize>, act: &Act) {
     }
 }
 
-/// Adds the first body that an entry opens.
-fn add_first(page: &mut Page, places: &Vec<usize>, body: u32) {
+/// Writes ` >` and the first body that an entry opens.
+fn add_first(page: &mut TextBuffer, places: &Vec<usize>, body: u32) {
     page.add(b" >");
     add_place(page, places, body);
 }
 
-/// Adds the number of a body in the listing, behind a space.
-fn add_place(page: &mut Page, places: &Vec<usize>, body: u32) {
+/// Writes a space and the number of a body in the listing.
+fn add_place(page: &mut TextBuffer, places: &Vec<usize>, body: u32) {
     page.add(b" ");
     match places.get(body as usize) {
         Some(place) => page.add_number(*place),

@@ -1,11 +1,11 @@
--- Names, needs and expressions of a core, as those of code.
+-- Names, needs and expressions of a core in the form of code.
 use Rattle.std.specs.Prelude.{ℕ, suc, ◌+◌, Bool, true, false, List, [], ◌∷◌, ◌++◌, map, if◌then◌else◌}
 use Rattle.language.specs.Core.{Owned, local, input, output, Name, Expr, Exprs, literal, name, whole, operator, none, also, Awaited, scalar, array}
 use Rattle.task_code.specs.Code as C
 use Rattle.task_code.specs.Code.{Need, Stored, Closed, At, AtKey, Local, Parameter, Header, constant, need, operation, no_operand, operand}
 use Rattle.task_code.specs.Shape.{is_same_plain}
 
--- what a name means in its own block; of a function's parameters the inputs come first, of which there are so many
+-- the meaning of a name in its own block; of a function's parameters the k inputs come first
 abbrev pub owned_as : ℕ → Bool → Owned → C.Owned
 owned_as k b (local n) = Local (record { node = n; array = b })
 owned_as k b (input i) = Parameter i b
@@ -15,7 +15,7 @@ owned_as k b (output j) = Parameter (k + j) b
 abbrev pub name_as : ℕ → Bool → Name → C.Name
 name_as k b x = record { up = x.up; owned = owned_as k b x.what }
 
--- what an expression waits for, in reading order
+-- the needs of an expression, in reading order
 abbrev mutual
   pub wanted : ℕ → Expr → List Need
   wanted k (literal v) = []
@@ -27,17 +27,17 @@ abbrev mutual
   wanted_all k none = []
   wanted_all k (also e es) = wanted k e ++ wanted_all k es
 
--- the needs but this one
+-- the needs other than this one
 abbrev pub without : Need → List Need → List Need
 without n [] = []
 without n (m ∷ ms) = if is_same_plain n m then without n ms else m ∷ without n ms
 
--- each need once, where it stands first
+-- each need once, at its first occurrence
 abbrev pub each_once : List Need → List Need
 each_once [] = []
 each_once (n ∷ ns) = n ∷ without n (each_once ns)
 
--- the place of a need in a list
+-- the index of a need in a list
 abbrev pub place_in : Need → List Need → ℕ
 place_in n [] = 0
 place_in n (m ∷ ms) = if is_same_plain n m then 0 else suc (place_in n ms)
@@ -54,7 +54,7 @@ abbrev mutual
   all_over k ns none = no_operand
   all_over k ns (also e es) = operand (over k ns e) (all_over k ns es)
 
--- what a wait waits for
+-- the need of a wait for one name
 abbrev pub awaited_need : ℕ → Awaited → Need
 awaited_need k (scalar x) = Stored (name_as k false x)
 awaited_need k (array x) = Closed (name_as k true x)

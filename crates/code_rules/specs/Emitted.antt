@@ -1,4 +1,5 @@
--- What the emission of code owes: code that is laid for a core, in which each entry has exactly the rights that it, or an entry that it leads to, has a use for.
+-- Emitted code: code laid for a core, in which each entry has exactly the rights that it, or an entry that it leads to,
+-- uses.
 use Rattle.std.specs.List.{flat_map}
 use Rattle.std.specs.Prelude.{ℕ, suc, ◌+◌, Bool, List, [], ◌∷◌, map, length}
 use Rattle.dataflow.specs.System.{Distinct, In}
@@ -23,7 +24,7 @@ pub record IsEmitted (c : Core) (fs : List Kinds) (ds : List (ℕ × Bool)) (C :
   pub laid : LaysScript c fs ds C
   pub rights : HasRights C
 
--- WHAT EMISSION ASKS OF A CORE
+-- CONDITIONS OF EMISSION ON A CORE
 
 -- each call has an offset of its own
 abbrev pub CallsOnce : Core → Type 0
@@ -33,11 +34,11 @@ CallsOnce c = Distinct (map (λ call. call.at) (calls_among (script_stmts c)))
 abbrev pub CellsOnce : Core → Type 0
 CellsOnce c = Distinct (map (λ (cell : Cell). cell.node) (flat_map cells (script_stmts c)))
 
--- the cell that gives the index of a read stands before it
+-- the index cell of a read precedes the read
 abbrev pub ReadsStand : Core → Type 0
 ReadsStand c = (at n : ℕ) (a : Action) → stmt at n a ∈ script_stmts c → IndexesStand (own_parts a)
 
--- how many functions, statements, cells and calls there are: no more entries can come of it
+-- the number of functions, statements, cells and calls: an upper bound on the number of entries
 abbrev pub stmt_size : Stmt → ℕ
 stmt_size (stmt at n a) = suc (length (parts a))
 

@@ -1,5 +1,5 @@
--- Which code is a core's code: which body stands for a block, and which entries for a statement and its cells. Numbers of bodies and
--- entries are free, and so are rights and the offsets that a listing shows.
+-- Which code is a core's code: the body of each block, and the entries of each statement and its cells. Numbers of
+-- bodies and entries are left open, and so are rights and the offsets that a listing shows.
 use Rattle.std.specs.Prelude.{◌≡◌, ℕ, ℤ, pos, Bool, true, false, List, [], ◌∷◌, ◌++◌, Option, Some, None, slice_get}
 use Rattle.std.specs.List.{flat_map}
 use Rattle.dataflow.specs.System.{In}
@@ -14,13 +14,14 @@ use Rattle.task_code.specs.Code.{Variable, Need, At, AtKey, Closed, Argument, Na
 use Rattle.task_code.specs.Compute.{key_of}
 use Rattle.code_rules.specs.CodeNames.{name_as, wanted, each_once, over, all_over, header}
 
--- what is free: which cells have no datum (the plain ones, and those that a statement's own entry works out), which variables are arrays, which body stands for a function
+-- the open choices: which cells have no datum (the plain ones, and those that a statement's own entry computes), which
+-- variables are arrays, which body stands for a function
 pub record Layout : Type 0 where
   pub plain : ℕ → Bool
   pub array : ℕ → Bool
   pub body_of : ℕ → ℕ
 
--- what others see of a cell: a plain one is what it consists of, any other the datum of its node
+-- a cell as others use it: a plain one as its expression, any other as the datum of its node
 abbrev pub seen_as : Bool → ℕ → Form → Expr
 seen_as true n (compute e) = e
 seen_as true n (read a i) = name (here n)
@@ -29,7 +30,7 @@ seen_as false n f = name (here n)
 abbrev pub seen : Layout → Cell → Expr
 seen l c = seen_as (l.plain c.node) c.node c.form
 
--- the right side, arguments or condition that a statement's own entry works out itself
+-- the right side, arguments or condition that a statement's own entry computes itself
 abbrev pub own_form : ℕ → Form → Expr
 own_form n (compute e) = e
 own_form n (read a i) = name (here n)
@@ -53,7 +54,7 @@ module _ (l : Layout) (k : ℕ) where
   step_expr None = literal (Number (pos 1))
   step_expr (Some o) = seen l o.cell
 
-  -- what the own entry works out, in reading order
+  -- the expressions that the own entry computes, in reading order
   abbrev pub own_exprs : Action → List Expr
   own_exprs (declare v) = []
   own_exprs (call_alone p ps c) = []
@@ -92,7 +93,7 @@ IsSimple (print p o) = Unit {0}
 IsSimple (assert p o) = Unit {0}
 IsSimple _ = ⊥
 
--- the cell that a statement's own entry works out makes no datum
+-- the cell that a statement's own entry computes has no datum
 abbrev pub own_is_plain : Layout → Cell → Form → Type 0
 own_is_plain l c (compute e) = l.plain c.node ≡ true
 own_is_plain l c (read a i) = Unit {0}
@@ -104,7 +105,7 @@ OwnPlain l (print p o) = own_is_plain l o.cell o.cell.form
 OwnPlain l (assert p o) = own_is_plain l o.cell o.cell.form
 OwnPlain l a = Unit {0}
 
--- what an entry is, but for its node, the offset that a listing shows, and its rights
+-- the contents of an entry, except its node, the offset that a listing shows, and its rights
 pub record IsEntry (e : Entry) (at : ℕ) (p : ℤ) (ns : List Need) (a : Act) : Type 0 where
   pub at_is : e.at ≡ at
   pub priority_is : e.priority ≡ p
@@ -112,7 +113,7 @@ pub record IsEntry (e : Entry) (at : ℕ) (p : ℤ) (ns : List Need) (a : Act) :
   pub act_is : e.act ≡ a
 
 module _ (C : Code) (l : Layout) where
-  -- what a call hands over for an input: the cell that is named, as it is seen, or an array
+  -- the argument that a call passes for an input: the named cell, as others use it, or an array
   pub data InputAs (k : ℕ) (all : List Part) : Name → Argument → Type 0 where
     of_literal : {n : ℕ} {v : Scalar} → record { node = n; form = compute (literal v) } ∈ part_cells all → l.plain n ≡ true → InputAs k all (here n) (Fixed v)
     of_name : {n : ℕ} {x : Name} → record { node = n; form = compute (name x) } ∈ part_cells all → l.plain n ≡ true → InputAs k all (here n) (Named (name_as k false x))
@@ -123,7 +124,7 @@ module _ (C : Code) (l : Layout) where
     no_input : InputsAs k all [] []
     one_input : {x : Name} {a : Argument} {xs : List Name} {ys : List Argument} → InputAs k all x a → InputsAs k all xs ys → InputsAs k all (x ∷ xs) (a ∷ ys)
 
-  -- and for an output: a variable
+  -- the variables that a call passes for its outputs
   pub data OutputsAs (k : ℕ) : List Name → List code.Name → Type 0 where
     no_output : OutputsAs k [] []
     one_output : (b : Bool) {x : Name} {xs : List Name} {ys : List code.Name} → OutputsAs k xs ys → OutputsAs k (x ∷ xs) (name_as k b x ∷ ys)
@@ -142,7 +143,8 @@ module _ (C : Code) (l : Layout) where
     at_name : {n : ℕ} {x : Name} → record { node = n; form = compute (name x) } ∈ part_cells all → l.plain n ≡ true → IndexAs k all a n (At (name_as k true a) (name_as k false x))
     at_datum : {c : Cell} → c ∈ part_cells all → l.plain c.node ≡ false → IndexAs k all a c.node (At (name_as k true a) (name_as k false (here c.node)))
 
-  -- the entry of a cell or call, or none for a plain cell; `all` are the parts of the statement, `at` its offset, `p` its priority
+  -- the entry of a cell or call, or none for a plain cell; `all`: the parts of the statement, `at`: its offset, `p`:
+  -- its priority
   pub data PartAs (k : ℕ) (all : List Part) (at : ℕ) (p : ℤ) : Part → List ℕ → Type 0 where
     plain_literal : {n : ℕ} {v : Scalar} → l.plain n ≡ true → PartAs k all at p (inner (record { node = n; form = compute (literal v) })) []
     plain_name : {n : ℕ} {x : Name} → l.plain n ≡ true → PartAs k all at p (inner (record { node = n; form = compute (name x) })) []
@@ -164,7 +166,7 @@ module _ (C : Code) (l : Layout) where
     pub real : (v : Variable) → In v vs → l.plain v.node ≡ false
 
   mutual
-    -- the entries of a statement, its own one last
+    -- the entries of a statement, its own entry last
     pub data StmtAs (k : ℕ) : Stmt → List ℕ → Type 0 where
       declares : {at n v : ℕ} → StmtAs k (stmt at n (declare v)) []
       calls_alone : {at n : ℕ} {p : ℤ} {ps : List Part} {c : Call} {es : List ℕ} → PartsAs k (parts (call_alone p ps c)) at p (parts (call_alone p ps c)) es → StmtAs k (stmt at n (call_alone p ps c)) es
@@ -190,7 +192,7 @@ module _ (C : Code) (l : Layout) where
           → IsEntry (entry C j) at (pos 0) (each_once (flat_map (λ h. h.needs) hs)) (Wait hs t) → es ≡ j ∷ []
           → StmtAs k (stmt at n (wait ns b)) es
 
-    -- one wait, or one whose content is just another wait
+    -- one wait, or one whose content is exactly another wait
     pub data WaitAs (k : ℕ) : Stmt → List Header → ℕ → Type 0 where
       one_wait : {at n t : ℕ} {ns : List Awaited} {b : Block} {hs : List Header} → BodyAs k b t → hs ≡ header k at ns ∷ [] → WaitAs k (stmt at n (wait ns b)) hs t
       merged : {at n t : ℕ} {ns : List Awaited} {st : Stmt} {gs hs : List Header} → WaitAs k st gs t → hs ≡ header k at ns ∷ gs → WaitAs k (stmt at n (wait ns (stmts st no_stmts))) hs t

@@ -1,4 +1,5 @@
--- Code that is laid for a core, as a table: which block each body stands for, what its entries stand for one by one, and which variables it declares.
+-- Code laid for a core, as a table: the block of each body, the statements and cells of its entries one by one, and the
+-- variables that it declares.
 use Rattle.std.specs.List.{flat_map}
 use Rattle.std.specs.Prelude.{◌≡◌, ℕ, suc, ◌<◌, Bool, true, false, List, [], ◌∷◌, ◌++◌, length, Option, Some, None, slice_get, ℤ, pos}
 use Rattle.dataflow.specs.System.{Distinct, In}
@@ -13,14 +14,15 @@ use Rattle.code_rules.specs.CodeNames.{over, each_once}
 use Rattle.code_rules.specs.IsCodeOf.{Layout, IsSimple, own_needs, own_priority, simple_act, step_expr, seen, IsEntry, PartsAs}
 use Rattle.code_rules.specs.Laying.{Headers, Kinds, IsCallOf, Suits, data_in, data_of}
 
--- for each body, by its number: the block that it stands for, how many inputs the function has whose block it is or is in, and the variables of the loop that opens it
+-- for each body, by its number: its block, the number of inputs of the function that contains the block, and the
+-- variables of the loop that opens it
 pub record Table : Type 0 where
   pub block_of : ℕ → Block
   pub inputs_of : ℕ → ℕ
   pub variables_of : ℕ → List Variable
 
 module _ (C : Code) (l : Layout) (T : Table) where
-  -- the body stands for a block, in a function with k inputs, with these variables of a loop, and is opened so
+  -- the body stands for a block, in a function with k inputs, with these variables of a loop, and with this opener
   pub record Stands (k : ℕ) (b : Block) (vs : List Variable) (o : Opener) (t : ℕ) : Type 0 where
     pub within : t < length C.bodies
     pub block : T.block_of t ≡ b
@@ -28,7 +30,7 @@ module _ (C : Code) (l : Layout) (T : Table) where
     pub variables : T.variables_of t ≡ vs
     pub opener : (body C t).opener ≡ o
 
-  -- the entries of a statement, its own one last, and the variables that its block declares for it
+  -- the entries of a statement, its own entry last, and the variables that its block declares for it
   pub data StmtLaid (k : ℕ) : Stmt → List ℕ → List Variable → Type 0 where
     declares_laid : {at n v : ℕ} (b : Bool) → StmtLaid k (stmt at n (declare v)) [] (record { node = v; array = b } ∷ [])
     call_laid : {at n : ℕ} {p : ℤ} {ps : List Part} {c : Call} {es : List ℕ} → PartsAs C l k (parts (call_alone p ps c)) at p (parts (call_alone p ps c)) es
@@ -63,7 +65,8 @@ module _ (C : Code) (l : Layout) (T : Table) where
     one_laid : {st : Stmt} {sts : List Stmt} {is js es : List ℕ} {vs ws makes : List Variable} → StmtLaid k st is vs → StmtsLaid k sts js ws
         → es ≡ is ++ js → makes ≡ vs ++ ws → StmtsLaid k (st ∷ sts) es makes
 
-  -- a body has the entries of its block's statements and declares their variables, behind those of its loop; the block is one of the script
+  -- a body has the entries of its block's statements and declares their variables, after those of its loop; the block
+  -- belongs to the script
   pub record BodyLaid (s : Core) (t : ℕ) : Type 0 where
     pub own : List Variable
     pub stmts : StmtsLaid (T.inputs_of t) (block_list (T.block_of t)) (body C t).entries own
@@ -72,31 +75,32 @@ module _ (C : Code) (l : Layout) (T : Table) where
     pub scope : InScope s (T.inputs_of t) (T.block_of t)
     pub suits : (at n : ℕ) (a : Action) → stmt at n a ∈ block_list (T.block_of t) → Suits l a
 
--- code is laid for a script, whose functions have inputs and outputs of these kinds, and in which these variables are declared, each an array or not
+-- code is laid for a script, whose functions have inputs and outputs of these kinds, and in which these variables are
+-- declared, each an array or not
 pub record IsLaid (s : Core) (fs : List Kinds) (ds : List (ℕ × Bool)) (C : Code) (l : Layout) : Type 0 where
   pub table : Table
-  -- the body of a function stands behind the script's
+  -- the bodies of functions follow the script's
   pub places : (i : ℕ) → l.body_of i ≡ suc i
   pub script : Stands C l table 0 s.body [] ByMain 0
   pub functions : (i : ℕ) (f : Function) → slice_get s.functions i ≡ Some f → Stands C l table f.inputs f.body [] ByCalls (suc i)
   pub bodies : (t : ℕ) → t < length C.bodies → BodyLaid C l table s t
-  -- a body that calls open is a function's, and one that the start opens is the script's
+  -- a body that calls open is a function's, and a body that the start opens is the script's
   pub called : (t : ℕ) → t < length C.bodies → (body C t).opener ≡ ByCalls → (i : ℕ) × (f : Function) × (t ≡ suc i) × (slice_get s.functions i ≡ Some f)
   pub started : (t : ℕ) → t < length C.bodies → (body C t).opener ≡ ByMain → t ≡ 0
-  -- every entry stands once
+  -- every entry occurs once
   pub there : (t j : ℕ) → In j (body C t).entries → j < length C.entries
   pub stands : (j : ℕ) → j < length C.entries → (t : ℕ) × In j (body C t).entries
   pub once : (t u j : ℕ) → In j (body C t).entries → In j (body C u).entries → t ≡ u
   pub distinct : (t : ℕ) → Distinct (body C t).entries
-  -- and every variable is declared once
+  -- every variable is declared once
   pub made_once : (t u : ℕ) (v : Variable) → In v (body C t).makes → In v (body C u).makes → t ≡ u
   pub made_distinct : (t : ℕ) → Distinct (body C t).makes
-  -- each call hands over arrays for arrays and scalars for scalars
+  -- each call passes arrays for arrays and scalars for scalars
   pub fit : (j f : ℕ) (ins : List Argument) (outs : List code.Name) → (entry C j).act ≡ code.Call (suc f) ins outs
       → (st : Stmt) × st ∈ script_stmts s × IsCallOf fs (own_parts (stmt_action st)) (entry C j) f ins outs
-  -- a variable that is declared is an array where it is declared as one
+  -- a declared variable is an array where it is declared as one
   pub arrays : (t : ℕ) (v : Variable) → In v (body C t).makes → v.array ≡ true → (v.node, true) ∈ ds
   pub scalars : (t : ℕ) (v : Variable) (at n : ℕ) → In v (body C t).makes → v.array ≡ false → t < length C.bodies → stmt at n (declare v.node) ∈ block_list (table.block_of t) → (v.node, false) ∈ ds
-  -- a variable is an array where the layout says so, and is no plain cell
+  -- a variable is an array if the layout records it as one, and is not a plain cell
   pub kinds : (t : ℕ) (v : Variable) → In v (body C t).makes → v.array ≡ l.array v.node
   pub real : (t : ℕ) (v : Variable) → In v (body C t).makes → l.plain v.node ≡ false

@@ -1,5 +1,6 @@
--- How code is laid for a core, rule by rule: which entries and bodies a statement adds behind those that are there, which numbers its entries have, and which variables its block
--- declares for it. Rights, and the offsets of cells, which only a listing shows, are free.
+-- How code is laid for a core, rule by rule: the entries and bodies that a statement appends, the numbers of its
+-- entries, and the variables that its block declares for it. Rights, and the offsets of cells, which only a listing
+-- shows, are left open.
 use Rattle.std.specs.Prelude.{◌≡◌, ℕ, zero, suc, ◌+◌, Bool, true, false, not, List, [], ◌∷◌, ◌++◌, map, length, Option, Some, None, slice_get, nat_eq, ℤ, pos}
 use Rattle.std.specs.List.{list_any, flat_map}
 use Rattle.dataflow.specs.System.{In}
@@ -14,7 +15,7 @@ use Rattle.code_rules.specs.IsCodeOf.{Layout, OwnPlain, IsSimple, own_needs, own
 
 -- WHICH CELLS HAVE DATA
 
--- the node of what a name is in its own block, if it is a variable or a cell of it
+-- the node of a name in its own block, if it is a variable or a cell of that block
 abbrev pub node_here : ℕ → Owned → Option ℕ
 node_here zero (local n) = Some n
 node_here _ _ = None
@@ -26,25 +27,26 @@ abbrev pub same_node : Option ℕ → Option ℕ → Bool
 same_node (Some m) (Some n) = nat_eq m n
 same_node _ _ = false
 
--- the call that stands right before gives this scalar
+-- the immediately preceding call has this scalar as an output
 abbrev pub gives : Option Part → Name → Bool
 gives (Some (calls c)) x = list_any (λ y. same_node (local_node x) (local_node y)) c.outputs
 gives (Some (inner c)) x = false
 gives None x = false
 
--- a cell that is a literal or a scalar's name is plain, unless a call right before gives the scalar
+-- a cell that is a literal or a scalar's name is plain, unless the immediately preceding call has the scalar as an
+-- output
 abbrev pub plain_after : Option Part → Form → Bool
 plain_after p (compute (literal v)) = true
 plain_after p (compute (name x)) = not (gives p x)
 plain_after p _ = false
 
--- a layout agrees with the parts of a statement, of which this one stands before them
+-- a layout agrees with the parts of a statement; the given part precedes them
 abbrev pub PlainAs : Layout → Option Part → List Part → Type 0
 PlainAs l p [] = Unit {0}
 PlainAs l p (inner c ∷ ps) = (l.plain c.node ≡ plain_after p c.form) × PlainAs l (Some (inner c)) ps
 PlainAs l p (calls c ∷ ps) = PlainAs l (Some (calls c)) ps
 
--- and with the whole statement; the body of a function stands behind the script's
+-- a layout agrees with the whole statement; the bodies of functions follow the script's
 pub record Suits (l : Layout) (a : Action) : Type 0 where
   pub own : OwnPlain l a
   pub parts_plain : PlainAs l None (own_parts a)
@@ -68,7 +70,7 @@ data_in p [] = []
 data_in p (inner c ∷ ps) = cell_data (plain_after p c.form) c.node ++ data_in (Some (inner c)) ps
 data_in p (calls c ∷ ps) = output_scalars c.outputs ++ data_in (Some (calls c)) ps
 
--- the data that a statement has in its block; the outputs of a call that is the statement are declared already
+-- the data that a statement has in its block; the outputs of a call statement are declared already
 abbrev pub data_of : Action → List Variable
 data_of (call_alone p ps c) = data_in None ps
 data_of a = data_in None (own_parts a)
@@ -79,12 +81,12 @@ data_of a = data_in None (own_parts a)
 abbrev pub Kinds : Type 0
 Kinds = List Bool × List Bool
 
--- a call hands over arrays for arrays and scalars for scalars
+-- a call passes arrays for arrays and scalars for scalars
 abbrev pub is_array_argument : Argument → Bool
 is_array_argument (Named r) = is_array_name r
 is_array_argument (Fixed v) = false
 
--- for an input that is a scalar, a cell that stands among the parts
+-- the cell of a scalar input is among the parts
 pub record StandsAmong (all : List Part) (x : Name) : Type 0 where
   pub cell : Cell
   pub there : cell ∈ part_cells all
@@ -95,7 +97,7 @@ pub record CallFits (fs : List Kinds) (all : List Part) (c : Call) (ins : List A
       → slice_get kinds.0 i ≡ Some b → (b ≡ false → StandsAmong all x) → is_array_argument a ≡ b
   pub outputs : (kinds : Kinds) (i : ℕ) (r : code.Name) (b : Bool) → slice_get fs c.function ≡ Some kinds → slice_get outs i ≡ Some r → slice_get kinds.1 i ≡ Some b → is_array_name r ≡ b
 
--- an entry that calls a function is of a call among the parts, and does so
+-- an entry that calls a function belongs to a call among the parts, and calls its function
 pub record IsCallOf (fs : List Kinds) (all : List Part) (e : Entry) (f : ℕ) (ins : List Argument) (outs : List code.Name) : Type 0 where
   pub call : Call
   pub there : call ∈ part_calls all
@@ -108,7 +110,8 @@ CallsFit fs all es = (e : Entry) (f : ℕ) (ins : List Argument) (outs : List co
 
 -- LAYING
 
--- what is laid so far: the entries, and the bodies of inner blocks, which are numbered behind those of the script and of its functions
+-- the code laid so far: the entries, and the bodies of inner blocks, which are numbered after those of the script and
+-- of its functions
 pub record Laying : Type 0 where
   pub entries : List Entry
   pub bodies : List Body
@@ -116,7 +119,7 @@ pub record Laying : Type 0 where
 abbrev pub code_of : Laying → Code
 code_of s = record { entries = s.entries; bodies = s.bodies }
 
--- so many numbers, from one on
+-- a count of consecutive numbers, from one on
 abbrev pub counted : (from : ℕ) → (count : ℕ) → List ℕ
 counted from zero = []
 counted from (suc n) = from ∷ counted (suc from) n
@@ -128,11 +131,11 @@ with_entry s e = record { entries = s.entries ++ e ∷ []; bodies = s.bodies }
 abbrev pub with_bodies : Laying → List Body → Laying
 with_bodies s bs = record { entries = s.entries; bodies = s.bodies ++ bs }
 
--- the cell that gives the index of each read stands among the parts
+-- the index cell of each read is among the parts
 abbrev pub IndexesStand : List Part → Type 0
 IndexesStand all = (n i : ℕ) (a : Name) → inner (record { node = n; form = read a i }) ∈ all → (c : Cell) × (c ∈ part_cells all) × (c.node ≡ i)
 
--- the entries of parts, numbered on, for the statement whose parts they are
+-- the entries of parts, numbered consecutively, for the statement whose parts they are
 pub record LaysParts (fs : List Kinds) (k : ℕ) (all : List Part) (at : ℕ) (p : ℤ) (s t : Laying) (es : List ℕ) : Type 0 where
   pub more : List Entry
   pub entries : t.entries ≡ s.entries ++ more
@@ -145,11 +148,11 @@ pub record LaysParts (fs : List Kinds) (k : ℕ) (all : List Part) (at : ℕ) (p
 abbrev pub next_body : (roots : ℕ) → Laying → ℕ
 next_body roots s = roots + length s.bodies
 
--- an entry that is the statement's own, whatever layout suits it
+-- an entry that is the statement's own, for every layout that suits the statement
 abbrev pub IsOwnEntry : Entry → (at : ℕ) → ℕ → Action → (Layout → Act) → Type 0
 IsOwnEntry e at k a act = (l : Layout) → Suits l a → IsEntry e at (own_priority a) (own_needs l k a) (act l)
 
--- the statement does nothing but wait; and a block is exactly one such statement
+-- a statement that is a wait; and a block that is exactly one such statement
 abbrev pub is_wait : Action → Bool
 is_wait (wait ns b) = true
 is_wait _ = false
@@ -162,16 +165,18 @@ abbrev pub is_one_wait : Block → Bool
 is_one_wait no_stmts = false
 is_one_wait (stmts st b) = is_wait_alone st b
 
--- the waits that are merged, one in another as far as a content is exactly one `wait`, and the content of the innermost
+-- the merged waits, nested as far as a content is exactly one `wait`, and the content of the innermost
 pub data Headers (k : ℕ) : Stmt → List Header → Block → Type 0 where
   one_header : {at n : ℕ} {ns : List Awaited} {b : Block} {hs : List Header} → is_one_wait b ≡ false → hs ≡ header k at ns ∷ [] → Headers k (stmt at n (wait ns b)) hs b
   more_headers : {at n : ℕ} {ns : List Awaited} {st : Stmt} {gs hs : List Header} {b : Block} → Headers k st gs b → hs ≡ header k at ns ∷ gs
       → Headers k (stmt at n (wait ns (stmts st no_stmts))) hs b
 
--- for functions of these kinds, where so many bodies are the script's and its functions'; in a block of a function with k inputs
+-- for functions of these kinds; roots: the number of bodies of the script and its functions; in a block of a function
+-- with k inputs
 module _ (fs : List Kinds) (roots : ℕ) (k : ℕ) where
   mutual
-    -- a statement, with the variables that are declared in it and in blocks inside it (each an array or not), takes one laying to another; its entries have these numbers, its own the last, and its block has these data for it
+    -- a statement, with the variables declared in it and in its nested blocks (each an array or not), extends one
+    -- laying to another; its entries have these numbers, its own the last, and its block has these data for it
     pub data LaysStmt : Stmt → List (ℕ × Bool) → Laying → Laying → List ℕ → List Variable → Type 0 where
       declares : {at n v : ℕ} (b : Bool) {s : Laying} → LaysStmt (stmt at n (declare v)) ((v, b) ∷ []) s s [] (record { node = v; array = b } ∷ [])
       calls_alone : {at n : ℕ} {p : ℤ} {ps : List Part} {c : Call} {s t : Laying} {es : List ℕ}
@@ -237,7 +242,8 @@ pub data LaysFunctions (fs : List Kinds) (roots : ℕ) : List Function → List 
 abbrev pub bare : Entry → Entry
 bare e = record e { reads = []; writes = [] }
 
--- code is laid for a script, whatever rights its entries have: its own block first, then its functions; the variables are those declared in it
+-- code is laid for a script, whatever rights its entries have: its own block first, then its functions; the variables
+-- are those declared in it
 pub record LaysScript (c : Core) (fs : List Kinds) (ds : List (ℕ × Bool)) (C : Code) : Type 0 where
   pub own_declared : List (ℕ × Bool)
   pub function_declared : List (ℕ × Bool)

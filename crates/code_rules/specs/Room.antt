@@ -1,16 +1,17 @@
--- What emission asks of the names and expressions of a core: that places of parameters fit 64 bits, and places of needs and numbers of functions 32.
+-- Conditions of emission on the names and expressions of a core: indexes of parameters fit 64 bits, and indexes of
+-- needs and numbers of functions 32.
 use Rattle.std.specs.Prelude.{ℕ, ◌+◌, ◌<◌, ◌^◌, List, [], ◌∷◌, Option, Some, None, length}
 use Rattle.language.specs.Core.{Owned, local, input, output, Name, Expr, Exprs, literal, name, whole, operator, none, also, Form, compute, read, Part, inner, calls, Outer, Awaited, scalar, array, Stmt, stmt, Action, declare, call_alone, assign, fill, insert, print, assert, when, choose, range, each, wait, Block, no_stmts, stmts, Function, Core}
 use Rattle.code_rules.specs.CodeNames.{wanted}
 
--- each member of a list is such
+-- each member of a list has a property
 abbrev pub Each : {X : Type 0} → (X → Type 0) → List X → Type 0
 Each P [] = Unit {0}
 Each P (x ∷ xs) = P x × Each P xs
 
 -- in a block of a function with k inputs
 module _ (k : ℕ) where
-  -- the place of an output, behind the inputs
+  -- the index of an output, after the inputs
   abbrev pub OwnedRoom : Owned → Type 0
   OwnedRoom (local n) = Unit {0}
   OwnedRoom (input i) = Unit {0}
@@ -30,7 +31,7 @@ module _ (k : ℕ) where
     ExprsRoom none = Unit {0}
     ExprsRoom (also e es) = ExprRoom e × ExprsRoom es
 
-  -- and an expression has not too many names
+  -- the names of an expression are few enough
   abbrev pub FormRoom : Form → Type 0
   FormRoom (compute e) = ExprRoom e × (length (wanted k e) < 2 ^ 30)
   FormRoom (read a i) = OwnedRoom a.what

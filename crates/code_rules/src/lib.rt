@@ -1,4 +1,4 @@
-//! Which code is a script's code, and what every run of it owes to the script's meaning.
+//! Definitions of which code is a script's code, and of the rules by which code is laid.
 #![tactic(auto)]
 
 ghost use Rattle.std.specs.Prelude.{◌≡◌, ℕ, Ok, true};
@@ -10,7 +10,7 @@ ghost use Rattle.values.specs.declared.value.Value.{Value};
 ghost use Rattle.values.specs.declared.value.Value.TheVariants.{One};
 ghost use Rattle.values.specs.Operators.{assert};
 
-/// The value that a cell gives is the value of the expression that it computes, in every round; and an assertion has no
+/// Proves that the value of a cell is the value of the expression that it computes, in every round. An assertion has no
 /// value but `true`.
 pub fn what_cells_give()
     ensures values { (s : Core) (n : ℕ) (path : Path) (e : Expr) (v : Value) → Gives s (Known s n) path (compute e) (Ok v)

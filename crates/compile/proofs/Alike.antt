@@ -12,8 +12,8 @@ use Rattle.constant_fold.proofs.Placed.{folded_placed}
 use Rattle.constant_fold.proofs.Typed.{folded_typed}
 use Rattle.task_code.specs.Code.{Code}
 use Rattle.code_rules.specs.Emitted.{IsEmitted}
-use Rattle.code_alike.specs.Alike.{AreAlike}
-use Rattle.code_alike.proofs.Trees.{codes_alike}
+use Rattle.code_laws.specs.Alike.{AreAlike}
+use Rattle.code_laws.proofs.Trees.{codes_alike}
 use Rattle.compile.specs.Compiled.{IsCompiled, IsLaidFor}
 use Rattle.compile.proofs.Runs.{declared_stay, kinds_stay}
 

@@ -14,8 +14,8 @@ use Rattle.flow.specs.declared.script.Flow.{Flow}
 use Rattle.lowering.specs.Shapes.{flagged, function_declarations, own_declarations}
 use Rattle.lowering.specs.Shapes as found
 use Rattle.wait_merge.specs.Merged.{IsMerged}
-use Rattle.code_whole.specs.Described.{DeclaredIn, KindsOf, is_array_shape}
-use Rattle.code_whole.specs.Described as wanted
+use Rattle.code_laws.specs.Described.{DeclaredIn, KindsOf, is_array_shape}
+use Rattle.code_laws.specs.Described as wanted
 use Rattle.compile.specs.Compiled.{IsFlowFor}
 
 same_shape : (s : Shape) → is_array s ≡ is_array_shape s

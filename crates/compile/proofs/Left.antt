@@ -11,9 +11,9 @@ use Rattle.task_code.specs.Places.{Step}
 use Rattle.task_code.specs.Runs.{Blocked}
 use Rattle.task_code.specs.System.{code_system}
 use Rattle.task_code.proofs.Kept.{code_laws}
-use Rattle.code_left.specs.Sources.{CellsFollow, FindsSources}
-use Rattle.code_left.proofs.Left.{blocked_left, none_left}
-use Rattle.code_sources.proofs.Sources.{cells_follow, sources_found}
+use Rattle.code_laws.specs.Sources.{CellsFollow, FindsSources}
+use Rattle.code_laws.proofs.Left.{blocked_left, none_left}
+use Rattle.code_laws.proofs.SourcesFound.{cells_follow, sources_found}
 use Rattle.constant_fold.specs.Folded.{folded_tree}
 use Rattle.compile.specs.Compiled.{IsCompiled}
 use Rattle.compile.proofs.Runs.{declared_stay, folds_placed, folds_single, folds_typed, kinds_stay}

@@ -35,17 +35,17 @@ use Rattle.code_rules.specs.IsCodeOf.{IsCodeOf}
 use Rattle.code_rules.specs.Laying.{Kinds}
 use Rattle.code_rules.specs.Room.{CoreRoom}
 use Rattle.headline.proofs.Meant.{meaning_knows}
-use Rattle.code_layout.proofs.Accepted.{accepted_cells, accepted_code, accepted_nodes}
-use Rattle.code_layout.proofs.IndexParts.{reads_stand}
-use Rattle.code_layout.proofs.Small.{laid_small}
-use Rattle.code_whole.proofs.Offsets.{accepted_calls}
+use Rattle.code_laws.proofs.Accepted.{accepted_cells, accepted_code, accepted_nodes}
+use Rattle.code_laws.proofs.IndexParts.{reads_stand}
+use Rattle.code_laws.proofs.Small.{laid_small}
+use Rattle.code_laws.proofs.Offsets.{accepted_calls}
 use Rattle.compile.proofs.Whole.{exact_rights, headline_emitted, whole_emitted}
-use Rattle.code_whole.specs.Described.{DeclaredIn, KindsOf, is_array_shape, kinds_of_signature}
+use Rattle.code_laws.specs.Described.{DeclaredIn, KindsOf, is_array_shape, kinds_of_signature}
 use Rattle.fold_laws.specs.Same.{SameCore}
 use Rattle.fold_laws.proofs.Turned.{turned_core}
 use Rattle.fold_laws.proofs.Views.{same_clean}
-use Rattle.headline_bound.proofs.Same.{headline_too}
-use Rattle.headline_bound.proofs.Bounds.{run_bound, run_live}
+use Rattle.headline.proofs.Same.{headline_too}
+use Rattle.headline.proofs.Bounds.{run_bound, run_live}
 use Rattle.constant_fold.specs.Folded.{folded_tree}
 use Rattle.constant_fold.proofs.Declared.{tree_declares}
 use Rattle.constant_fold.proofs.Placed.{folded_placed}

@@ -12,8 +12,8 @@ use Rattle.syntax.proofs.Sizes.{script_fits, tokens_fit}
 use Rattle.code_rules.specs.Emitted.{size_of}
 use Rattle.code_rules.specs.Room.{CoreRoom}
 use Rattle.language_accepted.proofs.Apart.{read_placed}
-use Rattle.code_sizes.proofs.Room.{room_in}
-use Rattle.code_sizes.proofs.Sizes.{size_within}
+use Rattle.code_laws.proofs.Room.{room_in}
+use Rattle.code_laws.proofs.Sizes.{size_within}
 use Rattle.constant_fold.specs.Folded.{folded_tree}
 use Rattle.constant_fold.proofs.Placed.{folded_placed}
 use Rattle.constant_fold.proofs.Smaller.{tree_small}

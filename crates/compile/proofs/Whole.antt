@@ -16,12 +16,12 @@ use Rattle.headline.specs.Headline.{Headline}
 use Rattle.code_rules.specs.Laying.{Kinds}
 use Rattle.headline.proofs.AssertedCores.{asserted_core}
 use Rattle.headline.proofs.HeadlineOf.{headline_of}
-use Rattle.code_layout.proofs.Accepted.{accepted_cells, accepted_code, accepted_laid, accepted_nodes}
-use Rattle.code_layout.proofs.IndexParts.{reads_stand}
-use Rattle.code_layout.proofs.Marks.{laid_marks}
-use Rattle.code_whole.proofs.Accepted.{accepted_whole}
-use Rattle.code_whole.proofs.Offsets.{accepted_calls}
-use Rattle.code_whole.specs.Described.{DeclaredIn, KindsOf}
+use Rattle.code_laws.proofs.Accepted.{accepted_cells, accepted_code, accepted_laid, accepted_nodes}
+use Rattle.code_laws.proofs.IndexParts.{reads_stand}
+use Rattle.code_laws.proofs.Marks.{laid_marks}
+use Rattle.code_laws.proofs.AcceptedWhole.{accepted_whole}
+use Rattle.code_laws.proofs.Offsets.{accepted_calls}
+use Rattle.code_laws.specs.Described.{DeclaredIn, KindsOf}
 
 pub exact_rights : (C : Code) → HasRights C → IsExact C
 exact_rights C r = record { reads = r.reads; writes = r.writes }

@@ -1,4 +1,4 @@
--- What it means that a text is a script, of this core, and that it is refused.
+-- When a text is a script, of which core, and why it is refused.
 use Rattle.std.specs.Prelude.{◌≡◌, ◌⊎◌, ℕ, List, Some}
 use Rattle.language.specs.Core.{Core}
 use Rattle.language.specs.Reads.{Reads}
@@ -22,7 +22,7 @@ use Rattle.assign_check.specs.Faults.{faults, first_fault}
 use Rattle.compile.specs.declared.fault.CompileFault.{CompileFault}
 use Rattle.compile.specs.declared.fault.CompileFault.TheVariants as Fault
 
--- the text reads as this tree, which is well typed by this table of its names, and singly assigned
+-- the text is read as this tree, which is well typed by this table of its names, and singly assigned
 pub record IsAccepted (src : List ℕ) (table : Table) (tree : Tree) : Type 0 where
   pub reads : Reads src tree
   pub typed : WellTyped tree table
@@ -39,12 +39,12 @@ pub record IsScriptOf (src : List ℕ) (s : Core) : Type 0 where
   pub accepted : IsAccepted src table tree
   pub is : core table tree ≡ s
 
--- the text reads as a tree
+-- the text is read as a tree
 abbrev pub IsRead : List ℕ → Type 0
 IsRead src = (tree : Tree) × Reads src tree
 
--- the text reads as a tree that is well typed for no table of names, and this is the first fault that reading it meets: it names a rule that
--- the tree breaks at its place
+-- the text is read as a tree that is well typed for no table of names, and this is the first fault met in reading it:
+-- it names a rule that the tree breaks at its place
 pub record IsIllTyped (src : List ℕ) (fault : TypeFault) : Type 0 where
   pub tree : Tree
   pub reads : Reads src tree
@@ -52,8 +52,8 @@ pub record IsIllTyped (src : List ℕ) (fault : TypeFault) : Type 0 where
   pub broken : typing.Breaks tree fault
   pub ill_typed : (t : Table) → ¬ WellTyped tree t
 
--- the text reads as a tree that is well typed and not singly assigned, and this is the fault that stands first: it names a rule that the
--- tree breaks at its place
+-- the text is read as a tree that is well typed and not singly assigned, and this is its first fault by place: it names
+-- a rule that the tree breaks there
 pub record IsNotSingle (src : List ℕ) (fault : AssignFault) : Type 0 where
   pub tree : Tree
   pub table : Table
@@ -75,15 +75,15 @@ abbrev pub IsRefusedByAssignments : List ℕ → AssignFault → Type 0
 IsRefusedByAssignments src Assign.Memory = ⊥
 IsRefusedByAssignments src f = IsNotSingle src f
 
--- why a text is no script, by the first step that refuses it; want of memory is no refusal, and comes while a text is read that is not too
--- long, or behind that
+-- why a text is not a script, by the first step that refuses it; an allocation failure is not a refusal, and occurs
+-- during or after reading a text that is not too long
 abbrev pub IsUnfit : List ℕ → CompileFault → Type 0
 IsUnfit src (Fault.Parse f) = IsRefusedByText src f
 IsUnfit src (Fault.Types f) = IsRefusedByTypes src f
 IsUnfit src (Fault.Assignments f) = IsRefusedByAssignments src f
 IsUnfit src Fault.Memory = Refuses src Parse.Memory ⊎ IsRead src
 
--- what the fault of a step comes to
+-- the reported fault for the fault of a step
 abbrev pub fault_of_text : ParseFault → CompileFault
 fault_of_text Parse.Memory = Fault.Memory
 fault_of_text f = Fault.Parse f

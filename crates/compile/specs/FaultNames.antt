@@ -1,4 +1,4 @@
--- The number and the name of each refusal. Want of memory is no refusal and has no number.
+-- The number and the name of each refusal. An allocation failure is not a refusal and has no number.
 use Rattle.std.specs.Prelude.{ℕ, List, codes}
 use Rattle.syntax.specs.FaultNames.{parse_name}
 use Rattle.types.specs.FaultNames.{type_name}

@@ -1,4 +1,4 @@
--- Where a refusal lies.
+-- The places of refusals.
 use Rattle.std.specs.Prelude.{Option, None}
 use Rattle.lexer.specs.declared.token.Span.{Span}
 use Rattle.syntax.specs.Refusals as syntax

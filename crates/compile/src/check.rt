@@ -1,4 +1,4 @@
-//! From the bytes of a script to its tree, with what is known of its names.
+//! The front end: parses a script and checks its types and assignments.
 ghost use Rattle.std.specs.Prelude.{IfOk, IsOk, IfErr};
 ghost use Rattle.syntax_trees.specs.View.{tree_of};
 ghost use Rattle.types.specs.Typed.{table_of};
@@ -10,18 +10,18 @@ use syntax::parser::parse;
 use syntax_trees::tree::Script;
 use types::typed::Typed;
 
-/// A script that is well typed and singly assigned, and what its names are.
+/// An accepted script, well typed and singly assigned, with the result of its type check.
 #[derive(Drop)]
 pub struct Accepted<A: Allocator> {
     pub script: Script<A>,
     pub typed: Typed,
 }
 
-/// Reads a script and checks its types and its assignments. Its tree lies in `alloc`.
+/// Parses a script and checks its types and its assignments. The tree is allocated in `alloc`.
 ///
 /// # Errors
 ///
-/// The refusal of the first step that refuses the script, or its want of memory.
+/// Returns the refusal of the first step that refuses the script, or `Memory` if an allocation fails.
 #[tactic(auto, using(crate::proofs::Scripts::accepted, crate::proofs::Scripts::refused_by_text, crate::proofs::Scripts::refused_by_types, crate::proofs::Scripts::refused_by_assignments))]
 pub fn accept<A: Allocator + Clone>(
     machine: Global,
@@ -45,12 +45,13 @@ pub fn accept<A: Allocator + Clone>(
     }
 }
 
-/// Whether a text is a script: it reads as one, well typed and singly assigned. Its tree lies in `alloc` until the answer.
+/// Checks that a text is a script: it parses, is well typed and is singly assigned. The tree occupies `alloc` during
+/// the call only.
 ///
 /// # Errors
 ///
-/// The refusal of the first step that refuses the text, or its want of memory.
-pub fn check<A: Allocator + Clone>(
+/// Returns the refusal of the first step that refuses the text, or `Memory` if an allocation fails.
+pub fn check_text<A: Allocator + Clone>(
     machine: Global,
     alloc: A,
     src: &[u8],

@@ -1,4 +1,4 @@
-//! From the bytes of a script to its statements and its code.
+//! The compilation pipeline: from the bytes of a script to its flow, its code and texts of the code.
 ghost use Rattle.std.specs.Prelude.{IfOk, IfErr, IsOk};
 ghost use Rattle.constant_fold.specs.Folded.{folded_tree};
 ghost use Rattle.syntax_trees.specs.View.{tree_of};
@@ -19,12 +19,12 @@ use std::mem;
 use task_code::code::Code;
 use wait_merge::merge;
 
-/// The statements of a script as it is written, with their names resolved and their waits merged. They lie in `alloc`, as its
-/// tree does until the answer.
+/// Returns the flow of a script as written, with resolved names and merged waits. The flow is allocated in `alloc`. The
+/// tree occupies `alloc` during the call only.
 ///
 /// # Errors
 ///
-/// The refusal of the first step that refuses the script, or want of memory.
+/// Returns the refusal of the first step that refuses the script, or `Memory` if an allocation fails.
 pub fn read<A: Allocator + Clone>(
     machine: Global,
     alloc: A,
@@ -40,7 +40,7 @@ pub fn read<A: Allocator + Clone>(
     }
 }
 
-/// The same for a script that is accepted.
+/// Returns the flow of an accepted script, with merged waits.
 fn flow_of<A: Allocator + Clone>(accepted: &Accepted<A>) -> Result<Flow<A>, AllocError>
     ensures { IfOk result (λ flow. IsFlowFor (table_of accepted.now.typed) (tree_of accepted.now.script) flow) }
 {
@@ -50,12 +50,12 @@ fn flow_of<A: Allocator + Clone>(accepted: &Accepted<A>) -> Result<Flow<A>, Allo
     Ok(merged)
 }
 
-/// The statements of a script with its expressions of literals folded, with their names resolved and their waits merged. They
-/// lie in `alloc`, as its tree does until the answer.
+/// Returns the flow of a script with folded literal expressions, resolved names and merged waits. The flow is allocated
+/// in `alloc`. The tree occupies `alloc` during the call only.
 ///
 /// # Errors
 ///
-/// The refusal of the first step that refuses the script, or want of memory.
+/// Returns the refusal of the first step that refuses the script, or `Memory` if an allocation fails.
 pub fn read_folded<A: Allocator + Clone>(
     machine: Global,
     alloc: A,
@@ -71,7 +71,7 @@ pub fn read_folded<A: Allocator + Clone>(
     }
 }
 
-/// The same for a script that is accepted.
+/// Returns the flow of an accepted script, with folded literal expressions and merged waits.
 fn folded_flow_of<A: Allocator + Clone>(
     machine: Global,
     accepted: Accepted<A>,
@@ -87,19 +87,19 @@ fn folded_flow_of<A: Allocator + Clone>(
     Ok(merged)
 }
 
-/// The statements of a script, with its expressions of literals folded, and its code.
+/// The flow of a script with folded literal expressions, and its code.
 #[derive(Drop)]
 pub struct Compiled<A: Allocator> {
     pub flow: Flow<A>,
     pub code: Code,
 }
 
-/// The statements of a script, with its expressions of literals folded, and its code. The tree and the flow lie in `alloc`, and
-/// the code in the machine's memory.
+/// Compiles a script to its flow, with folded literal expressions, and its code. The tree and the flow are allocated in
+/// `alloc`, the code in the machine's memory.
 ///
 /// # Errors
 ///
-/// The refusal of the first step that refuses the script, or want of memory.
+/// Returns the refusal of the first step that refuses the script, or `Memory` if an allocation fails.
 pub fn with_flow<A: Allocator + Clone>(
     machine: Global,
     alloc: A,
@@ -119,11 +119,11 @@ pub fn with_flow<A: Allocator + Clone>(
     }
 }
 
-/// The code of a script.
+/// Compiles a script to its code.
 ///
 /// # Errors
 ///
-/// The refusal of the first step that refuses the script, or want of memory.
+/// Returns the refusal of the first step that refuses the script, or `Memory` if an allocation fails.
 pub fn compile<A: Allocator + Clone>(
     machine: Global,
     alloc: A,
@@ -136,7 +136,7 @@ pub fn compile<A: Allocator + Clone>(
     Ok(compiled.code)
 }
 
-/// A text made of a script's code, with what it was made of.
+/// A text made from a script's code, together with the flow and the code.
 #[derive(Drop)]
 pub struct CodeText<A: Allocator> {
     text: Vec<u8>,
@@ -144,12 +144,13 @@ pub struct CodeText<A: Allocator> {
 }
 
 impl<A: Allocator> CodeText<A> {
-    /// The text.
+    /// Returns the text.
     pub fn text(&self) -> &[u8] {
         self.text.as_slice()
     }
 
-    /// The text alone. What it was made of is not let go part by part, and stays in memory as long as the process does: for whoever ends soon.
+    /// Returns the text alone. The flow and the code are leaked, not dropped, so they occupy memory until the process
+    /// ends. This is for callers that end soon.
     pub fn into_text(self) -> Vec<u8> {
         let CodeText { text, compiled } = self;
         mem::forget(compiled);
@@ -157,11 +158,11 @@ impl<A: Allocator> CodeText<A> {
     }
 }
 
-/// The listing of a script's code.
+/// Returns the listing of a script's code.
 ///
 /// # Errors
 ///
-/// The refusal of the first step that refuses the script, or want of memory.
+/// Returns the refusal of the first step that refuses the script, or `Memory` if an allocation fails.
 pub fn listed<A: Allocator + Clone>(
     machine: Global,
     alloc: A,
@@ -177,11 +178,11 @@ pub fn listed<A: Allocator + Clone>(
     }
 }
 
-/// A script's code drawn, as text for `dot`.
+/// Returns a drawing of a script's code, as text for `dot`.
 ///
 /// # Errors
 ///
-/// The refusal of the first step that refuses the script, or want of memory.
+/// Returns the refusal of the first step that refuses the script, or `Memory` if an allocation fails.
 pub fn drawn<A: Allocator + Clone>(
     machine: Global,
     alloc: A,

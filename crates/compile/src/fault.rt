@@ -1,4 +1,4 @@
-//! Why a script has no code.
+//! Faults of the compiler: why a script has no code.
 ghost use Rattle.std.specs.Prelude.{◌≡◌, ◌≤◌, length};
 ghost use Rattle.compile.specs.Accepted.{fault_of_assignments, fault_of_text, fault_of_types};
 ghost use Rattle.compile.specs.FaultNames.{fault_name};
@@ -11,22 +11,22 @@ use std::fmt;
 use syntax::error::ParseFault;
 use types::fault::TypeFault;
 
-/// Why a script has no code: the refusal of the first step that refuses it. It prints as its number and name, as
-/// `S1 AssignedTwice`.
+/// The refusal of the first step that refuses a script, or an allocation failure. It prints as its number and name, for
+/// example `S1 AssignedTwice`.
 #[derive(Clone, Copy, PartialEq, Eq, Debug)]
 pub enum CompileFault {
-    /// The text is no script.
+    /// A text that is not a script.
     Parse(ParseFault),
-    /// The script is not well typed.
+    /// A script that is not well typed.
     Types(TypeFault),
-    /// The script is not singly assigned.
+    /// A script that is not singly assigned.
     Assignments(AssignFault),
-    /// Memory that was asked for was refused.
+    /// An allocation failure.
     Memory,
 }
 
 impl CompileFault {
-    /// What a fault of reading comes to: want of memory is no refusal.
+    /// Converts a fault of the parser. An allocation failure is not a refusal and becomes `Memory`.
     pub fn of_text(fault: ParseFault) -> CompileFault
         ensures { result ≡ fault_of_text fault }
     {
@@ -36,7 +36,7 @@ impl CompileFault {
         }
     }
 
-    /// The same of a fault of types.
+    /// Converts a fault of the type check. An allocation failure is not a refusal and becomes `Memory`.
     pub fn of_types(fault: TypeFault) -> CompileFault
         ensures { result ≡ fault_of_types fault }
     {
@@ -46,7 +46,7 @@ impl CompileFault {
         }
     }
 
-    /// The same of a fault of assignments.
+    /// Converts a fault of the assignment check. An allocation failure is not a refusal and becomes `Memory`.
     pub fn of_assignments(fault: AssignFault) -> CompileFault
         ensures { result ≡ fault_of_assignments fault }
     {
@@ -56,7 +56,7 @@ impl CompileFault {
         }
     }
 
-    /// The place of the refusal. Want of memory has none.
+    /// Returns the place of the refusal. An allocation failure has none.
     pub fn span(self) -> Option<Span>
         ensures { result ≡ span_of self }
     {
@@ -68,7 +68,7 @@ impl CompileFault {
         }
     }
 
-    /// Its number and its name.
+    /// Returns the number and name of the fault.
     pub fn name(self) -> &'static str
         ensures text { result.now ≡ fault_name self }
         ensures short { length result.now ≤ 20 }

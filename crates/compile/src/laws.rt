@@ -1,9 +1,9 @@
-//! What is emitted for a script, and what every run of it owes, whatever names its data have. Nothing here runs: each function has
-//! an empty body, and its contract is a law.
+//! Laws of the code emitted for a script and of its runs, for every naming of data. Nothing here runs: each function
+//! has an empty body, and its contract is a law.
 ghost use Rattle.dataflow.specs.Machine.{Event};
 ghost use Rattle.dataflow.specs.System.{In};
 ghost use Rattle.dataflow.specs.Names.{IsFresh, IsNaming, NamedState, NamedStep, NamedSteps, named_start};
-ghost use Rattle.code_alike.specs.Alike.{AreAlike};
+ghost use Rattle.code_laws.specs.Alike.{AreAlike};
 ghost use Rattle.code_rules.specs.Emitted.{IsEmitted};
 ghost use Rattle.code_rules.specs.Laying.{Kinds};
 ghost use Rattle.compile.specs.Compiled.{IsCompiled};
@@ -20,18 +20,22 @@ ghost use Rattle.task_code.specs.Machine.{CodeItem, CodeState, CodeStep, IsTidy,
 ghost use Rattle.task_code.specs.Places.{Step};
 ghost use Rattle.task_code.specs.Runs.{Blocked};
 ghost use Rattle.task_code.specs.System.{code_system};
-ghost use Rattle.code_whole.specs.Described.{DeclaredIn, KindsOf};
+ghost use Rattle.code_laws.specs.Described.{DeclaredIn, KindsOf};
 
-/// Code that is laid by the rules for the core of the fold of a script that a text reads as, with the rights that its entries lead to and no
-/// others, is the text's code: every run of it owes to the script what the headline says, and keeps all that `IsCompiled` says.
+/// Proves that code emitted for the fold of an accepted script is the compiled code of the text.
+///
+/// The code is laid by the rules for the core of the folded tree, with exactly the rights that its entries lead to.
+/// Every run of it satisfies the headline of the script, and the code has all properties of `IsCompiled`.
 pub fn emitted_code_is_compiled()
     ensures { (src : List ℕ) (t : Table) (tree : Tree) (fs : List Kinds) (ds : List (ℕ × Bool)) (code : Code) → IsAccepted src t tree
         → KindsOf fs tree → DeclaredIn ds tree → IsEmitted (core t (folded_tree tree)) fs ds code → IsCompiled src code }
 {}
 
-/// What every run of a script's code owes to the script, it owes for every choice of names of its data, each new datum taking any
-/// name that is not in use: where the script writes no key twice each state agrees with it, and a state that is quiet without fault
-/// has all of its meaning. And no step wants for names: from any supply of fresh ones each can be taken.
+/// Proves that the guarantees of a script's runs hold for every naming of data.
+///
+/// A new datum may take any name that is not in use. If the script writes no key twice, each state agrees with the
+/// script. A state that is quiet without a fault has all of its meaning. From any supply of fresh names, each step can
+/// be taken.
 pub fn every_naming_of_scripts<N>()
     ensures agrees { (src : List ℕ) (code : Code) (w : IsCompiled src code) → Clean (core w.table w.tree) →
         (events : List Event) (st : NamedState (code_system code) N) →
@@ -46,14 +50,16 @@ pub fn every_naming_of_scripts<N>()
         (named : NamedState (code_system code) N) × (named.state ≡ new) × NamedStep (code_system code) N old event named }
 {}
 
-/// The code of a text is pinned: two codes of one text, whoever laid them, have the same bodies, and entry by entry they do the same
-/// with the same rights.
+/// Proves that two codes of one text are alike: they have the same bodies, and their entries do the same with the same
+/// rights.
 pub fn codes_of_a_text_are_alike()
     ensures { (src : List ℕ) (C D : Code) → IsCompiled src C → IsCompiled src D → AreAlike C D }
 {}
 
-/// A run of a script's code that ends quiet without fault leaves a blocked statement, or nothing at all: where any item is left, a statement
-/// is blocked; where none is, no item is left, and no datum, if those that are free have left.
+/// Proves that a run that ends quiet without a fault leaves a blocked statement, or nothing at all.
+///
+/// If an item is left, a statement is blocked. If no statement is blocked, no item is left. No datum is left either,
+/// once the free data have been removed.
 pub fn quiet_runs_leave_nothing()
     ensures blocked { (src : List ℕ) (code : Code) → IsCompiled src code → (events : List Event) (st : CodeState) → Run code events st
         → Quiet code st → (i : CodeItem) → In i st.items → (at : ℕ) × (path : List Step) × Blocked code st at path }

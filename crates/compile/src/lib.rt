@@ -1,5 +1,7 @@
-//! What is emitted for a placed tree, as that of an accepted script is, is its code, and keeps the headline. Nothing here runs: the
-//! function has an empty body, and its contract is a law.
+//! The compiler: turns the bytes of a script into proved code, or returns the first refusal.
+//!
+//! The steps are parsing, type check, assignment check, constant folding, lowering, merging of waits and emission.
+//! `emitted_code` and the functions of `laws` do not run: they have empty bodies, and their contracts are laws.
 #![tactic(auto)]
 
 ghost use Rattle.code_rules.specs.Emitted.{IsEmitted};
@@ -16,11 +18,14 @@ ghost use Rattle.language.specs.Typing.{WellTyped};
 ghost use Rattle.task_code.specs.Code.{Code};
 ghost use Rattle.task_code.specs.Exact.{IsExact};
 ghost use Rattle.task_code.specs.Whole.{IsCode};
-ghost use Rattle.code_whole.specs.Described.{DeclaredIn, KindsOf};
+ghost use Rattle.code_laws.specs.Described.{DeclaredIn, KindsOf};
 
-/// For every placed tree that is well typed and singly assigned, and code that is laid for its core with the rights that its
-/// entries lead to, where arrays are told from scalars as the tree declares them: the code stands for the script, is whole, its
-/// rights are exact, and every run of it owes to the script what the headline says.
+/// Proves that code emitted for a placed, well typed and singly assigned tree is the tree's code and keeps the
+/// headline.
+///
+/// The code is laid for the core of the tree, with exactly the rights that its entries lead to. Arrays are
+/// distinguished from scalars as the tree declares them. The code then stands for the script, is whole and has exact
+/// rights, and every run of it satisfies the headline.
 pub fn emitted_code()
     ensures stands { (t : Table) (tree : Tree) (fs : List Kinds) (ds : List (ℕ × Bool)) (C : Code) → IsPlaced tree → WellTyped tree t
         → SinglyAssigned (core t tree) → KindsOf fs tree → DeclaredIn ds tree → IsEmitted (core t tree) fs ds C → IsCodeOf (core t tree) C }

@@ -22,7 +22,7 @@ use Rattle.language.specs.Typing.{HasType, of_number, of_text, of_truth, of_vari
 use Rattle.fold_laws.specs.Same.{AllComeTo, no_operand, operand, same_none, same_also, Pairwise, no_pair, a_pair, same_compute, same_read, same_name, SamePart, same_call, SameAction, same_call_alone}
 use Rattle.fold_laws.proofs.Listed.{pairs_both}
 use Rattle.constant_fold.specs.Folded.{also_scalar, scalars_of, called_operation, called, folded, folded_form, folded_all}
-use Rattle.fold_literals.specs.Literals.{scalar_in}
+use Rattle.constant_fold.specs.Literals.{scalar_in}
 use Rattle.constant_fold.proofs.Forms.{parts_itself, SameFormed, formed_itself, same_as_cell, SameOperand, same_as_operand, Folds, FoldsExpression, FoldsAll, IsConstant, cell_argument, assigned_same, IsAssigned, itself, literal_itself, becomes, not_called}
 
 pub record Both (x : Option Scalar) (y : Option (List Scalar)) (vs : List Scalar) : Type 0 where

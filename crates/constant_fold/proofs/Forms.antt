@@ -22,7 +22,7 @@ use Rattle.language.specs.Tree.{Word, Node, value, Expression, expression, numbe
 use Rattle.fold_laws.specs.Same.{ComesTo, a_literal, an_operator, AllComeTo, SameExpr, same_literal, same_name, same_whole, same_operator, same_constant, SameExprs, same_none, same_also, Pairwise, no_pair, a_pair, SameForm, same_compute, same_read, SamePart, same_inner, same_call, SameAction, same_assign}
 use Rattle.fold_laws.proofs.Listed.{pairs_both}
 use Rattle.constant_fold.specs.Folded.{scalars_of, collapsed, called_operation, folded_form}
-use Rattle.fold_literals.specs.Literals.{scalar_in, literal_of, literal_or}
+use Rattle.constant_fold.specs.Literals.{scalar_in, literal_of, literal_or}
 
 -- WHAT IS THE SAME AS ITSELF
 

@@ -7,7 +7,7 @@ use Rattle.values.specs.declared.value.Value.{Value}
 use Rattle.values.specs.declared.value.Value.TheVariants.{One}
 use Rattle.language.specs.Tree.{Expression, expressions_of}
 use Rattle.constant_fold.specs.Folded.{also_scalar, scalars_of}
-use Rattle.fold_literals.specs.Literals.{scalar_of}
+use Rattle.constant_fold.specs.Literals.{scalar_of}
 use Rattle.constant_fold.specs.Made.{operands}
 
 -- the operands that are there, and those of literals behind them

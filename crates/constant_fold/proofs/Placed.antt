@@ -12,7 +12,7 @@ use Rattle.language.specs.Resolved.{chain_operation, prefix_operation}
 use Rattle.language.specs.Tree.{Expression, expression, Form, number, text, truth, variable, element, call, prefixed, chain, Expressions, no_expressions, and_expression, expressions_of, RightSide, value, list, Calling, Over, array, range, Statement, statement, Statements, no_statements, and_statement, Command, declare, assign, write, assign_all, calls, choice, choice_else, loop, waits, Body, body, Part, import, function, single, Tree}
 use Rattle.language_laws.specs.Offsets.{expression_offsets, form_offsets, expressions_offsets, right_offsets, calling_offsets, over_offsets, header_offsets, statement_offsets, command_offsets, body_offsets, statements_offsets, tree_offsets}
 use Rattle.constant_fold.specs.Folded.{scalars_of, collapsed, called, called_operation, folded, folded_form, folded_all, folded_right, folded_calling, folded_over, folded_statement, folded_command, folded_body, folded_statements, folded_part, folded_tree}
-use Rattle.fold_literals.specs.Literals.{literal_of, literal_or}
+use Rattle.constant_fold.specs.Literals.{literal_of, literal_or}
 use Rattle.constant_fold.proofs.Scripts.{all_of}
 use Rattle.language_accepted.specs.Placed.{IsPlaced}
 use Rattle.constant_fold.proofs.Sublists.{Sub, nothing, kept, sub_all, sub_none, sub_both, sub_each, sub_option, sub_maybe, sub_rises, sub_distinct}

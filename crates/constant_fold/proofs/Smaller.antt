@@ -12,7 +12,7 @@ use Rattle.language.specs.Numbered.{expression_size, form_size, expressions_size
 use Rattle.language.specs.Resolved.{chain_operation, prefix_operation}
 use Rattle.language.specs.Tree.{Expression, expression, Form, number, text, truth, variable, element, call, prefixed, chain, Expressions, no_expressions, and_expression, RightSide, value, list, Calling, Over, array, range, Statement, statement, Statements, no_statements, and_statement, Command, declare, assign, write, assign_all, calls, choice, choice_else, loop, waits, Body, body, Part, import, function, single, Tree}
 use Rattle.constant_fold.specs.Folded.{scalars_of, collapsed, called, called_operation, folded, folded_form, folded_all, folded_right, folded_calling, folded_over, folded_statement, folded_command, folded_body, folded_statements, folded_part, folded_tree}
-use Rattle.fold_literals.specs.Literals.{literal_or}
+use Rattle.constant_fold.specs.Literals.{literal_or}
 
 literal_small : (f : Form) (r : Result Value OpFault) (k : ℕ) → form_size f ≤ k → form_size (literal_or f r) ≤ k
 literal_small f (Ok (One (Number z))) k h = omega arith

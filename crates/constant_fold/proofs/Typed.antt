@@ -18,7 +18,7 @@ use Rattle.language.specs.Table.{Table, Builtin}
 use Rattle.language.specs.Tree.{Word, Node, Form, Expression, expression, text, variable, call, prefixed, chain, Expressions, no_expressions, and_expression, expressions_of, RightSide, Over, Statement, Body, Statements, Tree, import, function, single}
 use Rattle.language.specs.Typing.{Operates, sum_of_numbers, sum_of_texts, difference, product, quotient, remainder, less, at_most, greater, at_least, equal, unequal, conjunction, disjunction, Prefixes, negative, inverted, HasType, of_number, of_text, of_truth, of_variable, of_element, of_prefixed, of_chain, of_call, of_builtin, RestType, last_operand, next_operand, ArgumentTypes, no_argument, scalar_argument, array_argument, BuiltinType, of_strcat, of_fromint, of_toint, of_size, AllHaveType, none_left, one_more, RightType, of_scalar, of_copy, of_list, of_array_call, StepType, no_step, a_step, SourceType, of_elements, of_range, CallTyped, function_called, printf_called, assert_called, StatementTyped, declaration, definition, assignment, element_write, several, several_builtin, call_statement, if_statement, if_else_statement, loop_statement, wait_statement, StatementsTyped, no_more_statements, next_statement, BodyTyped, in_braces, function_typed, PartsTyped, no_parts, an_import, a_function, a_statement, WellTyped}
 use Rattle.constant_fold.specs.Folded.{scalars_of, collapsed, called, called_operation, folded, folded_all, folded_right, folded_over, folded_statement, folded_body, folded_statements, folded_tree}
-use Rattle.fold_literals.specs.Literals.{literal_of, scalar_of, literal_or}
+use Rattle.constant_fold.specs.Literals.{literal_of, scalar_of, literal_or}
 use Rattle.constant_fold.proofs.Expressions.{Both, both}
 use Rattle.constant_fold.proofs.Forms.{not_called}
 use Rattle.constant_fold.proofs.Scripts.{all_of, unnamed_in}

@@ -1,4 +1,5 @@
--- A tree whose expressions of literals are folded: an expression of literals, operators, strcat, fromint and toint whose evaluation has no fault is its literal.
+-- The fold of a tree: an expression of literals, operators, strcat, fromint and toint whose evaluation has no fault
+-- becomes its literal.
 use Rattle.std.specs.Prelude.{ℕ, List, [], ◌∷◌, map, Option, Some, None, option_map, Result, Ok, Err, bytes_eq, if◌then◌else◌}
 use Rattle.values.specs.declared.fault.OpFault.{OpFault}
 use Rattle.values.specs.declared.value.Scalar.{Scalar}
@@ -7,12 +8,12 @@ use Rattle.values.specs.declared.value.Value.{Value}
 use Rattle.values.specs.declared.value.Value.TheVariants.{One, Many}
 use Rattle.values.specs.Operators as op
 use Rattle.values.specs.Operators.{Operation, evaluated}
-use Rattle.fold_literals.specs.Literals.{scalar_of, literal_or}
+use Rattle.constant_fold.specs.Literals.{scalar_of, literal_or}
 use Rattle.language.specs.Resolved.{chain_operation, prefix_operation}
 use Rattle.language.specs.Table.{builtin_text, strcat, fromint, toint}
 use Rattle.language.specs.Tree.{Expression, expression, Form, number, text, truth, variable, element, call, prefixed, chain, Expressions, no_expressions, and_expression, RightSide, value, list, Calling, Over, array, range, Statement, statement, Command, declare, assign, write, assign_all, calls, choice, choice_else, loop, waits, Body, body, Statements, no_statements, and_statement, Composite, Part, import, function, single, Tree}
 
--- the scalars of literals, where all are literals
+-- the scalars of expressions, if all are literals
 abbrev pub also_scalar : Option Scalar → Option (List Scalar) → Option (List Scalar)
 also_scalar (Some v) (Some vs) = Some (v ∷ vs)
 also_scalar _ _ = None
@@ -21,7 +22,7 @@ abbrev pub scalars_of : Expressions → Option (List Scalar)
 scalars_of no_expressions = Some []
 scalars_of (and_expression e es) = also_scalar (scalar_of e) (scalars_of es)
 
--- the literal that an operation gives for literals, where it has no fault, and else the form as it is
+-- the literal result of an operation on literals, if it has no fault, otherwise the unchanged form
 abbrev pub collapsed : Operation → Option (List Scalar) → Form → Form
 collapsed o None f = f
 collapsed o (Some vs) f = literal_or f (evaluated o (map (λ v. Ok (One v)) vs))

@@ -1,4 +1,4 @@
--- What the program makes of expressions, in the words of the fold.
+-- Results of the folding functions, in terms of the fold.
 use Rattle.std.specs.Prelude.{List, map, Option, Some, None, Result, Ok}
 use Rattle.values.specs.declared.fault.OpFault.{OpFault}
 use Rattle.values.specs.declared.value.Scalar.{Scalar}
@@ -14,7 +14,7 @@ use Rattle.constant_fold.specs.Folded.{called, called_operation, collapsed, fold
 abbrev pub operands : List Scalar → List (Result Value OpFault)
 operands vs = map (λ v. Ok (One v)) vs
 
--- a form with its expressions folded, and not yet itself
+-- a form with its nested expressions folded, but not yet itself
 abbrev pub with_folded_parts : Form → Form
 with_folded_parts (number z) = number z
 with_folded_parts (text bytes) = text bytes
@@ -25,7 +25,7 @@ with_folded_parts (call w es) = call w (folded_all es)
 with_folded_parts (prefixed p e) = prefixed p (folded e)
 with_folded_parts (chain os es) = chain os (folded_all es)
 
--- the literal that a form of literals comes to, and else the form as it is
+-- the literal result of a form of literals, otherwise the unchanged form
 abbrev pub settled : Form → Form
 settled (number z) = number z
 settled (text bytes) = text bytes

@@ -1,4 +1,4 @@
-//! What operations on literals come to.
+//! Evaluation of operations on literals.
 ghost use Rattle.std.specs.Prelude.{◌≡◌, ◌∷◌, [], IfOk, map, option_map};
 ghost use Rattle.values.specs.Op.{operation_of};
 ghost use Rattle.language.specs.Resolved as rules;
@@ -6,10 +6,10 @@ ghost use Rattle.language.specs.Tree.{Form, expressions_of};
 ghost use Rattle.syntax_trees.specs.View.{expression_view, form_view};
 ghost use Rattle.values.specs.Operators.{evaluated, product_of, sum_of};
 ghost use Rattle.constant_fold.specs.Folded.{collapsed, scalars_of, called, called_operation};
-ghost use Rattle.fold_literals.specs.Literals.{literal_of, literal_or, scalar_of, in_place};
+ghost use Rattle.constant_fold.specs.Literals.{literal_of, literal_or, scalar_of, in_place};
 ghost use Rattle.constant_fold.specs.Made.{operands};
 
-use fold_literals::{outcome, scalar};
+use crate::literal_values::{outcome, scalar};
 use std::alloc::{AllocError, Allocator, Global};
 use syntax_trees::tree::{Expr, ExprKind, Operator, Prefix};
 use values::fault::OpFault;
@@ -17,7 +17,7 @@ use values::op::{Factor, Op, Order, Sign};
 use values::text::Text;
 use values::value::{Scalar, Value};
 
-/// The scalars of literals, as operands, where all are literals.
+/// Returns the scalars of the expressions as operands, or `None` if one of them is not a literal.
 fn scalars<A: Allocator>(
     machine: Global,
     exprs: &[Expr<A>],
@@ -34,7 +34,8 @@ fn scalars<A: Allocator>(
     Ok(Some(found))
 }
 
-/// The literal that an operation on literals gives, where it has no fault and all are literals.
+/// Returns the literal result of an operation. Returns `None` if an operand is not a literal, or if the operation has a
+/// fault or no scalar result.
 fn worked_out<A: Allocator + Clone>(
     machine: Global,
     alloc: &A,
@@ -50,7 +51,7 @@ fn worked_out<A: Allocator + Clone>(
     }
 }
 
-/// The sign that an operator of a sum is.
+/// Converts an operator of a sum into its sign.
 fn sign_of(operator: Operator) -> Sign
     ensures { rules.signs (operator ∷ []) ≡ result ∷ [] }
 {
@@ -60,7 +61,7 @@ fn sign_of(operator: Operator) -> Sign
     }
 }
 
-/// The factor that an operator of a product is.
+/// Converts an operator of a product into its factor.
 fn factor_of(operator: Operator) -> Factor
     ensures { rules.factors (operator ∷ []) ≡ result ∷ [] }
 {
@@ -71,7 +72,7 @@ fn factor_of(operator: Operator) -> Factor
     }
 }
 
-/// The signs of the operators of a sum.
+/// Converts the operators of a sum into signs.
 fn signs(machine: Global, operators: &[Operator]) -> Result<Vec<Sign>, AllocError>
     ensures { IfOk result (λ found. found.items ≡ rules.signs operators.now) }
 {
@@ -82,7 +83,7 @@ fn signs(machine: Global, operators: &[Operator]) -> Result<Vec<Sign>, AllocErro
     Ok(found)
 }
 
-/// The factors of the operators of a product.
+/// Converts the operators of a product into factors.
 fn factors(machine: Global, operators: &[Operator]) -> Result<Vec<Factor>, AllocError>
     ensures { IfOk result (λ found. found.items ≡ rules.factors operators.now) }
 {
@@ -93,7 +94,7 @@ fn factors(machine: Global, operators: &[Operator]) -> Result<Vec<Factor>, Alloc
     Ok(found)
 }
 
-/// The literal that a sum of literals gives.
+/// Returns the literal result of a sum, or `None` if an operand is not a literal or the sum has a fault.
 fn sum<A: Allocator + Clone>(
     machine: Global,
     alloc: &A,
@@ -107,7 +108,7 @@ fn sum<A: Allocator + Clone>(
     worked_out(machine, alloc, Op::Sum(found.as_slice()), exprs)
 }
 
-/// The literal that a product of literals gives.
+/// Returns the literal result of a product, or `None` if an operand is not a literal or the product has a fault.
 fn product<A: Allocator + Clone>(
     machine: Global,
     alloc: &A,
@@ -121,7 +122,7 @@ fn product<A: Allocator + Clone>(
     worked_out(machine, alloc, Op::Product(found.as_slice()), exprs)
 }
 
-/// The literal that a chain of literals gives, where it has no fault.
+/// Returns the literal result of a chain, or `None` if an operand is not a literal or the chain has a fault.
 pub fn chain<A: Allocator + Clone>(
     machine: Global,
     alloc: &A,
@@ -150,7 +151,7 @@ pub fn chain<A: Allocator + Clone>(
     }
 }
 
-/// The literal that a prefix before a literal gives, where it has no fault.
+/// Returns the literal result of a prefix, or `None` if its operand is not a literal or the operation has a fault.
 pub fn prefixed<A: Allocator + Clone>(
     machine: Global,
     alloc: &A,
@@ -174,7 +175,8 @@ pub fn prefixed<A: Allocator + Clone>(
     }
 }
 
-/// The literal that a call of `strcat`, `fromint` or `toint` on literals gives, where it has no fault.
+/// Returns the literal result of a call of `strcat`, `fromint` or `toint`. Returns `None` for other functions, and if
+/// an argument is not a literal or the call has a fault.
 pub fn call<A: Allocator + Clone>(
     machine: Global,
     alloc: &A,

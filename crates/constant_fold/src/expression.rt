@@ -1,16 +1,16 @@
-//! Expressions.
+//! Folding of expressions, bottom up and in place.
 ghost use Rattle.std.specs.Prelude.{◌≡◌, IfOk, OnOk, map};
 ghost use Rattle.language.specs.Tree.{Form};
 ghost use Rattle.syntax_trees.specs.View.{expression_view, form_view};
 ghost use Rattle.constant_fold.specs.Folded.{folded, folded_form};
 ghost use Rattle.constant_fold.specs.Made.{settled, with_folded_parts};
-ghost use Rattle.fold_literals.specs.Literals.{in_place};
+ghost use Rattle.constant_fold.specs.Literals.{in_place};
 
 use crate::evaluation::{call, chain, prefixed};
 use std::alloc::{AllocError, Allocator, Global};
 use syntax_trees::tree::{Expr, ExprKind};
 
-/// Puts a literal in the place of a form, where there is one.
+/// Replaces a form by a literal, if there is one.
 fn put<A: Allocator>(kind: &mut ExprKind<A>, found: Option<ExprKind<A>>)
     ensures { form_view kind.new ≡ in_place (form_view kind.old) found }
 {
@@ -49,7 +49,7 @@ pub fn each<A: Allocator + Clone>(
     Ok(())
 }
 
-/// Folds the form of an expression.
+/// Folds the form of an expression: first its parts, then the form itself.
 #[cycle(folded)]
 fn form<A: Allocator + Clone>(
     machine: Global,
@@ -66,7 +66,7 @@ fn form<A: Allocator + Clone>(
     Ok(())
 }
 
-/// The form with its expressions folded.
+/// Returns the form with its nested expressions folded.
 #[cycle(folded)]
 fn parts<A: Allocator + Clone>(
     machine: Global,
@@ -99,7 +99,7 @@ fn parts<A: Allocator + Clone>(
     }
 }
 
-/// The literal of a form whose parts are folded, where it has one.
+/// Returns the literal result of a form whose parts are folded, if there is one.
 fn settle<A: Allocator + Clone>(
     machine: Global,
     alloc: &A,

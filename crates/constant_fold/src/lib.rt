@@ -1,9 +1,10 @@
-//! Expressions of literals, folded: each becomes the literal that it comes to.
+//! Constant folding: replaces expressions of literals by the literals that they evaluate to.
 #![tactic(auto)]
 
 pub mod evaluation;
 pub mod expression;
 pub mod laws;
+pub mod literal_values;
 pub mod script;
 pub mod statement;
 

@@ -1,4 +1,4 @@
-//! Whole scripts.
+//! Folding of whole scripts.
 ghost use Rattle.std.specs.Prelude.{◌≡◌, IfOk, OnOk, map};
 ghost use Rattle.syntax_trees.specs.View.{part_of, tree_of};
 ghost use Rattle.constant_fold.specs.Folded.{folded_part, folded_tree};
@@ -43,13 +43,15 @@ fn parts<A: Allocator + Clone>(
     Ok(())
 }
 
-/// The script with its expressions of literals folded: one of literals, operators, `strcat`, `fromint` and `toint` whose
-/// evaluation has no fault is its literal; one with a fault stays, and so does everything else, with its numbers and places.
-/// Literals that are made lie in `alloc`, the rest where it lay.
+/// Returns the script with its expressions of literals folded.
+///
+/// An expression of literals, operators, `strcat`, `fromint` and `toint` becomes a literal if its evaluation has no
+/// fault. An expression with a fault stays, and so does everything else, with its numbers and places. New literals are
+/// allocated in `alloc`; the rest stays in its memory.
 ///
 /// # Errors
 ///
-/// `AllocError` where memory that was asked for was refused.
+/// Returns `AllocError` if an allocation fails.
 pub fn fold<A: Allocator + Clone>(
     machine: Global,
     alloc: A,

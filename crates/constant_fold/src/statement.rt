@@ -1,4 +1,4 @@
-//! Statements and the blocks inside them.
+//! Folding of statements and nested blocks.
 ghost use Rattle.std.specs.Prelude.{◌≡◌, OnOk, map, option_map};
 ghost use Rattle.syntax_trees.specs.View.{body_view, calling_of, command_view, over_of, right_of, statement_view};
 ghost use Rattle.constant_fold.specs.Folded.{folded_body, folded_calling, folded_command, folded_over, folded_right, folded_statement};
@@ -39,7 +39,7 @@ fn arguments<A: Allocator + Clone>(
     Ok(())
 }
 
-/// Folds the bounds of what a loop goes over.
+/// Folds the bounds and the step of a loop's range. An array stays as it is.
 fn source<A: Allocator + Clone>(
     machine: Global,
     alloc: &A,
@@ -60,7 +60,7 @@ fn source<A: Allocator + Clone>(
     }
 }
 
-/// Folds a block.
+/// Folds the statements of a block.
 #[cycle(folded)]
 pub fn block<A: Allocator + Clone>(
     machine: Global,
@@ -101,7 +101,7 @@ pub fn statement<A: Allocator + Clone>(
     Ok(())
 }
 
-/// Folds what a statement does.
+/// Folds the expressions and nested blocks of a form of statement.
 #[cycle(folded)]
 fn command<A: Allocator + Clone>(
     machine: Global,

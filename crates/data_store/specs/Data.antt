@@ -8,32 +8,32 @@ use Rattle.data_store.specs.Arrays.{Array}
 use Rattle.data_store.specs.declared.datum.Content.{Content}
 use Rattle.data_store.specs.declared.datum.Content.TheVariants.{OfScalar, OfArray}
 use Rattle.data_store.specs.declared.datum.Datum.{Datum}
-use Rattle.data_store.specs.declared.datum.Shape.{Shape}
-use Rattle.data_store.specs.declared.refusal.Refusal.{Refusal}
-use Rattle.data_store.specs.declared.refusal.Refusal.TheVariants.{AlreadySet, ElementTwice, Closed, Memory}
-use Rattle.data_store.specs.declared.datum.Shape.TheVariants.{Single, Keyed}
+use Rattle.data_store.specs.declared.datum.DatumKind.{DatumKind}
+use Rattle.data_store.specs.declared.refusal.StoreRefusal.{StoreRefusal}
+use Rattle.data_store.specs.declared.refusal.StoreRefusal.TheVariants.{AlreadySet, ElementTwice, Closed, Memory}
+use Rattle.data_store.specs.declared.datum.DatumKind.TheVariants.{Single, Keyed}
 
--- what a new datum holds
-abbrev pub nothing : Shape → Content
+-- the content of a new datum
+abbrev pub nothing : DatumKind → Content
 nothing Single = OfScalar None
 nothing Keyed = OfArray arrays.empty
 
--- what it is
-abbrev pub shape_of : Content → Shape
+-- the kind of a content
+abbrev pub shape_of : Content → DatumKind
 shape_of (OfScalar value) = Single
 shape_of (OfArray array) = Keyed
 
--- it is a scalar
+-- the content is a scalar
 abbrev pub IsScalar : Content → Type 0
 IsScalar (OfScalar value) = Unit {0}
 IsScalar (OfArray array) = ⊥
 
--- it is an array
+-- the content is an array
 abbrev pub IsArray : Content → Type 0
 IsArray (OfScalar value) = ⊥
 IsArray (OfArray array) = Unit {0}
 
--- the value of a scalar, once there is one
+-- the value of a scalar, if it has one
 abbrev pub value_of : Content → Option Scalar
 value_of (OfScalar value) = value
 value_of (OfArray array) = None
@@ -47,7 +47,7 @@ array_in (OfArray array) = array
 abbrev pub with_value : Scalar → Datum → Datum
 with_value v x = record x { content = OfScalar (Some v) }
 
--- an array that has changed
+-- an array after a change
 abbrev pub with_array : (Array → Array) → Datum → Datum
 with_array change x = record x { content = OfArray (change (array_in x.content)) }
 
@@ -63,22 +63,22 @@ without_read x = record x { reads = x.reads - 1 }
 abbrev pub without_write : Datum → Datum
 without_write x = record x { writes = x.writes - 1 }
 
--- nobody may read or write it any more
+-- no hold is left
 abbrev pub is_spent : Datum → Bool
 is_spent x = (x.reads == 0) && (x.writes == 0)
 
--- the datum, or nothing where nobody may read or write it any more
+-- the datum, or nothing if no hold is left
 abbrev pub kept : Datum → Option Datum
 kept x = if is_spent x then None else Some x
 
--- a put is refused exactly where a value stands
-abbrev pub RefusesPut : Datum → Refusal → Type 0
+-- a put is refused if and only if there is a value
+abbrev pub RefusesPut : Datum → StoreRefusal → Type 0
 RefusesPut x AlreadySet = IsSome (value_of x.content)
 RefusesPut x _ = ⊥
 
--- why an insert under a key is refused: nobody may write the array; or its key stands; or else there was no memory, and
--- no room that was promised
-abbrev pub RefusesInsert : Key → Datum → Refusal → Type 0
+-- The reason why an insert under a key is refused. The array is closed; or the key has an element; or an allocation
+-- failed and no room was promised.
+abbrev pub RefusesInsert : Key → Datum → StoreRefusal → Type 0
 RefusesInsert k x Closed = x.writes ≡ 0
 RefusesInsert k x ElementTwice = (0 < x.writes) × IsSome (found k (array_in x.content).elements)
 RefusesInsert k x Memory = (0 < x.writes) × (found k (array_in x.content).elements ≡ None) × (arrays.room_for k (array_in x.content) ≡ 0)

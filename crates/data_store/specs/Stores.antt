@@ -1,13 +1,14 @@
--- What a store is seen as: data under numbers.
+-- The view of a store: data under numbers.
 use Rattle.std.specs.Prelude.{◌≡◌, ◌≢◌, ◌-◌, ◌+◌, ◌≤◌, max, ℕ, List, [], Option, Some, None, is_some, IsSome, IsSomeAnd, option_map, slice_set, slice_index_or, count_by}
 use Rattle.values.specs.declared.value.Scalar.{Scalar}
 use Rattle.data_store.specs.Arrays.{Array}
 use Rattle.data_store.specs.declared.datum.Content.TheVariants.{OfScalar}
 use Rattle.data_store.specs.declared.datum.Datum.{Datum}
-use Rattle.data_store.specs.declared.datum.Shape.{Shape}
+use Rattle.data_store.specs.declared.datum.DatumKind.{DatumKind}
 use Rattle.data_store.specs.Data.{shape_of, IsScalar, IsArray, array_in, value_of, nothing, kept}
 
--- the datum under each number from 0 on, or nothing, how many further data are sure to find memory, and what their numbers are below
+-- The datum under each number from 0 on, or nothing. The room is the number of further data that are sure to find
+-- memory; their numbers are below the bound.
 pub record Store : Type 0 where
   pub cells : List (Option Datum)
   pub room : ℕ
@@ -21,27 +22,27 @@ empty = record { cells = []; room = 0; bound = 0 }
 abbrev pub at : Store → ℕ → Option Datum
 at s d = slice_index_or s.cells d None
 
--- how many data there are
+-- the number of data
 abbrev pub live : Store → ℕ
 live s = count_by is_some s.cells
 
--- a number has a datum
+-- the number has a datum
 abbrev pub IsLive : Store → ℕ → Type 0
 IsLive s d = IsSome (at s d)
 
--- what the datum under a number is
-abbrev pub shape_at : Store → ℕ → Option Shape
+-- the kind of the datum under a number
+abbrev pub shape_at : Store → ℕ → Option DatumKind
 shape_at s d = option_map (λ x. shape_of x.content) (at s d)
 
--- it has a scalar
+-- the datum under the number is a scalar
 abbrev pub IsScalarAt : Store → ℕ → Type 0
 IsScalarAt s d = IsSomeAnd (at s d) (λ x. IsScalar x.content)
 
--- it has an array
+-- the datum under the number is an array
 abbrev pub IsArrayAt : Store → ℕ → Type 0
 IsArrayAt s d = IsSomeAnd (at s d) (λ x. IsArray x.content)
 
--- the datum, or one that nobody may read or write where there is none
+-- the datum, or one without holds if there is none
 abbrev pub or_none : Option Datum → Datum
 or_none None = record { content = OfScalar None; reads = 0; writes = 0 }
 or_none (Some x) = x
@@ -50,7 +51,7 @@ or_none (Some x) = x
 abbrev pub datum : Store → ℕ → Datum
 datum s d = or_none (at s d)
 
--- the value of the scalar under a number, once there is one
+-- the value of the scalar under a number, if it has one
 abbrev pub value_at : Store → ℕ → Option Scalar
 value_at s d = value_of (datum s d).content
 
@@ -59,23 +60,23 @@ abbrev pub array_at : Store → ℕ → Array
 array_at s d = array_in (datum s d).content
 
 -- a new datum
-abbrev pub fresh : Shape → ℕ → ℕ → Datum
+abbrev pub fresh : DatumKind → ℕ → ℕ → Datum
 fresh shape reads writes = record { content = nothing shape; reads = reads; writes = writes }
 
--- one datum has changed
+-- the store after a change of one datum
 abbrev pub changed : ℕ → (Datum → Datum) → Store → Store
 changed d change s = record s { cells = slice_set s.cells d (option_map change (at s d)) }
 
--- the change to a datum, which frees it where nobody may read or write it any more
+-- a datum after a change, which frees it if no hold is left
 abbrev pub kept_after : (Datum → Datum) → Option Datum → Option Datum
 kept_after change None = None
 kept_after change (Some x) = kept (change x)
 
--- one datum has given up a hold
+-- the store after one datum has given up a hold
 abbrev pub given_up : ℕ → (Datum → Datum) → Store → Store
 given_up d change s = record s { cells = slice_set s.cells d (kept_after change (at s d)) }
 
--- the same data, with room for n or more
+-- the same data, with room for at least n
 abbrev pub with_room : ℕ → Store → Store
 with_room n s = record s { room = max s.room n }
 
@@ -83,7 +84,7 @@ with_room n s = record s { room = max s.room n }
 abbrev pub with_bound : ℕ → Store → Store
 with_bound b s = record s { bound = b }
 
--- a number that had no datum has this one, and nothing else has changed, but for the room that it took
+-- The number that had no datum has this one. Nothing else has changed, except for the room that it used.
 pub record Adds (old : Store) (d : ℕ) (x : Datum) (new : Store) : Type 0 where
   pub was_free : at old d ≡ None
   pub has : at new d ≡ Some x

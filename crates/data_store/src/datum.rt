@@ -1,4 +1,4 @@
-//! One datum: what it holds, and its two counts.
+//! A datum: its content, and its counts of remaining readers and writers.
 ghost use Rattle.std.specs.Prelude.{◌≡◌, ◌+◌, ◌<◌, ◌≤◌, ◌^◌, None, length, IfErr, IfOk, IsOk, OnOk, OnErr, option_copied};
 ghost use Rattle.values.specs.Maps.{found};
 ghost use Rattle.values.specs.Keys.{key_seen};
@@ -6,29 +6,29 @@ ghost use Rattle.data_store.specs.Arrays.{room_for, with_element, with_room, wit
 ghost use Rattle.data_store.specs.Data.{nothing, shape_of, IsScalar, IsArray, value_of, array_in, with_value, with_array, with_holds, without_read, without_write, is_spent, RefusesPut, RefusesInsert};
 
 use crate::elements::Elements;
-use crate::refusal::Refusal;
+use crate::refusal::StoreRefusal;
 use std::alloc::{AllocError, Global};
 use values::key::{Key, KeyRef};
 use values::map::Map;
 use values::value::Scalar;
 
-/// What a datum is.
+/// The kind of a datum.
 #[derive(Clone, Copy, PartialEq, Eq, Debug, Drop)]
-pub enum Shape {
+pub enum DatumKind {
     /// A scalar, which is written once.
     Single,
     /// An array, of which each element is written once.
     Keyed,
 }
 
-/// What a datum holds.
+/// The content of a datum.
 #[derive(Drop)]
 pub enum Content {
     OfScalar(Option<Scalar>),
     OfArray(Elements),
 }
 
-/// What a datum holds, how many may still read it, and how many may still write it.
+/// The content of a datum, with the number of holds for reading and for writing that are left.
 #[derive(Drop)]
 pub struct Datum {
     pub content: Content,
@@ -37,13 +37,13 @@ pub struct Datum {
 }
 
 impl Content {
-    /// What a new datum holds.
-    pub fn new(shape: Shape) -> Content
+    /// Creates the content of a new datum.
+    pub fn new(shape: DatumKind) -> Content
         ensures { result ≡ nothing shape }
     {
         match shape {
-            Shape::Single => Content::OfScalar(None),
-            Shape::Keyed => Content::OfArray(Elements::new()),
+            DatumKind::Single => Content::OfScalar(None),
+            DatumKind::Keyed => Content::OfArray(Elements::new()),
         }
     }
 
@@ -66,12 +66,12 @@ impl Content {
         }
     }
 
-    pub fn shape(&self) -> Shape
+    pub fn shape(&self) -> DatumKind
         ensures { result ≡ shape_of self.now }
     {
         match self {
-            Content::OfScalar(_) => Shape::Single,
-            Content::OfArray(_) => Shape::Keyed,
+            Content::OfScalar(_) => DatumKind::Single,
+            Content::OfArray(_) => DatumKind::Keyed,
         }
     }
 
@@ -96,7 +96,7 @@ impl Content {
 }
 
 impl Datum {
-    pub fn put(&mut self, value: Scalar) -> Result<(), Refusal>
+    pub fn put(&mut self, value: Scalar) -> Result<(), StoreRefusal>
         requires { IsScalar self.old.content }
         ensures ok { OnOk result ((value_of self.old.content ≡ None) × (self.new ≡ with_value value self.old)) }
         ensures refused { IfErr result (λ e. RefusesPut self.old e) }
@@ -107,13 +107,13 @@ impl Datum {
                 self.content = Content::OfScalar(Some(value));
                 Ok(())
             }
-            Content::OfScalar(Some(_)) => Err(Refusal::AlreadySet),
+            Content::OfScalar(Some(_)) => Err(StoreRefusal::AlreadySet),
             Content::OfArray(_) => unreachable!(),
         }
     }
 
     #[inline(always)]
-    pub fn insert(&mut self, alloc: Global, key: Key, value: Scalar) -> Result<(), Refusal>
+    pub fn insert(&mut self, alloc: Global, key: Key, value: Scalar) -> Result<(), StoreRefusal>
         requires { IsArray self.old.content }
         ensures ok { OnOk result ((0 < self.old.writes) × (found key (array_in self.old.content).elements ≡ None)
             × (self.new ≡ with_array (with_element key value) self.old)) }
@@ -121,16 +121,16 @@ impl Datum {
         ensures err { OnErr result (self.new ≡ self.old) }
     {
         if self.writes == 0 {
-            return Err(Refusal::Closed);
+            return Err(StoreRefusal::Closed);
         }
         match &mut self.content {
             Content::OfArray(elements) => {
                 if elements.get(key.as_ref()).is_some() {
-                    return Err(Refusal::ElementTwice);
+                    return Err(StoreRefusal::ElementTwice);
                 }
                 match elements.insert(alloc, key, value) {
                     Ok(()) => Ok(()),
-                    Err(_) => Err(Refusal::Memory),
+                    Err(_) => Err(StoreRefusal::Memory),
                 }
             }
             Content::OfScalar(_) => unreachable!(),
@@ -200,7 +200,7 @@ impl Datum {
         self.writes -= 1;
     }
 
-    /// Whether its last hold is one for reading.
+    /// Returns true if the only hold left is one for reading.
     pub fn has_one_read(&self) -> bool
         requires { 0 < self.now.reads }
         ensures { result ≡ is_spent (without_read self.now) }
@@ -208,7 +208,7 @@ impl Datum {
         self.reads == 1 && self.writes == 0
     }
 
-    /// Whether its last hold is one for writing.
+    /// Returns true if the only hold left is one for writing.
     pub fn has_one_write(&self) -> bool
         requires { 0 < self.now.writes }
         ensures { result ≡ is_spent (without_write self.now) }

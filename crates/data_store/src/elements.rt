@@ -1,11 +1,13 @@
-//! The elements of an array, those under numbers and those under texts each by themselves: an array of a script has keys of one kind.
+//! The elements of an array: those under numbers and those under texts, kept separately.
+//!
+//! An array of a script has keys of one kind.
 ghost use Rattle.std.specs.Prelude.{◌≡◌, ◌<◌, ◌≤◌, ◌+◌, ◌^◌, ◌++◌, None, length, IfOk, IsOk, OnOk, OnErr, option_copied};
 ghost use Rattle.values.specs.Keys.{key_seen};
 ghost use Rattle.values.specs.Maps.{found};
 ghost use Rattle.data_store.specs.Arrays.{empty, limited, room_for, table_of, with_element, with_entry, with_places, with_room, with_room_for, AreParted};
 
-use crate::named::Named;
-use crate::numbered::Index;
+use crate::number_elements::NumberElements;
+use crate::text_elements::TextElements;
 use std::alloc::{AllocError, Global};
 use std::marker::Model;
 use values::key::{Key, KeyRef};
@@ -13,11 +15,11 @@ use values::map::{Element, Map};
 use values::text::Text;
 use values::value::Scalar;
 
-/// The elements of an array, which have no table before the first is put in or room is asked for.
+/// The elements of an array. No table is allocated before the first insert or reservation.
 #[derive(Drop)]
 pub struct Elements {
-    numbers: Option<Box<Index>>,
-    texts: Option<Box<Named>>,
+    numbers: Option<Box<NumberElements>>,
+    texts: Option<Box<TextElements>>,
 }
 
 impl Model for Elements {
@@ -56,7 +58,7 @@ impl Elements {
         }
     }
 
-    /// Makes the next `n` calls of `insert` succeed.
+    /// Makes room for `n` elements of either kind, so that the next `n` calls of `insert` succeed.
     pub fn reserve(&mut self, alloc: Global, n: usize) -> Result<(), AllocError>
         ensures ok { OnOk result (self.new ≡ with_room n self.old) }
         ensures succeeds { n ≤ self.old.room → n ≤ self.old.text_room → IsOk result }
@@ -71,7 +73,7 @@ impl Elements {
         Ok(())
     }
 
-    /// Makes the next `n` calls of `insert` with a key of this one's kind succeed.
+    /// Makes room for keys of the same kind as `key`, so that the next `n` calls of `insert` with such keys succeed.
     #[inline(always)]
     pub fn reserve_for(
         &mut self,
@@ -102,7 +104,7 @@ impl Elements {
         }
     }
 
-    /// All elements by rising key: the list that `whole` keeps, or a new one.
+    /// Returns all elements by ascending key: the list that `whole` keeps, or a new one.
     pub fn listed(&self, alloc: Global) -> Result<Map, AllocError>
         ensures { IfOk result (λ map. map ≡ self.now.elements) }
     {
@@ -116,7 +118,8 @@ impl Elements {
         }
     }
 
-    /// All elements by rising key. They are sorted by the first call after an insert, and shared by later ones.
+    /// Returns all elements by ascending key. If all keys are of one kind, the first call after an insert sorts them,
+    /// and later calls share the list.
     pub fn whole(&mut self, alloc: Global) -> Result<Map, AllocError>
         ensures whole { IfOk result (λ map. map ≡ self.old.elements) }
         ensures same { self.new ≡ self.old }
@@ -130,7 +133,7 @@ impl Elements {
     }
 }
 
-fn count_numbers(numbers: &Option<Box<Index>>) -> usize
+fn count_numbers(numbers: &Option<Box<NumberElements>>) -> usize
     ensures len { result ≡ length (table_of numbers.now).entries }
     ensures small { result < 2 ^ 63 + 2 ^ 32 }
 {
@@ -140,7 +143,7 @@ fn count_numbers(numbers: &Option<Box<Index>>) -> usize
     }
 }
 
-fn count_texts(texts: &Option<Box<Named>>) -> usize
+fn count_texts(texts: &Option<Box<TextElements>>) -> usize
     ensures len { result ≡ length (table_of texts.now).entries }
     ensures small { result ≤ 2 ^ 62 }
 {
@@ -151,7 +154,7 @@ fn count_texts(texts: &Option<Box<Named>>) -> usize
 }
 
 #[inline(always)]
-fn under_number(numbers: &Option<Box<Index>>, n: i64) -> Option<&Scalar>
+fn under_number(numbers: &Option<Box<NumberElements>>, n: i64) -> Option<&Scalar>
     ensures { option_copied result ≡ found (Key.Number n) (table_of numbers.now).entries }
 {
     match numbers {
@@ -161,7 +164,7 @@ fn under_number(numbers: &Option<Box<Index>>, n: i64) -> Option<&Scalar>
 }
 
 #[inline(always)]
-fn under_text<'a>(texts: &'a Option<Box<Named>>, text: &Text) -> Option<&'a Scalar>
+fn under_text<'a>(texts: &'a Option<Box<TextElements>>, text: &Text) -> Option<&'a Scalar>
     ensures { option_copied result ≡ found (Key.Text text.now) (table_of texts.now).entries }
 {
     match texts {
@@ -170,8 +173,8 @@ fn under_text<'a>(texts: &'a Option<Box<Named>>, text: &Text) -> Option<&'a Scal
     }
 }
 
-// How many further elements under numbers are sure to find memory.
-fn places(numbers: &Option<Box<Index>>) -> usize
+// Returns the number of further elements under numbers that are sure to find memory.
+fn places(numbers: &Option<Box<NumberElements>>) -> usize
     ensures { result ≡ (table_of numbers.now).places }
 {
     match numbers {
@@ -180,8 +183,8 @@ fn places(numbers: &Option<Box<Index>>) -> usize
     }
 }
 
-// Takes back what was promised to elements under numbers, but for so many.
-fn limit(numbers: &mut Option<Box<Index>>, places: usize)
+// Reduces the room promised to elements under numbers to this number.
+fn limit(numbers: &mut Option<Box<NumberElements>>, places: usize)
     requires { places ≤ (table_of numbers.old).places }
     ensures { table_of numbers.new ≡ limited places (table_of numbers.old) }
 {
@@ -192,7 +195,7 @@ fn limit(numbers: &mut Option<Box<Index>>, places: usize)
 
 #[inline(always)]
 fn reserve_numbers(
-    numbers: &mut Option<Box<Index>>,
+    numbers: &mut Option<Box<NumberElements>>,
     alloc: Global,
     n: usize,
 ) -> Result<(), AllocError>
@@ -204,7 +207,7 @@ fn reserve_numbers(
         Some(index) => index.reserve(n),
         None if n == 0 => Ok(()),
         None => {
-            let mut index = Box::new(alloc, Index::new(alloc))?;
+            let mut index = Box::new(alloc, NumberElements::new(alloc))?;
             index.reserve(n)?;
             *numbers = Some(index);
             Ok(())
@@ -213,7 +216,11 @@ fn reserve_numbers(
 }
 
 #[inline(never)]
-fn reserve_texts(texts: &mut Option<Box<Named>>, alloc: Global, n: usize) -> Result<(), AllocError>
+fn reserve_texts(
+    texts: &mut Option<Box<TextElements>>,
+    alloc: Global,
+    n: usize,
+) -> Result<(), AllocError>
     ensures ok { OnOk result (table_of texts.new ≡ with_places n (table_of texts.old)) }
     ensures succeeds { n ≤ (table_of texts.old).places → IsOk result }
     ensures err { OnErr result (table_of texts.new ≡ table_of texts.old) }
@@ -222,7 +229,7 @@ fn reserve_texts(texts: &mut Option<Box<Named>>, alloc: Global, n: usize) -> Res
         Some(named) => named.reserve(n),
         None if n == 0 => Ok(()),
         None => {
-            let mut named = Box::new(alloc, Named::new(alloc))?;
+            let mut named = Box::new(alloc, TextElements::new(alloc))?;
             named.reserve(n)?;
             *texts = Some(named);
             Ok(())
@@ -232,7 +239,7 @@ fn reserve_texts(texts: &mut Option<Box<Named>>, alloc: Global, n: usize) -> Res
 
 #[inline(always)]
 fn insert_number(
-    numbers: &mut Option<Box<Index>>,
+    numbers: &mut Option<Box<NumberElements>>,
     alloc: Global,
     n: i64,
     value: Scalar,
@@ -245,7 +252,7 @@ fn insert_number(
     match numbers {
         Some(index) => index.insert(n, value),
         None => {
-            let mut index = Box::new(alloc, Index::new(alloc))?;
+            let mut index = Box::new(alloc, NumberElements::new(alloc))?;
             index.insert(n, value)?;
             *numbers = Some(index);
             Ok(())
@@ -255,7 +262,7 @@ fn insert_number(
 
 #[inline(never)]
 fn insert_text(
-    texts: &mut Option<Box<Named>>,
+    texts: &mut Option<Box<TextElements>>,
     alloc: Global,
     text: Text,
     value: Scalar,
@@ -268,7 +275,7 @@ fn insert_text(
     match texts {
         Some(named) => named.insert(text, value),
         None => {
-            let mut named = Box::new(alloc, Named::new(alloc))?;
+            let mut named = Box::new(alloc, TextElements::new(alloc))?;
             named.insert(text, value)?;
             *texts = Some(named);
             Ok(())
@@ -276,7 +283,7 @@ fn insert_text(
     }
 }
 
-// The elements under numbers, and behind them those under texts.
+// Returns the elements under numbers, followed by those under texts.
 fn joined(alloc: Global, numbers: Map, texts: Map) -> Result<Map, AllocError>
     requires { AreParted numbers texts }
     ensures { IfOk result (λ map. map ≡ numbers ++ texts) }

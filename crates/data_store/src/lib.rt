@@ -1,16 +1,16 @@
-//! Data that several tasks read and write, each with two counts: how many may still read it, and how many may still
-//! write it.
+//! The store of single-assignment data that tasks share: scalars and arrays, each with a count of remaining readers and
+//! of remaining writers.
 //!
-//! This is the store of a dataflow machine, as Swift/T's runtime keeps it (Armstrong, Wozniak, Wilde and Foster, "Compiler
-//! Techniques for Massively Scalable Implicit Task Parallelism", SC14): a scalar is written once, an array is closed when
-//! nobody may write it any more, and a datum goes when nobody may read or write it.
+//! A scalar is written once, and so is each element of an array. An array is closed when no writer is left, and a datum
+//! is freed when neither reader nor writer is left: the two counts of the SC14 paper "Compiler Techniques for Massively
+//! Scalable Implicit Task Parallelism". The store has no notion of tasks or code.
 #![tactic(auto)]
 
 mod datum;
+mod dense_elements;
 mod elements;
-mod named;
-mod numbered;
+mod number_elements;
 mod order;
 pub mod refusal;
-mod slots;
 pub mod store;
+mod text_elements;

@@ -1,4 +1,4 @@
-//! Elements in the order of their keys.
+//! Sorting of elements by key.
 ghost use Rattle.std.specs.Prelude.{◌≡◌, length};
 ghost use Rattle.std.specs.Ordering.{is_lt};
 ghost use Rattle.values.specs.Keys.{key_below};
@@ -7,7 +7,7 @@ ghost use Rattle.data_store.specs.Arrays.{arranged};
 use std::cmp::Ordering;
 use values::map::Element;
 
-/// Brings elements whose keys differ into the order of their keys.
+/// Sorts elements with distinct keys by ascending key.
 pub fn arrange(list: &mut Vec<Element>)
     requires { length (arranged list.old.items) ≡ length list.old.items }
     ensures { list.new.items ≡ arranged list.old.items }

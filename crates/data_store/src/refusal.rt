@@ -1,20 +1,20 @@
-//! Why the store refused a call.
+//! Refusals of the store.
 
 use thiserror::Error;
 
-/// Why the store refused a call.
+/// The reason why the store refused a call.
 #[derive(Clone, Copy, PartialEq, Eq, Debug, Drop, Error)]
-pub enum Refusal {
-    /// The scalar has a value.
+pub enum StoreRefusal {
+    /// The scalar already has a value.
     #[error("D1 AlreadySet")]
     AlreadySet,
-    /// The array has an element under this key.
+    /// The array already has an element under this key.
     #[error("D2 ElementTwice")]
     ElementTwice,
-    /// Nobody may write the array any more.
+    /// The array is closed: no hold for writing is left.
     #[error("D3 Closed")]
     Closed,
-    /// Memory that was asked for was refused.
+    /// An allocation failed.
     #[error("no memory")]
     Memory,
 }

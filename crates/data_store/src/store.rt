@@ -1,4 +1,4 @@
-//! Data under numbers.
+//! The store: a slab of data under numbers, with the public operations.
 ghost use Rattle.std.specs.Prelude.{◌≡◌, ◌+◌, ◌<◌, ◌≤◌, ◌^◌, ◌==◌, ◌↔◌, None, IsSome, length, IfErr, IfOk, IsOk, IsTrue, OnOk, OnErr, option_copied};
 ghost use Rattle.values.specs.Keys.{key_seen};
 ghost use Rattle.values.specs.Maps.{found};
@@ -7,9 +7,9 @@ ghost use Rattle.data_store.specs.Arrays.{with_element};
 ghost use Rattle.data_store.specs.Data.{with_value, with_array, with_holds, without_read, without_write, RefusesPut, RefusesInsert};
 ghost use Rattle.data_store.specs.Stores.{empty, live, shape_at, IsLive, IsScalarAt, IsArrayAt, datum, value_at, array_at, fresh, changed, given_up, with_bound, with_room, Adds};
 
-pub use crate::datum::Shape;
+pub use crate::datum::DatumKind;
 use crate::datum::{Content, Datum};
-use crate::refusal::Refusal;
+use crate::refusal::StoreRefusal;
 use slab::Slab;
 use std::alloc::{AllocError, Global};
 use std::marker::Model;
@@ -17,10 +17,10 @@ use values::key::{Key, KeyRef};
 use values::map::Map;
 use values::value::Scalar;
 
-/// The number of a datum, given out again only after the datum was freed.
+/// The number of a datum. It is reused only after the datum was freed.
 pub type DatumNo = usize;
 
-/// Data under numbers, each with its two counts. A number without a datum may get one by the next `new_cell`.
+/// The data, by number, each with its two counts. A number without a datum may be used by the next `new_cell`.
 #[derive(Drop)]
 pub struct Store {
     cells: Slab<Datum>,
@@ -49,7 +49,12 @@ impl Store {
         }
     }
 
-    /// Makes the next `n` calls of `new_cell` succeed, whatever lies between them.
+    /// Makes room for `n` data, so that the next `n` calls of `new_cell` succeed, whatever other calls come between
+    /// them.
+    ///
+    /// # Errors
+    ///
+    /// Returns `AllocError` if there was less room and an allocation fails.
     pub fn reserve_cells(&mut self, n: usize) -> Result<(), AllocError>
         ensures ok { OnOk result (self.new ≡ with_bound self.new.bound (with_room n self.old)) }
         ensures succeeds { n ≤ self.old.room → IsOk result }
@@ -63,15 +68,24 @@ impl Store {
         Ok(())
     }
 
-    /// What the numbers of the data are below that take the room of `reserve_cells`.
+    /// Returns a bound of the numbers: each datum created with room from `reserve_cells` has a smaller one.
     pub fn bound(&self) -> usize
         ensures { result ≡ self.now.bound }
     {
         self.cells.capacity()
     }
 
-    /// A new datum without content, under a number that has none.
-    pub fn new_cell(&mut self, shape: Shape, reads: u64, writes: u64) -> Result<DatumNo, AllocError>
+    /// Creates a datum without content, under a number that has none.
+    ///
+    /// # Errors
+    ///
+    /// Returns `AllocError` if there was no room and an allocation fails.
+    pub fn new_cell(
+        &mut self,
+        shape: DatumKind,
+        reads: u64,
+        writes: u64,
+    ) -> Result<DatumNo, AllocError>
         requires { 0 < reads + writes }
         ensures ok { IfOk result (λ d. Adds self.old d (fresh shape reads writes) self.new) }
         ensures below { 0 < self.old.room → IfOk result (λ d. d < self.old.bound) }
@@ -90,8 +104,12 @@ impl Store {
         Ok(d)
     }
 
-    /// Gives a scalar its value.
-    pub fn put(&mut self, d: DatumNo, value: Scalar) -> Result<(), Refusal>
+    /// Sets the value of a scalar.
+    ///
+    /// # Errors
+    ///
+    /// Returns `AlreadySet` if it has a value.
+    pub fn put(&mut self, d: DatumNo, value: Scalar) -> Result<(), StoreRefusal>
         requires { IsScalarAt self.old d }
         ensures ok { OnOk result ((value_at self.old d ≡ None) × (self.new ≡ changed d (with_value value) self.old)) }
         ensures refused { IfErr result (λ e. RefusesPut (datum self.old d) e) }
@@ -100,9 +118,14 @@ impl Store {
         self.cells[d].put(value)
     }
 
-    /// Gives an array an element.
+    /// Inserts an element into an array.
+    ///
+    /// # Errors
+    ///
+    /// Returns `Closed` if no hold for writing is left, and `ElementTwice` if the key has an element. Returns `Memory`
+    /// if there was no room and an allocation fails.
     #[inline(always)]
-    pub fn insert(&mut self, d: DatumNo, key: Key, value: Scalar) -> Result<(), Refusal>
+    pub fn insert(&mut self, d: DatumNo, key: Key, value: Scalar) -> Result<(), StoreRefusal>
         requires { IsArrayAt self.old d }
         ensures ok { OnOk result ((0 < (datum self.old d).writes) × (found key (array_at self.old d).elements ≡ None)
             × (self.new ≡ changed d (with_array (with_element key value)) self.old)) }
@@ -113,7 +136,12 @@ impl Store {
         self.cells[d].insert(alloc, key, value)
     }
 
-    /// Makes the next `n` calls of `insert` into an array meet no refusal of memory, whatever lies between them.
+    /// Makes room in an array. The next `n` calls of `insert` then do not fail for lack of memory, whatever other calls
+    /// come between them.
+    ///
+    /// # Errors
+    ///
+    /// Returns `AllocError` if there was less room and an allocation fails.
     pub fn reserve(&mut self, d: DatumNo, n: usize) -> Result<(), AllocError>
         requires { IsArrayAt self.old d }
         ensures ok { OnOk result (self.new ≡ changed d (with_array (arrays.with_room n)) self.old) }
@@ -123,8 +151,12 @@ impl Store {
         self.cells[d].reserve(alloc, n)
     }
 
-    /// Makes the next `n` calls of `insert` into an array with a key of this one's kind meet no refusal of memory, whatever lies between
-    /// them.
+    /// Makes room in an array for keys of the same kind as `key`. The next `n` calls of `insert` with such keys then do
+    /// not fail for lack of memory, whatever other calls come between them.
+    ///
+    /// # Errors
+    ///
+    /// Returns `AllocError` if there was less room and an allocation fails.
     #[inline(always)]
     pub fn reserve_for(&mut self, d: DatumNo, key: KeyRef<'_>, n: usize) -> Result<(), AllocError>
         requires { IsArrayAt self.old d }
@@ -136,7 +168,7 @@ impl Store {
         self.cells[d].reserve_for(alloc, key, n)
     }
 
-    /// The value of a scalar, once there is one.
+    /// Returns the value of a scalar, or `None` if it has none yet.
     pub fn value(&self, d: DatumNo) -> Option<&Scalar>
         requires { IsScalarAt self.now d }
         ensures { option_copied result ≡ value_at self.now d }
@@ -144,7 +176,7 @@ impl Store {
         self.cells[d].content.value()
     }
 
-    /// The element of an array under a key, closed or not.
+    /// Returns the element of an array under a key, whether the array is closed or not.
     #[inline(always)]
     pub fn element(&self, d: DatumNo, key: KeyRef<'_>) -> Option<&Scalar>
         requires { IsArrayAt self.now d }
@@ -153,7 +185,7 @@ impl Store {
         self.cells[d].content.element(key)
     }
 
-    /// How many elements an array has, closed or not.
+    /// Returns the number of elements of an array, whether it is closed or not.
     pub fn size(&self, d: DatumNo) -> usize
         requires { IsArrayAt self.now d }
         ensures { result ≡ length (array_at self.now d).elements }
@@ -161,8 +193,8 @@ impl Store {
         self.cells[d].content.size()
     }
 
-    /// What the datum of a number is, where there is one.
-    pub fn shape(&self, d: DatumNo) -> Option<Shape>
+    /// Returns the kind of the datum with this number, or `None` if there is none.
+    pub fn shape(&self, d: DatumNo) -> Option<DatumKind>
         ensures { result ≡ shape_at self.now d }
     {
         match self.cells.get(d) {
@@ -171,7 +203,12 @@ impl Store {
         }
     }
 
-    /// All elements of an array by rising key, shared with those whom `whole` gave them, if it did since the last insert.
+    /// Returns all elements of an array by ascending key. The list that `whole` made is shared, if it was made since
+    /// the last insert.
+    ///
+    /// # Errors
+    ///
+    /// Returns `AllocError` if an allocation fails.
     pub fn listed(&self, d: DatumNo) -> Result<Map, AllocError>
         requires { IsArrayAt self.now d }
         ensures { IfOk result (λ map. map ≡ (array_at self.now d).elements) }
@@ -179,8 +216,12 @@ impl Store {
         self.cells[d].content.listed(self.alloc)
     }
 
-    /// All elements of an array by rising key. The first call after an insert sorts them and asks for memory for a list
-    /// of them, so a closed array is sorted once; later calls share that list.
+    /// Returns all elements of an array by ascending key. The first call after an insert sorts them into a new list,
+    /// and later calls share that list. So a closed array is sorted once.
+    ///
+    /// # Errors
+    ///
+    /// Returns `AllocError` if an allocation fails.
     pub fn whole(&mut self, d: DatumNo) -> Result<Map, AllocError>
         requires { IsArrayAt self.old d }
         ensures whole { IfOk result (λ map. map ≡ (array_at self.old d).elements) }
@@ -190,7 +231,7 @@ impl Store {
         self.cells[d].whole(alloc)
     }
 
-    /// How many holds for reading are left.
+    /// Returns the number of holds for reading that are left.
     pub fn reads(&self, d: DatumNo) -> u64
         requires { IsLive self.now d }
         ensures { result ≡ (datum self.now d).reads }
@@ -198,7 +239,7 @@ impl Store {
         self.cells[d].reads
     }
 
-    /// How many holds for writing are left.
+    /// Returns the number of holds for writing that are left.
     pub fn writes(&self, d: DatumNo) -> u64
         requires { IsLive self.now d }
         ensures { result ≡ (datum self.now d).writes }
@@ -206,7 +247,7 @@ impl Store {
         self.cells[d].writes
     }
 
-    /// Whether no hold for writing is left. An array then keeps its elements for good.
+    /// Returns true if no hold for writing is left. The elements of an array are then final.
     pub fn is_closed(&self, d: DatumNo) -> bool
         requires { IsLive self.now d }
         ensures { result ≡ ((datum self.now d).writes == 0) }
@@ -214,7 +255,7 @@ impl Store {
         self.cells[d].writes == 0
     }
 
-    /// Gives out more holds on a datum.
+    /// Adds holds on a datum, for reading and for writing.
     pub fn hold(&mut self, d: DatumNo, reads: u64, writes: u64)
         requires live { IsLive self.old d }
         requires reads { (datum self.old d).reads + reads < 2 ^ 64 }
@@ -224,7 +265,7 @@ impl Store {
         self.cells[d].hold(reads, writes);
     }
 
-    /// Takes back a hold for reading, and frees the datum with its last hold.
+    /// Releases a hold for reading, and frees the datum if it was the last hold.
     pub fn release(&mut self, d: DatumNo)
         requires { 0 < (datum self.old d).reads }
         ensures { self.new ≡ given_up d without_read self.old }
@@ -236,7 +277,7 @@ impl Store {
         }
     }
 
-    /// Takes back a hold for writing, which closes an array with its last one, and frees the datum with its last hold.
+    /// Releases a hold for writing. The last one for writing closes an array, and the last hold frees the datum.
     pub fn close_writer(&mut self, d: DatumNo)
         requires { 0 < (datum self.old d).writes }
         ensures { self.new ≡ given_up d without_write self.old }
@@ -254,7 +295,7 @@ impl Store {
         self.cells.contains(d)
     }
 
-    /// How many data there are.
+    /// Returns the number of data.
     pub fn len(&self) -> usize
         ensures { result ≡ live self.now }
     {

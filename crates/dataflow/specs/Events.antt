@@ -3,18 +3,18 @@ use Rattle.std.specs.Prelude.{◌≡◌, ℕ, suc, ◌+◌, nat_eq, if◌then◌
 use Rattle.dataflow.specs.System.{In, Distinct, System}
 use Rattle.dataflow.specs.Machine.{Item, State, Event, Begin, End, Back, Enabled, Step, start}
 
--- the worker that an event names
+-- the worker of an event
 abbrev pub worker_of : Event → ℕ
 worker_of (Begin w n) = w
 worker_of (End w n) = w
 worker_of (Back w n) = w
 
--- how many events name the worker
+-- number of events of the worker
 abbrev pub tally : List Event → ℕ → ℕ
 tally [] w = 0
 tally (e ∷ es) w = (if nat_eq (worker_of e) w then 1 else 0) + tally es w
 
--- how many events give an item back
+-- number of events that give an item back
 abbrev pub backs : List Event → ℕ
 backs [] = 0
 backs (Begin w n ∷ es) = backs es
@@ -37,18 +37,18 @@ module _ {T D K V E : Type 0} (S : System T D K V E) where
     pub number_is : item.number ≡ number
     pub runs : item.runs ≡ Some worker
 
-  -- the items that can begin after a step and could not before it, each once
+  -- the items that can begin after a step and could not before, without duplicates
   pub record NewlyAt (old new : State T D K V E) (numbers : List ℕ) : Type 0 where
     pub once : Distinct numbers
     pub all : (n : ℕ) → CanBegin new n → (CanBegin old n → ⊥) → In n numbers
     pub can : (n : ℕ) → In n numbers → CanBegin new n
     pub could_not : (n : ℕ) → In n numbers → CanBegin old n → ⊥
 
-  -- how many there are in all, along the steps of these events
+  -- the total number of these items along the steps of these events
   abbrev pub NewlyAlong : State T D K V E → List Event → ℕ → Type 0
   NewlyAlong old [] n = n ≡ 0
   NewlyAlong old (e ∷ es) n = (new : State T D K V E) × Step S old e new × ((numbers : List ℕ) × NewlyAt old new numbers × ((m : ℕ) × NewlyAlong new es m × (n ≡ length numbers + m)))
 
-  -- how often, in a run of these events, an item can begin after an event and could not before it
+  -- number of times that, in a run of these events, an item can begin after an event and could not before
   abbrev pub Newly : List Event → ℕ → Type 0
   Newly events n = NewlyAlong (start S) events n

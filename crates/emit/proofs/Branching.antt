@@ -15,13 +15,13 @@ use Rattle.code_rules.specs.IsCodeOf.{Layout, own_needs, seen}
 use Rattle.code_rules.specs.Laying.{IndexesStand, IsOwnEntry, Kinds, LaysBlock, PlainAs, branch, branches, data_in, next_body}
 use Rattle.code_rules.specs.Room.{OuterRoom}
 use Rattle.emit_statements.specs.Into.{laying}
-use Rattle.emit_statements.specs.declared.filling.Filling.{Filling}
+use Rattle.emit_statements.specs.declared.block_builder.BlockBuilder.{BlockBuilder}
 use Rattle.emit_statements.specs.Blocks.{Numbered, OwnAddedAs, PartsInto}
 use Rattle.emit.specs.Emits.{EmitsBlock, EmitsStmt, Lays, state}
 use Rattle.emit.proofs.Fitting.{fits-part, left-in, right-in, size-both}
 use Rattle.emit.proofs.Opening.{one-more-long, body-is, own-number, own-listed, own-data, two-added}
 
-pub branch-emits : (fs : List Kinds) (roots k at n : ℕ) (c : Outer) (b : Block) (ds : List (ℕ × Bool)) (E0 E1 E2 E3 : List Made) (B0 B2 B3 : List Opened) (F0 F1 F2 I0 I1 : Filling) (body number : ℕ)
+pub branch-emits : (fs : List Kinds) (roots k at n : ℕ) (c : Outer) (b : Block) (ds : List (ℕ × Bool)) (E0 E1 E2 E3 : List Made) (B0 B2 B3 : List Opened) (F0 F1 F2 I0 I1 : BlockBuilder) (body number : ℕ)
     → ((bodies : List code.Body) → OuterRoom k c → length E1 ≤ 2 ^ 32 → PartsInto fs k (outer_parts (c ∷ [])) at (pos 0) (laying E0 bodies) (laying E1 bodies) F0 F1)
     → ((l : Layout) → OuterRoom k c → PlainAs l None (outer_parts (c ∷ [])) → ((i : ℕ) → l.body_of i ≡ suc i) → IndexesStand (outer_parts (c ∷ [])) → length E1 ≤ length E0 + length (outer_parts (c ∷ [])))
     → I0.entries.items ≡ [] → I0.makes.items ≡ []
@@ -68,7 +68,7 @@ branch-emits fs roots k at n c b ds E0 E1 E2 E3 B0 B2 B3 F0 F1 F2 I0 I1 body num
       );
 }
 
-pub branches-emit : (fs : List Kinds) (roots k at n : ℕ) (c : Outer) (b d : Block) (ds es : List (ℕ × Bool)) (E0 E1 E2 E3 E4 : List Made) (B0 B2 B3 B4 B5 : List Opened) (F0 F1 F2 I0 I1 J0 J1 : Filling) (body other number : ℕ)
+pub branches-emit : (fs : List Kinds) (roots k at n : ℕ) (c : Outer) (b d : Block) (ds es : List (ℕ × Bool)) (E0 E1 E2 E3 E4 : List Made) (B0 B2 B3 B4 B5 : List Opened) (F0 F1 F2 I0 I1 J0 J1 : BlockBuilder) (body other number : ℕ)
     → ((bodies : List code.Body) → OuterRoom k c → length E1 ≤ 2 ^ 32 → PartsInto fs k (outer_parts (c ∷ [])) at (pos 0) (laying E0 bodies) (laying E1 bodies) F0 F1)
     → ((l : Layout) → OuterRoom k c → PlainAs l None (outer_parts (c ∷ [])) → ((i : ℕ) → l.body_of i ≡ suc i) → IndexesStand (outer_parts (c ∷ [])) → length E1 ≤ length E0 + length (outer_parts (c ∷ [])))
     → I0.entries.items ≡ [] → I0.makes.items ≡ []

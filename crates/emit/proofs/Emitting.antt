@@ -19,7 +19,7 @@ use Rattle.code_rules.specs.IsCodeOf.{Layout}
 use Rattle.code_rules.specs.Laying.{IndexesStand, Kinds, LaysBlock, LaysStmt, Suits, declares, one_statement, no_statement}
 use Rattle.code_rules.specs.Room.{ActionRoom}
 use Rattle.emit_statements.specs.Into.{LaysInto, laying}
-use Rattle.emit_statements.specs.declared.filling.Filling.{Filling}
+use Rattle.emit_statements.specs.declared.block_builder.BlockBuilder.{BlockBuilder}
 use Rattle.wait_merge.specs.Merged.{all_merged, statement_seen}
 use Rattle.emit.specs.Emits.{EmitsBlock, EmitsStmt, Lays, State, state, with_inner}
 use Rattle.emit.proofs.Fitting.{first-in, fits-part, others-in, size-first}
@@ -98,7 +98,7 @@ module _ {A : Type 0} (fs : List Kinds) (roots k : ℕ) where
 -- STATEMENTS WITHOUT BLOCKS
 
 -- a declaration has no entry
-pub declare-emits : (fs : List Kinds) (roots k at n v : ℕ) (b : Bool) (es : List Made) (bs : List Opened) (old new : Filling) → new.entries ≡ old.entries
+pub declare-emits : (fs : List Kinds) (roots k at n v : ℕ) (b : Bool) (es : List Made) (bs : List Opened) (old new : BlockBuilder) → new.entries ≡ old.entries
     → map variable_view new.makes.items ≡ map variable_view old.makes.items ++ record { node = v; array = b } ∷ []
     → EmitsStmt fs roots k (stmt at n (declare v)) ((v, b) ∷ []) (state es bs old) (state es bs new)
 declare-emits fs roots k at n v b es bs old new same makes = record {
@@ -114,7 +114,7 @@ declare-emits fs roots k at n v b es bs old new same makes = record {
       );
 }
 
-pub simple-emits : (fs : List Kinds) (roots k at n : ℕ) (a : Action) (es new_es : List Made) (bs : List Opened) (old new : Filling)
+pub simple-emits : (fs : List Kinds) (roots k at n : ℕ) (a : Action) (es new_es : List Made) (bs : List Opened) (old new : BlockBuilder)
     → ((l : Layout) → ActionRoom k a → Suits l a → IndexesStand (own_parts a) → length new_es ≤ length es + suc (length (parts a)))
     → ((bodies : List code.Body) → ActionRoom k a → length new_es ≤ 2 ^ 32 → LaysInto fs roots k (stmt at n a) [] (laying es bodies) (laying new_es bodies) old new)
     → EmitsStmt fs roots k (stmt at n a) [] (state es bs old) (state new_es bs new)

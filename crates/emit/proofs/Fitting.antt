@@ -9,7 +9,7 @@ use Rattle.code_rules.specs.Laying.{Headers, one_header, more_headers, Laying}
 use Rattle.code_rules.specs.Emitted.{stmts_size}
 use Rattle.code_rules.specs.Room.{BlockRoom, StmtRoom}
 use Rattle.task_code.specs.Code.{Header}
-use Rattle.code_layout.proofs.Adding.{among-append}
+use Rattle.code_laws.proofs.Adding.{among-append}
 use Rattle.emit.specs.Emits.{Fits, with_inner}
 
 -- SIZES AND MEMBERS

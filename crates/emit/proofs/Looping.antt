@@ -15,7 +15,7 @@ use Rattle.code_rules.specs.IsCodeOf.{Layout, own_needs, seen, step_expr}
 use Rattle.code_rules.specs.Laying.{IndexesStand, IsOwnEntry, Kinds, Laying, LaysBlock, PlainAs, array_loop, data_in, next_body, range_loop}
 use Rattle.code_rules.specs.Room.{NameRoom, OuterRoom, StepRoom}
 use Rattle.emit_statements.specs.Into.{laying}
-use Rattle.emit_statements.specs.declared.filling.Filling.{Filling}
+use Rattle.emit_statements.specs.declared.block_builder.BlockBuilder.{BlockBuilder}
 use Rattle.emit_statements.specs.Blocks.{Numbered, OwnAddedAs, PartsInto}
 use Rattle.emit.specs.Emits.{EmitsBlock, EmitsStmt, Lays, state}
 use Rattle.emit.proofs.Fitting.{fits-part}
@@ -24,7 +24,7 @@ use Rattle.emit.proofs.Opening.{one-more-long, body-is, own-number, own-listed, 
 abbrev turns : ℕ → Laying → ℕ → Option ℕ → Loop
 turns roots s x y = record { body = next_body roots s; value = x; turn = y }
 
-pub range-emits : (fs : List Kinds) (roots k at n : ℕ) (lo hi : Outer) (st : Option Outer) (x : ℕ) (y : Option ℕ) (b : Block) (ds : List (ℕ × Bool)) (E0 E1 E2 E3 : List Made) (B0 B2 B3 : List Opened) (F0 F1 F2 I0 I1 : Filling) (body number : ℕ) (w : Loop)
+pub range-emits : (fs : List Kinds) (roots k at n : ℕ) (lo hi : Outer) (st : Option Outer) (x : ℕ) (y : Option ℕ) (b : Block) (ds : List (ℕ × Bool)) (E0 E1 E2 E3 : List Made) (B0 B2 B3 : List Opened) (F0 F1 F2 I0 I1 : BlockBuilder) (body number : ℕ) (w : Loop)
     → ((bodies : List code.Body) → OuterRoom k lo → OuterRoom k hi → StepRoom k st → length E1 ≤ 2 ^ 32 → PartsInto fs k (outer_parts (lo ∷ hi ∷ option_to_list st)) at (pos 0) (laying E0 bodies) (laying E1 bodies) F0 F1)
     → ((l : Layout) → OuterRoom k lo → OuterRoom k hi → StepRoom k st → PlainAs l None (outer_parts (lo ∷ hi ∷ option_to_list st)) → ((i : ℕ) → l.body_of i ≡ suc i) → IndexesStand (outer_parts (lo ∷ hi ∷ option_to_list st)) → length E1 ≤ length E0 + length (outer_parts (lo ∷ hi ∷ option_to_list st)))
     → I0.entries.items ≡ [] → ((z : ℕ) → map variable_view I0.makes.items ≡ loop_variables (record { body = z; value = x; turn = y }))
@@ -75,7 +75,7 @@ range-emits fs roots k at n lo hi st x y b ds E0 E1 E2 E3 B0 B2 B3 F0 F1 F2 I0 I
       );
 }
 
-pub each-emits : (fs : List Kinds) (roots k at n : ℕ) (array : Name) (x : ℕ) (y : Option ℕ) (b : Block) (ds : List (ℕ × Bool)) (E1 E2 E3 : List Made) (B0 B2 B3 : List Opened) (F1 F2 I0 I1 : Filling) (body number : ℕ) (w : Loop)
+pub each-emits : (fs : List Kinds) (roots k at n : ℕ) (array : Name) (x : ℕ) (y : Option ℕ) (b : Block) (ds : List (ℕ × Bool)) (E1 E2 E3 : List Made) (B0 B2 B3 : List Opened) (F1 F2 I0 I1 : BlockBuilder) (body number : ℕ) (w : Loop)
     → I0.entries.items ≡ [] → ((z : ℕ) → map variable_view I0.makes.items ≡ loop_variables (record { body = z; value = x; turn = y }))
     → EmitsBlock fs roots k b ds (state E1 B0 I0) (state E2 B2 I1)
     → (roots + length B2 < 2 ^ 32 → body ≡ roots + length B2)

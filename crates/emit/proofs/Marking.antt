@@ -1,7 +1,7 @@
 -- How the entries of the cells of a script are marked.
 use Rattle.std.proofs.Common.{◌≡◌, List, [], ◌∷◌, ◌++◌, map, refl, ap, sym, subst, ◌∙◌}
-use Rattle.flow_listed.specs.Cells.{Anchor, AreAmong, AnchorsGrow}
-use Rattle.flow_listed.proofs.Growing.{grows_both}
+use Rattle.flow.specs.Cells.{Anchor, AreAmong, AnchorsGrow}
+use Rattle.flow.proofs.Growing.{grows_both}
 use Rattle.task_code.specs.Code.{Entry}
 use Rattle.task_code.specs.View.{entry_view}
 use Rattle.task_code.specs.declared.entry.Entry.{Entry as Made}

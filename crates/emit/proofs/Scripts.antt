@@ -15,9 +15,9 @@ use Rattle.task_code.specs.declared.entry.Entry.{Entry as Made}
 use Rattle.task_code.specs.declared.code.Body.{Body as Opened}
 use Rattle.code_rules.specs.Laying.{Kinds, Laying, LaysBlock, LaysScript, no_function, one_function}
 use Rattle.emit_rights.specs.Granted.{laid_code}
-use Rattle.code_layout.proofs.Layouts.{layout_of, layout_suits}
+use Rattle.code_laws.proofs.Layouts.{layout_of, layout_suits}
 use Rattle.emit_statements.specs.Into.{laying}
-use Rattle.emit_statements.specs.declared.filling.Filling.{Filling}
+use Rattle.emit_statements.specs.declared.block_builder.BlockBuilder.{BlockBuilder}
 use Rattle.wait_merge.specs.Merged.{block_seen, functions_merged}
 use Rattle.emit.specs.Emits.{CanBeEmitted, EmitsBlock, EmitsBody, EmitsFirst, EmitsFunctions, Fits, Lays, LaysBodies, LaysFirst, state}
 use Rattle.emit.proofs.Bare.{bared, block-bare, functions-bare}
@@ -28,7 +28,7 @@ abbrev nothing : Laying
 nothing = record { entries = []; bodies = [] }
 
 -- a block that is laid into a body of its own
-pub body-emits : (fs : List Kinds) (roots k : ℕ) (b : Block) (ds : List (ℕ × Bool)) (o : Opener) (E0 E1 : List Made) (B0 B1 : List Opened) (I0 I1 : Filling) (made : code.Body) → I0.makes.items ≡ [] → I0.entries.items ≡ []
+pub body-emits : (fs : List Kinds) (roots k : ℕ) (b : Block) (ds : List (ℕ × Bool)) (o : Opener) (E0 E1 : List Made) (B0 B1 : List Opened) (I0 I1 : BlockBuilder) (made : code.Body) → I0.makes.items ≡ [] → I0.entries.items ≡ []
     → EmitsBlock fs roots k b ds (state E0 B0 I0) (state E1 B1 I1) → made ≡ record { opener = o; makes = map variable_view I1.makes.items; entries = I1.entries.items }
     → EmitsBody fs roots k b ds o (laying E0 (map body_view B0)) (laying E1 (map body_view B1)) made
 body-emits fs roots k b ds o E0 E1 B0 B1 I0 I1 made nil none inner is = record {

@@ -16,13 +16,13 @@ use Rattle.code_rules.specs.IsCodeOf.{IsEntry}
 use Rattle.code_rules.specs.Laying.{Kinds, LaysBlock, is_one_wait, next_body, waits}
 use Rattle.code_rules.specs.Room.{ActionRoom}
 use Rattle.emit_statements.specs.Into.{laying}
-use Rattle.emit_statements.specs.declared.filling.Filling.{Filling}
+use Rattle.emit_statements.specs.declared.block_builder.BlockBuilder.{BlockBuilder}
 use Rattle.emit_statements.specs.Blocks.{Numbered, WaitAddedAs}
 use Rattle.emit.specs.Emits.{EmitsBlock, EmitsStmt, Lays, state}
 use Rattle.emit.proofs.Fitting.{fits-part, inside-in, inside-room, size-inside}
 use Rattle.emit.proofs.Opening.{one-more-long, body-is, own-number, own-first, own-none}
 
-pub wait-emits : (fs : List Kinds) (roots k at n : ℕ) (ns : List Awaited) (c b : Block) (ds : List (ℕ × Bool)) (E1 E2 E3 : List Made) (B0 B2 B3 : List Opened) (F1 F2 I0 I1 : Filling) (body number : ℕ)
+pub wait-emits : (fs : List Kinds) (roots k at n : ℕ) (ns : List Awaited) (c b : Block) (ds : List (ℕ × Bool)) (E1 E2 E3 : List Made) (B0 B2 B3 : List Opened) (F1 F2 I0 I1 : BlockBuilder) (body number : ℕ)
     → is_one_wait b ≡ false → I0.entries.items ≡ [] → I0.makes.items ≡ []
     → EmitsBlock fs roots k b ds (state E1 B0 I0) (state E2 B2 I1)
     → (roots + length B2 < 2 ^ 32 → body ≡ roots + length B2)

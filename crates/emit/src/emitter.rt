@@ -1,35 +1,36 @@
-//! What is laid of a script so far.
+//! The state of emission.
 ghost use Rattle.std.specs.Prelude.{◌≡◌, ◌+◌, ◌<◌, ◌^◌, [], length};
 ghost use Rattle.emit.specs.Emits.{roots_of};
 
 use crate::body::empty;
-use emit_numbers::{behind, next_number};
-use emit_statements::writer::Writer;
+use crate::body_numbers::{behind, next_number};
+use emit_statements::code_builder::CodeBuilder;
 use flow::script::Function;
 use std::alloc::{Allocator, Global};
 use task_code::code::Body;
 
-/// How many bodies are the script's and its functions', which stand before those of inner blocks.
+/// Returns the number of root bodies: those of the script and of its functions, which precede the bodies of inner
+/// blocks.
 pub fn roots<A: Allocator>(functions: &Vec<Function<A>, A>) -> usize
     ensures { roots_of functions.now.items < 2 ^ 64 → result ≡ roots_of functions.now.items }
 {
     behind(functions.len(), 1)
 }
 
-/// What is laid of entries and of the block that is being laid, and the bodies of the inner blocks that are laid.
+/// The code emitted so far: the entries and the block under construction, and the bodies of the finished inner blocks.
 #[derive(Drop)]
 pub struct Emitter {
-    pub writer: Writer,
+    pub writer: CodeBuilder,
     pub bodies: Vec<Body>,
 }
 
 impl Emitter {
-    /// Nothing is laid.
+    /// Creates the state in which nothing is emitted.
     pub fn new(alloc: Global) -> Emitter
         ensures entries { result.writer.entries.items ≡ [] }
         ensures bodies { result.bodies.items ≡ [] }
     {
-        let writer = Writer {
+        let writer = CodeBuilder {
             alloc,
             entries: Vec::new(alloc),
             filling: empty(alloc),
@@ -40,7 +41,7 @@ impl Emitter {
         }
     }
 
-    /// The number of the next body, in a script with these functions.
+    /// Returns the number of the next body of an inner block, in a script with these functions.
     pub fn next_body<A: Allocator>(&self, functions: &Vec<Function<A>, A>) -> u32
         ensures { roots_of functions.now.items + length self.now.bodies.items < 2 ^ 32
             → result ≡ roots_of functions.now.items + length self.now.bodies.items }

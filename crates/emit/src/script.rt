@@ -1,9 +1,9 @@
-//! Scripts.
+//! Emission of scripts and functions.
 ghost use Rattle.std.specs.Prelude.{◌≡◌, ◌≤◌, map, IfOk, OnOk};
 ghost use Rattle.std.specs.List.{flat_map};
 ghost use Rattle.flow.specs.Shapes.{declared_of, kinds_of};
 ghost use Rattle.flow.specs.View.{core_of};
-ghost use Rattle.flow_listed.specs.Cells.{AreAmong, block_anchors, anchors_of, function_anchors};
+ghost use Rattle.flow.specs.Cells.{AreAmong, block_anchors, anchors_of, function_anchors};
 ghost use Rattle.task_code.specs.View.{body_view, entry_view, opener_view};
 ghost use Rattle.code_rules.specs.Emitted.{CallsOnce, CellsOnce, IsEmitted, ReadsStand, size_of};
 ghost use Rattle.code_rules.specs.Laying.{LaysScript};
@@ -24,7 +24,7 @@ use task_code::draft::Draft;
 use task_code::entry::Entry;
 
 impl Emitter {
-    /// Lays a block of a function's own, or the script's. The result is its body.
+    /// Emits the own block of the script or of a function, and returns its body.
     fn root<A: Allocator>(
         &mut self,
         functions: &Vec<Function<A>, A>,
@@ -40,7 +40,7 @@ impl Emitter {
         Ok(body(filling, opener))
     }
 
-    /// Lays a function; its body stands behind those before.
+    /// Emits a function and appends its body to `found`.
     fn function<A: Allocator>(
         &mut self,
         functions: &Vec<Function<A>, A>,
@@ -56,7 +56,7 @@ impl Emitter {
         Ok(())
     }
 
-    /// Lays the functions of a script; their bodies stand behind those before.
+    /// Emits all functions of a script and appends their bodies to `found`.
     fn each_function<A: Allocator>(
         &mut self,
         functions: &Vec<Function<A>, A>,
@@ -72,15 +72,15 @@ impl Emitter {
     }
 }
 
-/// The bodies and entries of a script, before rights are put in.
+/// The bodies and entries of a script before rights are assigned.
 #[derive(Drop)]
-struct Laid {
+struct UngrantedCode {
     bodies: Vec<Body>,
     entries: Vec<Entry>,
 }
 
-/// Lays a script: its own block, then its functions; inner blocks stand behind them.
-fn lay_script<A: Allocator>(alloc: Global, flow: &Flow<A>) -> Result<Laid, AllocError>
+/// Emits a script: its own block, then its functions. The bodies of inner blocks follow all of these.
+fn lay_script<A: Allocator>(alloc: Global, flow: &Flow<A>) -> Result<UngrantedCode, AllocError>
     ensures laid { IfOk result (λ laid. CanBeEmitted (core_of flow.now) → IsMerged flow.now
         → LaysScript (core_of flow.now) (kinds_of flow.now) (declared_of flow.now) (laid_code laid.bodies.items laid.entries.items)) }
     ensures marks { IfOk result (λ laid. AreAmong (marks_of (map entry_view laid.entries.items)) (anchors_of flow.now)) }
@@ -91,18 +91,21 @@ fn lay_script<A: Allocator>(alloc: Global, flow: &Flow<A>) -> Result<Laid, Alloc
     found.push(main)?;
     emitter.each_function(&flow.functions, &mut found)?;
     found.append(&mut emitter.bodies)?;
-    Ok(Laid {
+    Ok(UngrantedCode {
         bodies: found,
         entries: emitter.writer.entries,
     })
 }
 
-/// The code of a flow in which no `wait` is left that could be merged: an entry for each cell, call and statement, and a body for
-/// each block. Body 0 is the script, then come its functions, then inner blocks.
+/// Emits the code of a flow in which all `wait` statements are merged that can be.
+///
+/// The code has an entry for each cell, call and statement, and a body for each block. Body 0 is the script; the bodies
+/// of its functions follow, then those of inner blocks.
+///
 ///
 /// # Errors
 ///
-/// `AllocError` where memory that was asked for was refused.
+/// Returns `AllocError` if an allocation fails.
 pub fn emit<A: Allocator>(alloc: Global, flow: &Flow<A>) -> Result<Draft, AllocError>
     requires merged { IsMerged flow.now }
     requires calls { CallsOnce (core_of flow.now) }

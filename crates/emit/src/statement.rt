@@ -1,10 +1,10 @@
-//! Statements and blocks.
+//! Emission of statements and blocks.
 ghost use Rattle.std.specs.Prelude.{◌≡◌, ◌&&◌, ◌∷◌, ◌++◌, [], map, not, option_map, IfOk, OnOk};
 ghost use Rattle.language.specs.Core as core;
 ghost use Rattle.std.specs.List.{flat_map};
 ghost use Rattle.flow.specs.Shapes.{action_declared, block_declared, is_array};
 ghost use Rattle.flow.specs.View.{action_view, awaited_view, block_view, call_view, name_view, outer_view, parts_view, waits_around};
-ghost use Rattle.flow_listed.specs.Cells.{action_anchors, block_anchors, outer_anchors, parts_anchors, range_anchors, statement_anchors};
+ghost use Rattle.flow.specs.Cells.{action_anchors, block_anchors, outer_anchors, parts_anchors, range_anchors, statement_anchors};
 ghost use Rattle.task_code.specs.View.{variable_view};
 ghost use Rattle.code_rules.specs.IsCodeOf.{own_priority};
 ghost use Rattle.emit_statements.specs.Blocks.{range_action};
@@ -13,26 +13,26 @@ ghost use Rattle.wait_merge.specs.Merged.{action_seen, block_seen};
 ghost use Rattle.emit.specs.Emits.{AddsMarks, EmitsAction, EmitsInner, EmitsMerged, EmitsOne, EmitsOwn, EmitsStatements, state_of, state_with};
 
 use crate::body::{add_body, empty};
+use crate::body_numbers::next;
 use crate::emitter::Emitter;
-use emit_cells::entries::Standing;
-use emit_numbers::next;
-use emit_statements::filling::Filling;
+use emit_cells::entries::StatementContext;
+use emit_statements::block_builder::BlockBuilder;
 use emit_statements::loops::{loop_filling, loop_of};
-use emit_statements::own::{StatementAt, Use};
-use flow::cell::{Call, Outer, Part};
+use emit_statements::own::{StatementAt, ValueUse};
+use flow::cell::{Call, CellPart, OuterCell};
 use flow::name::Name;
 use flow::script::Function;
 use flow::statement::{Action, Block, Header, Range, Statement, Variable};
 use std::alloc::{AllocError, Allocator};
 use std::mem;
 use task_code::code::Opener;
-use task_code::entry::Variable as Made;
+use task_code::entry;
 
-/// A statement with its priority.
+/// Returns the statement with this priority.
 fn with_priority(statement: StatementAt, priority: i32) -> StatementAt
     ensures { result ≡ record statement { standing = record statement.standing { priority = priority } } }
 {
-    let standing = Standing {
+    let standing = StatementContext {
         at: statement.standing.at,
         priority,
         inputs: statement.standing.inputs,
@@ -43,13 +43,16 @@ fn with_priority(statement: StatementAt, priority: i32) -> StatementAt
     }
 }
 
-/// Declares a variable in the block.
-fn declare<A: Allocator>(filling: &mut Filling, variable: &Variable<A>) -> Result<(), AllocError>
+/// Declares a variable in the block under construction.
+fn declare<A: Allocator>(
+    filling: &mut BlockBuilder,
+    variable: &Variable<A>,
+) -> Result<(), AllocError>
     ensures entries { OnOk result (filling.new.entries ≡ filling.old.entries) }
     ensures makes { OnOk result (map variable_view filling.new.makes.items
         ≡ map variable_view filling.old.makes.items ++ record { node = variable.now.node; array = is_array variable.now.shape } ∷ []) }
 {
-    filling.makes.push(Made {
+    filling.makes.push(entry::Variable {
         node: variable.node,
         array: variable.is_array(),
     })?;
@@ -57,16 +60,18 @@ fn declare<A: Allocator>(filling: &mut Filling, variable: &Variable<A>) -> Resul
 }
 
 impl Emitter {
-    /// Lays a block inside the one that is being laid, which stays as it is. So much the block has before its statements: the
-    /// variables of a loop, or nothing. The result is all that it has.
+    /// Emits a block nested in the block under construction, and returns its finished contents.
+    ///
+    /// `filling` has the initial contents: the variables of a loop, or nothing. The enclosing block is restored
+    /// afterwards.
     #[cycle(statement)]
     pub fn block<A: Allocator>(
         &mut self,
         functions: &Vec<Function<A>, A>,
         inputs: usize,
-        filling: Filling,
+        filling: BlockBuilder,
         block: &Block<A>,
-    ) -> Result<Filling, AllocError>
+    ) -> Result<BlockBuilder, AllocError>
         ensures laid { IfOk result (λ inside. EmitsInner functions.now.items inputs block.now (state_with self.old filling) (state_with self.new inside)) }
         ensures around { OnOk result (self.new.writer.filling ≡ self.old.writer.filling) }
         ensures marks { OnOk result (AddsMarks self.old self.new (block_anchors block.now)) }
@@ -76,7 +81,7 @@ impl Emitter {
         Ok(mem::replace(&mut self.writer.filling, around))
     }
 
-    /// Lays statements, one after another.
+    /// Emits statements in order.
     #[cycle(statement)]
     fn each_statement<A: Allocator>(
         &mut self,
@@ -93,7 +98,7 @@ impl Emitter {
         Ok(())
     }
 
-    /// Lays a statement behind the others of its block.
+    /// Emits a statement at the end of its block.
     #[cycle(statement)]
     fn statement<A: Allocator>(
         &mut self,
@@ -104,7 +109,7 @@ impl Emitter {
         ensures laid { OnOk result (EmitsOne functions.now.items inputs one.now (state_of self.old) (state_of self.new)) }
         ensures marks { OnOk result (AddsMarks self.old self.new (statement_anchors one.now)) }
     {
-        let standing = Standing {
+        let standing = StatementContext {
             at: one.at,
             priority: 0,
             inputs,
@@ -116,7 +121,7 @@ impl Emitter {
         self.action(functions, statement, &one.action)
     }
 
-    /// Lays what a statement does. The priority of a statement that has none is 0.
+    /// Emits the action of a statement. A statement without a priority of its own has priority 0.
     #[cycle(statement)]
     fn action<A: Allocator>(
         &mut self,
@@ -136,10 +141,10 @@ impl Emitter {
                 call,
             } => self.call(functions, with_priority(statement, *priority), parts, call),
             Action::Assign { target, right } => {
-                self.own(functions, statement, Use::Set(*target), right)
+                self.own(functions, statement, ValueUse::Set(*target), right)
             }
             Action::Fill { array, right } => {
-                self.own(functions, statement, Use::Fill(*array), right)
+                self.own(functions, statement, ValueUse::Fill(*array), right)
             }
             Action::Insert {
                 array,
@@ -150,7 +155,7 @@ impl Emitter {
                 self.own(
                     functions,
                     with_priority(statement, *priority),
-                    Use::Print,
+                    ValueUse::Print,
                     line,
                 )
             }
@@ -158,7 +163,7 @@ impl Emitter {
                 self.own(
                     functions,
                     with_priority(statement, *priority),
-                    Use::Assert,
+                    ValueUse::Assert,
                     check,
                 )
             }
@@ -190,12 +195,12 @@ impl Emitter {
 
     // STATEMENTS WITHOUT BLOCKS
 
-    /// Lays a call of a composite function that is a statement.
+    /// Emits a statement that calls a composite function.
     fn call<A: Allocator>(
         &mut self,
         functions: &Vec<Function<A>, A>,
         statement: StatementAt,
-        parts: &Vec<Part<A>, A>,
+        parts: &Vec<CellPart<A>, A>,
         call: &Call<A>,
     ) -> Result<(), AllocError>
         ensures laid { OnOk result (EmitsOwn functions.now.items statement (core.call_alone statement.standing.priority
@@ -206,13 +211,13 @@ impl Emitter {
             .call_alone(functions, statement.standing, parts, call)
     }
 
-    /// Lays a statement that works an outermost cell out itself.
+    /// Emits a statement that evaluates an outermost cell in its own entry.
     fn own<A: Allocator>(
         &mut self,
         functions: &Vec<Function<A>, A>,
         statement: StatementAt,
-        done: Use,
-        outer: &Outer<A>,
+        done: ValueUse,
+        outer: &OuterCell<A>,
     ) -> Result<(), AllocError>
         ensures laid { OnOk result (statement.standing.priority ≡ own_priority (action_of done statement.standing.priority (outer_view outer.now))
             → EmitsOwn functions.now.items statement (action_of done statement.standing.priority (outer_view outer.now)) self.old self.new) }
@@ -221,14 +226,14 @@ impl Emitter {
         self.writer.own(functions, statement, done, outer)
     }
 
-    /// Lays a write of an element.
+    /// Emits an element write.
     fn insert<A: Allocator>(
         &mut self,
         functions: &Vec<Function<A>, A>,
         statement: StatementAt,
         array: Name,
-        index: &Outer<A>,
-        right: &Outer<A>,
+        index: &OuterCell<A>,
+        right: &OuterCell<A>,
     ) -> Result<(), AllocError>
         ensures laid { OnOk result (EmitsAction functions.now.items statement (core.insert (name_view array) (outer_view index.now) (outer_view right.now)) []
             self.old self.new) }
@@ -240,13 +245,13 @@ impl Emitter {
 
     // BRANCHES
 
-    /// Lays an `if` without `else`.
+    /// Emits an `if` without `else`.
     #[cycle(statement)]
     fn when<A: Allocator>(
         &mut self,
         functions: &Vec<Function<A>, A>,
         statement: StatementAt,
-        condition: &Outer<A>,
+        condition: &OuterCell<A>,
         then: &Block<A>,
     ) -> Result<(), AllocError>
         ensures laid { OnOk result (EmitsMerged functions.now.items statement (core.when (outer_view condition.now) (block_view then.now))
@@ -262,13 +267,13 @@ impl Emitter {
         add_body(&mut self.bodies, Opener::ByStep(number), inside)
     }
 
-    /// Lays an `if` with `else`.
+    /// Emits an `if` with `else`.
     #[cycle(statement)]
     fn choose<A: Allocator>(
         &mut self,
         functions: &Vec<Function<A>, A>,
         statement: StatementAt,
-        condition: &Outer<A>,
+        condition: &OuterCell<A>,
         then: &Block<A>,
         other: &Block<A>,
     ) -> Result<(), AllocError>
@@ -291,7 +296,7 @@ impl Emitter {
 
     // LOOPS
 
-    /// Lays a `foreach` over a range.
+    /// Emits a `foreach` over a range.
     #[cycle(statement)]
     fn range<A: Allocator>(
         &mut self,
@@ -317,7 +322,7 @@ impl Emitter {
         add_body(&mut self.bodies, Opener::ByStep(number), inside)
     }
 
-    /// Lays a `foreach` over an array.
+    /// Emits a `foreach` over an array.
     #[cycle(statement)]
     fn each<A: Allocator>(
         &mut self,
@@ -343,7 +348,7 @@ impl Emitter {
 
     // WAITS
 
-    /// Lays a `wait`, with those that are merged with it.
+    /// Emits a `wait` together with the waits merged with it.
     #[cycle(statement)]
     fn wait<A: Allocator>(
         &mut self,

@@ -16,8 +16,8 @@ use Rattle.code_rules.specs.Room.{Each}
 use Rattle.code_rules.specs.Laying.{CallFits, CallsFit, Kinds, PlainAs, StandsAmong, is_array_argument, local_node}
 use Rattle.emit_cells.specs.Chunk.{HandedFor, literal_handed, name_handed, datum_handed, handed_in, IsPassed, NamePasses, InputPasses, OutputPasses, OneByOne, no_pair, one_pair, Added, Calls}
 use Rattle.emit_cells.specs.Made.{made}
-use Rattle.emit_cells.specs.declared.entries.Shown.{Shown}
-use Rattle.emit_cells.specs.declared.entries.Standing.{Standing}
+use Rattle.emit_cells.specs.declared.entries.EntryOrigin.{EntryOrigin}
+use Rattle.emit_cells.specs.declared.entries.StatementContext.{StatementContext}
 use Rattle.emit_cells.proofs.Chunks.{chunk_one, added_one}
 
 -- NAMES
@@ -150,7 +150,7 @@ call_in (calls d ∷ ps) c first = first
 call_in (calls d ∷ ps) c (later i) = later (call_in ps c i)
 
 -- the entry of a call
-pub call_added : (fs : List Kinds) (k : ℕ) (all : List Part) (s : Standing) (w : Shown) (c : Call) (ins : List Argument) (outs : List code.Name) (old new : List Made)
+pub call_added : (fs : List Kinds) (k : ℕ) (all : List Part) (s : StatementContext) (w : EntryOrigin) (c : Call) (ins : List Argument) (outs : List code.Name) (old new : List Made)
     → OneByOne (InputPasses fs k all c.function) 0 c.inputs ins → OneByOne (OutputPasses fs k c.function) 0 c.outputs outs → calls c ∈ all → w.mark ≡ c.at
     → map entry_view new ≡ map entry_view old ++ made s w [] (code.Call (suc c.function) ins outs) ∷ []
     → Added fs k all s.at s.priority (calls c ∷ []) old new
@@ -240,7 +240,7 @@ each_at V P (y ∷ xs) (suc i) x d below is h = each_at V P xs i x d (omega arit
 pub next_is : (n : ℕ) → n + 1 ≡ suc n
 next_is n = omega arith
 
-pub calls_added : (fs : List Kinds) (k : ℕ) (all : List Part) (s : Standing) (w : Shown) (c : Call) (a : code.Act) (old new : List Made) → Calls fs k all c a → calls c ∈ all → w.mark ≡ c.at
+pub calls_added : (fs : List Kinds) (k : ℕ) (all : List Part) (s : StatementContext) (w : EntryOrigin) (c : Call) (a : code.Act) (old new : List Made) → Calls fs k all c a → calls c ∈ all → w.mark ≡ c.at
     → map entry_view new ≡ map entry_view old ++ made s w [] a ∷ [] → Added fs k all s.at s.priority (calls c ∷ []) old new
 calls_added fs k all s w c a old new h there mark is =
     call_added fs k all s w c h.ins h.outs old new h.inputs h.outputs there mark (is ∙ ap (λ y. map entry_view old ++ made s w [] y ∷ []) h.is)

@@ -12,8 +12,8 @@ use Rattle.code_rules.specs.IsCodeOf.{Layout, IsEntry, IndexAs, at_literal, at_n
 use Rattle.code_rules.specs.Laying.{CallsFit, IndexesStand, Kinds, PlainAs, counted}
 use Rattle.emit_cells.specs.Chunk.{Told, HandedFor, literal_handed, name_handed, datum_handed, element_at, handed_in, IsPassed, Chunk, Added}
 use Rattle.emit_cells.specs.Made.{made}
-use Rattle.emit_cells.specs.declared.entries.Shown.{Shown}
-use Rattle.emit_cells.specs.declared.entries.Standing.{Standing}
+use Rattle.emit_cells.specs.declared.entries.EntryOrigin.{EntryOrigin}
+use Rattle.emit_cells.specs.declared.entries.StatementContext.{StatementContext}
 use Rattle.task_code.specs.View.{entry_view}
 use Rattle.task_code.specs.declared.entry.Argument.{Argument as Handed}
 use Rattle.task_code.specs.declared.entry.Entry.{Entry as Made}
@@ -140,14 +140,14 @@ added_both ps qs x y z a b = record {
 
 -- A CELL'S ENTRY
 
-pub computed_added : (fs : List Kinds) (k : ℕ) (all : List Part) (s : Standing) (w : Shown) (x : Expr) (old new : List Made) → Told all w.node false
+pub computed_added : (fs : List Kinds) (k : ℕ) (all : List Part) (s : StatementContext) (w : EntryOrigin) (x : Expr) (old new : List Made) → Told all w.node false
     → map entry_view new ≡ map entry_view old ++ made s w (each_once (wanted k x)) (code.Cell (over k (each_once (wanted k x)) x)) ∷ []
     → Added fs k all s.at s.priority (inner (record { node = w.node; form = compute x }) ∷ []) old new
 computed_added fs k all s w x old new told is =
     added_one _ old new (made s w (each_once (wanted k x)) (code.Cell (over k (each_once (wanted k x)) x))) is
     (chunk_computed fs k all s.at s.priority w.node x _ told refl (record { at_is = refl; priority_is = refl; needs_is = refl; act_is = refl }))
 
-pub read_added : {S : Type 0} (fs : List Kinds) (k : ℕ) (all : List Part) (m : IndexMap ℕ Handed S) (s : Standing) (w : Shown) (i : ℕ) (x : Name) (need : Need) (old new : List Made) → IsPassed k all m → Told all w.node false
+pub read_added : {S : Type 0} (fs : List Kinds) (k : ℕ) (all : List Part) (m : IndexMap ℕ Handed S) (s : StatementContext) (w : EntryOrigin) (i : ℕ) (x : Name) (need : Need) (old new : List Made) → IsPassed k all m → Told all w.node false
     → inner (record { node = w.node; form = read x i }) ∈ all → ((a : Argument) → handed_in m i ≡ Some a → need ≡ element_at (name_as k true x) a) → map entry_view new ≡ map entry_view old ++ made s w (need ∷ []) code.Read ∷ []
     → Added fs k all s.at s.priority (inner (record { node = w.node; form = read x i }) ∷ []) old new
 read_added fs k all m s w i x need old new passed told there at is =

@@ -1,4 +1,4 @@
--- The parts before another one, and what others see of a cell.
+-- The parts before another one, and calls among them with a given output.
 use Rattle.std.specs.Prelude.{ℕ, Bool, false, List, [], ◌∷◌, Option, Some, None, take}
 use Rattle.std.specs.List.{list_any}
 use Rattle.language.specs.Core.{Name, Part, inner, calls}
@@ -9,7 +9,7 @@ abbrev pub last_of : Option Part → List Part → Option Part
 last_of p [] = p
 last_of p (x ∷ xs) = last_of (Some x) xs
 
--- the part right before a place
+-- the part directly before an index
 abbrev pub before : List Part → ℕ → Option Part
 before ps i = last_of None (take i ps)
 
@@ -17,7 +17,7 @@ before ps i = last_of None (take i ps)
 abbrev pub is_among : ℕ → List Name → Bool
 is_among n xs = list_any (λ x. same_node (Some n) (local_node x)) xs
 
--- the part is a call that gives the scalar of a node
+-- the part is a call with the scalar of this node as an output
 abbrev pub gives_node : Option Part → ℕ → Bool
 gives_node (Some (calls c)) n = is_among n c.outputs
 gives_node (Some (inner c)) n = false

@@ -3,12 +3,12 @@ use Rattle.std.specs.Prelude.{List, []}
 use Rattle.language.specs.Core.{Expr}
 use Rattle.task_code.specs.Code.{Act, Cell, Entry, Need}
 use Rattle.code_rules.specs.CodeNames.{each_once, over, wanted}
-use Rattle.emit_cells.specs.declared.entries.Shown.{Shown}
-use Rattle.emit_cells.specs.declared.entries.Standing.{Standing}
+use Rattle.emit_cells.specs.declared.entries.EntryOrigin.{EntryOrigin}
+use Rattle.emit_cells.specs.declared.entries.StatementContext.{StatementContext}
 
-abbrev pub made : Standing → Shown → List Need → Act → Entry
+abbrev pub made : StatementContext → EntryOrigin → List Need → Act → Entry
 made s w ns a = record { node = w.node; at = s.at; mark = w.mark; priority = s.priority; needs = ns; act = a; reads = []; writes = [] }
 
--- that of a cell with a datum, which is what an expression comes to
-abbrev pub made_cell : Standing → Shown → Expr → Entry
+-- the entry of a cell with a datum, which is the value of an expression
+abbrev pub made_cell : StatementContext → EntryOrigin → Expr → Entry
 made_cell s w e = made s w (each_once (wanted s.inputs e)) (Cell (over s.inputs (each_once (wanted s.inputs e)) e))

@@ -1,12 +1,12 @@
--- Which offsets a listing shows for the entries of cells.
+-- The nodes and offsets that a listing shows for the entries of cells.
 use Rattle.std.specs.Prelude.{◌≡◌, ℕ, List, [], ◌∷◌, map}
 use Rattle.std.specs.List.{flat_map}
-use Rattle.flow_listed.specs.Cells.{Anchor, AnchorsGrow}
+use Rattle.flow.specs.Cells.{Anchor, AnchorsGrow}
 use Rattle.task_code.specs.Code.{Act, Cell, Read, Entry}
 use Rattle.task_code.specs.View.{entry_view}
 use Rattle.task_code.specs.declared.entry.Entry.{Entry as Made}
 
--- the node and the mark of an entry that works a cell out or reads an element, and of no other
+-- the node and the mark of an entry that evaluates a cell or reads an element, and of no other
 abbrev pub marked : Act → ℕ → ℕ → List Anchor
 marked (Cell e) node mark = record { node = node; at = mark } ∷ []
 marked Read node mark = record { node = node; at = mark } ∷ []
@@ -18,10 +18,10 @@ entry_marks e = marked e.act e.node e.mark
 abbrev pub marks_of : List Entry → List Anchor
 marks_of es = flat_map entry_marks es
 
--- an entry that does this is of no cell
+-- an entry with this act is not the entry of a cell
 abbrev pub IsUnmarked : Act → Type 0
 IsUnmarked a = (node mark : ℕ) → marked a node mark ≡ []
 
--- the entries of cells that are added are marked so
+-- the appended entries of cells have these nodes and marks
 abbrev pub MarksGrow : List Made → List Made → List Anchor → Type 0
 MarksGrow old new more = AnchorsGrow (marks_of (map entry_view old)) (marks_of (map entry_view new)) more

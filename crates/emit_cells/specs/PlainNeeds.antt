@@ -1,4 +1,4 @@
--- What entries wait for, as it is noted.
+-- The plain needs of entries.
 use Rattle.std.specs.Prelude.{◌≡◌, ◌<◌, ◌^◌, length, ℕ, Bool, true, false, List, ◌++◌, map, if◌then◌else◌}
 use Rattle.task_code.specs.Code.{Local, Name, Need, Closed, Stored, Parameter, is_array_name}
 use Rattle.code_rules.specs.CodeNames.{each_once}
@@ -11,11 +11,11 @@ name_of w = record { up = w.up; owned = if w.local then Local (record { node = w
 abbrev pub need_of : PlainNeed → Need
 need_of w = if w.array then Closed (name_of w) else Stored (name_of w)
 
--- the need of a name
+-- the need with a name
 abbrev pub need_named : Name → Need
 need_named r = if is_array_name r then Closed r else Stored r
 
--- a variable has no place, and a parameter no node
+-- a variable has index 0, and a parameter has node 0
 abbrev pub IsPlainAs : Bool → ℕ → ℕ → Type 0
 IsPlainAs true n p = p ≡ 0
 IsPlainAs false n p = n ≡ 0
@@ -23,16 +23,16 @@ IsPlainAs false n p = n ≡ 0
 abbrev pub IsPlain : PlainNeed → Type 0
 IsPlain w = IsPlainAs w.local w.node w.place
 
--- these needs are noted, each once
+-- these are the needs, each once
 pub record Noted (ns : List Need) (ks : List PlainNeed) : Type 0 where
   pub are : map need_of ks ≡ each_once ns
   pub plain : Each IsPlain ks
 
--- more needs are noted behind those
+-- more needs are appended to those
 abbrev pub Notes : List PlainNeed → List PlainNeed → List Need → Type 0
 Notes old new more = (ns : List Need) → Noted ns old → Noted (ns ++ more) new
 
--- and there are not too many
+-- the number of needs fits in 32 bits
 pub record IsReady (ks : List PlainNeed) : Type 0 where
   pub plain : Each IsPlain ks
   pub few : length ks < 2 ^ 32

@@ -1,4 +1,4 @@
-//! What is handed over for cells.
+//! Call arguments for cells, and element needs whose index is a cell.
 ghost use Rattle.std.specs.Prelude.{◌≡◌, ◌<◌, List, true, Some, option_map, length, OnOk, IfOk};
 ghost use Rattle.language.specs.Core as core;
 ghost use Rattle.flow.specs.View.{form_view, parts_view};
@@ -11,7 +11,7 @@ ghost use Rattle.emit_cells.specs.Chunk.{Inside, Puts, Passes, element_at, hande
 use crate::names::{named, own};
 use crate::operators::text;
 use crate::plain::is_plain;
-use flow::cell::{Cell, Form, Part};
+use flow::cell::{Cell, CellForm, CellPart};
 use flow::expression::Expr;
 use indexmap::IndexMap;
 use std::alloc::{AllocError, Allocator, Global};
@@ -19,19 +19,19 @@ use task_code::entry::{Argument, Name, Need};
 use values::key::KeyRef;
 use values::value::Scalar;
 
-// WHAT IS HANDED OVER
+// ARGUMENTS
 
-/// What is handed over for a plain cell.
+/// Returns the argument for a plain cell: a literal or a name. Any other form is passed by the cell's own datum.
 fn plain_argument<A: Allocator>(
     alloc: Global,
     inputs: usize,
     node: u32,
-    form: &Form<A>,
+    form: &CellForm<A>,
 ) -> Result<Argument, AllocError>
     ensures { IfOk result (λ a. FormRoom inputs (form_view form.now) → code_view.argument_view a ≡ passed_as inputs true node (form_view form.now)) }
 {
     match form {
-        Form::Compute(expr) => match expr {
+        CellForm::Compute(expr) => match expr {
             Expr::Number(n) => Ok(Argument::Fixed(Scalar::Number(*n))),
             Expr::Text(bytes) => Ok(Argument::Fixed(text(alloc, bytes)?)),
             Expr::Truth(b) => Ok(Argument::Fixed(Scalar::Truth(*b))),
@@ -39,11 +39,11 @@ fn plain_argument<A: Allocator>(
             Expr::Whole(_) => Ok(Argument::Named(own(node))),
             Expr::Operation(_, _) => Ok(Argument::Named(own(node))),
         },
-        Form::Read { .. } => Ok(Argument::Named(own(node))),
+        CellForm::Read { .. } => Ok(Argument::Named(own(node))),
     }
 }
 
-/// What is handed over for a cell.
+/// Returns the argument for a cell: its own datum unless it is plain.
 fn argument<A: Allocator>(
     alloc: Global,
     inputs: usize,
@@ -60,7 +60,7 @@ fn argument<A: Allocator>(
     }
 }
 
-/// Notes what is handed over for a cell.
+/// Records the argument for a cell.
 pub fn pass_cell<A: Allocator>(
     alloc: Global,
     passed: &mut IndexMap<u32, Argument>,
@@ -76,12 +76,12 @@ pub fn pass_cell<A: Allocator>(
     Ok(())
 }
 
-/// Notes what is handed over for the part at a place.
+/// Records the argument for the part at this index. A call has none.
 fn pass_part<A: Allocator>(
     alloc: Global,
     passed: &mut IndexMap<u32, Argument>,
     inputs: usize,
-    parts: &Vec<Part<A>, A>,
+    parts: &Vec<CellPart<A>, A>,
     at: usize,
 ) -> Result<(), AllocError>
     requires { at < length parts.now.items }
@@ -89,20 +89,20 @@ fn pass_part<A: Allocator>(
         → Passes inputs all (part_at (parts_view parts.now.items) at) passed.old passed.new) }
 {
     match &parts[at] {
-        Part::Calls(_) => Ok(()),
-        Part::Inner(cell) => {
+        CellPart::Calls(_) => Ok(()),
+        CellPart::Inner(cell) => {
             let plain = is_plain(parts, at, &cell.form);
             pass_cell(alloc, passed, inputs, cell, plain)
         }
     }
 }
 
-/// Notes what is handed over for the cells among parts.
+/// Records the arguments for the cells among these parts.
 pub fn pass_parts<A: Allocator>(
     alloc: Global,
     passed: &mut IndexMap<u32, Argument>,
     inputs: usize,
-    parts: &Vec<Part<A>, A>,
+    parts: &Vec<CellPart<A>, A>,
 ) -> Result<(), AllocError>
     ensures { OnOk result ((all : List core.Part) → Each (PartRoom inputs) (parts_view parts.now.items) → Inside all (parts_view parts.now.items)
         → Passes inputs all (parts_view parts.now.items) passed.old passed.new) }
@@ -113,7 +113,7 @@ pub fn pass_parts<A: Allocator>(
     Ok(())
 }
 
-/// What a call hands over for the cell of a node, if there is one.
+/// Returns the argument for the cell of this node, if one is recorded.
 pub fn handed(passed: &IndexMap<u32, Argument>, node: u32) -> Result<Option<Argument>, AllocError>
     ensures { IfOk result (λ found. option_map code_view.argument_view found ≡ handed_in passed.now node) }
 {
@@ -123,7 +123,7 @@ pub fn handed(passed: &IndexMap<u32, Argument>, node: u32) -> Result<Option<Argu
     }
 }
 
-/// The same argument.
+/// Returns a copy of the argument that shares its literal.
 fn share(found: &Argument) -> Result<Argument, AllocError>
     ensures { IfOk result (λ same. code_view.argument_view same ≡ code_view.argument_view found.now) }
 {
@@ -133,7 +133,7 @@ fn share(found: &Argument) -> Result<Argument, AllocError>
     }
 }
 
-/// The element of an array at the index that the cell of a node has.
+/// Returns the need for the element of an array at the index held by the cell of node `index`.
 pub fn element(
     passed: &IndexMap<u32, Argument>,
     array: Name,
@@ -148,7 +148,7 @@ pub fn element(
     }
 }
 
-/// The element of an array at what is handed over for an index.
+/// Returns the need for the element of an array at an index given as an argument.
 fn element_of(array: Name, index: &Argument) -> Result<Need, AllocError>
     ensures { IfOk result (λ need. code_view.need_view need ≡ element_at (code_view.name_view array) (code_view.argument_view index.now)) }
 {

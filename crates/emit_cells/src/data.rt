@@ -1,4 +1,4 @@
-//! The data of the parts of a statement in its block: those of cells that are not plain, and the outputs of calls in expressions.
+//! Block data of the parts of a statement: those of cells that are not plain, and the outputs of calls in expressions.
 ghost use Rattle.std.specs.Prelude.{◌≡◌, ◌<◌, ◌∷◌, ◌++◌, [], None, length, map, OnOk};
 ghost use Rattle.flow.specs.View.{name_view, names_view, parts_view};
 ghost use Rattle.task_code.specs.Code.{scalar};
@@ -8,12 +8,12 @@ ghost use Rattle.emit_cells.specs.Before.{before};
 ghost use Rattle.emit_cells.specs.Chunk.{part_at};
 
 use crate::plain::{is_plain, local_node};
-use flow::cell::Part;
+use flow::cell::CellPart;
 use flow::name::Name;
 use std::alloc::{AllocError, Allocator};
 use task_code::entry::Variable;
 
-/// Adds the scalar of a node.
+/// Appends the scalar of a node.
 pub fn add_scalar(makes: &mut Vec<Variable>, node: u32) -> Result<(), AllocError>
     ensures { OnOk result (map variable_view makes.new.items ≡ map variable_view makes.old.items ++ scalar node ∷ []) }
 {
@@ -21,7 +21,7 @@ pub fn add_scalar(makes: &mut Vec<Variable>, node: u32) -> Result<(), AllocError
     Ok(())
 }
 
-/// Adds the scalar that an output of a call in an expression is.
+/// Appends the scalar of an output of a call in an expression.
 fn add_output(makes: &mut Vec<Variable>, name: Name) -> Result<(), AllocError>
     ensures { OnOk result (map variable_view makes.new.items ≡ map variable_view makes.old.items ++ one_output (local_node (name_view name))) }
 {
@@ -31,7 +31,7 @@ fn add_output(makes: &mut Vec<Variable>, name: Name) -> Result<(), AllocError>
     }
 }
 
-/// Adds the scalars that the outputs of a call in an expression are.
+/// Appends the scalars of the outputs of a call in an expression.
 fn add_outputs<A: Allocator>(
     makes: &mut Vec<Variable>,
     names: &Vec<Name, A>,
@@ -44,10 +44,10 @@ fn add_outputs<A: Allocator>(
     Ok(())
 }
 
-/// Adds the data of the part at a place.
+/// Appends the data of the part at this index.
 fn add_part_data<A: Allocator>(
     makes: &mut Vec<Variable>,
-    parts: &Vec<Part<A>, A>,
+    parts: &Vec<CellPart<A>, A>,
     at: usize,
 ) -> Result<(), AllocError>
     requires { at < length parts.now.items }
@@ -55,8 +55,8 @@ fn add_part_data<A: Allocator>(
         ≡ map variable_view makes.old.items ++ data_in (before (parts_view parts.now.items) at) (part_at (parts_view parts.now.items) at)) }
 {
     match &parts[at] {
-        Part::Calls(call) => add_outputs(makes, &call.outputs),
-        Part::Inner(cell) => {
+        CellPart::Calls(call) => add_outputs(makes, &call.outputs),
+        CellPart::Inner(cell) => {
             let plain = is_plain(parts, at, &cell.form);
             if plain {
                 Ok(())
@@ -67,10 +67,10 @@ fn add_part_data<A: Allocator>(
     }
 }
 
-/// Adds the data of parts.
+/// Appends the data of these parts.
 pub fn add_data<A: Allocator>(
     makes: &mut Vec<Variable>,
-    parts: &Vec<Part<A>, A>,
+    parts: &Vec<CellPart<A>, A>,
 ) -> Result<(), AllocError>
     ensures { OnOk result (map variable_view makes.new.items ≡ map variable_view makes.old.items ++ data_in None (parts_view parts.now.items)) }
 {

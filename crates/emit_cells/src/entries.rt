@@ -1,4 +1,4 @@
-//! Entries of a statement, without rights.
+//! Construction of the entries of a statement, without rights.
 ghost use Rattle.std.specs.Prelude.{◌≡◌, ◌++◌, ◌∷◌, [], List, map, OnOk};
 ghost use Rattle.task_code.specs.Code.{Need as PureNeed};
 ghost use Rattle.task_code.specs.View as code_view;
@@ -12,10 +12,10 @@ use indexmap::IndexSet;
 use std::alloc::{AllocError, Global};
 use task_code::entry::{Act, Entry, Need};
 
-/// What is known of the statement whose entries are made: the offset of its first token, its priority, and how many inputs the
-/// function has in whose body it stands.
+/// The context of a statement whose entries are created: the offset of its first token, its priority, and the number of
+/// inputs of the enclosing function.
 #[derive(Clone, Copy)]
-pub struct Standing {
+pub struct StatementContext {
     pub at: usize,
     pub priority: i32,
     pub inputs: usize,
@@ -23,13 +23,19 @@ pub struct Standing {
 
 /// The node of an entry, and the offset that a listing shows for it.
 #[derive(Clone, Copy)]
-pub struct Shown {
+pub struct EntryOrigin {
     pub node: u32,
     pub mark: usize,
 }
 
-/// An entry of a statement.
-pub fn entry(alloc: Global, standing: Standing, shown: Shown, needs: Vec<Need>, act: Act) -> Entry
+/// Creates an entry of a statement.
+pub fn entry(
+    alloc: Global,
+    standing: StatementContext,
+    shown: EntryOrigin,
+    needs: Vec<Need>,
+    act: Act,
+) -> Entry
     ensures { code_view.entry_view result ≡ made standing shown (map code_view.need_view needs.items) (code_view.act_view act) }
 {
     Entry {
@@ -44,12 +50,12 @@ pub fn entry(alloc: Global, standing: Standing, shown: Shown, needs: Vec<Need>, 
     }
 }
 
-/// Puts an entry of a statement, which waits for these needs, behind the others.
-pub fn put(
+/// Appends an entry of a statement with these needs.
+pub fn push_entry(
     alloc: Global,
     entries: &mut Vec<Entry>,
-    standing: Standing,
-    shown: Shown,
+    standing: StatementContext,
+    shown: EntryOrigin,
     needs: &IndexSet<PlainNeed>,
     act: Act,
 ) -> Result<(), AllocError>

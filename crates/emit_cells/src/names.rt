@@ -1,4 +1,4 @@
-//! Names as code has them.
+//! Conversion of the names of a flow into names of code.
 ghost use Rattle.std.specs.Prelude.{◌≡◌, ◌<◌, ◌+◌, ◌^◌};
 ghost use Rattle.flow.specs.View.{name_view};
 ghost use Rattle.task_code.specs.Code.{here, scalar};
@@ -6,10 +6,10 @@ ghost use Rattle.task_code.specs.View as code_view;
 ghost use Rattle.code_rules.specs.CodeNames.{name_as};
 ghost use Rattle.code_rules.specs.Room.{NameRoom};
 
-use flow::name::{Name, Owned};
-use task_code::entry::{Name as Used, Owned as Place, Variable};
+use flow::name::{Name, NameBinding};
+use task_code::entry::{self, Owned, Variable};
 
-/// The place of an output behind so many inputs, as far as a number goes.
+/// Returns the parameter index of the output at `place` after this number of inputs. Saturates at `usize::MAX`.
 fn behind(inputs: usize, place: usize) -> usize
     ensures { inputs + place < 2 ^ 64 → result ≡ inputs + place }
 {
@@ -20,7 +20,7 @@ fn behind(inputs: usize, place: usize) -> usize
     }
 }
 
-/// A number of 32 bits, as far as it goes.
+/// Converts a number to 32 bits. Saturates at `u32::MAX`.
 pub fn small(number: usize) -> u32
     ensures { number < 2 ^ 32 → result ≡ number }
 {
@@ -31,26 +31,26 @@ pub fn small(number: usize) -> u32
     }
 }
 
-/// A name of a scalar or of an array, in a block of a function with so many inputs: the function's outputs stand behind its
-/// inputs.
-pub fn named(inputs: usize, name: Name, array: bool) -> Used
+/// Converts a name of a scalar or an array, within a function with this number of inputs. The outputs of the function
+/// follow its inputs.
+pub fn named(inputs: usize, name: Name, array: bool) -> entry::Name
     ensures { NameRoom inputs (name_view name) → code_view.name_view result ≡ name_as inputs array (name_view name) }
 {
     let owned = match name.what {
-        Owned::Local(node) => Place::Local(Variable { node, array }),
-        Owned::Input(place) => Place::Parameter(place, array),
-        Owned::Output(place) => Place::Parameter(behind(inputs, place), array),
+        NameBinding::Local(node) => Owned::Local(Variable { node, array }),
+        NameBinding::Input(place) => Owned::Parameter(place, array),
+        NameBinding::Output(place) => Owned::Parameter(behind(inputs, place), array),
     };
-    Used { up: name.up, owned }
+    entry::Name { up: name.up, owned }
 }
 
-/// The scalar of a node, as its own block names it.
-pub fn own(node: u32) -> Used
+/// Returns the name of the scalar of this node within its own block.
+pub fn own(node: u32) -> entry::Name
     ensures { code_view.name_view result ≡ here (scalar node) }
 {
     let variable = Variable { node, array: false };
-    Used {
+    entry::Name {
         up: 0,
-        owned: Place::Local(variable),
+        owned: Owned::Local(variable),
     }
 }

@@ -1,4 +1,4 @@
-//! What an entry waits for: the scalars and arrays that its expressions name, each once, in reading order.
+//! Plain needs of an entry: the scalars and arrays that its expressions name, each once, in reading order.
 ghost use Rattle.std.specs.Prelude.{◌≡◌, ◌≤◌, ◌++◌, ◌∷◌, [], length, map, OnOk, IfOk};
 ghost use Rattle.flow.specs.View.{expr_view, exprs_view, name_view};
 ghost use Rattle.task_code.specs.View as code_view;
@@ -12,21 +12,21 @@ use indexmap::IndexSet;
 use std::alloc::{AllocError, Allocator, Global};
 use task_code::entry::{Name, Need, Owned, Variable};
 
-/// A scalar that is to be stored, or an array that is to be closed.
+/// A plain need: a scalar that must be stored, or an array that must be closed.
 #[derive(Clone, Copy, PartialEq, Eq, Hash, Debug)]
 pub struct PlainNeed {
     pub up: usize,
-    /// Whether it is a variable of a block, and not a parameter.
+    /// Whether the need names a variable of a block, and not a parameter.
     pub local: bool,
-    /// The variable's node, and 0 for a parameter.
+    /// The node of the variable, or 0 for a parameter.
     pub node: u32,
-    /// The parameter's place, and 0 for a variable.
+    /// The index of the parameter, or 0 for a variable.
     pub place: usize,
     pub array: bool,
 }
 
 impl PlainNeed {
-    /// What is named so.
+    /// Creates the plain need with this name.
     pub fn new(name: Name) -> PlainNeed
         ensures plain { IsPlain result }
         ensures name { name_of result ≡ code_view.name_view name }
@@ -49,7 +49,7 @@ impl PlainNeed {
         }
     }
 
-    /// Its name.
+    /// Returns the name.
     pub fn name(self) -> Name
         ensures { code_view.name_view result ≡ name_of self }
     {
@@ -64,7 +64,7 @@ impl PlainNeed {
         Name { up: self.up, owned }
     }
 
-    /// The need of it.
+    /// Returns the need of code: closed for an array, stored for a scalar.
     pub fn need(self) -> Need
         ensures { code_view.need_view result ≡ need_of self }
     {
@@ -76,7 +76,7 @@ impl PlainNeed {
     }
 }
 
-/// Notes a need, if it is not there yet.
+/// Adds the need with this name, if it is not present yet.
 pub fn note_name(needs: &mut IndexSet<PlainNeed>, name: Name) -> Result<(), AllocError>
     ensures { OnOk result (Notes needs.old.keys needs.new.keys (need_named (code_view.name_view name) ∷ [])) }
 {
@@ -84,7 +84,7 @@ pub fn note_name(needs: &mut IndexSet<PlainNeed>, name: Name) -> Result<(), Allo
     Ok(())
 }
 
-/// Notes what an expression waits for.
+/// Adds the needs of an expression.
 #[cycle(note)]
 pub fn note<A: Allocator>(
     needs: &mut IndexSet<PlainNeed>,
@@ -101,7 +101,7 @@ pub fn note<A: Allocator>(
     }
 }
 
-/// Notes what several expressions wait for.
+/// Adds the needs of several expressions.
 #[cycle(note)]
 fn note_all<A: Allocator>(
     needs: &mut IndexSet<PlainNeed>,
@@ -117,7 +117,7 @@ fn note_all<A: Allocator>(
     Ok(())
 }
 
-/// The place of a need, or how many there are where it is none of them.
+/// Returns the index of the need with this name, or the number of needs if it is not present.
 pub fn place_of(needs: &IndexSet<PlainNeed>, name: Name) -> u32
     ensures { IsReady needs.now.keys → result ≡ place_in (need_named (code_view.name_view name)) (map need_of needs.now.keys) }
 {
@@ -135,7 +135,7 @@ fn index_of(needs: &IndexSet<PlainNeed>, name: Name) -> usize
     }
 }
 
-/// The needs, as an entry has them.
+/// Returns the needs as a list for an entry.
 pub fn listed(alloc: Global, needs: &IndexSet<PlainNeed>) -> Result<Vec<Need>, AllocError>
     ensures { IfOk result (λ found. map code_view.need_view found.items ≡ map need_of needs.now.keys) }
 {

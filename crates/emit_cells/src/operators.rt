@@ -1,4 +1,4 @@
-//! Operators of expressions, and literals.
+//! Conversion of operators, formats and literals.
 ghost use Rattle.std.specs.Prelude.{◌≡◌, IfOk};
 ghost use Rattle.flow.specs.View.{operation_view};
 ghost use Rattle.values.specs.Operators as op;
@@ -11,11 +11,11 @@ ghost use Rattle.task_code.specs.View as code_view;
 use flow::expression::Operation;
 use std::alloc::{AllocError, Allocator, Global};
 use task_code::expr::Operator;
-use values::format::{Format, FormatFault};
+use values::format::{Format, FormatError};
 use values::text::Text;
 use values::value::Scalar;
 
-/// The operator of code for an operation.
+/// Converts an operation into an operator of code.
 pub fn operator<A: Allocator>(
     alloc: Global,
     operation: &Operation<A>,
@@ -44,18 +44,18 @@ pub fn operator<A: Allocator>(
     }
 }
 
-/// The format that a text is. One that is none prints nothing.
+/// Parses a format string. An unreadable one becomes the format that prints nothing.
 fn format(alloc: Global, bytes: &[u8]) -> Result<Format, AllocError>
     ensures { IfOk result (λ f. f ≡ pieces_or_none (pieces false bytes.now)) }
 {
     match Format::read(alloc, bytes) {
         Ok(format) => Ok(format),
-        Err(FormatFault::Unreadable) => empty_format(alloc),
-        Err(FormatFault::Memory) => Err(AllocError),
+        Err(FormatError::Unreadable) => empty_format(alloc),
+        Err(FormatError::Memory) => Err(AllocError),
     }
 }
 
-/// The format that prints nothing.
+/// Creates the format that prints nothing.
 fn empty_format(alloc: Global) -> Result<Format, AllocError>
     ensures { IfOk result (λ f. f ≡ pieces_or_none (pieces false [])) }
 {
@@ -65,7 +65,7 @@ fn empty_format(alloc: Global) -> Result<Format, AllocError>
     }
 }
 
-/// The text of these bytes.
+/// Creates a text scalar from these bytes.
 pub fn text<A: Allocator>(alloc: Global, bytes: &Vec<u8, A>) -> Result<Scalar, AllocError>
     ensures { IfOk result (λ v. v ≡ Scalar.Text bytes.now.items) }
 {

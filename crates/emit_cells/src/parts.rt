@@ -1,4 +1,4 @@
-//! The entries of parts.
+//! Emission of the entries of cells and calls.
 ghost use Rattle.std.specs.Prelude.{◌≡◌, ◌<◌, ◌+◌, ◌^◌, ◌++◌, ◌∷◌, [], List, Bool, Some, false, length, map, slice_get, OnOk, IfOk};
 ghost use Rattle.language.specs.Core as core;
 ghost use Rattle.language.specs.Members.{◌∈◌};
@@ -11,31 +11,31 @@ ghost use Rattle.code_rules.specs.Room.{FormRoom, NameRoom, PartRoom, Each};
 ghost use Rattle.emit_cells.specs.Chunk.{Added, AddedFor, Calls, InputsPass, IsPassed, NamePasses, OutputsPass, Told, name_at};
 ghost use Rattle.emit_cells.specs.Made.{made, made_cell};
 ghost use Rattle.emit_cells.specs.Marks.{IsUnmarked, MarksGrow};
-ghost use Rattle.flow_listed.specs.Cells.{anchor_of};
+ghost use Rattle.flow.specs.Cells.{anchor_of};
 
 use crate::cells::{element, handed};
-use crate::entries::{Shown, Standing, entry, put};
+use crate::entries::{EntryOrigin, StatementContext, entry, push_entry};
 use crate::names::named;
 use crate::needs::note;
-use crate::over::placed;
+use crate::operands::placed;
 use crate::plain::{is_plain, local_node};
-use flow::cell::{Call, Cell, Form, Part};
+use flow::cell::{Call, Cell, CellForm, CellPart};
 use flow::expression::Expr;
 use flow::name::Name;
 use flow::script::Function;
 use flow::statement::Variable;
 use indexmap::{IndexMap, IndexSet};
 use std::alloc::{AllocError, Allocator, Global};
-use task_code::entry::{Act, Argument, Entry, Name as Used, Need};
+use task_code::entry::{self, Act, Argument, Entry, Need};
 
 // CELLS
 
-/// Adds the entry of a cell that works an expression out.
+/// Appends the entry of a cell that evaluates an expression.
 fn add_computed<A: Allocator>(
     alloc: Global,
     entries: &mut Vec<Entry>,
-    standing: Standing,
-    shown: Shown,
+    standing: StatementContext,
+    shown: EntryOrigin,
     expr: &Expr<A>,
 ) -> Result<(), AllocError>
     ensures entry { OnOk result (FormRoom standing.inputs (core.compute (expr_view expr.now))
@@ -45,16 +45,16 @@ fn add_computed<A: Allocator>(
     let mut needs = IndexSet::new(alloc);
     note(&mut needs, standing.inputs, expr)?;
     let value = placed(alloc, &needs, standing.inputs, expr)?;
-    put(alloc, entries, standing, shown, &needs, Act::Cell(value))?;
+    push_entry(alloc, entries, standing, shown, &needs, Act::Cell(value))?;
     Ok(())
 }
 
-/// Adds the entry of a cell that reads an element.
+/// Appends the entry of a cell that reads an element.
 fn add_read(
     alloc: Global,
     entries: &mut Vec<Entry>,
-    standing: Standing,
-    shown: Shown,
+    standing: StatementContext,
+    shown: EntryOrigin,
     need: Need,
 ) -> Result<(), AllocError>
     ensures { OnOk result (map code_view.entry_view entries.new.items
@@ -66,11 +66,11 @@ fn add_read(
     Ok(())
 }
 
-/// Adds the entry of a cell that is not plain.
+/// Appends the entry of a cell that is not plain.
 pub fn add_cell<A: Allocator>(
     alloc: Global,
     entries: &mut Vec<Entry>,
-    standing: Standing,
+    standing: StatementContext,
     passed: &IndexMap<u32, Argument>,
     cell: &Cell<A>,
 ) -> Result<(), AllocError>
@@ -79,13 +79,13 @@ pub fn add_cell<A: Allocator>(
         → Added fs standing.inputs all standing.at standing.priority (core.inner (cell_view cell.now) ∷ []) entries.old.items entries.new.items) }
     ensures marks { OnOk result (MarksGrow entries.old.items entries.new.items (anchor_of cell.now ∷ [])) }
 {
-    let shown = Shown {
+    let shown = EntryOrigin {
         node: cell.node,
         mark: cell.at,
     };
     match &cell.form {
-        Form::Compute(expr) => add_computed(alloc, entries, standing, shown, expr),
-        Form::Read { array, index } => {
+        CellForm::Compute(expr) => add_computed(alloc, entries, standing, shown, expr),
+        CellForm::Read { array, index } => {
             let need = element(passed, named(standing.inputs, *array, true), *index)?;
             add_read(alloc, entries, standing, shown, need)
         }
@@ -94,7 +94,7 @@ pub fn add_cell<A: Allocator>(
 
 // CALLS
 
-/// Whether the variable of a number is an array.
+/// Returns true if the variable at this index is an array. An index beyond the end yields false.
 fn is_array_at<A: Allocator>(variables: &Vec<Variable<A>, A>, number: usize) -> bool
     ensures { (b : Bool) → slice_get (map (λ v. is_array v.shape) variables.now.items) number ≡ Some b → result ≡ b }
 {
@@ -104,7 +104,7 @@ fn is_array_at<A: Allocator>(variables: &Vec<Variable<A>, A>, number: usize) -> 
     }
 }
 
-/// Whether the input of a number of a function is an array.
+/// Returns true if the input of a function at this index is an array. A missing function or input yields false.
 fn is_array_input<A: Allocator>(
     functions: &Vec<Function<A>, A>,
     function: usize,
@@ -119,7 +119,7 @@ fn is_array_input<A: Allocator>(
     }
 }
 
-/// Whether the output of a number of a function is an array.
+/// Returns true if the output of a function at this index is an array. A missing function or output yields false.
 fn is_array_output<A: Allocator>(
     functions: &Vec<Function<A>, A>,
     function: usize,
@@ -134,7 +134,7 @@ fn is_array_output<A: Allocator>(
     }
 }
 
-/// What is handed over for an input that is a scalar. What is no cell of the statement is handed over as an array.
+/// Returns the argument for a scalar input. A name without a recorded argument is passed as an array.
 fn scalar_input(
     inputs: usize,
     passed: &IndexMap<u32, Argument>,
@@ -152,7 +152,7 @@ fn scalar_input(
     }
 }
 
-/// What is handed over for an input: a cell, or an array.
+/// Returns the argument for an input, which is an array or a cell.
 fn input(
     inputs: usize,
     passed: &IndexMap<u32, Argument>,
@@ -169,7 +169,7 @@ fn input(
     }
 }
 
-/// What is handed over for the input of a number of a call.
+/// Returns the argument for the input of a call at this index.
 fn input_at<A: Allocator>(
     functions: &Vec<Function<A>, A>,
     inputs: usize,
@@ -187,7 +187,7 @@ fn input_at<A: Allocator>(
     input(inputs, passed, name, array)
 }
 
-/// What a call hands over for its inputs.
+/// Returns the arguments for the inputs of a call.
 fn call_inputs<A: Allocator>(
     alloc: Global,
     functions: &Vec<Function<A>, A>,
@@ -205,13 +205,13 @@ fn call_inputs<A: Allocator>(
     Ok(found)
 }
 
-/// The name that a call has for the output of a number.
+/// Returns the name that a call has for its output at this index.
 fn output_at<A: Allocator>(
     functions: &Vec<Function<A>, A>,
     inputs: usize,
     call: &Call<A>,
     number: usize,
-) -> Used
+) -> entry::Name
     requires { number < length call.now.outputs.items }
     ensures { Each (NameRoom inputs) (names_view call.now.outputs.items)
         → OutputsPass functions.now.items inputs call.now.function number (name_at (names_view call.now.outputs.items) number)
@@ -222,13 +222,13 @@ fn output_at<A: Allocator>(
     named(inputs, name, array)
 }
 
-/// The names that a call has for its outputs.
+/// Returns the names that a call has for its outputs.
 fn call_outputs<A: Allocator>(
     alloc: Global,
     functions: &Vec<Function<A>, A>,
     inputs: usize,
     call: &Call<A>,
-) -> Result<Vec<Used>, AllocError>
+) -> Result<Vec<entry::Name>, AllocError>
     ensures { IfOk result (λ found. Each (NameRoom inputs) (names_view call.now.outputs.items)
         → OutputsPass functions.now.items inputs call.now.function 0 (names_view call.now.outputs.items) (map code_view.name_view found.items)) }
 {
@@ -239,7 +239,7 @@ fn call_outputs<A: Allocator>(
     Ok(found)
 }
 
-/// The number behind a number, as far as 32 bits go.
+/// Returns `number + 1` in 32 bits. Saturates at `u32::MAX`.
 fn next(number: usize) -> u32
     ensures { number + 1 < 2 ^ 32 → result ≡ number + 1 }
 {
@@ -250,7 +250,7 @@ fn next(number: usize) -> u32
     }
 }
 
-/// What the entry of a call does.
+/// Creates the act of a call. The body of function `n` has number `n + 1`.
 fn call_act<A: Allocator>(
     alloc: Global,
     functions: &Vec<Function<A>, A>,
@@ -272,12 +272,12 @@ fn call_act<A: Allocator>(
     })
 }
 
-/// Puts an entry of a statement that waits for nothing behind the others.
+/// Appends an entry of a statement without needs.
 fn put_bare(
     alloc: Global,
     entries: &mut Vec<Entry>,
-    standing: Standing,
-    shown: Shown,
+    standing: StatementContext,
+    shown: EntryOrigin,
     act: Act,
 ) -> Result<(), AllocError>
     ensures { OnOk result (map code_view.entry_view entries.new.items
@@ -288,12 +288,12 @@ fn put_bare(
     Ok(())
 }
 
-/// Adds the entry of a call.
+/// Appends the entry of a call.
 pub fn add_call<A: Allocator>(
     alloc: Global,
     entries: &mut Vec<Entry>,
     functions: &Vec<Function<A>, A>,
-    standing: Standing,
+    standing: StatementContext,
     passed: &IndexMap<u32, Argument>,
     call: &Call<A>,
 ) -> Result<(), AllocError>
@@ -302,7 +302,7 @@ pub fn add_call<A: Allocator>(
         → AddedFor functions.now.items standing all (core.calls (call_view call.now) ∷ []) entries.old.items entries.new.items) }
     ensures marks { OnOk result (MarksGrow entries.old.items entries.new.items []) }
 {
-    let shown = Shown {
+    let shown = EntryOrigin {
         node: 0,
         mark: call.at,
     };

@@ -1,16 +1,16 @@
-//! Which cells are plain: those that have no datum of their own.
+//! Plain cells: tests for cells that have no datum of their own.
 ghost use Rattle.std.specs.Prelude.{◌≡◌, ◌≤◌, Some, None, not, length};
 ghost use Rattle.language.specs.Core as core;
 ghost use Rattle.flow.specs.View.{expr_view, form_view, name_view, names_view, part_view, parts_view};
 ghost use Rattle.code_rules.specs.Laying.{local_node, same_node, plain_after, gives as pure_gives};
 ghost use Rattle.emit_cells.specs.Before.{last_of, before, gives_node, is_among};
 
-use flow::cell::{Form, Outer, Part};
+use flow::cell::{CellForm, CellPart, OuterCell};
 use flow::expression::Expr;
-use flow::name::{Name, Owned};
+use flow::name::{Name, NameBinding};
 use std::alloc::Allocator;
 
-/// The node of a variable or cell of the block where it is named.
+/// Returns the node of a variable or cell that belongs to the block where it is named.
 pub fn local_node(name: Name) -> Option<u32>
     ensures { result ≡ local_node (name_view name) }
 {
@@ -18,12 +18,12 @@ pub fn local_node(name: Name) -> Option<u32>
         return None;
     }
     match name.what {
-        Owned::Local(node) => Some(node),
+        NameBinding::Local(node) => Some(node),
         _ => None,
     }
 }
 
-/// Whether this is a variable or cell of the block where it is named, of this node.
+/// Returns true if the name refers to the variable or cell of this node in its own block.
 fn is_node(name: Name, node: u32) -> bool
     ensures { result ≡ same_node (Some node) (local_node (name_view name)) }
 {
@@ -33,7 +33,7 @@ fn is_node(name: Name, node: u32) -> bool
     }
 }
 
-/// Whether a variable of this block is among these.
+/// Returns true if one of these names refers to the variable of this node in its own block.
 fn has_node<A: Allocator>(names: &Vec<Name, A>, node: u32) -> bool
     ensures { result ≡ is_among node (names_view names.now.items) }
 {
@@ -45,18 +45,18 @@ fn has_node<A: Allocator>(names: &Vec<Name, A>, node: u32) -> bool
     false
 }
 
-/// Whether a part is a call that gives the scalar of this node.
-fn gives<A: Allocator>(part: &Part<A>, node: u32) -> bool
+/// Returns true if the part is a call with the scalar of this node as an output.
+fn gives<A: Allocator>(part: &CellPart<A>, node: u32) -> bool
     ensures { result ≡ gives_node (Some (part_view part.now)) node }
 {
     match part {
-        Part::Inner(_) => false,
-        Part::Calls(call) => has_node(&call.outputs, node),
+        CellPart::Inner(_) => false,
+        CellPart::Calls(call) => has_node(&call.outputs, node),
     }
 }
 
-/// Whether the call right before a place gives the scalar of this node.
-fn given_before<A: Allocator>(parts: &Vec<Part<A>, A>, at: usize, node: u32) -> bool
+/// Returns true if the part directly before index `at` is a call with the scalar of this node as an output.
+fn given_before<A: Allocator>(parts: &Vec<CellPart<A>, A>, at: usize, node: u32) -> bool
     ensures { at ≤ length parts.now.items → result ≡ gives_node (before (parts_view parts.now.items) at) node }
 {
     if at == 0 || at > parts.len() {
@@ -65,8 +65,8 @@ fn given_before<A: Allocator>(parts: &Vec<Part<A>, A>, at: usize, node: u32) -> 
     gives(&parts[at - 1], node)
 }
 
-/// Whether the scalar of a name is not given by the call right before a place.
-fn is_free<A: Allocator>(parts: &Vec<Part<A>, A>, at: usize, name: Name) -> bool
+/// Returns true unless the part directly before index `at` is a call with this name as an output.
+fn is_free<A: Allocator>(parts: &Vec<CellPart<A>, A>, at: usize, name: Name) -> bool
     ensures { at ≤ length parts.now.items → result ≡ not (pure_gives (before (parts_view parts.now.items) at) (name_view name)) }
 {
     match local_node(name) {
@@ -75,18 +75,18 @@ fn is_free<A: Allocator>(parts: &Vec<Part<A>, A>, at: usize, name: Name) -> bool
     }
 }
 
-/// Whether a cell of this form has no datum, at this place among the parts: a literal, or a scalar's name that no call right
-/// before gives.
-pub fn is_plain<A: Allocator>(parts: &Vec<Part<A>, A>, at: usize, form: &Form<A>) -> bool
+/// Returns true if a cell of this form has no datum at index `at` of the parts. It is then a literal, or the name of a
+/// scalar that is not an output of a call directly before.
+pub fn is_plain<A: Allocator>(parts: &Vec<CellPart<A>, A>, at: usize, form: &CellForm<A>) -> bool
     ensures { at ≤ length parts.now.items → result ≡ plain_after (before (parts_view parts.now.items) at) (form_view form.now) }
 {
     match form {
-        Form::Compute(expr) => is_plain_expr(parts, at, expr),
-        Form::Read { .. } => false,
+        CellForm::Compute(expr) => is_plain_expr(parts, at, expr),
+        CellForm::Read { .. } => false,
     }
 }
 
-fn is_plain_expr<A: Allocator>(parts: &Vec<Part<A>, A>, at: usize, expr: &Expr<A>) -> bool
+fn is_plain_expr<A: Allocator>(parts: &Vec<CellPart<A>, A>, at: usize, expr: &Expr<A>) -> bool
     ensures { at ≤ length parts.now.items → result ≡ plain_after (before (parts_view parts.now.items) at) (core.compute (expr_view expr.now)) }
 {
     match expr {
@@ -97,8 +97,8 @@ fn is_plain_expr<A: Allocator>(parts: &Vec<Part<A>, A>, at: usize, expr: &Expr<A
     }
 }
 
-/// Whether the cell of an outermost cell is plain.
-pub fn is_outer_plain<A: Allocator>(outer: &Outer<A>) -> bool
+/// Returns true if the cell of an outermost cell is plain.
+pub fn is_outer_plain<A: Allocator>(outer: &OuterCell<A>) -> bool
     ensures { result ≡ plain_after (last_of None (parts_view outer.now.parts.items)) (form_view outer.now.cell.form) }
 {
     is_plain(&outer.parts, outer.parts.len(), &outer.cell.form)

@@ -6,9 +6,9 @@ use Rattle.dataflow.specs.System.{In}
 use Rattle.task_code.specs.Code.{Entry, Name, blank_entry, nth}
 use Rattle.task_code.specs.declared.entry.Entry.{Entry as LaidEntry}
 use Rattle.task_code.specs.View.{entry_view}
-use Rattle.ref_counting.specs.declared.lead.Lead.{Lead}
-use Rattle.ref_counting.specs.declared.uses.Right.{Right}
-use Rattle.ref_counting.specs.declared.uses.Right.TheVariants.{Read, Write}
+use Rattle.ref_counting.specs.declared.entry_name.EntryName.{EntryName}
+use Rattle.ref_counting.specs.declared.uses.RightKind.{RightKind}
+use Rattle.ref_counting.specs.declared.uses.RightKind.TheVariants.{Read, Write}
 use Rattle.ref_counting.specs.Leads.{name_of, names_of}
 use Rattle.code_rules.specs.Laying.{bare}
 use Rattle.ref_counting.proofs.Closing.{take_next}
@@ -16,13 +16,13 @@ use Rattle.emit_rights.specs.Granted.{bare_at, bare_below, given, given_all, wit
 
 -- IN VECTORS
 
-pub given_here : (d : Right) (es : List LaidEntry) (n : ℕ) (r : Name) (e x : LaidEntry) → n < length es → entry_view e ≡ with_right d (entry_view (get_or es n x)) r
+pub given_here : (d : RightKind) (es : List LaidEntry) (n : ℕ) (r : Name) (e x : LaidEntry) → n < length es → entry_view e ≡ with_right d (entry_view (get_or es n x)) r
     → map entry_view (slice_set es n e) ≡ given d (map entry_view es) n r
 given_here d [] n r e x h is = absurd (omega arith)
 given_here d (y ∷ ys) zero r e x h is = ap (λ z. z ∷ map entry_view ys) is
 given_here d (y ∷ ys) (suc n) r e x h is = ap (λ zs. entry_view y ∷ zs) (given_here d ys n r e x (omega arith) is)
 
-pub given_nowhere : (d : Right) (es : List LaidEntry) (n : ℕ) (r : Name) → length es ≤ n → map entry_view es ≡ given d (map entry_view es) n r
+pub given_nowhere : (d : RightKind) (es : List LaidEntry) (n : ℕ) (r : Name) → length es ≤ n → map entry_view es ≡ given d (map entry_view es) n r
 given_nowhere d [] n r h = refl
 given_nowhere d (y ∷ ys) zero r h = absurd (omega arith)
 given_nowhere d (y ∷ ys) (suc n) r h = ap (λ zs. entry_view y ∷ zs) (given_nowhere d ys n r (omega arith))
@@ -53,52 +53,52 @@ bare_all (e ∷ es) (suc n) h = ap (λ xs. bare e ∷ xs) (bare_all es n (omega 
 
 -- ONE RIGHT AFTER ANOTHER
 
-with_same : (d : Right) (e : Entry) (r : Name) → bare (with_right d e r) ≡ bare e
+with_same : (d : RightKind) (e : Entry) (r : Name) → bare (with_right d e r) ≡ bare e
 with_same Read e r = refl
 with_same Write e r = refl
 
-given_same : (d : Right) (es : List Entry) (n : ℕ) (r : Name) → map bare (given d es n r) ≡ map bare es
+given_same : (d : RightKind) (es : List Entry) (n : ℕ) (r : Name) → map bare (given d es n r) ≡ map bare es
 given_same d [] n r = refl
 given_same d (e ∷ es) zero r = ap (λ x. x ∷ map bare es) (with_same d e r)
 given_same d (e ∷ es) (suc n) r = ap (λ xs. bare e ∷ xs) (given_same d es n r)
 
-pub all_same : (d : Right) (es : List Entry) (ls : List Lead) → map bare (given_all d es ls) ≡ map bare es
+pub all_same : (d : RightKind) (es : List Entry) (ls : List EntryName) → map bare (given_all d es ls) ≡ map bare es
 all_same d es [] = refl
 all_same d es (l ∷ ls) = all_same d (given d es l.entry (name_of l)) ls ∙ given_same d es l.entry (name_of l)
 
-given_length : (d : Right) (es : List Entry) (n : ℕ) (r : Name) → length (given d es n r) ≡ length es
+given_length : (d : RightKind) (es : List Entry) (n : ℕ) (r : Name) → length (given d es n r) ≡ length es
 given_length d [] n r = refl
 given_length d (e ∷ es) zero r = refl
 given_length d (e ∷ es) (suc n) r = ap suc (given_length d es n r)
 
-pub all_more : (d : Right) (es : List Entry) (ls : List Lead) (l : Lead) → given_all d es (ls ++ l ∷ []) ≡ given d (given_all d es ls) l.entry (name_of l)
+pub all_more : (d : RightKind) (es : List Entry) (ls : List EntryName) (l : EntryName) → given_all d es (ls ++ l ∷ []) ≡ given d (given_all d es ls) l.entry (name_of l)
 all_more d es [] l = refl
 all_more d es (m ∷ ms) l = all_more d (given d es m.entry (name_of m)) ms l
 
 -- what an entry has of a right
-abbrev pub rights_of : Right → Entry → List Name
+abbrev pub rights_of : RightKind → Entry → List Name
 rights_of Read e = e.reads
 rights_of Write e = e.writes
 
-with_this : (d : Right) (e : Entry) (r : Name) → rights_of d (with_right d e r) ≡ rights_of d e ++ r ∷ []
+with_this : (d : RightKind) (e : Entry) (r : Name) → rights_of d (with_right d e r) ≡ rights_of d e ++ r ∷ []
 with_this Read e r = refl
 with_this Write e r = refl
 
-given_this : (d : Right) (es : List Entry) (n : ℕ) (r : Name) (i : ℕ) → n ≡ i → n < length es → rights_of d (nth blank_entry (given d es n r) i) ≡ rights_of d (nth blank_entry es i) ++ r ∷ []
+given_this : (d : RightKind) (es : List Entry) (n : ℕ) (r : Name) (i : ℕ) → n ≡ i → n < length es → rights_of d (nth blank_entry (given d es n r) i) ≡ rights_of d (nth blank_entry es i) ++ r ∷ []
 given_this d [] n r i e h = absurd (omega arith)
 given_this d (x ∷ xs) zero r zero e h = with_this d x r
 given_this d (x ∷ xs) zero r (suc i) e h = absurd (omega arith)
 given_this d (x ∷ xs) (suc n) r zero e h = absurd (omega arith)
 given_this d (x ∷ xs) (suc n) r (suc i) e h = given_this d xs n r i (omega arith) (omega arith)
 
-given_other : (d : Right) (es : List Entry) (n : ℕ) (r : Name) (i : ℕ) → (n ≡ i → ⊥) → nth blank_entry (given d es n r) i ≡ nth blank_entry es i
+given_other : (d : RightKind) (es : List Entry) (n : ℕ) (r : Name) (i : ℕ) → (n ≡ i → ⊥) → nth blank_entry (given d es n r) i ≡ nth blank_entry es i
 given_other d [] n r i h = refl
 given_other d (x ∷ xs) zero r zero h = absurd (h refl)
 given_other d (x ∷ xs) zero r (suc i) h = refl
 given_other d (x ∷ xs) (suc n) r zero h = refl
 given_other d (x ∷ xs) (suc n) r (suc i) h = given_other d xs n r i (λ e. h (ap suc e))
 
-pub all_given : (d : Right) (ls : List Lead) (es : List Entry) (i : ℕ) → ((l : Lead) → In l ls → l.entry < length es) → rights_of d (nth blank_entry (given_all d es ls) i) ≡ rights_of d (nth blank_entry es i) ++ names_of ls i
+pub all_given : (d : RightKind) (ls : List EntryName) (es : List Entry) (i : ℕ) → ((l : EntryName) → In l ls → l.entry < length es) → rights_of d (nth blank_entry (given_all d es ls) i) ≡ rights_of d (nth blank_entry es i) ++ names_of ls i
 all_given d [] es i h = sym (append-nil (rights_of d (nth blank_entry es i)))
 all_given d (l ∷ ls) es i h = all_given d ls (given d es l.entry (name_of l)) i (λ m t. subst (λ n. m.entry < n) (sym (given_length d es l.entry (name_of l))) (h m (inr t))) ∙ by (nat_eq l.entry i) refl
   where
@@ -126,19 +126,19 @@ given_reads (x ∷ xs) zero r (suc i) = refl
 given_reads (x ∷ xs) (suc n) r zero = refl
 given_reads (x ∷ xs) (suc n) r (suc i) = given_reads xs n r i
 
-pub all_writes_kept : (ls : List Lead) (es : List Entry) (i : ℕ) → (nth blank_entry (given_all Read es ls) i).writes ≡ (nth blank_entry es i).writes
+pub all_writes_kept : (ls : List EntryName) (es : List Entry) (i : ℕ) → (nth blank_entry (given_all Read es ls) i).writes ≡ (nth blank_entry es i).writes
 all_writes_kept [] es i = refl
 all_writes_kept (l ∷ ls) es i = all_writes_kept ls (given Read es l.entry (name_of l)) i ∙ given_writes es l.entry (name_of l) i
 
-pub all_reads_kept : (ls : List Lead) (es : List Entry) (i : ℕ) → (nth blank_entry (given_all Write es ls) i).reads ≡ (nth blank_entry es i).reads
+pub all_reads_kept : (ls : List EntryName) (es : List Entry) (i : ℕ) → (nth blank_entry (given_all Write es ls) i).reads ≡ (nth blank_entry es i).reads
 all_reads_kept [] es i = refl
 all_reads_kept (l ∷ ls) es i = all_reads_kept ls (given Write es l.entry (name_of l)) i ∙ given_reads es l.entry (name_of l) i
 
-pub all_length : (d : Right) (ls : List Lead) (es : List Entry) → length (given_all d es ls) ≡ length es
+pub all_length : (d : RightKind) (ls : List EntryName) (es : List Entry) → length (given_all d es ls) ≡ length es
 all_length d [] es = refl
 all_length d (l ∷ ls) es = all_length d ls (given d es l.entry (name_of l)) ∙ given_length d es l.entry (name_of l)
 
-pub gives_next : (d : Right) (ls : List Lead) (n : ℕ) (l : Lead) (r : Name) (old new : List Entry) → n < length ls → get_or ls n l ≡ l → r ≡ name_of l → new ≡ given d old l.entry r → GivesNext d ls n old new
+pub gives_next : (d : RightKind) (ls : List EntryName) (n : ℕ) (l : EntryName) (r : Name) (old new : List Entry) → n < length ls → get_or ls n l ≡ l → r ≡ name_of l → new ≡ given d old l.entry r → GivesNext d ls n old new
 gives_next d ls n l r old new h is same got es before =
     got
     ∙ ap (λ (xs : List Entry). given d xs l.entry r) before

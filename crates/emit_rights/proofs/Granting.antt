@@ -4,8 +4,8 @@ use Rattle.std.proofs.lemmas.List.{length-map}
 use Rattle.dataflow.specs.System.{Distinct, In}
 use Rattle.task_code.specs.Code.{Code, Entry, Name, blank_entry, entry, nth, targets}
 use Rattle.task_code.specs.Exact.{needs_of}
-use Rattle.ref_counting.specs.declared.lead.Lead.{Lead}
-use Rattle.ref_counting.specs.declared.uses.Right.TheVariants.{Read, Write}
+use Rattle.ref_counting.specs.declared.entry_name.EntryName.{EntryName}
+use Rattle.ref_counting.specs.declared.uses.RightKind.TheVariants.{Read, Write}
 use Rattle.ref_counting.specs.Leads.{names_of}
 use Rattle.ref_counting.specs.Rights.{AreRights}
 use Rattle.code_rules.specs.Emitted.{HasRights}
@@ -48,14 +48,14 @@ emitted_as C D p q h c fs ds l = record {
 }
 
 -- the code whose entries were given these rights to read and to write
-pub record IsGranted (C D : Code) (reads writes : List Lead) : Type 0 where
+pub record IsGranted (C D : Code) (reads writes : List EntryName) : Type 0 where
   pub bodies : D.bodies ≡ C.bodies
   pub entries : D.entries ≡ given_all Write (given_all Read (map bare C.entries) reads) writes
   pub reads_are : AreRights C needs_of reads
   pub writes_are : AreRights C targets writes
 
 -- the steps of granting, from what is laid to what is granted
-pub grants : (bs cs : List LaidBody) (es fs gs hs is : List LaidEntry) (laid D : Code) (reads writes : List Lead) → laid ≡ laid_code bs es → map body_view cs ≡ laid.bodies → map entry_view fs ≡ laid.entries
+pub grants : (bs cs : List LaidBody) (es fs gs hs is : List LaidEntry) (laid D : Code) (reads writes : List EntryName) → laid ≡ laid_code bs es → map body_view cs ≡ laid.bodies → map entry_view fs ≡ laid.entries
     → map entry_view gs ≡ map bare (map entry_view fs) → map entry_view hs ≡ given_all Read (map entry_view gs) reads → map entry_view is ≡ given_all Write (map entry_view hs) writes → D ≡ laid_code cs is
     → AreRights laid needs_of reads → AreRights laid targets writes → IsGranted (laid_code bs es) D reads writes
 grants bs cs es fs gs hs is laid D reads writes new bodies entries none read written made r w = record {
@@ -68,17 +68,17 @@ grants bs cs es fs gs hs is laid D reads writes new bodies entries none read wri
   writes_are = subst (λ (x : Code). AreRights x targets writes) new w;
 }
 
-module _ (C D : Code) (reads writes : List Lead) (g : IsGranted C D reads writes) where
+module _ (C D : Code) (reads writes : List EntryName) (g : IsGranted C D reads writes) where
   abbrev none : List Entry
   none = map bare C.entries
 
   pub granted_same : map bare D.entries ≡ map bare C.entries
   granted_same = ap (map bare) g.entries ∙ all_same Write (given_all Read none reads) writes ∙ all_same Read none reads ∙ bare_bare C.entries
 
-  in_reads : (l : Lead) → In l reads → l.entry < length none
+  in_reads : (l : EntryName) → In l reads → l.entry < length none
   in_reads l t = subst (λ n. l.entry < n) (sym (length-map C.entries bare)) (g.reads_are.within l t)
 
-  in_writes : (l : Lead) → In l writes → l.entry < length (given_all Read none reads)
+  in_writes : (l : EntryName) → In l writes → l.entry < length (given_all Read none reads)
   in_writes l t = subst (λ n. l.entry < n) (sym (all_length Read reads none ∙ length-map C.entries bare)) (g.writes_are.within l t)
 
   has_reads : (i : ℕ) → (entry D i).reads ≡ names_of reads i

@@ -1,12 +1,12 @@
--- Entries as rights are given to them, and the code that is laid before.
+-- Entries to which rights are assigned, and the code before that.
 use Rattle.std.specs.Prelude.{◌≡◌, ℕ, zero, suc, ◌+◌, List, [], ◌∷◌, ◌++◌, map, take, Bool}
 use Rattle.task_code.specs.Code.{Entry, Code, Name}
 use Rattle.task_code.specs.declared.entry.Entry.{Entry as LaidEntry}
 use Rattle.task_code.specs.declared.code.Body.{Body as LaidBody}
 use Rattle.task_code.specs.View.{entry_view, body_view}
-use Rattle.ref_counting.specs.declared.lead.Lead.{Lead}
-use Rattle.ref_counting.specs.declared.uses.Right.{Right}
-use Rattle.ref_counting.specs.declared.uses.Right.TheVariants.{Read, Write}
+use Rattle.ref_counting.specs.declared.entry_name.EntryName.{EntryName}
+use Rattle.ref_counting.specs.declared.uses.RightKind.{RightKind}
+use Rattle.ref_counting.specs.declared.uses.RightKind.TheVariants.{Read, Write}
 use Rattle.ref_counting.specs.Leads.{name_of}
 use Rattle.language.specs.Core.{Core}
 use Rattle.code_rules.specs.Emitted.{IsEmitted}
@@ -17,26 +17,26 @@ abbrev pub laid_code : List LaidBody → List LaidEntry → Code
 laid_code bs es = record { entries = map entry_view es; bodies = map body_view bs }
 
 -- an entry with one more right
-abbrev pub with_right : Right → Entry → Name → Entry
+abbrev pub with_right : RightKind → Entry → Name → Entry
 with_right Read e r = record e { reads = e.reads ++ r ∷ [] }
 with_right Write e r = record e { writes = e.writes ++ r ∷ [] }
 
--- the same entries, but the one of a number has one more right
-abbrev pub given : Right → List Entry → ℕ → Name → List Entry
+-- the same entries, except that the entry of a number has one more right
+abbrev pub given : RightKind → List Entry → ℕ → Name → List Entry
 given d [] n r = []
 given d (e ∷ es) zero r = with_right d e r ∷ es
 given d (e ∷ es) (suc n) r = e ∷ given d es n r
 
--- the same entries with these rights, one after another
-abbrev pub given_all : Right → List Entry → List Lead → List Entry
+-- the same entries with these rights added, one after another
+abbrev pub given_all : RightKind → List Entry → List EntryName → List Entry
 given_all d es [] = es
 given_all d es (l ∷ ls) = given_all d (given d es l.entry (name_of l)) ls
 
--- the right of one more of these leads is given, behind so many
-abbrev pub GivesNext : Right → List Lead → ℕ → List Entry → List Entry → Type 0
+-- the right of the next of these leads is assigned, after the first n
+abbrev pub GivesNext : RightKind → List EntryName → ℕ → List Entry → List Entry → Type 0
 GivesNext d ls n old new = (es : List Entry) → old ≡ given_all d es (take n ls) → new ≡ given_all d es (take (n + 1) ls)
 
--- the same entries, of which the one of a number has no right, or so many have none
+-- the same entries, except that the entry of a number, or each of the first n, has no rights
 abbrev pub bare_at : List Entry → ℕ → List Entry
 bare_at [] n = []
 bare_at (e ∷ es) zero = bare e ∷ es
@@ -47,6 +47,6 @@ bare_below es zero = es
 bare_below [] (suc n) = []
 bare_below (e ∷ es) (suc n) = bare e ∷ bare_below es n
 
--- whatever core the code is laid for, this one is what is emitted for it
+-- for whatever core the code C is laid, D is the code emitted for it
 abbrev pub EmittedAs : (laid emitted : Code) → Type 0
 EmittedAs C D = (c : Core) (fs : List Kinds) (ds : List (ℕ × Bool)) → LaysScript c fs ds C → IsEmitted c fs ds D

@@ -1,5 +1,6 @@
-//! Rights put into laid code: each entry gets exactly the rights that it, or an entry that it leads to, has a use for.
+//! Assignment of exact rights to emitted code: each entry receives the rights that it, or an entry that it leads to,
+//! uses.
 #![tactic(auto)]
 
-mod given;
 pub mod granted;
+mod grants;

@@ -16,17 +16,17 @@ use Rattle.code_rules.specs.Room.{FormRoom, OuterRoom, StepRoom}
 use Rattle.emit_cells.specs.PlainNeeds.{IsReady, Noted, need_of}
 use Rattle.emit_cells.specs.declared.needs.PlainNeed.{PlainNeed}
 use Rattle.emit_cells.specs.Made.{made}
-use Rattle.emit_cells.specs.declared.entries.Standing.{Standing}
+use Rattle.emit_cells.specs.declared.entries.StatementContext.{StatementContext}
 use Rattle.emit_cells.proofs.Ready.{ready_many}
 use Rattle.emit_statements.specs.Seen.{seen_last}
 use Rattle.emit_statements.proofs.Outers.{all_seen, few_as, own_entry}
 use Rattle.emit_statements.specs.Blocks.{OwnAddedAs, branched, ranged, seen_step}
 
 -- an entry stands behind the others, whatever needs it has
-abbrev pub AddsEntry : Standing → ℕ → List PlainNeed → Act → List Made → List Made → Type 0
+abbrev pub AddsEntry : StatementContext → ℕ → List PlainNeed → Act → List Made → List Made → Type 0
 AddsEntry s n ks act old new = (ns : List Need) → Noted ns ks → map entry_view new ≡ map entry_view old ++ made s (record { node = n; mark = s.at }) (each_once ns) act ∷ []
 
-own_added_as : (s : Standing) (n : ℕ) (a : Action) (es : List Expr) (F : List Need → List Expr → Act) (ks : List PlainNeed) (act : Act) (old new : List Made) → s.priority ≡ own_priority a
+own_added_as : (s : StatementContext) (n : ℕ) (a : Action) (es : List Expr) (F : List Need → List Expr → Act) (ks : List PlainNeed) (act : Act) (old new : List Made) → s.priority ≡ own_priority a
     → ((l : Layout) → Suits l a → es ≡ own_exprs l s.inputs a) → Noted (flat_map (wanted s.inputs) es) ks → act ≡ F (map need_of ks) es → AddsEntry s n ks act old new
     → OwnAddedAs s.inputs s.at a (λ l. F (own_needs l s.inputs a) (own_exprs l s.inputs a)) old new
 own_added_as s n a es F ks act old new priority seen_is noted does adds = record {
@@ -47,7 +47,7 @@ single k e ks h = subst (λ ns. Noted ns ks) (sym (append-nil (wanted k e))) h
 test_is : (k : ℕ) (o : Outer) (e : Expr) (ks : List PlainNeed) (x : code.Expr) → FormRoom k o.cell.form → e ≡ seen_last o → Noted (wanted k e) ks → (IsReady ks → x ≡ over k (map need_of ks) e) → x ≡ over k (map need_of ks) e
 test_is k o e ks x room is noted placed = placed (ready_many (wanted k e) ks noted (let few = subst (λ y. length (wanted k y) < 2 ^ 30) (sym is) (last_few k o room) in omega arith))
 
-pub when_added : (s : Standing) (n : ℕ) (o : Outer) (b : Block) (e : Expr) (t : ℕ) (m : Option ℕ) (ks : List PlainNeed) (x : code.Expr) (old new : List Made) → FormRoom s.inputs o.cell.form → s.priority ≡ pos 0 → m ≡ None → e ≡ seen_last o
+pub when_added : (s : StatementContext) (n : ℕ) (o : Outer) (b : Block) (e : Expr) (t : ℕ) (m : Option ℕ) (ks : List PlainNeed) (x : code.Expr) (old new : List Made) → FormRoom s.inputs o.cell.form → s.priority ≡ pos 0 → m ≡ None → e ≡ seen_last o
     → Noted (wanted s.inputs e) ks → (IsReady ks → x ≡ over s.inputs (map need_of ks) e) → AddsEntry s n ks (If x t m) old new
     → OwnAddedAs s.inputs s.at (when o b) (λ l. If (over s.inputs (own_needs l s.inputs (when o b)) (seen l o.cell)) t None) old new
 when_added s n o b e t m ks x old new room priority none is noted placed adds =
@@ -55,7 +55,7 @@ when_added s n o b e t m ks x old new room priority none is noted placed adds =
     (λ l suits. ap (λ y. y ∷ []) is ∙ all_seen l (o ∷ []) suits.parts_plain) (single s.inputs e ks noted)
     (ap (λ y. If y t m) (test_is s.inputs o e ks x room is noted placed) ∙ ap (If (over s.inputs (map need_of ks) e) t) none) adds
 
-pub choose_added : (s : Standing) (n : ℕ) (o : Outer) (b d : Block) (e : Expr) (t j : ℕ) (m : Option ℕ) (ks : List PlainNeed) (x : code.Expr) (old new : List Made) → FormRoom s.inputs o.cell.form → s.priority ≡ pos 0 → m ≡ Some j → e ≡ seen_last o
+pub choose_added : (s : StatementContext) (n : ℕ) (o : Outer) (b d : Block) (e : Expr) (t j : ℕ) (m : Option ℕ) (ks : List PlainNeed) (x : code.Expr) (old new : List Made) → FormRoom s.inputs o.cell.form → s.priority ≡ pos 0 → m ≡ Some j → e ≡ seen_last o
     → Noted (wanted s.inputs e) ks → (IsReady ks → x ≡ over s.inputs (map need_of ks) e) → AddsEntry s n ks (If x t m) old new
     → OwnAddedAs s.inputs s.at (choose o b d) (λ l. If (over s.inputs (own_needs l s.inputs (choose o b d)) (seen l o.cell)) t (Some j)) old new
 choose_added s n o b d e t j m ks x old new room priority some is noted placed adds =
@@ -84,7 +84,7 @@ bounds_few k lo hi st room_lo room_hi room_st =
         let f = length-append zs [] in
         omega arith
 
-pub range_added : (s : Standing) (n : ℕ) (lo hi : Outer) (st : Option Outer) (x : ℕ) (y : Option ℕ) (b : Block) (w : Loop) (ks : List PlainNeed) (act : Act) (old new : List Made)
+pub range_added : (s : StatementContext) (n : ℕ) (lo hi : Outer) (st : Option Outer) (x : ℕ) (y : Option ℕ) (b : Block) (w : Loop) (ks : List PlainNeed) (act : Act) (old new : List Made)
     → OuterRoom s.inputs lo → OuterRoom s.inputs hi → StepRoom s.inputs st → s.priority ≡ pos 0
     → Noted (flat_map (wanted s.inputs) (seen_last lo ∷ seen_last hi ∷ seen_step st ∷ [])) ks → (IsReady ks → act ≡ ranged s.inputs w (map need_of ks) (seen_last lo ∷ seen_last hi ∷ seen_step st ∷ [])) → AddsEntry s n ks act old new
     → OwnAddedAs s.inputs s.at (range lo hi st x y b)
@@ -95,6 +95,6 @@ range_added s n lo hi st x y b w ks act old new room_lo room_hi room_st priority
 
 -- ARRAYS
 
-pub each_added : (s : Standing) (n : ℕ) (a : Name) (x : ℕ) (y : Option ℕ) (b : Block) (w : Loop) (ks : List PlainNeed) (old new : List Made) → s.priority ≡ pos 0 → Noted (Closed (name_as s.inputs true a) ∷ []) ks → AddsEntry s n ks (Each w) old new
+pub each_added : (s : StatementContext) (n : ℕ) (a : Name) (x : ℕ) (y : Option ℕ) (b : Block) (w : Loop) (ks : List PlainNeed) (old new : List Made) → s.priority ≡ pos 0 → Noted (Closed (name_as s.inputs true a) ∷ []) ks → AddsEntry s n ks (Each w) old new
     → OwnAddedAs s.inputs s.at (each a x y b) (λ l. Each w) old new
 each_added s n a x y b w ks old new priority noted adds = own_added_as s n (each a x y b) (whole a ∷ []) (λ ns es. Each w) ks (Each w) old new priority (λ l suits. refl) noted refl adds

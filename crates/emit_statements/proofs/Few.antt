@@ -12,8 +12,8 @@ use Rattle.code_rules.specs.Laying.{IndexesStand, Kinds, PlainAs, Suits, counted
 use Rattle.emit_cells.specs.Chunk.{Added}
 use Rattle.emit_statements.specs.Doing.{action_of}
 use Rattle.emit_statements.specs.Into.{OwnAdded}
-use Rattle.emit_statements.specs.declared.own.Use.{Use}
-use Rattle.emit_statements.specs.declared.own.Use.TheVariants as Uses
+use Rattle.emit_statements.specs.declared.own.ValueUse.{ValueUse}
+use Rattle.emit_statements.specs.declared.own.ValueUse.TheVariants as Uses
 use Rattle.emit_statements.proofs.Numbers.{long}
 
 counted_long : (a n : ℕ) → length (counted a n) ≡ n
@@ -60,7 +60,7 @@ own_fewer : (ps : List Part) (c : Cell) (f : Form) → length (ps ++ own_cell c 
 own_fewer ps c (compute e) = let a = length-append ps [] in let b = length-append ps (inner c ∷ []) in omega arith
 own_fewer ps c (read a i) = omega arith
 
-pub done_fewer : (d : Use) (p : ℤ) (o : Outer) → length (own_parts (action_of d p o)) ≤ length (parts (action_of d p o))
+pub done_fewer : (d : ValueUse) (p : ℤ) (o : Outer) → length (own_parts (action_of d p o)) ≤ length (parts (action_of d p o))
 done_fewer (Uses.Set x) p o = own_fewer o.parts o.cell o.cell.form
 done_fewer (Uses.Fill a) p o = own_fewer o.parts o.cell o.cell.form
 done_fewer Uses.Print p o = own_fewer o.parts o.cell o.cell.form

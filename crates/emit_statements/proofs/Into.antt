@@ -9,10 +9,10 @@ use Rattle.code_rules.specs.IsCodeOf.{IsSimple, own_priority}
 use Rattle.code_rules.specs.Laying.{Kinds, LaysParts, counted, data_in, data_of, calls_alone, simple}
 use Rattle.emit_cells.specs.Chunk.{Added, Chunk}
 use Rattle.emit_statements.specs.Into.{LaysInto, OwnAdded, laying}
-use Rattle.emit_statements.specs.declared.filling.Filling.{Filling}
+use Rattle.emit_statements.specs.declared.block_builder.BlockBuilder.{BlockBuilder}
 use Rattle.emit_statements.proofs.Numbers.{added_numbers, last_number}
 
-pub call_laid : (fs : List Kinds) (roots node k at : ℕ) (p : ℤ) (ps : List Part) (c : Call) (bodies : List Body) (old new : List Made) (before after : Filling) (from to : ℕ) → length new ≤ 2 ^ 32
+pub call_laid : (fs : List Kinds) (roots node k at : ℕ) (p : ℤ) (ps : List Part) (c : Call) (bodies : List Body) (old new : List Made) (before after : BlockBuilder) (from to : ℕ) → length new ≤ 2 ^ 32
     → (added : Added fs k (ps ++ calls c ∷ []) at p (ps ++ calls c ∷ []) old new)
     → LaysParts fs k (ps ++ calls c ∷ []) at p (laying old bodies) (laying new bodies) (counted (length (map entry_view old)) (length added.more))
     → map variable_view after.makes.items ≡ map variable_view before.makes.items ++ data_in None ps
@@ -27,7 +27,7 @@ call_laid fs roots node k at p ps c bodies old new before after from to few adde
 }
 
 -- a statement with an entry of its own behind those of its parts
-pub own_laid : (fs : List Kinds) (roots node k at : ℕ) (a : Action) (bodies : List Body) (old mid new : List Made) (before after : Filling) (from to : ℕ) → IsSimple a → length new ≤ 2 ^ 32
+pub own_laid : (fs : List Kinds) (roots node k at : ℕ) (a : Action) (bodies : List Body) (old mid new : List Made) (before after : BlockBuilder) (from to : ℕ) → IsSimple a → length new ≤ 2 ^ 32
     → (added : Added fs k (own_parts a) at (own_priority a) (own_parts a) old mid)
     → ((more : List Entry) → map entry_view mid ≡ map entry_view old ++ more → Chunk fs k (own_parts a) at (own_priority a) (own_parts a) more
     → LaysParts fs k (own_parts a) at (own_priority a) (laying old bodies) (laying mid bodies) (counted (length (map entry_view old)) (length more)))

@@ -12,7 +12,7 @@ use Rattle.language.specs.declared.tree.Shape.{Shape}
 use Rattle.language.specs.declared.tree.Shape.TheVariants as Shapes
 use Rattle.flow.specs.View.{awaited_view, name_view, waits_around}
 use Rattle.flow.specs.declared.name.Name.{Name as Named}
-use Rattle.flow.specs.declared.name.Owned.TheVariants as Owned
+use Rattle.flow.specs.declared.name.NameBinding.TheVariants as Owned
 use Rattle.flow.specs.declared.statement.Header.{Header}
 use Rattle.task_code.specs.Code as code
 use Rattle.task_code.specs.Code.{Need, Wait}
@@ -24,7 +24,7 @@ use Rattle.emit_cells.specs.PlainNeeds.{Noted, Notes, need_named}
 use Rattle.emit_cells.specs.declared.needs.PlainNeed.{PlainNeed}
 use Rattle.emit_cells.proofs.Keys.{closed_named, notes_both, stored_named}
 use Rattle.emit_cells.specs.Made.{made}
-use Rattle.emit_cells.specs.declared.entries.Standing.{Standing}
+use Rattle.emit_cells.specs.declared.entries.StatementContext.{StatementContext}
 use Rattle.emit_statements.specs.Blocks.{InnerRoom, WaitAddedAs, header_of, inner_headers}
 use Rattle.emit_statements.proofs.Entries.{AddsEntry}
 
@@ -113,7 +113,7 @@ merged_headers k at n ns [] b lone = one_header lone refl
 merged_headers k at n ns (h ∷ hs) b lone = more_headers (merged_headers k h.at h.node h.names.items hs b lone) refl
 
 -- the own entry
-pub wait_added : {A : Type 0} (s : Standing) (n : ℕ) (names : List Named) (inner : List (Header A)) (b : Block) (body : ℕ) (hs : List code.Header) (ks : List PlainNeed) (old new : List Made) → s.priority ≡ pos 0
+pub wait_added : {A : Type 0} (s : StatementContext) (n : ℕ) (names : List Named) (inner : List (Header A)) (b : Block) (body : ℕ) (hs : List code.Header) (ks : List PlainNeed) (old new : List Made) → s.priority ≡ pos 0
     → Noted (waited s.inputs names ++ needs_in (inner_headers s.inputs inner)) ks → hs ≡ header_of s.inputs s.at names ∷ inner_headers s.inputs inner → AddsEntry s n ks (Wait hs body) old new
     → WaitAddedAs s.inputs s.at n (wait (map awaited_view names) (waits_around inner b)) b body old new
 wait_added s n names inner b body hs ks old new priority noted are adds = record {

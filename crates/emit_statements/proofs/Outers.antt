@@ -17,7 +17,7 @@ use Rattle.emit_cells.specs.PlainNeeds.{Noted, need_of}
 use Rattle.emit_cells.specs.declared.needs.PlainNeed.{PlainNeed}
 use Rattle.emit_cells.specs.Chunk.{Added, Inside, Passes}
 use Rattle.emit_cells.specs.Made.{made}
-use Rattle.emit_cells.specs.declared.entries.Standing.{Standing}
+use Rattle.emit_cells.specs.declared.entries.StatementContext.{StatementContext}
 use Rattle.emit_cells.proofs.Chunks.{added_both}
 use Rattle.emit_cells.proofs.Lasts.{data_both, inside_front}
 use Rattle.emit_cells.proofs.Passing.{passes_both, told_in}
@@ -101,7 +101,7 @@ few_as k n true (read a i) room = omega arith
 few_as k n false f room = omega arith
 
 -- the own entry of a statement, which works these expressions out
-pub own_entry : (s : Standing) (n : ℕ) (a : Action) (es : List Expr) (F : List Need → List Expr → Act) (ks : List PlainNeed) (act : Act) → s.priority ≡ own_priority a
+pub own_entry : (s : StatementContext) (n : ℕ) (a : Action) (es : List Expr) (F : List Need → List Expr → Act) (ks : List PlainNeed) (act : Act) → s.priority ≡ own_priority a
     → ((l : Layout) → Suits l a → es ≡ own_exprs l s.inputs a) → Noted (flat_map (wanted s.inputs) es) ks → act ≡ F (map need_of ks) es
     → IsOwnEntry (made s (record { node = n; mark = s.at }) (each_once (flat_map (wanted s.inputs) es)) act) s.at s.inputs a (λ l. F (own_needs l s.inputs a) (own_exprs l s.inputs a))
 own_entry s n a es F ks act priority seen_is noted does =

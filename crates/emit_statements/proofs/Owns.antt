@@ -19,12 +19,12 @@ use Rattle.emit_cells.specs.PlainNeeds.{Noted, need_of}
 use Rattle.emit_cells.specs.declared.needs.PlainNeed.{PlainNeed}
 use Rattle.emit_cells.specs.Chunk.{Inside, Passes, Puts, passed_as}
 use Rattle.emit_cells.specs.Made.{made}
-use Rattle.emit_cells.specs.declared.entries.Standing.{Standing}
+use Rattle.emit_cells.specs.declared.entries.StatementContext.{StatementContext}
 use Rattle.emit_cells.proofs.Lasts.{pass_last}
 use Rattle.emit_statements.specs.Doing.{action_of}
 use Rattle.emit_statements.specs.Into.{OwnAdded}
-use Rattle.emit_statements.specs.declared.own.Use.{Use}
-use Rattle.emit_statements.specs.declared.own.Use.TheVariants as Uses
+use Rattle.emit_statements.specs.declared.own.ValueUse.{ValueUse}
+use Rattle.emit_statements.specs.declared.own.ValueUse.TheVariants as Uses
 
 pub read_passes : {S : Type 0} (k : ℕ) (all ps : List Part) (c : Cell) (a : Name) (i : ℕ) (old new : IndexMap ℕ Handed S) → c.form ≡ read a i → Inside all (ps ++ own_cell c c.form)
     → Puts c.node (passed_as k false c.node c.form) old new → Passes k all (own_cell c c.form) old new
@@ -35,31 +35,31 @@ read_passes k all ps c a i old new is inside put =
 
 -- WHAT IS DONE
 
-pub filled_done : (l : Layout) (k : ℕ) (p : ℤ) (ns : List Need) (a : Named) (d : Use) (o : Outer) (act : Act) → d ≡ Uses.Fill a → ActionRoom k (action_of d p o)
+pub filled_done : (l : Layout) (k : ℕ) (p : ℤ) (ns : List Need) (a : Named) (d : ValueUse) (o : Outer) (act : Act) → d ≡ Uses.Fill a → ActionRoom k (action_of d p o)
     → (NameRoom k (name_view a) → FormRoom k o.cell.form → act ≡ fill_act l k ns (name_view a) (own_form o.cell.node o.cell.form)) → act ≡ simple_act l k ns (action_of d p o)
 filled_done l k p ns a d o act is room f =
     let there : ActionRoom k (action_of (Uses.Fill a) p o) = subst (λ u. ActionRoom k (action_of u p o)) is room in
     subst (λ u. act ≡ simple_act l k ns (action_of u p o)) (sym is) (f there.0 there.1.1)
 
-pub simple_done : (d : Use) (p : ℤ) (o : Outer) → IsSimple (action_of d p o)
+pub simple_done : (d : ValueUse) (p : ℤ) (o : Outer) → IsSimple (action_of d p o)
 simple_done (Uses.Set x) p o = tt
 simple_done (Uses.Fill a) p o = tt
 simple_done Uses.Print p o = tt
 simple_done Uses.Assert p o = tt
 
-pub parts_done : (d : Use) (p : ℤ) (o : Outer) → own_outer o ≡ own_parts (action_of d p o)
+pub parts_done : (d : ValueUse) (p : ℤ) (o : Outer) → own_outer o ≡ own_parts (action_of d p o)
 parts_done (Uses.Set x) p o = refl
 parts_done (Uses.Fill a) p o = refl
 parts_done Uses.Print p o = refl
 parts_done Uses.Assert p o = refl
 
-pub data_done : (d : Use) (p : ℤ) (o : Outer) → data_in None (own_outer o) ≡ data_of (action_of d p o)
+pub data_done : (d : ValueUse) (p : ℤ) (o : Outer) → data_in None (own_outer o) ≡ data_of (action_of d p o)
 data_done (Uses.Set x) p o = refl
 data_done (Uses.Fill a) p o = refl
 data_done Uses.Print p o = refl
 data_done Uses.Assert p o = refl
 
-pub outer_room : (d : Use) (k : ℕ) (p : ℤ) (o : Outer) → ActionRoom k (action_of d p o) → OuterRoom k o
+pub outer_room : (d : ValueUse) (k : ℕ) (p : ℤ) (o : Outer) → ActionRoom k (action_of d p o) → OuterRoom k o
 outer_room (Uses.Set x) k p o room = room.1
 outer_room (Uses.Fill a) k p o room = room.1
 outer_room Uses.Print k p o room = room
@@ -78,14 +78,14 @@ few_seen k n (read a i) room = omega arith
 once_own : (k : ℕ) (o : Outer) → each_once (wanted k (seen_as true o.cell.node o.cell.form)) ≡ each_once (wanted k (own_form o.cell.node o.cell.form) ++ [])
 once_own k o = ap each_once (ap (wanted k) (own_seen o.cell.node o.cell.form) ∙ sym (append-nil (wanted k (own_form o.cell.node o.cell.form))))
 
-needs_done : (d : Use) (l : Layout) (k : ℕ) (p : ℤ) (o : Outer) → each_once (wanted k (seen_as true o.cell.node o.cell.form)) ≡ own_needs l k (action_of d p o)
+needs_done : (d : ValueUse) (l : Layout) (k : ℕ) (p : ℤ) (o : Outer) → each_once (wanted k (seen_as true o.cell.node o.cell.form)) ≡ own_needs l k (action_of d p o)
 needs_done (Uses.Set x) l k p o = once_own k o
 needs_done (Uses.Fill a) l k p o = once_own k o
 needs_done Uses.Print l k p o = once_own k o
 needs_done Uses.Assert l k p o = once_own k o
 
 -- the own entry
-pub own_added : (s : Standing) (n : ℕ) (d : Use) (o : Outer) (ks : List PlainNeed) (act : Act) (old new : List Made) → s.priority ≡ own_priority (action_of d s.priority o)
+pub own_added : (s : StatementContext) (n : ℕ) (d : ValueUse) (o : Outer) (ks : List PlainNeed) (act : Act) (old new : List Made) → s.priority ≡ own_priority (action_of d s.priority o)
     → Noted (wanted s.inputs (seen_as true o.cell.node o.cell.form)) ks → ((l : Layout) → act ≡ simple_act l s.inputs (map need_of ks) (action_of d s.priority o))
     → map entry_view new ≡ map entry_view old ++ made s (record { node = n; mark = s.at }) (each_once (wanted s.inputs (seen_as true o.cell.node o.cell.form))) act ∷ []
     → OwnAdded s.inputs s.at n (action_of d s.priority o) old new

@@ -11,7 +11,7 @@ use Rattle.code_rules.specs.CodeNames.{name_as, wanted, each_once, over}
 use Rattle.emit_cells.specs.PlainNeeds.{Noted, need_of}
 use Rattle.emit_cells.specs.declared.needs.PlainNeed.{PlainNeed}
 use Rattle.emit_cells.specs.Made.{made}
-use Rattle.emit_cells.specs.declared.entries.Standing.{Standing}
+use Rattle.emit_cells.specs.declared.entries.StatementContext.{StatementContext}
 use Rattle.emit_statements.specs.Into.{OwnAdded}
 use Rattle.emit_statements.specs.Seen.{seen_last}
 use Rattle.emit_statements.proofs.Outers.{all_seen, own_entry}
@@ -26,7 +26,7 @@ abbrev put_over : ℕ → Name → List Need → List Expr → Act
 put_over k x ns (e ∷ d ∷ []) = Put (name_as k true x) (over k ns e) (over k ns d)
 put_over k x ns _ = Read
 
-pub put_added : (s : Standing) (n : ℕ) (x : Name) (i o : Outer) (e d : Expr) (ks : List PlainNeed) (act : Act) (old new : List Made) → s.priority ≡ pos 0 → e ≡ seen_last i → d ≡ seen_last o
+pub put_added : (s : StatementContext) (n : ℕ) (x : Name) (i o : Outer) (e d : Expr) (ks : List PlainNeed) (act : Act) (old new : List Made) → s.priority ≡ pos 0 → e ≡ seen_last i → d ≡ seen_last o
     → Noted (flat_map (wanted s.inputs) (e ∷ d ∷ [])) ks → act ≡ Put (name_as s.inputs true x) (over s.inputs (map need_of ks) e) (over s.inputs (map need_of ks) d)
     → map entry_view new ≡ map entry_view old ++ made s (record { node = n; mark = s.at }) (each_once (flat_map (wanted s.inputs) (e ∷ d ∷ []))) act ∷ []
     → OwnAdded s.inputs s.at n (insert x i o) old new

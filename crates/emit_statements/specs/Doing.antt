@@ -1,12 +1,12 @@
--- What a statement does with the value that its own entry works out.
+-- The use that a statement makes of the value of its own entry.
 use Rattle.std.specs.Prelude.{ℤ}
 use Rattle.language.specs.Core.{Action, Outer, assign, fill, print, assert}
 use Rattle.flow.specs.View.{name_view}
-use Rattle.emit_statements.specs.declared.own.Use.{Use}
-use Rattle.emit_statements.specs.declared.own.Use.TheVariants as Uses
+use Rattle.emit_statements.specs.declared.own.ValueUse.{ValueUse}
+use Rattle.emit_statements.specs.declared.own.ValueUse.TheVariants as Uses
 
--- the action, of this priority
-abbrev pub action_of : Use → ℤ → Outer → Action
+-- the action with this priority
+abbrev pub action_of : ValueUse → ℤ → Outer → Action
 action_of (Uses.Set x) p o = assign (name_view x) o
 action_of (Uses.Fill a) p o = fill (name_view a) o
 action_of Uses.Print p o = print p o

@@ -1,4 +1,4 @@
-//! Branches.
+//! Emission of the own entry of a branch.
 ghost use Rattle.std.specs.Prelude.{◌≡◌, ℕ, [], None, Some, length, pos, IfOk, OnOk};
 ghost use Rattle.language.specs.Core as core;
 ghost use Rattle.flow.specs.View.{outer_view};
@@ -6,22 +6,23 @@ ghost use Rattle.code_rules.specs.Room.{OuterRoom};
 ghost use Rattle.emit_cells.specs.Marks.{MarksGrow};
 ghost use Rattle.emit_statements.specs.Blocks.{Numbered, OwnAddedAs, branch_act};
 
+use crate::code_builder::CodeBuilder;
 use crate::own::StatementAt;
-use crate::writer::Writer;
+use emit_cells::cell_views::{note_seen, placed_seen};
 use emit_cells::plain::is_outer_plain;
-use emit_cells::seen::{note_seen, placed_seen};
-use flow::cell::Outer;
+use flow::cell::OuterCell;
 use indexmap::IndexSet;
 use std::alloc::{AllocError, Allocator};
 use task_code::entry::Act;
 
-impl Writer {
-    /// Adds the own entry of a branch, which opens the body of one number where the condition holds, and that of another, if
-    /// there is one, where it does not. The result is the entry's number.
+impl CodeBuilder {
+    /// Appends the own entry of a branch and returns its number.
+    ///
+    /// The entry opens the body `then` if the condition is true, and the body `other`, if there is one, if it is false.
     pub fn add_branch<A: Allocator>(
         &mut self,
         statement: StatementAt,
-        condition: &Outer<A>,
+        condition: &OuterCell<A>,
         then: u32,
         other: Option<u32>,
     ) -> Result<u32, AllocError>

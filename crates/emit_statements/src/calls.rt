@@ -1,4 +1,4 @@
-//! Calls of composite functions that are statements.
+//! Emission of statements that call a composite function.
 ghost use Rattle.std.specs.Prelude.{◌∷◌, ◌++◌, ◌+◌, ◌≤◌, ◌^◌, [], ℕ, suc, List, map, length, OnOk};
 ghost use Rattle.language.specs.Core as core;
 ghost use Rattle.flow.specs.Shapes.{kinds_of_function};
@@ -9,31 +9,31 @@ ghost use Rattle.task_code.specs.Code as pure;
 ghost use Rattle.code_rules.specs.IsCodeOf.{Layout};
 ghost use Rattle.code_rules.specs.Laying.{IndexesStand, Suits};
 ghost use Rattle.code_rules.specs.Room.{ActionRoom, PartRoom, Each};
-ghost use Rattle.flow_listed.specs.Cells.{parts_anchors};
+ghost use Rattle.flow.specs.Cells.{parts_anchors};
 ghost use Rattle.emit_cells.specs.Chunk.{AllAdded};
 ghost use Rattle.emit_cells.specs.Marks.{MarksGrow};
 ghost use Rattle.emit_statements.specs.Into.{LaysInto, call_of, laying};
 
-use crate::filling::add_numbers;
-use crate::writer::Writer;
+use crate::block_builder::add_numbers;
+use crate::code_builder::CodeBuilder;
 use emit_cells::cells::pass_parts;
 use emit_cells::data::add_data;
-use emit_cells::entries::Standing;
-use emit_cells::laid::add_parts;
+use emit_cells::entries::StatementContext;
+use emit_cells::layout::add_parts;
 use emit_cells::parts::add_call;
-use flow::cell::{Call, Part};
+use flow::cell::{Call, CellPart};
 use flow::script::Function;
 use indexmap::IndexMap;
 use std::alloc::{AllocError, Allocator, Global};
 use task_code::entry::Entry;
 
-/// Adds the entries of a call and of the parts before it.
+/// Appends the entries of the parts of a call, then that of the call.
 fn add_call_entries<A: Allocator>(
     alloc: Global,
     entries: &mut Vec<Entry>,
     functions: &Vec<Function<A>, A>,
-    standing: Standing,
-    parts: &Vec<Part<A>, A>,
+    standing: StatementContext,
+    parts: &Vec<CellPart<A>, A>,
     call: &Call<A>,
 ) -> Result<(), AllocError>
     ensures added { OnOk result (Each (PartRoom standing.inputs) (parts_view parts.now.items) → PartRoom standing.inputs (core.calls (call_view call.now))
@@ -47,13 +47,13 @@ fn add_call_entries<A: Allocator>(
     Ok(())
 }
 
-impl Writer {
-    /// Lays a call of a composite function that is a statement.
+impl CodeBuilder {
+    /// Emits a statement that calls a composite function.
     pub fn call_alone<A: Allocator>(
         &mut self,
         functions: &Vec<Function<A>, A>,
-        standing: Standing,
-        parts: &Vec<Part<A>, A>,
+        standing: StatementContext,
+        parts: &Vec<CellPart<A>, A>,
         call: &Call<A>,
     ) -> Result<(), AllocError>
         ensures laid { OnOk result ((roots node : ℕ) (bodies : List pure.Body) → ActionRoom standing.inputs (call_of standing parts.now.items call.now)

@@ -1,4 +1,4 @@
-//! The own entry of a statement, numbered in its block.
+//! Emission of the own entry of a statement, with its number in the block.
 ghost use Rattle.std.specs.Prelude.{◌≡◌, ◌++◌, ◌∷◌, [], List, length, map, IfOk, OnOk};
 ghost use Rattle.task_code.specs.Code.{Need};
 ghost use Rattle.task_code.specs.View as code_view;
@@ -8,18 +8,17 @@ ghost use Rattle.emit_cells.specs.Made.{made};
 ghost use Rattle.emit_cells.specs.Marks.{MarksGrow, marked};
 ghost use Rattle.emit_statements.specs.Blocks.{Numbered};
 
+use crate::code_builder::CodeBuilder;
 use crate::own::StatementAt;
-use crate::writer::Writer;
-use emit_cells::entries::{Shown, put};
+use emit_cells::entries::{EntryOrigin, push_entry};
 use emit_cells::names::small;
 use emit_cells::needs::PlainNeed;
 use indexmap::IndexSet;
 use std::alloc::AllocError;
 use task_code::entry::Act;
 
-impl Writer {
-    /// Puts the own entry of a statement, which waits for these needs, behind the others, and its number behind those of its
-    /// block. The result is that number.
+impl CodeBuilder {
+    /// Appends the own entry of a statement with these needs, appends its number to the block, and returns the number.
     pub(crate) fn add_entry(
         &mut self,
         statement: StatementAt,
@@ -35,11 +34,11 @@ impl Writer {
             (marked (code_view.act_view act) statement.node statement.standing.at)) }
     {
         let number = small(self.entries.len());
-        let shown = Shown {
+        let shown = EntryOrigin {
             node: statement.node,
             mark: statement.standing.at,
         };
-        put(
+        push_entry(
             self.alloc,
             &mut self.entries,
             statement.standing,

@@ -1,4 +1,4 @@
-//! Writes of elements.
+//! Emission of element writes.
 ghost use Rattle.std.specs.Prelude.{◌≡◌, ◌∷◌, ◌++◌, [], map, None, OnOk};
 ghost use Rattle.language.specs.Core as core;
 ghost use Rattle.language.specs.Parts.{outer_parts};
@@ -6,35 +6,35 @@ ghost use Rattle.flow.specs.View.{name_view, outer_view};
 ghost use Rattle.task_code.specs.View as code_view;
 ghost use Rattle.code_rules.specs.Laying.{data_in};
 ghost use Rattle.code_rules.specs.Room.{OuterRoom};
-ghost use Rattle.flow_listed.specs.Cells.{outer_anchors};
+ghost use Rattle.flow.specs.Cells.{outer_anchors};
 ghost use Rattle.emit_cells.specs.Chunk.{AllAdded};
 ghost use Rattle.emit_cells.specs.Marks.{MarksGrow};
 ghost use Rattle.emit_statements.specs.Into.{AddsFew, AddsOwn, LaysOwn};
 
-use crate::filling::add_numbers;
+use crate::block_builder::add_numbers;
+use crate::code_builder::CodeBuilder;
 use crate::own::StatementAt;
-use crate::writer::Writer;
-use emit_cells::entries::{Shown, Standing, put};
+use emit_cells::cell_views::{note_seen, placed_seen};
+use emit_cells::entries::{EntryOrigin, StatementContext, push_entry};
 use emit_cells::names::named;
 use emit_cells::outers::{add_outer, pass_outer};
-use emit_cells::owns::add_outer_data;
+use emit_cells::own_cells::add_outer_data;
 use emit_cells::plain::is_outer_plain;
-use emit_cells::seen::{note_seen, placed_seen};
-use flow::cell::Outer;
+use flow::cell::OuterCell;
 use flow::name::Name;
 use flow::script::Function;
 use indexmap::{IndexMap, IndexSet};
 use std::alloc::{AllocError, Allocator, Global};
 use task_code::entry::{Act, Entry, Variable};
 
-/// Adds the entries of two outermost cells, with those of the parts inside them.
+/// Appends the entries of two outermost cells, including those of the parts inside them.
 fn add_two_entries<A: Allocator>(
     alloc: Global,
     entries: &mut Vec<Entry>,
     functions: &Vec<Function<A>, A>,
-    standing: Standing,
-    one: &Outer<A>,
-    two: &Outer<A>,
+    standing: StatementContext,
+    one: &OuterCell<A>,
+    two: &OuterCell<A>,
 ) -> Result<(), AllocError>
     ensures added { OnOk result (OuterRoom standing.inputs (outer_view one.now) → OuterRoom standing.inputs (outer_view two.now)
         → AllAdded functions.now.items standing (outer_parts (outer_view one.now ∷ outer_view two.now ∷ [])) entries.old.items entries.new.items) }
@@ -48,11 +48,11 @@ fn add_two_entries<A: Allocator>(
     Ok(())
 }
 
-/// Adds the data of two outermost cells.
+/// Appends the data of two outermost cells.
 fn add_two_data<A: Allocator>(
     makes: &mut Vec<Variable>,
-    one: &Outer<A>,
-    two: &Outer<A>,
+    one: &OuterCell<A>,
+    two: &OuterCell<A>,
 ) -> Result<(), AllocError>
     ensures { OnOk result (map code_view.variable_view makes.new.items
         ≡ map code_view.variable_view makes.old.items ++ data_in None (outer_parts (outer_view one.now ∷ outer_view two.now ∷ []))) }
@@ -62,14 +62,14 @@ fn add_two_data<A: Allocator>(
     Ok(())
 }
 
-/// Adds the own entry of a write of an element.
+/// Appends the own entry of an element write.
 fn add_put<A: Allocator>(
     alloc: Global,
     entries: &mut Vec<Entry>,
     statement: StatementAt,
     array: Name,
-    index: &Outer<A>,
-    right: &Outer<A>,
+    index: &OuterCell<A>,
+    right: &OuterCell<A>,
 ) -> Result<(), AllocError>
     ensures own { OnOk result (AddsOwn statement (core.insert (name_view array) (outer_view index.now) (outer_view right.now))
         entries.old.items entries.new.items) }
@@ -77,7 +77,7 @@ fn add_put<A: Allocator>(
 {
     let standing = statement.standing;
     let inputs = standing.inputs;
-    let shown = Shown {
+    let shown = EntryOrigin {
         node: statement.node,
         mark: standing.at,
     };
@@ -89,19 +89,19 @@ fn add_put<A: Allocator>(
     let place = placed_seen(alloc, &needs, inputs, &index.cell, plain_index)?;
     let value = placed_seen(alloc, &needs, inputs, &right.cell, plain_right)?;
     let act = Act::Put(named(inputs, array, true), place, value);
-    put(alloc, entries, standing, shown, &needs, act)?;
+    push_entry(alloc, entries, standing, shown, &needs, act)?;
     Ok(())
 }
 
-impl Writer {
-    /// Lays a write of an element.
+impl CodeBuilder {
+    /// Emits an element write: the entries and data of the index and the right side, then its own entry.
     pub fn insert<A: Allocator>(
         &mut self,
         functions: &Vec<Function<A>, A>,
         statement: StatementAt,
         array: Name,
-        index: &Outer<A>,
-        right: &Outer<A>,
+        index: &OuterCell<A>,
+        right: &OuterCell<A>,
     ) -> Result<(), AllocError>
         ensures laid { OnOk result (LaysOwn functions.now.items statement (core.insert (name_view array) (outer_view index.now) (outer_view right.now))
             self.old.entries.items self.new.entries.items self.old.filling self.new.filling) }

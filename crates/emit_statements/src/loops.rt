@@ -1,4 +1,4 @@
-//! Loops.
+//! Emission of loops: their variables and their own entries.
 ghost use Rattle.std.specs.Prelude.{◌≡◌, ◌++◌, ℕ, [], Option, length, map, pos, option_map, IfOk, OnOk};
 ghost use Rattle.std.specs.List.{flat_map};
 ghost use Rattle.language.specs.Core as core;
@@ -11,24 +11,24 @@ ghost use Rattle.emit_cells.specs.Marks.{IsUnmarked, MarksGrow};
 ghost use Rattle.emit_cells.specs.PlainNeeds.{need_of, IsReady, Notes};
 ghost use Rattle.emit_statements.specs.Blocks.{Numbered, OwnAddedAs, loop_with, range_action, range_loop_act, ranged, seen_range};
 
-use crate::filling::Filling;
+use crate::block_builder::BlockBuilder;
+use crate::code_builder::CodeBuilder;
 use crate::own::StatementAt;
 use crate::steps::{note_step, placed_step};
-use crate::writer::Writer;
+use emit_cells::cell_views::{note_seen, placed_seen};
 use emit_cells::data::add_scalar;
 use emit_cells::names::named;
 use emit_cells::needs::{PlainNeed, note_name};
 use emit_cells::plain::is_outer_plain;
-use emit_cells::seen::{note_seen, placed_seen};
 use flow::name::Name;
 use flow::statement::{Range, Variable};
 use indexmap::IndexSet;
 use std::alloc::{AllocError, Allocator, Global};
-use task_code::entry::{Act, Loop, Variable as Made};
+use task_code::entry::{self, Act, Loop};
 
 // VARIABLES
 
-/// The node of the variable of a loop's turn.
+/// Returns the node of the variable for the key or number of the turn, if the loop has one.
 fn turn_node<A: Allocator>(turn: &Option<Variable<A>>) -> Option<u32>
     ensures { result ≡ option_map (λ x. x.node) turn.now }
 {
@@ -38,7 +38,7 @@ fn turn_node<A: Allocator>(turn: &Option<Variable<A>>) -> Option<u32>
     }
 }
 
-/// A loop with the body of a number.
+/// Creates the description of a loop with this body and these variables.
 pub fn loop_of<A: Allocator>(body: u32, value: &Variable<A>, turn: &Option<Variable<A>>) -> Loop
     ensures { code_view.loop_view result ≡ loop_with body value.now turn.now }
 {
@@ -49,9 +49,9 @@ pub fn loop_of<A: Allocator>(body: u32, value: &Variable<A>, turn: &Option<Varia
     }
 }
 
-/// Adds the variable of a loop's turn, if it has one.
+/// Appends the variable for the key or number of the turn, if the loop has one.
 fn add_turn<A: Allocator>(
-    makes: &mut Vec<Made>,
+    makes: &mut Vec<entry::Variable>,
     turn: &Option<Variable<A>>,
 ) -> Result<(), AllocError>
     ensures { OnOk result (map code_view.variable_view makes.new.items
@@ -63,12 +63,12 @@ fn add_turn<A: Allocator>(
     }
 }
 
-/// What the body of a loop has before its statements: the loop's variables.
+/// Creates the builder of the body of a loop, which declares the variables of the loop and has no entries yet.
 pub fn loop_filling<A: Allocator>(
     alloc: Global,
     value: &Variable<A>,
     turn: &Option<Variable<A>>,
-) -> Result<Filling, AllocError>
+) -> Result<BlockBuilder, AllocError>
     ensures entries { IfOk result (λ filling. filling.entries.items ≡ []) }
     ensures makes { IfOk result (λ filling. (body : ℕ)
         → map code_view.variable_view filling.makes.items ≡ pure.loop_variables (loop_with body value.now turn.now)) }
@@ -76,7 +76,7 @@ pub fn loop_filling<A: Allocator>(
     let mut makes = Vec::new(alloc);
     add_scalar(&mut makes, value.node)?;
     add_turn(&mut makes, turn)?;
-    Ok(Filling {
+    Ok(BlockBuilder {
         makes,
         entries: Vec::new(alloc),
     })
@@ -84,7 +84,7 @@ pub fn loop_filling<A: Allocator>(
 
 // RANGES
 
-/// Notes what a range waits for.
+/// Adds the needs of a range.
 fn note_range<A: Allocator>(
     needs: &mut IndexSet<PlainNeed>,
     inputs: usize,
@@ -100,7 +100,7 @@ fn note_range<A: Allocator>(
     Ok(())
 }
 
-/// The act of a loop over a range, over these needs.
+/// Creates the act of a loop over a range, over these needs.
 fn range_act<A: Allocator>(
     alloc: Global,
     needs: &IndexSet<PlainNeed>,
@@ -131,8 +131,8 @@ fn range_act<A: Allocator>(
     Ok(Act::Range(low, high, step, turns))
 }
 
-impl Writer {
-    /// Adds the own entry of a loop over a range. The result is the entry's number.
+impl CodeBuilder {
+    /// Appends the own entry of a loop over a range and returns its number.
     pub fn add_range<A: Allocator>(
         &mut self,
         statement: StatementAt,
@@ -158,8 +158,8 @@ impl Writer {
 
 // ARRAYS
 
-impl Writer {
-    /// Adds the own entry of a loop over an array. The result is the entry's number.
+impl CodeBuilder {
+    /// Appends the own entry of a loop over an array and returns its number.
     pub fn add_each(
         &mut self,
         statement: StatementAt,

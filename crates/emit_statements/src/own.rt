@@ -1,4 +1,5 @@
-//! Statements that work an outermost cell out themselves: assignments, lines and assertions.
+//! Emission of statements that evaluate an outermost cell in their own entry: assignments, printed lines and
+//! assertions.
 ghost use Rattle.std.specs.Prelude.{◌≡◌, ℤ, [], List, map, OnOk, IfOk};
 ghost use Rattle.language.specs.Core as core;
 ghost use Rattle.flow.specs.View.{cell_view, expr_view, form_view, name_view, outer_view};
@@ -7,22 +8,22 @@ ghost use Rattle.task_code.specs.View as code_view;
 ghost use Rattle.code_rules.specs.IsCodeOf.{Layout, fill_act, own_form, simple_act};
 ghost use Rattle.code_rules.specs.Room.{ActionRoom, FormRoom, NameRoom, OuterRoom};
 ghost use Rattle.emit_cells.specs.PlainNeeds.{need_of, IsReady};
-ghost use Rattle.flow_listed.specs.Cells.{outer_anchors};
+ghost use Rattle.flow.specs.Cells.{outer_anchors};
 ghost use Rattle.emit_cells.specs.Chunk.{AllAdded, Inside, Passes};
 ghost use Rattle.emit_cells.specs.Marks.{IsUnmarked, MarksGrow};
 ghost use Rattle.emit_statements.specs.Doing.{action_of};
 ghost use Rattle.emit_statements.specs.Into.{AddsFew, AddsOwn, LaysOwn};
 
-use crate::filling::add_numbers;
-use crate::writer::Writer;
+use crate::block_builder::add_numbers;
+use crate::code_builder::CodeBuilder;
+use emit_cells::cell_views::{note_seen, placed_seen};
 use emit_cells::cells::{pass_cell, pass_parts};
-use emit_cells::entries::{Shown, Standing, put};
+use emit_cells::entries::{EntryOrigin, StatementContext, push_entry};
 use emit_cells::names::named;
 use emit_cells::needs::PlainNeed;
-use emit_cells::over::all_placed;
-use emit_cells::owns::{add_own_data, add_own_outer};
-use emit_cells::seen::{note_seen, placed_seen};
-use flow::cell::{Form, Outer};
+use emit_cells::operands::all_placed;
+use emit_cells::own_cells::{add_own_data, add_own_outer};
+use flow::cell::{CellForm, OuterCell};
 use flow::expression::Expr;
 use flow::name::Name;
 use flow::script::Function;
@@ -30,45 +31,45 @@ use indexmap::{IndexMap, IndexSet};
 use std::alloc::{AllocError, Allocator, Global};
 use task_code::entry::{Act, Argument, Entry};
 
-/// Where a statement stands, and its node.
+/// The context of a statement, and its node.
 #[derive(Clone, Copy)]
 pub struct StatementAt {
-    pub standing: Standing,
+    pub standing: StatementContext,
     pub node: u32,
 }
 
-/// What a statement does with the value that it works out itself.
+/// The use that a statement makes of the value of its own entry.
 #[derive(Clone, Copy)]
-pub enum Use {
+pub enum ValueUse {
     Set(Name),
     Fill(Name),
     Print,
     Assert,
 }
 
-/// Notes what is handed over for a cell that its statement works out itself: it has a datum where it is an element.
+/// Records the argument for a cell that its statement evaluates itself. Only an element read has a datum to pass.
 fn pass_element<A: Allocator>(
     alloc: Global,
     passed: &mut IndexMap<u32, Argument>,
     inputs: usize,
-    outer: &Outer<A>,
+    outer: &OuterCell<A>,
 ) -> Result<(), AllocError>
     ensures { OnOk result ((all : List core.Part) → OuterRoom inputs (outer_view outer.now) → Inside all (own_outer (outer_view outer.now))
         → Passes inputs all (own_cell (cell_view outer.now.cell) (form_view outer.now.cell.form)) passed.old passed.new) }
 {
     match &outer.cell.form {
-        Form::Compute(_) => Ok(()),
-        Form::Read { .. } => pass_cell(alloc, passed, inputs, &outer.cell, false),
+        CellForm::Compute(_) => Ok(()),
+        CellForm::Read { .. } => pass_cell(alloc, passed, inputs, &outer.cell, false),
     }
 }
 
-/// Notes what is handed over for the cells inside an outermost cell that its statement works out itself, and for itself where it is
-/// an element.
+/// Records the arguments for the cells inside an outermost cell that its statement evaluates itself. Also records the
+/// argument for the cell itself if it is an element read.
 fn pass_own_outer<A: Allocator>(
     alloc: Global,
     passed: &mut IndexMap<u32, Argument>,
     inputs: usize,
-    outer: &Outer<A>,
+    outer: &OuterCell<A>,
 ) -> Result<(), AllocError>
     ensures { OnOk result ((all : List core.Part) → OuterRoom inputs (outer_view outer.now) → Inside all (own_outer (outer_view outer.now))
         → Passes inputs all (own_outer (outer_view outer.now)) passed.old passed.new) }
@@ -78,13 +79,13 @@ fn pass_own_outer<A: Allocator>(
     Ok(())
 }
 
-/// Adds the entries of the parts of a statement that works an outermost cell out itself.
+/// Appends the entries of the parts of a statement that evaluates an outermost cell itself.
 fn add_own_entries<A: Allocator>(
     alloc: Global,
     entries: &mut Vec<Entry>,
     functions: &Vec<Function<A>, A>,
-    standing: Standing,
-    outer: &Outer<A>,
+    standing: StatementContext,
+    outer: &OuterCell<A>,
 ) -> Result<(), AllocError>
     ensures added { OnOk result (OuterRoom standing.inputs (outer_view outer.now)
         → AllAdded functions.now.items standing (own_outer (outer_view outer.now)) entries.old.items entries.new.items) }
@@ -96,7 +97,9 @@ fn add_own_entries<A: Allocator>(
     Ok(())
 }
 
-/// The act that fills an array with what an expression is.
+/// Creates the act that fills an array with the value of an expression.
+///
+/// The act copies an array, or inserts the elements of an array literal. Any other expression has no elements.
 fn filled<A: Allocator>(
     alloc: Global,
     needs: &IndexSet<PlainNeed>,
@@ -121,13 +124,13 @@ fn filled<A: Allocator>(
     }
 }
 
-/// The act of a statement that fills an array.
+/// Creates the act of a statement that fills an array. A cell that reads an element has no elements.
 fn fill<A: Allocator>(
     alloc: Global,
     needs: &IndexSet<PlainNeed>,
     inputs: usize,
     array: Name,
-    outer: &Outer<A>,
+    outer: &OuterCell<A>,
 ) -> Result<Act, AllocError>
     ensures does { IfOk result (λ act. (l : Layout) → IsReady needs.now.keys → NameRoom inputs (name_view array) → FormRoom inputs (form_view outer.now.cell.form)
         → code_view.act_view act ≡ fill_act l inputs (map need_of needs.now.keys) (name_view array)
@@ -135,65 +138,66 @@ fn fill<A: Allocator>(
     ensures unmarked { IfOk result (λ act. IsUnmarked (code_view.act_view act)) }
 {
     match &outer.cell.form {
-        Form::Compute(expr) => filled(alloc, needs, inputs, array, expr),
-        Form::Read { .. } => Ok(Act::Fill(named(inputs, array, true), Vec::new(alloc))),
+        CellForm::Compute(expr) => filled(alloc, needs, inputs, array, expr),
+        CellForm::Read { .. } => Ok(Act::Fill(named(inputs, array, true), Vec::new(alloc))),
     }
 }
 
-/// The act of a statement that works an outermost cell out itself.
+/// Creates the act of a statement that evaluates an outermost cell itself.
 fn act_of<A: Allocator>(
     alloc: Global,
     needs: &IndexSet<PlainNeed>,
     inputs: usize,
-    done: Use,
-    outer: &Outer<A>,
+    done: ValueUse,
+    outer: &OuterCell<A>,
 ) -> Result<Act, AllocError>
     ensures does { IfOk result (λ act. (l : Layout) (p : ℤ) → IsReady needs.now.keys → ActionRoom inputs (action_of done p (outer_view outer.now))
         → code_view.act_view act ≡ simple_act l inputs (map need_of needs.now.keys) (action_of done p (outer_view outer.now))) }
     ensures unmarked { IfOk result (λ act. IsUnmarked (code_view.act_view act)) }
 {
     match done {
-        Use::Set(target) => Ok(Act::Set(
+        ValueUse::Set(target) => Ok(Act::Set(
             named(inputs, target, false),
             placed_seen(alloc, needs, inputs, &outer.cell, true)?,
         )),
-        Use::Print => Ok(Act::Print(placed_seen(alloc, needs, inputs, &outer.cell, true)?)),
-        Use::Assert => Ok(Act::Assert(placed_seen(alloc, needs, inputs, &outer.cell, true)?)),
-        Use::Fill(array) => fill(alloc, needs, inputs, array, outer),
+        ValueUse::Print => Ok(Act::Print(placed_seen(alloc, needs, inputs, &outer.cell, true)?)),
+        ValueUse::Assert => Ok(Act::Assert(placed_seen(alloc, needs, inputs, &outer.cell, true)?)),
+        ValueUse::Fill(array) => fill(alloc, needs, inputs, array, outer),
     }
 }
 
-/// Adds the own entry of a statement that works an outermost cell out itself.
+/// Appends the own entry of a statement that evaluates an outermost cell itself.
 fn add_own<A: Allocator>(
     alloc: Global,
     entries: &mut Vec<Entry>,
     statement: StatementAt,
-    done: Use,
-    outer: &Outer<A>,
+    done: ValueUse,
+    outer: &OuterCell<A>,
 ) -> Result<(), AllocError>
     ensures own { OnOk result (AddsOwn statement (action_of done statement.standing.priority (outer_view outer.now)) entries.old.items entries.new.items) }
     ensures marks { OnOk result (MarksGrow entries.old.items entries.new.items []) }
 {
     let standing = statement.standing;
-    let shown = Shown {
+    let shown = EntryOrigin {
         node: statement.node,
         mark: standing.at,
     };
     let mut needs = IndexSet::new(alloc);
     note_seen(&mut needs, standing.inputs, &outer.cell, true)?;
     let act = act_of(alloc, &needs, standing.inputs, done, outer)?;
-    put(alloc, entries, standing, shown, &needs, act)?;
+    push_entry(alloc, entries, standing, shown, &needs, act)?;
     Ok(())
 }
 
-impl Writer {
-    /// Lays a statement that works an outermost cell out itself.
+impl CodeBuilder {
+    /// Emits a statement that evaluates an outermost cell itself: the entries and data of its parts, then its own
+    /// entry.
     pub fn own<A: Allocator>(
         &mut self,
         functions: &Vec<Function<A>, A>,
         statement: StatementAt,
-        done: Use,
-        outer: &Outer<A>,
+        done: ValueUse,
+        outer: &OuterCell<A>,
     ) -> Result<(), AllocError>
         ensures laid { OnOk result (LaysOwn functions.now.items statement (action_of done statement.standing.priority (outer_view outer.now))
             self.old.entries.items self.new.entries.items self.old.filling self.new.filling) }

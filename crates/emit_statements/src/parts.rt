@@ -1,4 +1,4 @@
-//! The parts of statements that have blocks: those of a condition and of a range.
+//! Emission of the parts of statements with blocks: those of a condition and of a range.
 ghost use Rattle.std.specs.Prelude.{◌≡◌, ◌≤◌, ◌^◌, ◌∷◌, ◌++◌, [], List, None, length, map, option_map, OnOk};
 ghost use Rattle.language.specs.Core as core;
 ghost use Rattle.language.specs.Parts.{outer_parts};
@@ -8,18 +8,18 @@ ghost use Rattle.task_code.specs.View as code_view;
 ghost use Rattle.code_rules.specs.IsCodeOf.{Layout};
 ghost use Rattle.code_rules.specs.Laying.{data_in};
 ghost use Rattle.code_rules.specs.Room.{OuterRoom, StepRoom};
-ghost use Rattle.flow_listed.specs.Cells.{outer_anchors, range_anchors};
+ghost use Rattle.flow.specs.Cells.{outer_anchors, range_anchors};
 ghost use Rattle.emit_cells.specs.Chunk.{AddedFor, AllAdded, Inside, IsPassed, Passes};
 ghost use Rattle.emit_cells.specs.Marks.{MarksGrow};
 ghost use Rattle.emit_statements.specs.Blocks.{FewParts, PartsLaid, range_outers};
 
-use crate::filling::add_numbers;
+use crate::block_builder::add_numbers;
+use crate::code_builder::CodeBuilder;
 use crate::steps::{add_step, add_step_data, pass_step};
-use crate::writer::Writer;
-use emit_cells::entries::Standing;
+use emit_cells::entries::StatementContext;
 use emit_cells::outers::{add_outer, pass_outer};
-use emit_cells::owns::add_outer_data;
-use flow::cell::Outer;
+use emit_cells::own_cells::add_outer_data;
+use flow::cell::OuterCell;
 use flow::script::Function;
 use flow::statement::Range;
 use indexmap::IndexMap;
@@ -28,13 +28,13 @@ use task_code::entry::{Argument, Entry, Variable};
 
 // CONDITIONS
 
-/// Adds the entries of a condition.
+/// Appends the entries of a condition.
 fn add_condition<A: Allocator>(
     alloc: Global,
     entries: &mut Vec<Entry>,
     functions: &Vec<Function<A>, A>,
-    standing: Standing,
-    condition: &Outer<A>,
+    standing: StatementContext,
+    condition: &OuterCell<A>,
 ) -> Result<(), AllocError>
     ensures added { OnOk result (OuterRoom standing.inputs (outer_view condition.now)
         → AllAdded functions.now.items standing (outer_parts (outer_view condition.now ∷ [])) entries.old.items entries.new.items) }
@@ -46,13 +46,13 @@ fn add_condition<A: Allocator>(
     Ok(())
 }
 
-impl Writer {
-    /// Lays the parts of a condition: their entries and data.
+impl CodeBuilder {
+    /// Emits the parts of a condition: their entries and data.
     pub fn condition_parts<A: Allocator>(
         &mut self,
         functions: &Vec<Function<A>, A>,
-        standing: Standing,
-        condition: &Outer<A>,
+        standing: StatementContext,
+        condition: &OuterCell<A>,
     ) -> Result<(), AllocError>
         ensures laid { OnOk result ((bodies : List pure.Body) → OuterRoom standing.inputs (outer_view condition.now) → length self.new.entries.items ≤ 2 ^ 32
             → PartsLaid functions.now.items standing (outer_parts (outer_view condition.now ∷ [])) bodies
@@ -77,7 +77,7 @@ impl Writer {
 
 // RANGES
 
-/// Notes what is handed over for the cells of a range.
+/// Records the arguments for the cells of a range.
 fn pass_range<A: Allocator>(
     alloc: Global,
     passed: &mut IndexMap<u32, Argument>,
@@ -94,12 +94,12 @@ fn pass_range<A: Allocator>(
     Ok(())
 }
 
-/// Adds the entries of a range.
+/// Appends the entries of the bounds of a range and of its step, given the recorded arguments.
 fn add_bounds<A: Allocator>(
     alloc: Global,
     entries: &mut Vec<Entry>,
     functions: &Vec<Function<A>, A>,
-    standing: Standing,
+    standing: StatementContext,
     passed: &IndexMap<u32, Argument>,
     range: &Range<A>,
 ) -> Result<(), AllocError>
@@ -115,12 +115,12 @@ fn add_bounds<A: Allocator>(
     Ok(())
 }
 
-/// Adds the entries of the bounds of a range and of its step.
+/// Appends the entries of the bounds of a range and of its step.
 fn add_range_entries<A: Allocator>(
     alloc: Global,
     entries: &mut Vec<Entry>,
     functions: &Vec<Function<A>, A>,
-    standing: Standing,
+    standing: StatementContext,
     range: &Range<A>,
 ) -> Result<(), AllocError>
     ensures added { OnOk result (OuterRoom standing.inputs (outer_view range.now.low) → OuterRoom standing.inputs (outer_view range.now.high)
@@ -134,7 +134,7 @@ fn add_range_entries<A: Allocator>(
     Ok(())
 }
 
-/// Adds the data of the bounds of a range and of its step.
+/// Appends the data of the bounds of a range and of its step.
 fn add_range_data<A: Allocator>(
     makes: &mut Vec<Variable>,
     range: &Range<A>,
@@ -148,12 +148,12 @@ fn add_range_data<A: Allocator>(
     Ok(())
 }
 
-impl Writer {
-    /// Lays the parts of a range: the entries and data of its bounds and its step.
+impl CodeBuilder {
+    /// Emits the parts of a range: the entries and data of its bounds and its step.
     pub fn range_parts<A: Allocator>(
         &mut self,
         functions: &Vec<Function<A>, A>,
-        standing: Standing,
+        standing: StatementContext,
         range: &Range<A>,
     ) -> Result<(), AllocError>
         ensures laid { OnOk result ((bodies : List pure.Body) → OuterRoom standing.inputs (outer_view range.now.low)

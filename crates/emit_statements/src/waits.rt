@@ -1,4 +1,6 @@
-//! Waits, merged where nothing stands beside one inside another.
+//! Emission of `wait` statements, where a `wait` and the waits merged with it have one entry.
+//!
+//! A `wait` is merged with the one that it is nested in if its enclosing block has no other statement.
 ghost use Rattle.std.specs.Prelude.{◌≡◌, ◌∷◌, ◌++◌, [], length, map, pos, IfOk, OnOk};
 ghost use Rattle.std.specs.List.{flat_map};
 ghost use Rattle.language.specs.Core as core;
@@ -10,8 +12,8 @@ ghost use Rattle.emit_cells.specs.Marks.{MarksGrow};
 ghost use Rattle.emit_cells.specs.PlainNeeds.{need_named, Notes};
 ghost use Rattle.emit_statements.specs.Blocks.{InnerRoom, Numbered, WaitAddedAs, header_of, inner_headers};
 
+use crate::code_builder::CodeBuilder;
 use crate::own::StatementAt;
-use crate::writer::Writer;
 use emit_cells::names::named;
 use emit_cells::needs::{PlainNeed, note_name};
 use flow::name::Name;
@@ -19,10 +21,10 @@ use flow::statement::Header;
 use indexmap::IndexSet;
 use language::tree::Shape;
 use std::alloc::{AllocError, Allocator, Global};
-use task_code::entry::{Act, Header as Waits, Name as Used};
+use task_code::entry::{self, Act};
 
-/// A name that is waited for.
-fn awaited(inputs: usize, name: Name) -> Used
+/// Converts an awaited name.
+fn awaited(inputs: usize, name: Name) -> entry::Name
     ensures { AwaitedRoom inputs (awaited_view name) → need_named (code_view.name_view result) ≡ awaited_need inputs (awaited_view name) }
 {
     match name.shape {
@@ -33,7 +35,7 @@ fn awaited(inputs: usize, name: Name) -> Used
 
 // NEEDS
 
-/// Notes the names that are waited for.
+/// Adds the needs for the awaited names.
 fn note_names<A: Allocator>(
     needs: &mut IndexSet<PlainNeed>,
     inputs: usize,
@@ -48,7 +50,7 @@ fn note_names<A: Allocator>(
     Ok(())
 }
 
-/// Notes what the waits inside a wait wait for.
+/// Adds the needs of the waits merged into a wait.
 fn note_inner<A: Allocator>(
     needs: &mut IndexSet<PlainNeed>,
     inputs: usize,
@@ -65,13 +67,13 @@ fn note_inner<A: Allocator>(
 
 // HEADERS
 
-/// The header of a wait.
+/// Creates the header of a wait.
 fn header<A: Allocator>(
     alloc: Global,
     inputs: usize,
     at: usize,
     names: &Vec<Name, A>,
-) -> Result<Waits, AllocError>
+) -> Result<entry::Header, AllocError>
     ensures { IfOk result (λ h. Each (AwaitedRoom inputs) (map awaited_view names.now.items)
         → code_view.header_view h ≡ header_of inputs at names.now.items) }
 {
@@ -79,13 +81,13 @@ fn header<A: Allocator>(
     for name in names {
         needs.push(PlainNeed::new(awaited(inputs, *name)).need())?;
     }
-    Ok(Waits { at, needs })
+    Ok(entry::Header { at, needs })
 }
 
-/// Adds the headers of the waits inside a wait.
+/// Appends the headers of the waits merged into a wait.
 fn add_headers<A: Allocator>(
     alloc: Global,
-    headers: &mut Vec<Waits>,
+    headers: &mut Vec<entry::Header>,
     inputs: usize,
     inner: &Vec<Header<A>, A>,
 ) -> Result<(), AllocError>
@@ -98,14 +100,14 @@ fn add_headers<A: Allocator>(
     Ok(())
 }
 
-/// The headers of a wait and of those that are merged with it.
+/// Returns the headers of a wait and of the waits merged with it, the outermost first.
 fn all_headers<A: Allocator>(
     alloc: Global,
     inputs: usize,
     at: usize,
     names: &Vec<Name, A>,
     inner: &Vec<Header<A>, A>,
-) -> Result<Vec<Waits>, AllocError>
+) -> Result<Vec<entry::Header>, AllocError>
     ensures { IfOk result (λ hs. Each (AwaitedRoom inputs) (map awaited_view names.now.items) → InnerRoom inputs inner.now.items
         → map code_view.header_view hs.items ≡ header_of inputs at names.now.items ∷ inner_headers inputs inner.now.items) }
 {
@@ -115,9 +117,9 @@ fn all_headers<A: Allocator>(
     Ok(headers)
 }
 
-impl Writer {
-    /// Adds the own entry of a wait and of those that are merged with it, which opens the body of this number. The result is
-    /// the entry's number.
+impl CodeBuilder {
+    /// Appends the own entry of a wait and of the waits merged with it, and returns its number. The entry opens the
+    /// body of number `body`.
     pub fn add_wait<A: Allocator>(
         &mut self,
         statement: StatementAt,

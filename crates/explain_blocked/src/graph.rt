@@ -1,18 +1,18 @@
-//! Graphs: the parts in which each node leads to each other one, and shortest circles.
+//! Directed graphs with strongly connected components and shortest cycles.
 
-use crate::numbers::{NONE, Numbers};
-use crate::search::Search;
+use crate::components::ComponentSearch;
+use crate::numbers::{NONE, NodeNumbers};
 use std::alloc::{AllocError, Global};
 
-/// Nodes, numbered as they are added, and for each those to which it leads.
+/// A directed graph, as adjacency lists. Nodes are numbered in the order in which they are added.
 pub struct Graph {
     alloc: Global,
     edges: Vec<Vec<usize>>,
-    /// How many edges there are.
+    /// Number of edges.
     count: usize,
 }
 
-// Written out, so that who owns one lets it go by one call.
+// Implemented by hand, so that an owner drops the value with one call.
 impl Drop for Graph {
     fn drop(self) {
         let Graph {
@@ -23,18 +23,18 @@ impl Drop for Graph {
     }
 }
 
-/// The parts of a graph in which each node leads to each other one.
-pub struct Parts {
-    /// The number of each node's part. A part leads to parts of lower numbers alone.
-    pub part: Numbers,
-    /// All nodes, by the numbers of their parts.
+/// The strongly connected components of a graph.
+pub struct Components {
+    /// The component number of each node. An edge to another component leads to a lower number.
+    pub part: NodeNumbers,
+    /// All nodes, sorted by component number.
     pub order: Vec<usize>,
 }
 
-// Written out, so that who owns one lets it go by one call.
-impl Drop for Parts {
+// Implemented by hand, so that an owner drops the value with one call.
+impl Drop for Components {
     fn drop(self) {
-        let Parts { part: _, order: _ } = self;
+        let Components { part: _, order: _ } = self;
     }
 }
 
@@ -47,15 +47,15 @@ impl Graph {
         }
     }
 
-    /// Adds a node. The answer is its number.
+    /// Adds a node and returns its number.
     pub fn add(&mut self) -> Result<usize, AllocError> {
         let node = self.edges.len();
         self.edges.push(Vec::new(self.alloc))?;
         Ok(node)
     }
 
-    /// Lets a node lead to another one.
-    pub fn lead(&mut self, from: usize, to: usize) -> Result<(), AllocError> {
+    /// Adds an edge. Does nothing if there is no node `from`.
+    pub fn add_edge(&mut self, from: usize, to: usize) -> Result<(), AllocError> {
         if let Some(ends) = self.edges.get_mut(from) {
             ends.push(to)?;
             self.count = self.count.saturating_add(1);
@@ -67,48 +67,55 @@ impl Graph {
         self.edges.len()
     }
 
-    /// The nodes to which a node leads.
-    pub fn ends(&self, node: usize) -> &[usize] {
+    /// Returns the nodes to which a node has an edge.
+    pub fn successors(&self, node: usize) -> &[usize] {
         match self.edges.get(node) {
             Some(ends) => ends.as_slice(),
             None => &[],
         }
     }
 
-    /// How many nodes and edges there are.
+    /// Returns the number of nodes and edges.
     pub fn size(&self) -> usize {
         self.edges.len().saturating_add(self.count)
     }
 
-    /// The parts in which each node leads to each other one.
-    pub fn parts(&self) -> Result<Parts, AllocError> {
-        let mut search = Search::new(self.alloc, self)?;
+    /// Returns the strongly connected components.
+    pub fn parts(&self) -> Result<Components, AllocError> {
+        let mut search = ComponentSearch::new(self.alloc, self)?;
         search.run()?;
         Ok(search.into_parts())
     }
 
-    /// The nodes of a shortest way from a node to itself, without that at its beginning; none where there is no such way.
-    pub fn circle(&self, from: usize) -> Result<Vec<usize>, AllocError> {
-        let mut before = Numbers::new(self.alloc, self.len())?;
+    /// Returns the nodes of a shortest cycle through a node, found by breadth-first search.
+    ///
+    /// The list starts with a successor of `from` and ends with `from`. It is empty if there is no such cycle.
+    pub fn shortest_cycle(&self, from: usize) -> Result<Vec<usize>, AllocError> {
+        let mut before = NodeNumbers::new(self.alloc, self.len())?;
         let mut queue = Vec::new(self.alloc);
         queue.push(from)?;
         for place in 0..self.len() {
             match queue.get(place).copied() {
-                Some(node) if before.at(from) == NONE => self.reach(node, &mut before, &mut queue)?,
+                Some(node) if before.at(from) == NONE => self.visit_successors(
+                    node,
+                    &mut before,
+                    &mut queue,
+                )?,
                 _ => break,
             }
         }
-        self.way_back(from, &before)
+        self.cycle_path(from, &before)
     }
 
-    /// Puts those nodes behind the queue to which a node leads and no other one did.
-    fn reach(
+    /// Appends to the queue the successors of a node that have no predecessor yet, and records the node as their
+    /// predecessor.
+    fn visit_successors(
         &self,
         node: usize,
-        before: &mut Numbers,
+        before: &mut NodeNumbers,
         queue: &mut Vec<usize>,
     ) -> Result<(), AllocError> {
-        for to in self.ends(node) {
+        for to in self.successors(node) {
             if before.at(*to) == NONE {
                 before.put(*to, node);
                 queue.push(*to)?;
@@ -117,8 +124,8 @@ impl Graph {
         Ok(())
     }
 
-    /// The way to a node from itself, by the node before each.
-    fn way_back(&self, from: usize, before: &Numbers) -> Result<Vec<usize>, AllocError> {
+    /// Returns the path from a node to itself, given the predecessor of each node.
+    fn cycle_path(&self, from: usize, before: &NodeNumbers) -> Result<Vec<usize>, AllocError> {
         let mut way = Vec::new(self.alloc);
         let mut node = from;
         for _ in 0..self.len() {

@@ -1,53 +1,53 @@
-//! Where the statements, variables, cells and calls of a script stand, found by their offsets and nodes.
+//! Lookup of the statements, variables, cells and calls of a script by offset or node.
 ghost use Rattle.std.specs.Prelude.{IfOk};
 ghost use Rattle.flow.specs.View.{core_of};
 ghost use Rattle.flow_index.specs.Sites.{AreSites};
 
 use crate::sites::{action_of, variable_of};
-use flow::cell::{Call, Cell, Outer, Part};
-use flow::name::{Name, Owned};
+use flow::cell::{Call, Cell, CellPart, OuterCell};
+use flow::name::{Name, NameBinding};
 use flow::script::Flow;
 use flow::statement::{Action, Variable};
 use flow_index::site::Site;
-use flow_index::table::Sites;
+use flow_index::statement_index::StatementIndex;
 use meaning_cells::parts::outers_of;
 use std::alloc::{AllocError, Allocator, Global};
 use std::collections::HashMap;
 
-/// A cell, with the function that its statement stands in if any.
+/// A cell, with the function that contains its statement if any.
 #[derive(Drop)]
 pub struct CellSite<'a, A: Allocator> {
     pub function: Option<usize>,
     pub cell: &'a Cell<A>,
 }
 
-/// The statements of a script, with tables of where things stand.
+/// The statements of a script, with lookup tables for variables, cells and calls.
 #[derive(Drop)]
 pub struct ScriptIndex<'a, A: Allocator> {
     pub flow: &'a Flow<A>,
-    pub sites: Sites<'a, A>,
-    tables: Tables<'a, A>,
+    pub sites: StatementIndex<'a, A>,
+    tables: LocationTables<'a, A>,
 }
 
-/// Where things stand in the statements of a script.
+/// Lookup tables for the statements of a script. A statement is stored as its position in the statement index.
 #[derive(Drop)]
-struct Tables<'a, A: Allocator> {
-    /// The statements that declare variables, by the nodes of these.
+struct LocationTables<'a, A: Allocator> {
+    /// The statements that declare variables, by the nodes of the variables.
     declaring: HashMap<u32, usize>,
     spots: Vec<CellSite<'a, A>>,
-    /// The cells by their nodes.
+    /// The cells by their nodes, as positions in `spots`.
     cells: HashMap<u32, usize>,
-    /// The offsets of the calls in expressions, by the nodes of what they give.
+    /// The offsets of the calls in expressions, by the nodes of their results.
     giving: HashMap<u32, usize>,
-    /// The called functions by the offsets of the calls.
+    /// The numbers of the called functions, by the offsets of the calls.
     called: HashMap<usize, usize>,
     /// The statements that can be blocked, by their nodes.
     blockable: HashMap<u32, usize>,
 }
 
-impl<'a, A: Allocator> Tables<'a, A> {
-    fn of(alloc: Global, sites: &[Site<'a, A>]) -> Result<Tables<'a, A>, AllocError> {
-        let mut tables = Tables {
+impl<'a, A: Allocator> LocationTables<'a, A> {
+    fn of(alloc: Global, sites: &[Site<'a, A>]) -> Result<LocationTables<'a, A>, AllocError> {
+        let mut tables = LocationTables {
             declaring: HashMap::new(alloc),
             spots: Vec::new(alloc),
             cells: HashMap::new(alloc),
@@ -114,10 +114,10 @@ impl<'a, A: Allocator> Tables<'a, A> {
     fn note_outers(
         &mut self,
         function: Option<usize>,
-        outers: &[&'a Outer<A>],
+        outers: &[&'a OuterCell<A>],
     ) -> Result<(), AllocError> {
         for outer in outers {
-            let outer: &'a Outer<A> = *outer;
+            let outer: &'a OuterCell<A> = *outer;
             self.note_parts(function, outer.parts.as_slice())?;
             self.note_cell(function, &outer.cell)?;
         }
@@ -127,12 +127,12 @@ impl<'a, A: Allocator> Tables<'a, A> {
     fn note_parts(
         &mut self,
         function: Option<usize>,
-        parts: &'a [Part<A>],
+        parts: &'a [CellPart<A>],
     ) -> Result<(), AllocError> {
         for part in parts {
             match part {
-                Part::Inner(cell) => self.note_cell(function, cell)?,
-                Part::Calls(call) => {
+                CellPart::Inner(cell) => self.note_cell(function, cell)?,
+                CellPart::Calls(call) => {
                     self.note_call(call)?;
                     self.note_given(call)?;
                 }
@@ -152,10 +152,10 @@ impl<'a, A: Allocator> Tables<'a, A> {
         Ok(())
     }
 
-    /// Notes what a call in an expression gives.
+    /// Records the offset of a call in an expression for each of its results.
     fn note_given(&mut self, call: &Call<A>) -> Result<(), AllocError> {
         for output in &call.outputs {
-            if let Owned::Local(node) = output.what {
+            if let NameBinding::Local(node) = output.what {
                 self.giving.insert(node, call.at)?;
             }
         }
@@ -167,8 +167,8 @@ impl<'a, A: Allocator> ScriptIndex<'a, A> {
     pub fn new(alloc: Global, flow: &'a Flow<A>) -> Result<ScriptIndex<'a, A>, AllocError>
         ensures { IfOk result (λ index. AreSites (core_of flow.entry.now) index.sites) }
     {
-        let sites = Sites::of(alloc, flow)?;
-        let tables = Tables::of(alloc, sites.all.as_slice())?;
+        let sites = StatementIndex::of(alloc, flow)?;
+        let tables = LocationTables::of(alloc, sites.all.as_slice())?;
         Ok(ScriptIndex {
             flow,
             sites,
@@ -176,60 +176,63 @@ impl<'a, A: Allocator> ScriptIndex<'a, A> {
         })
     }
 
-    /// The statement at an offset that can be blocked.
+    /// Returns the only statement at an offset that can be blocked, or `None` if there is no such statement or there
+    /// are several.
     pub fn site(&self, at: usize) -> Option<&Site<'a, A>> {
         self.sites.at(at)
     }
 
-    /// The statement of a node that can be blocked.
+    /// Returns the statement with this node, or `None` if no statement with this node can be blocked.
     pub fn site_of(&self, node: u32) -> Option<&Site<'a, A>> {
         self.sites.all.get(*self.tables.blockable.get(&node)?)
     }
 
-    /// The number of the function that is called at an offset.
+    /// Returns the number of the function that is called at an offset.
     pub fn called_at(&self, at: usize) -> Option<usize> {
         self.tables.called.get(&at).copied()
     }
 
-    /// The name of the function that is called at an offset.
+    /// Returns the name of the function that is called at an offset.
     pub fn function_at(&self, at: usize) -> Option<&'a [u8]> {
         let i = self.called_at(at)?;
         let function = self.flow.functions.get(i)?;
         Some(function.name.as_slice())
     }
 
-    /// The cell of a node.
-    pub fn spot(&self, node: u32) -> Option<&CellSite<'a, A>> {
+    /// Returns the cell with this node.
+    pub fn cell(&self, node: u32) -> Option<&CellSite<'a, A>> {
         let i = *self.tables.cells.get(&node)?;
         self.tables.spots.get(i)
     }
 
-    /// Where the call stands that gives what is of this node.
+    /// Returns the offset of the call in an expression whose result has this node.
     pub fn giving_at(&self, node: u32) -> Option<usize> {
         self.tables.giving.get(&node).copied()
     }
 
-    /// What a variable is called that is declared at this node.
+    /// Returns the name of the variable that is declared at this node.
     pub fn variable_name(&self, node: u32) -> Option<&'a [u8]> {
         let i = *self.tables.declaring.get(&node)?;
         let variable = variable_of(self.sites.all.get(i)?, node)?;
         Some(variable.name.as_slice())
     }
 
-    /// What a name in a function, or in the script's own blocks, is called; none where it is a cell, or what a call gives.
+    /// Returns the source name of a variable, as seen in a function or, with `None`, in the script's own blocks.
+    ///
+    /// Returns `None` if the name denotes a cell or the result of a call.
     pub fn name(&self, function: Option<usize>, name: Name) -> Option<&'a [u8]> {
         self.owned_name(function, name.what)
     }
 
-    /// The same of what a name is in the block that owns it.
-    pub fn owned_name(&self, function: Option<usize>, owned: Owned) -> Option<&'a [u8]> {
+    /// Returns the source name of a binding, in the block that owns it. See `name` for the results.
+    pub fn owned_name(&self, function: Option<usize>, owned: NameBinding) -> Option<&'a [u8]> {
         match owned {
-            Owned::Local(node) => self.variable_name(node),
-            Owned::Input(i) => {
+            NameBinding::Local(node) => self.variable_name(node),
+            NameBinding::Input(i) => {
                 let function = self.flow.functions.get(function?)?;
                 Some(function.inputs.get(i)?.name.as_slice())
             }
-            Owned::Output(i) => {
+            NameBinding::Output(i) => {
                 let function = self.flow.functions.get(function?)?;
                 Some(function.outputs.get(i)?.name.as_slice())
             }

@@ -1,42 +1,44 @@
-//! What a statement waits for, in words.
+//! Descriptions of the missing inputs of a statement, with the reason why each is missing.
 
-use crate::names::say_name;
-use crate::scene::{Scene, Stand};
+use crate::context::{ExplainContext, StatementLocation};
+use crate::names::write_name;
 use crate::sites::{opens_blocks, word_of};
-use crate::words::say_scalar;
-use crate::writers::{Target, Writer};
-use explain_inputs::input::{Input, add_form};
+use crate::value_text::write_scalar;
+use crate::writers::{WriteTarget, Writer};
+use explain_inputs::input::{StatementInput, add_form};
 use explain_inputs::missing::missing_of;
-use explain_text::words::say;
+use explain_text::words::write_str;
 use flow::cell::Cell;
-use flow::name::{Name, Owned};
+use flow::name::{Name, NameBinding};
 use meaning_facts::facts::Place;
 use std::alloc::{AllocError, Allocator};
 use values::key::KeyRef;
 use values::value::{Scalar, Value};
 
-/// Adds what a statement waits for, of its inputs that are not known, and why each is not known. Whether anything was added.
-pub fn say_inputs<'t, 'a, A: Allocator>(
-    scene: &Scene<'t, 'a, A>,
+/// Appends the missing inputs of a statement, each with its reason. Returns true if anything was appended.
+///
+/// The statement's own cells and repeated inputs are left out.
+pub fn write_inputs<'t, 'a, A: Allocator>(
+    context: &ExplainContext<'t, 'a, A>,
     out: &mut Vec<u8>,
-    stand: Stand,
-    missing: &[Input],
+    location: StatementLocation,
+    missing: &[StatementInput],
 ) -> Result<bool, AllocError> {
     let mut said = false;
     for i in 0..missing.len() {
         let input = missing[i];
-        if is_own_cell(scene, input) || has_input(&missing[..i], input) {
+        if is_own_cell(context, input) || has_input(&missing[..i], input) {
             continue;
         }
-        say(out, if said { ", and " } else { "waits " })?;
-        say_input(scene, out, stand, input)?;
-        say_reason(scene, out, stand, input)?;
+        write_str(out, if said { ", and " } else { "waits " })?;
+        write_input(context, out, location, input)?;
+        write_reason(context, out, location, input)?;
         said = true;
     }
     Ok(said)
 }
 
-fn has_input(inputs: &[Input], wanted: Input) -> bool {
+fn has_input(inputs: &[StatementInput], wanted: StatementInput) -> bool {
     for input in inputs {
         if *input == wanted {
             return true;
@@ -45,76 +47,95 @@ fn has_input(inputs: &[Input], wanted: Input) -> bool {
     false
 }
 
-/// Whether an input is a cell of the statement itself.
-pub fn is_own_cell<'t, 'a, A: Allocator>(scene: &Scene<'t, 'a, A>, input: Input) -> bool {
+/// Returns true if an input is a cell of the statement itself.
+pub fn is_own_cell<'t, 'a, A: Allocator>(
+    context: &ExplainContext<'t, 'a, A>,
+    input: StatementInput,
+) -> bool {
     match input {
-        Input::Scalar(
+        StatementInput::Scalar(
             Name {
-                what: Owned::Local(node),
+                what: NameBinding::Local(node),
                 ..
             },
-        ) => scene.index.spot(node).is_some(),
+        ) => context.index.cell(node).is_some(),
         _ => false,
     }
 }
 
-/// Adds an input by its name, as what is waited for.
-fn say_input<'t, 'a, A: Allocator>(
-    scene: &Scene<'t, 'a, A>,
+/// Appends an input with the condition that the statement waits for.
+fn write_input<'t, 'a, A: Allocator>(
+    context: &ExplainContext<'t, 'a, A>,
     out: &mut Vec<u8>,
-    stand: Stand,
-    input: Input,
+    location: StatementLocation,
+    input: StatementInput,
 ) -> Result<(), AllocError> {
     match input {
-        Input::Scalar(_) => {
-            say(out, "for ")?;
-            say_wanted(scene, out, stand, input)
+        StatementInput::Scalar(_) => {
+            write_str(out, "for ")?;
+            write_wanted(context, out, location, input)
         }
-        Input::Array(_) => {
-            say(out, "until ")?;
-            say_wanted(scene, out, stand, input)?;
-            say(out, " is closed")
+        StatementInput::Array(_) => {
+            write_str(out, "until ")?;
+            write_wanted(context, out, location, input)?;
+            write_str(out, " is closed")
         }
-        Input::Element { index, .. } => {
-            say(out, "for ")?;
-            say_wanted(scene, out, stand, input)?;
-            if key_of(scene, stand.instance, index).is_some() {
+        StatementInput::Element { index, .. } => {
+            write_str(out, "for ")?;
+            write_wanted(context, out, location, input)?;
+            if key_of(context, location.instance, index).is_some() {
                 Ok(())
             } else {
-                say(out, " whose index is not known")
+                write_str(out, " whose index is not known")
             }
         }
     }
 }
 
-/// Adds an input by its name alone.
-pub fn say_wanted<'t, 'a, A: Allocator>(
-    scene: &Scene<'t, 'a, A>,
+/// Appends the name of an input.
+pub fn write_wanted<'t, 'a, A: Allocator>(
+    context: &ExplainContext<'t, 'a, A>,
     out: &mut Vec<u8>,
-    stand: Stand,
-    input: Input,
+    location: StatementLocation,
+    input: StatementInput,
 ) -> Result<(), AllocError> {
     match input {
-        Input::Scalar(name) => say_name(scene.index, scene.lines, out, stand.function, name),
-        Input::Array(name) => say_name(scene.index, scene.lines, out, stand.function, name),
-        Input::Element { array, index } => match key_of(scene, stand.instance, index) {
+        StatementInput::Scalar(name) => write_name(
+            context.index,
+            context.lines,
+            out,
+            location.function,
+            name,
+        ),
+        StatementInput::Array(name) => write_name(
+            context.index,
+            context.lines,
+            out,
+            location.function,
+            name,
+        ),
+        StatementInput::Element { array, index } => match key_of(
+            context,
+            location.instance,
+            index,
+        ) {
             Some(key) => {
-                say_name(scene.index, scene.lines, out, stand.function, array)?;
-                say(out, "[")?;
-                say_scalar(out, key)?;
-                say(out, "]")
+                write_name(context.index, context.lines, out, location.function, array)?;
+                write_str(out, "[")?;
+                write_scalar(out, key)?;
+                write_str(out, "]")
             }
             None => {
-                say(out, "an element of ")?;
-                say_name(scene.index, scene.lines, out, stand.function, array)
+                write_str(out, "an element of ")?;
+                write_name(context.index, context.lines, out, location.function, array)
             }
         },
     }
 }
 
-/// The index that a cell has, where it is known.
+/// Returns the index that a cell evaluates to, or `None` if it is not known.
 fn key_of<'k, 't, 'a, A: Allocator>(
-    scene: &'k Scene<'t, 'a, A>,
+    context: &'k ExplainContext<'t, 'a, A>,
     instance: usize,
     index: u32,
 ) -> Option<&'k Scalar> {
@@ -122,168 +143,172 @@ fn key_of<'k, 't, 'a, A: Allocator>(
         instance,
         node: index,
     };
-    match scene.known.learned.facts.value(cell) {
+    match context.known.fact_base.facts.value(cell) {
         Some(Value::One(key)) => Some(key),
         _ => None,
     }
 }
 
-/// Adds why an input is not known, in brackets, where there is something to say.
-fn say_reason<'t, 'a, A: Allocator>(
-    scene: &Scene<'t, 'a, A>,
+/// Appends, in parentheses, the reason why an input is not known. Appends nothing if there is no reason to report.
+fn write_reason<'t, 'a, A: Allocator>(
+    context: &ExplainContext<'t, 'a, A>,
     out: &mut Vec<u8>,
-    stand: Stand,
-    input: Input,
+    location: StatementLocation,
+    input: StatementInput,
 ) -> Result<(), AllocError> {
-    let target = target_of(scene, stand.instance, input);
-    let writers = scene.writers.of(target);
+    let target = target_of(context, location.instance, input);
+    let writers = context.writers.of(target);
     match input {
-        Input::Scalar(_) => {
-            say_given(scene, out, target.place)?;
-            say_givers(scene, out, stand, Giving::Assign, writers)
+        StatementInput::Scalar(_) => {
+            write_given(context, out, target.place)?;
+            write_givers(context, out, location, WriteKind::Assign, writers)
         }
-        Input::Element { .. } if target.mark.is_some() && writers.is_empty() => {
-            say(out, " (no statement that is left writes it)")
+        StatementInput::Element { .. } if target.mark.is_some() && writers.is_empty() => {
+            write_str(out, " (no statement that is left writes it)")
         }
-        _ => say_givers(scene, out, stand, Giving::Write, writers),
+        _ => write_givers(context, out, location, WriteKind::Write, writers),
     }
 }
 
-/// What an input in an instance is to those that would write it: of an element its array, unless its key and theirs are known.
+/// Returns the target that a writer of an input would write.
+///
+/// For an element this is the array, unless the key of the element and the keys of all writers of the array are
+/// known.
 pub fn target_of<'t, 'a, A: Allocator>(
-    scene: &Scene<'t, 'a, A>,
+    context: &ExplainContext<'t, 'a, A>,
     instance: usize,
-    input: Input,
-) -> Target {
-    let instances = &scene.known.learned.instances;
+    input: StatementInput,
+) -> WriteTarget {
+    let instances = &context.known.fact_base.instances;
     match input {
-        Input::Scalar(name) => Target::whole(instances.place(instance, name)),
-        Input::Array(name) => Target::whole(instances.place(instance, name)),
-        Input::Element { array, index } => {
+        StatementInput::Scalar(name) => WriteTarget::whole(instances.place(instance, name)),
+        StatementInput::Array(name) => WriteTarget::whole(instances.place(instance, name)),
+        StatementInput::Element { array, index } => {
             let place = instances.place(instance, array);
-            match key_of(scene, instance, index) {
-                Some(key) => scene.writers.element(place, KeyRef::of(key)),
-                None => Target::whole(place),
+            match key_of(context, instance, index) {
+                Some(key) => context.writers.element(place, KeyRef::of(key)),
+                None => WriteTarget::whole(place),
             }
         }
     }
 }
 
-/// Adds where an input of a function is given, and what the argument waits for.
-fn say_given<'t, 'a, A: Allocator>(
-    scene: &Scene<'t, 'a, A>,
+/// Appends the position of the argument passed for a function's input, and the missing inputs of the argument.
+/// Appends nothing for other places.
+fn write_given<'t, 'a, A: Allocator>(
+    context: &ExplainContext<'t, 'a, A>,
     out: &mut Vec<u8>,
     place: Place,
 ) -> Result<(), AllocError> {
-    let Some(spot) = scene.index.spot(place.node) else {
+    let Some(spot) = context.index.cell(place.node) else {
         return Ok(());
     };
-    say(out, " (given at ")?;
-    scene.lines.say_place(out, spot.cell.at)?;
-    let missing = missing_in_cell(scene, place.instance, spot.cell)?;
-    let stand = Stand {
+    write_str(out, " (given at ")?;
+    context.lines.say_place(out, spot.cell.at)?;
+    let missing = missing_in_cell(context, place.instance, spot.cell)?;
+    let location = StatementLocation {
         at: spot.cell.at,
         function: spot.function,
         instance: place.instance,
     };
-    say_waiting(scene, out, stand, missing.as_slice())?;
-    say(out, ")")
+    write_waiting(context, out, location, missing.as_slice())?;
+    write_str(out, ")")
 }
 
-/// What a cell waits for in an instance.
+/// Returns the inputs of a cell that are not known in an instance.
 pub fn missing_in_cell<'t, 'a, A: Allocator>(
-    scene: &Scene<'t, 'a, A>,
+    context: &ExplainContext<'t, 'a, A>,
     instance: usize,
     cell: &Cell<A>,
-) -> Result<Vec<Input>, AllocError> {
-    let mut inputs = Vec::new(scene.alloc);
+) -> Result<Vec<StatementInput>, AllocError> {
+    let mut inputs = Vec::new(context.alloc);
     add_form(&mut inputs, &cell.form)?;
-    missing_of(scene.alloc, scene.known, instance, inputs.as_slice())
+    missing_of(context.alloc, context.known, instance, inputs.as_slice())
 }
 
-/// Adds what an argument waits for, by names alone.
-fn say_waiting<'t, 'a, A: Allocator>(
-    scene: &Scene<'t, 'a, A>,
+/// Appends the missing inputs of an argument, without reasons.
+fn write_waiting<'t, 'a, A: Allocator>(
+    context: &ExplainContext<'t, 'a, A>,
     out: &mut Vec<u8>,
-    stand: Stand,
-    missing: &[Input],
+    location: StatementLocation,
+    missing: &[StatementInput],
 ) -> Result<(), AllocError> {
     for i in 0..missing.len() {
         let input = missing[i];
-        if is_own_cell(scene, input) || has_input(&missing[..i], input) {
+        if is_own_cell(context, input) || has_input(&missing[..i], input) {
             continue;
         }
-        say(out, ", which waits ")?;
-        say_input(scene, out, stand, input)?;
+        write_str(out, ", which waits ")?;
+        write_input(context, out, location, input)?;
     }
     Ok(())
 }
 
-/// What the statements would do that are told: assign a scalar, or write an array.
+/// The effect that the listed statements would have: assign a scalar, or write an array.
 #[derive(Clone, Copy, Drop)]
-enum Giving {
+enum WriteKind {
     Assign,
     Write,
 }
 
-/// What stands before the first of them, and between two.
-fn before(giving: Giving, is_first: bool) -> &'static str {
+/// Returns the text before the first listed statement, or between two of them.
+fn before(giving: WriteKind, is_first: bool) -> &'static str {
     match (giving, is_first) {
-        (Giving::Assign, true) => " (assigned ",
-        (Giving::Assign, false) => ", ",
-        (Giving::Write, true) => " (",
-        (Giving::Write, false) => "; ",
+        (WriteKind::Assign, true) => " (assigned ",
+        (WriteKind::Assign, false) => ", ",
+        (WriteKind::Write, true) => " (",
+        (WriteKind::Write, false) => "; ",
     }
 }
 
-/// What is said where the blocked statement is one of them.
-fn by_itself(giving: Giving) -> &'static str {
+/// Returns the text for a listed statement that is the blocked statement itself.
+fn by_itself(giving: WriteKind) -> &'static str {
     match giving {
-        Giving::Assign => "by the same statement",
-        Giving::Write => "the same statement may still write it",
+        WriteKind::Assign => "by the same statement",
+        WriteKind::Write => "the same statement may still write it",
     }
 }
 
-/// Adds which statements would assign a scalar, or may still write an array.
-fn say_givers<'t, 'a, A: Allocator>(
-    scene: &Scene<'t, 'a, A>,
+/// Appends the statements that would assign a scalar, or that may still write an array.
+fn write_givers<'t, 'a, A: Allocator>(
+    context: &ExplainContext<'t, 'a, A>,
     out: &mut Vec<u8>,
-    stand: Stand,
-    giving: Giving,
+    location: StatementLocation,
+    giving: WriteKind,
     writers: &[Writer],
 ) -> Result<(), AllocError> {
     for i in 0..writers.len() {
         let writer = writers[i];
-        say(out, before(giving, i == 0))?;
-        if writer.at == stand.at {
-            say(out, by_itself(giving))?;
+        write_str(out, before(giving, i == 0))?;
+        if writer.at == location.at {
+            write_str(out, by_itself(giving))?;
             continue;
         }
         match giving {
-            Giving::Assign => say_assignment(scene, out, writer)?,
-            Giving::Write => say_writer(scene, out, writer)?,
+            WriteKind::Assign => write_assignment(context, out, writer)?,
+            WriteKind::Write => write_writer(context, out, writer)?,
         }
     }
     if writers.is_empty() {
         Ok(())
     } else {
-        say(out, ")")
+        write_str(out, ")")
     }
 }
 
-fn say_assignment<'t, 'a, A: Allocator>(
-    scene: &Scene<'t, 'a, A>,
+fn write_assignment<'t, 'a, A: Allocator>(
+    context: &ExplainContext<'t, 'a, A>,
     out: &mut Vec<u8>,
     writer: Writer,
 ) -> Result<(), AllocError> {
-    if has_blocks(scene, writer.at) {
-        say(out, "inside of the ")?;
-        say(out, kind_of(scene, writer.at))?;
-        say(out, " ")?;
+    if has_blocks(context, writer.at) {
+        write_str(out, "inside of the ")?;
+        write_str(out, kind_of(context, writer.at))?;
+        write_str(out, " ")?;
     }
-    say(out, "at ")?;
-    scene.lines.say_place(out, writer.at)?;
-    say(
+    write_str(out, "at ")?;
+    context.lines.say_place(out, writer.at)?;
+    write_str(
         out,
         if writer.blocked {
             ", itself blocked"
@@ -293,31 +318,31 @@ fn say_assignment<'t, 'a, A: Allocator>(
     )
 }
 
-fn say_writer<'t, 'a, A: Allocator>(
-    scene: &Scene<'t, 'a, A>,
+fn write_writer<'t, 'a, A: Allocator>(
+    context: &ExplainContext<'t, 'a, A>,
     out: &mut Vec<u8>,
     writer: Writer,
 ) -> Result<(), AllocError> {
-    say(out, "the ")?;
-    say(out, kind_of(scene, writer.at))?;
-    say(out, " at ")?;
-    scene.lines.say_place(out, writer.at)?;
+    write_str(out, "the ")?;
+    write_str(out, kind_of(context, writer.at))?;
+    write_str(out, " at ")?;
+    context.lines.say_place(out, writer.at)?;
     if writer.blocked {
-        say(out, ", itself blocked, may still write it")
+        write_str(out, ", itself blocked, may still write it")
     } else {
-        say(out, ", which has a fault, would write it")
+        write_str(out, ", which has a fault, would write it")
     }
 }
 
-fn has_blocks<'t, 'a, A: Allocator>(scene: &Scene<'t, 'a, A>, at: usize) -> bool {
-    match scene.index.site(at) {
+fn has_blocks<'t, 'a, A: Allocator>(context: &ExplainContext<'t, 'a, A>, at: usize) -> bool {
+    match context.index.site(at) {
         Some(site) => opens_blocks(site),
         None => false,
     }
 }
 
-fn kind_of<'t, 'a, A: Allocator>(scene: &Scene<'t, 'a, A>, at: usize) -> &'static str {
-    match scene.index.site(at) {
+fn kind_of<'t, 'a, A: Allocator>(context: &ExplainContext<'t, 'a, A>, at: usize) -> &'static str {
+    match context.index.site(at) {
         Some(site) => word_of(site),
         None => "statement",
     }

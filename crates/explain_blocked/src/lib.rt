@@ -1,9 +1,13 @@
-//! What is said to a person of blocked statements: where each stands, and what it waits for. The parts serve for faults too.
+//! Diagnostics for blocked statements: their positions, their missing inputs, and the root causes and cycles of
+//! waiting.
+//!
+//! Parts of the crate also serve the diagnostics for faults: locations, paths and values.
 #![tactic(auto)]
 
-mod alike;
 pub mod blocked;
-mod circle;
+mod components;
+pub mod context;
+mod cycles;
 mod graph;
 pub mod index;
 mod inputs;
@@ -11,9 +15,8 @@ mod list;
 pub mod names;
 mod numbers;
 pub mod path;
-pub mod scene;
-mod search;
 pub mod sites;
-mod waits;
-pub mod words;
+pub mod value_text;
+mod wait_graph;
+mod wait_groups;
 pub mod writers;

@@ -1,30 +1,31 @@
-//! The blocked statements that are listed.
+//! The blocked statements of a listing, with their wait graph.
 
+use crate::context::{ExplainContext, StatementLocation};
 use crate::index::CellSite;
-use crate::scene::{Scene, Stand};
-use crate::waits::Waits;
-use explain_inputs::blocking::Waiting;
+use crate::wait_graph::WaitGraph;
+use explain_inputs::blocked_statement::BlockedStatement;
 use std::alloc::Allocator;
 
-/// Blocked statements, in the order of the lines that are printed, with what they wait for, and the name of the script's file.
+/// Blocked statements in the order of the printed lines, with their missing inputs, their wait graph and the name of
+/// the script's file.
 #[derive(Drop)]
-pub struct List<'l, 't, 'a, A: Allocator> {
-    pub scene: &'l Scene<'t, 'a, A>,
+pub struct BlockedList<'l, 't, 'a, A: Allocator> {
+    pub context: &'l ExplainContext<'t, 'a, A>,
     pub file: &'l str,
-    pub listed: &'l [Waiting<'t, 'a, A>],
-    pub waits: &'l Waits,
+    pub listed: &'l [BlockedStatement<'t, 'a, A>],
+    pub waits: &'l WaitGraph,
 }
 
-impl<'l, 't, 'a, A: Allocator> List<'l, 't, 'a, A> {
-    /// Where a statement of the list stands.
-    pub fn stand(&self, number: usize) -> Stand {
+impl<'l, 't, 'a, A: Allocator> BlockedList<'l, 't, 'a, A> {
+    /// Returns the location of a statement of the list.
+    pub fn location(&self, number: usize) -> StatementLocation {
         match self.listed.get(number) {
-            Some(waiting) => Stand {
+            Some(waiting) => StatementLocation {
                 at: waiting.site.at(),
                 function: waiting.site.function,
                 instance: waiting.instance,
             },
-            None => Stand {
+            None => StatementLocation {
                 at: 0,
                 function: None,
                 instance: 0,
@@ -32,14 +33,14 @@ impl<'l, 't, 'a, A: Allocator> List<'l, 't, 'a, A> {
         }
     }
 
-    /// The offset of a statement of the list.
+    /// Returns the offset of a statement of the list.
     pub fn at(&self, number: usize) -> usize {
-        self.stand(number).at
+        self.location(number).at
     }
 
-    /// The argument that a node is.
+    /// Returns the argument cell that a node of the wait graph stands for, or `None` if the node is not an argument.
     pub fn argument(&self, node: usize) -> Option<&CellSite<'a, A>> {
         let target = self.waits.target(node)?;
-        self.scene.index.spot(target.place.node)
+        self.context.index.cell(target.place.node)
     }
 }

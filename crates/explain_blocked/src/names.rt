@@ -1,54 +1,56 @@
-//! What names are called.
+//! Names of variables and call results in diagnostics.
 
 use crate::index::ScriptIndex;
-use explain_text::lines::Lines;
-use explain_text::words::say;
-use flow::name::{Name, Owned};
+use explain_text::line_index::LineIndex;
+use explain_text::words::write_str;
+use flow::name::{Name, NameBinding};
 use std::alloc::{AllocError, Allocator};
 
-/// Adds what a name in a function, or in the script's own blocks, is called; of what a call in an expression gives, where that call stands.
-pub fn say_name<'a, A: Allocator>(
+/// Appends the source name of a variable, as seen in a function or, with `None`, in the script's own blocks.
+///
+/// For the result of a call in an expression, the called function and the position of the call are appended.
+pub fn write_name<'a, A: Allocator>(
     index: &ScriptIndex<'a, A>,
-    lines: &Lines<'_>,
+    lines: &LineIndex<'_>,
     out: &mut Vec<u8>,
     function: Option<usize>,
     name: Name,
 ) -> Result<(), AllocError> {
-    say_owned(index, lines, out, function, name.what)
+    write_owned(index, lines, out, function, name.what)
 }
 
-/// The same of what a name is in the block that owns it.
-pub fn say_owned<'a, A: Allocator>(
+/// Appends the source name of a binding, in the block that owns it. See `write_name` for the results of calls.
+pub fn write_owned<'a, A: Allocator>(
     index: &ScriptIndex<'a, A>,
-    lines: &Lines<'_>,
+    lines: &LineIndex<'_>,
     out: &mut Vec<u8>,
     function: Option<usize>,
-    owned: Owned,
+    owned: NameBinding,
 ) -> Result<(), AllocError> {
     if let Some(bytes) = index.owned_name(function, owned) {
         out.extend_from_slice(bytes)?;
         return Ok(());
     }
     match owned {
-        Owned::Local(node) => match index.giving_at(node) {
-            Some(at) => say_call(index, lines, out, at),
-            None => say(out, "a value"),
+        NameBinding::Local(node) => match index.giving_at(node) {
+            Some(at) => write_call(index, lines, out, at),
+            None => write_str(out, "a value"),
         },
-        _ => say(out, "a value"),
+        _ => write_str(out, "a value"),
     }
 }
 
-/// Adds what a call gives.
-fn say_call<'a, A: Allocator>(
+/// Appends a description of the result of a call.
+fn write_call<'a, A: Allocator>(
     index: &ScriptIndex<'a, A>,
-    lines: &Lines<'_>,
+    lines: &LineIndex<'_>,
     out: &mut Vec<u8>,
     at: usize,
 ) -> Result<(), AllocError> {
-    say(out, "what ")?;
+    write_str(out, "what ")?;
     if let Some(function) = index.function_at(at) {
         out.extend_from_slice(function)?;
     }
-    say(out, " gives, called at ")?;
+    write_str(out, " gives, called at ")?;
     lines.say_place(out, at)
 }

@@ -1,26 +1,26 @@
-//! A number for each node.
+//! A table with one number for each node of a graph.
 
 use std::alloc::{AllocError, Global};
 
-/// Stands where there is no number.
+/// The value that stands for a missing number.
 pub const NONE: usize = usize::MAX;
 
-/// A number for each of so many nodes, none at first.
+/// A table of node numbers, at first all `NONE`.
 #[derive(Drop)]
-pub struct Numbers {
+pub struct NodeNumbers {
     all: Vec<usize>,
 }
 
-impl Numbers {
-    pub fn new(alloc: Global, count: usize) -> Result<Numbers, AllocError> {
+impl NodeNumbers {
+    pub fn new(alloc: Global, count: usize) -> Result<NodeNumbers, AllocError> {
         let mut all = Vec::with_capacity(alloc, count)?;
         for _ in 0..count {
             all.push(NONE)?;
         }
-        Ok(Numbers { all })
+        Ok(NodeNumbers { all })
     }
 
-    /// The number of a node.
+    /// Returns the number of a node, or `NONE` if it has none.
     pub fn at(&self, node: usize) -> usize {
         match self.all.get(node) {
             Some(number) => *number,
@@ -28,15 +28,15 @@ impl Numbers {
         }
     }
 
-    /// Gives a node its number.
+    /// Sets the number of a node. Does nothing if the node is out of range.
     pub fn put(&mut self, node: usize, number: usize) {
         if let Some(place) = self.all.get_mut(node) {
             *place = number;
         }
     }
 
-    /// Gives a node this number, where it is less than what it has.
-    pub fn lower(&mut self, node: usize, number: usize) {
+    /// Lowers the number of a node to this number. Does nothing if the present number is not greater.
+    pub fn set_min(&mut self, node: usize, number: usize) {
         if number < self.at(node) {
             self.put(node, number);
         }

@@ -1,36 +1,37 @@
-//! Paths in words.
+//! Descriptions of paths, such as `turn i = 3 of the loop at 2:1`.
 
-use crate::scene::Scene;
+use crate::context::ExplainContext;
 use crate::sites::action_of;
-use crate::words::{say_scalar, say_text};
-use explain_text::words::{say, say_count};
+use crate::value_text::{write_scalar, write_text};
+use explain_text::words::{write_count, write_str};
 use flow::statement::{Action, Variable};
 use meaning_facts::facts::Place;
 use meaning_outcomes::Step;
 use std::alloc::{AllocError, Allocator};
 use values::key::Key;
 
-/// The most steps of a path that are told.
+/// Maximum number of steps of a path that are described.
 const MOST: usize = 12;
 
-/// Adds where an instance stands, the innermost step first: a line of its own, or nothing for the script's own.
-pub fn say_path<'t, 'a, A: Allocator>(
-    scene: &Scene<'t, 'a, A>,
+/// Appends the path of a block instance as a line, innermost step first. Appends nothing for the script's own block.
+pub fn write_path<'t, 'a, A: Allocator>(
+    context: &ExplainContext<'t, 'a, A>,
     out: &mut Vec<u8>,
     instance: usize,
 ) -> Result<(), AllocError> {
-    let steps = scene.known.learned.instances.path(instance);
+    let steps = context.known.fact_base.instances.path(instance);
     if steps.is_empty() {
         return Ok(());
     }
-    say(out, "    ")?;
-    say_steps(scene, out, instance, steps)?;
-    say(out, "\n")
+    write_str(out, "    ")?;
+    write_steps(context, out, instance, steps)?;
+    write_str(out, "\n")
 }
 
-/// Adds the steps to an instance, the innermost first; of many the innermost ones and how many there are besides.
-pub fn say_steps<'t, 'a, A: Allocator>(
-    scene: &Scene<'t, 'a, A>,
+/// Appends the steps to a block instance, innermost first. After 12 steps, the number of the others is appended
+/// instead.
+pub fn write_steps<'t, 'a, A: Allocator>(
+    context: &ExplainContext<'t, 'a, A>,
     out: &mut Vec<u8>,
     instance: usize,
     steps: &[Step],
@@ -38,85 +39,88 @@ pub fn say_steps<'t, 'a, A: Allocator>(
     let mut inside = instance;
     for i in 0..steps.len() {
         if i >= MOST {
-            return say_more(out, steps.len() - i);
+            return write_more(out, steps.len() - i);
         }
         if i > 0 {
-            say(out, "; ")?;
+            write_str(out, "; ")?;
         }
-        say_step(scene, out, inside, &steps[i])?;
-        inside = parent_of(scene, inside);
+        write_step(context, out, inside, &steps[i])?;
+        inside = parent_of(context, inside);
     }
     Ok(())
 }
 
-fn say_more(out: &mut Vec<u8>, count: usize) -> Result<(), AllocError> {
-    say(out, "; and ")?;
-    say_count(out, count)?;
-    say(out, " more")
+fn write_more(out: &mut Vec<u8>, count: usize) -> Result<(), AllocError> {
+    write_str(out, "; and ")?;
+    write_count(out, count)?;
+    write_str(out, " more")
 }
 
-/// The instance that opened one.
-fn parent_of<'t, 'a, A: Allocator>(scene: &Scene<'t, 'a, A>, instance: usize) -> usize {
-    match scene.known.learned.instances.all.get(instance) {
+/// Returns the parent of a block instance, or 0 if there is no such instance.
+fn parent_of<'t, 'a, A: Allocator>(context: &ExplainContext<'t, 'a, A>, instance: usize) -> usize {
+    match context.known.fact_base.instances.all.get(instance) {
         Some(found) => found.parent,
         None => 0,
     }
 }
 
-fn say_step<'t, 'a, A: Allocator>(
-    scene: &Scene<'t, 'a, A>,
+fn write_step<'t, 'a, A: Allocator>(
+    context: &ExplainContext<'t, 'a, A>,
     out: &mut Vec<u8>,
     instance: usize,
     step: &Step,
 ) -> Result<(), AllocError> {
-    if let Some(name) = scene.index.function_at(step.offset) {
-        say(out, "in ")?;
+    if let Some(name) = context.index.function_at(step.offset) {
+        write_str(out, "in ")?;
         out.extend_from_slice(name)?;
-        say(out, ", called at ")?;
-        return scene.lines.say_place(out, step.offset);
+        write_str(out, ", called at ")?;
+        return context.lines.say_place(out, step.offset);
     }
-    match opener(scene, step.offset) {
-        Some(Action::Range { value, .. }) => say_turn(scene, out, instance, value, &step.key)?,
-        Some(Action::Each { value, .. }) => say_turn(scene, out, instance, value, &step.key)?,
-        Some(Action::Choose { .. }) => say_branch(out, &step.key)?,
-        _ => say(out, "in the if at ")?,
+    match opener(context, step.offset) {
+        Some(Action::Range { value, .. }) => write_turn(context, out, instance, value, &step.key)?,
+        Some(Action::Each { value, .. }) => write_turn(context, out, instance, value, &step.key)?,
+        Some(Action::Choose { .. }) => write_branch(out, &step.key)?,
+        _ => write_str(out, "in the if at ")?,
     }
-    scene.lines.say_place(out, step.offset)
+    context.lines.say_place(out, step.offset)
 }
 
-/// What the statement does that opens blocks at an offset.
-fn opener<'t, 'a, A: Allocator>(scene: &Scene<'t, 'a, A>, at: usize) -> Option<&'a Action<A>> {
-    action_of(scene.index.site(at)?)
+/// Returns the action of the statement at an offset, which opens the block of a step.
+fn opener<'t, 'a, A: Allocator>(
+    context: &ExplainContext<'t, 'a, A>,
+    at: usize,
+) -> Option<&'a Action<A>> {
+    action_of(context.index.site(at)?)
 }
 
-fn say_branch(out: &mut Vec<u8>, key: &Key) -> Result<(), AllocError> {
+fn write_branch(out: &mut Vec<u8>, key: &Key) -> Result<(), AllocError> {
     match key {
-        Key::Number(0) => say(out, "in the if at "),
-        _ => say(out, "in the else of the if at "),
+        Key::Number(0) => write_str(out, "in the if at "),
+        _ => write_str(out, "in the else of the if at "),
     }
 }
 
-/// Adds which turn of a loop an instance is, by the loop's value, and by its key where that is a text.
-fn say_turn<'t, 'a, A: Allocator>(
-    scene: &Scene<'t, 'a, A>,
+/// Appends the turn of a loop that an instance is: the value of the loop variable and, if the key is a text, the key.
+fn write_turn<'t, 'a, A: Allocator>(
+    context: &ExplainContext<'t, 'a, A>,
     out: &mut Vec<u8>,
     instance: usize,
     value: &Variable<A>,
     key: &Key,
 ) -> Result<(), AllocError> {
-    say(out, "turn ")?;
+    write_str(out, "turn ")?;
     out.extend_from_slice(value.name.as_slice())?;
     let place = Place {
         instance,
         node: value.node,
     };
-    if let Some(scalar) = scene.known.learned.instances.variable(place) {
-        say(out, " = ")?;
-        say_scalar(out, scalar)?;
+    if let Some(scalar) = context.known.fact_base.instances.variable(place) {
+        write_str(out, " = ")?;
+        write_scalar(out, scalar)?;
     }
     if let Key::Text(text) = key {
-        say(out, " under ")?;
-        say_text(out, text.as_bytes())?;
+        write_str(out, " under ")?;
+        write_text(out, text.as_bytes())?;
     }
-    say(out, " of the loop at ")
+    write_str(out, " of the loop at ")
 }

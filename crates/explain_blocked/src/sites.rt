@@ -1,18 +1,18 @@
-//! What is said of a statement by its kind, and which variables it declares.
+//! The kind of a statement, and the variables that it declares.
 
 use flow::statement::{Action, Variable};
-use flow_index::site::{Form, Site};
+use flow_index::site::{Site, StatementForm};
 use std::alloc::Allocator;
 
-/// What a statement does, where it is no `wait` inside of another one with nothing beside it.
+/// Returns the action of a statement, or `None` for a `wait` that is the only content of another `wait`.
 pub fn action_of<'a, A: Allocator>(site: &Site<'a, A>) -> Option<&'a Action<A>> {
     match &site.form {
-        Form::Whole(statement) => Some(&statement.action),
-        Form::Inner(_, _, _) => None,
+        StatementForm::Whole(statement) => Some(&statement.action),
+        StatementForm::Inner(_, _, _) => None,
     }
 }
 
-/// What kind of statement it is.
+/// Returns the word for the kind of a statement.
 pub fn word_of<'a, A: Allocator>(site: &Site<'a, A>) -> &'static str {
     match action_of(site) {
         None => "wait",
@@ -25,7 +25,7 @@ pub fn word_of<'a, A: Allocator>(site: &Site<'a, A>) -> &'static str {
     }
 }
 
-/// Whether it has blocks inside.
+/// Returns true if a statement contains blocks.
 pub fn opens_blocks<'a, A: Allocator>(site: &Site<'a, A>) -> bool {
     match action_of(site) {
         None => true,
@@ -38,7 +38,7 @@ pub fn opens_blocks<'a, A: Allocator>(site: &Site<'a, A>) -> bool {
     }
 }
 
-/// The variable that the statement declares under a node, as a loop does too.
+/// Returns the variable with this node that a statement declares. A loop declares its variables.
 pub fn variable_of<'a, A: Allocator>(site: &Site<'a, A>, node: u32) -> Option<&'a Variable<A>> {
     match action_of(site) {
         Some(Action::Declare(variable)) if variable.node == node => Some(variable),

@@ -1,52 +1,54 @@
-//! Which statements that can not go on would write a variable.
+//! The writer index: which blocked or faulty statements would write a variable.
 
 use crate::index::ScriptIndex;
 use flow::name::Name;
 use flow::statement::{Action, Block, Statement};
-use flow_index::site::Form;
+use flow_index::site::StatementForm;
+use meaning_facts::fact_base::FactBase;
 use meaning_facts::facts::Place;
-use meaning_facts::learned::Learned;
 use meaning_outcomes::knowledge::Knowledge;
 use std::alloc::{AllocError, Allocator, Global};
 use std::collections::{HashMap, HashSet};
 use values::key::KeyRef;
 
-/// The most statements that are told of a variable.
+/// Maximum number of writers that are kept for a target.
 const MOST: usize = 4;
 
-/// A statement that would write a variable, or open a block that would: its offset, and whether it is blocked or has a fault.
+/// A statement that would write a variable or open a block that would: its offset, and whether it is blocked.
+/// Otherwise it has a fault.
 #[derive(Clone, Copy, PartialEq, Eq, Debug)]
 pub struct Writer {
     pub at: usize,
     pub blocked: bool,
 }
 
-/// What statements write: the variable at a place, or the element of an array there under a key with this mark.
+/// A target of writes: the variable at a place or, with a mark, the array element at that place whose key has this
+/// mark.
 #[derive(Clone, Copy, PartialEq, Eq, Hash, Debug)]
-pub struct Target {
+pub struct WriteTarget {
     pub place: Place,
     pub mark: Option<u64>,
 }
 
-impl Target {
-    pub fn whole(place: Place) -> Target {
-        Target { place, mark: None }
+impl WriteTarget {
+    pub fn whole(place: Place) -> WriteTarget {
+        WriteTarget { place, mark: None }
     }
 }
 
-/// Such statements, by what they would write: a variable, and also an element where its key is known.
-pub struct Writers {
-    found: HashMap<Target, Vec<Writer>>,
-    /// The numbers of all that are blocked.
-    blocked: HashMap<Target, Vec<usize>>,
-    /// The places that some would write under a key that is not known, or under several.
+/// The writers that cannot proceed, by target: each variable, and each element whose key is known.
+pub struct WriterIndex {
+    found: HashMap<WriteTarget, Vec<Writer>>,
+    /// The numbers of all blocked statements that would write a target.
+    blocked: HashMap<WriteTarget, Vec<usize>>,
+    /// The places with a writer that has no single known key.
     open: HashSet<Place>,
 }
 
-// Written out, so that who owns one lets it go by one call.
-impl Drop for Writers {
+// Implemented by hand, so that an owner drops the value with one call.
+impl Drop for WriterIndex {
     fn drop(self) {
-        let Writers {
+        let WriterIndex {
             found: _,
             blocked: _,
             open: _,
@@ -54,25 +56,25 @@ impl Drop for Writers {
     }
 }
 
-/// Where a statement stands: its instance, and how many blocks lie between it and the one that is blocked.
+/// The block instance of a writer, and the nesting depth of the visited block relative to it.
 #[derive(Clone, Copy)]
-struct Stand {
+struct RelativeLocation {
     instance: usize,
     depth: usize,
     writer: Writer,
-    /// Its number among the blocked statements, where it is blocked.
+    /// Number among the blocked statements, or `None` if the writer is not blocked.
     number: Option<usize>,
-    /// The mark of the key under which it would write an element, where that is known.
+    /// The mark of the key of the element to write, or `None` if it is unknown.
     mark: Option<u64>,
 }
 
-impl Writers {
+impl WriterIndex {
     pub fn new<'a, A: Allocator>(
         alloc: Global,
         known: &Knowledge,
         index: &ScriptIndex<'a, A>,
-    ) -> Result<Writers, AllocError> {
-        let mut writers = Writers {
+    ) -> Result<WriterIndex, AllocError> {
+        let mut writers = WriterIndex {
             found: HashMap::new(alloc),
             blocked: HashMap::new(alloc),
             open: HashSet::new(alloc),
@@ -87,7 +89,7 @@ impl Writers {
                 alloc,
                 known,
                 index,
-                Stand {
+                RelativeLocation {
                     instance: stuck.instance,
                     depth: 0,
                     writer,
@@ -96,7 +98,7 @@ impl Writers {
                 },
             )?;
         }
-        for fault in known.learned.facts.faults.iter() {
+        for fault in known.fact_base.facts.faults.iter() {
             let writer = Writer {
                 at: fault.at,
                 blocked: false,
@@ -105,7 +107,7 @@ impl Writers {
                 alloc,
                 known,
                 index,
-                Stand {
+                RelativeLocation {
                     instance: fault.place.instance,
                     depth: 0,
                     writer,
@@ -117,55 +119,60 @@ impl Writers {
         Ok(writers)
     }
 
-    /// What an element of the array at a place is to those that would write it: the element, where each of them has a key that is known,
-    /// and else the array.
-    pub fn element(&self, array: Place, key: KeyRef<'_>) -> Target {
+    /// Returns the target of an element: the element, if the array has writers and the keys of all of them are known.
+    /// Otherwise it is the array.
+    pub fn element(&self, array: Place, key: KeyRef<'_>) -> WriteTarget {
         let is_known = !self.open.contains(&array)
-            && self.found.contains_key(&Target::whole(array));
-        Target {
+            && self.found.contains_key(&WriteTarget::whole(array));
+        WriteTarget {
             place: array,
             mark: if is_known { Some(key.mark()) } else { None },
         }
     }
 
-    /// The statements that would write something, four at most.
-    pub fn of(&self, target: Target) -> &[Writer] {
+    /// Returns the statements that would write a target, at most 4.
+    pub fn of(&self, target: WriteTarget) -> &[Writer] {
         match self.found.get(&target) {
             Some(writers) => writers.as_slice(),
             None => &[],
         }
     }
 
-    /// The numbers of the blocked statements that would write something.
-    pub fn blocked_at(&self, target: Target) -> &[usize] {
+    /// Returns the numbers of the blocked statements that would write a target.
+    pub fn blocked_at(&self, target: WriteTarget) -> &[usize] {
         match self.blocked.get(&target) {
             Some(numbers) => numbers.as_slice(),
             None => &[],
         }
     }
 
-    /// Notes what a statement would write.
+    /// Records the targets of a statement.
     fn note<'a, A: Allocator>(
         &mut self,
         alloc: Global,
         known: &Knowledge,
         index: &ScriptIndex<'a, A>,
-        stand: Stand,
+        location: RelativeLocation,
     ) -> Result<(), AllocError> {
-        let Some(site) = index.site(stand.writer.at) else {
+        let Some(site) = index.site(location.writer.at) else {
             return Ok(());
         };
         match &site.form {
-            Form::Inner(_, _, content) => self.note_block(alloc, &known.learned, stand, *content),
-            Form::Whole(statement) => {
-                let marked = Stand {
-                    instance: stand.instance,
-                    depth: stand.depth,
-                    writer: stand.writer,
-                    number: stand.number,
-                    mark: mark_of(&known.learned, stand.instance, statement),
+            StatementForm::Inner(_, _, content) => self.note_block(
+                alloc,
+                &known.fact_base,
+                location,
+                *content,
+            ),
+            StatementForm::Whole(statement) => {
+                let marked = RelativeLocation {
+                    instance: location.instance,
+                    depth: location.depth,
+                    writer: location.writer,
+                    number: location.number,
+                    mark: mark_of(&known.fact_base, location.instance, statement),
                 };
-                self.note_action(alloc, &known.learned, marked, &statement.action)
+                self.note_action(alloc, &known.fact_base, marked, &statement.action)
             }
         }
     }
@@ -174,12 +181,12 @@ impl Writers {
     fn note_block<A: Allocator>(
         &mut self,
         alloc: Global,
-        learned: &Learned,
-        stand: Stand,
+        fact_base: &FactBase,
+        location: RelativeLocation,
         block: &Block<A>,
     ) -> Result<(), AllocError> {
         for statement in &block.statements {
-            self.note_action(alloc, learned, stand, &statement.action)?;
+            self.note_action(alloc, fact_base, location, &statement.action)?;
         }
         Ok(())
     }
@@ -188,32 +195,32 @@ impl Writers {
     fn note_action<A: Allocator>(
         &mut self,
         alloc: Global,
-        learned: &Learned,
-        stand: Stand,
+        fact_base: &FactBase,
+        location: RelativeLocation,
         action: &Action<A>,
     ) -> Result<(), AllocError> {
-        let inside = Stand {
-            instance: stand.instance,
-            depth: stand.depth.saturating_add(1),
-            writer: stand.writer,
-            number: stand.number,
+        let inside = RelativeLocation {
+            instance: location.instance,
+            depth: location.depth.saturating_add(1),
+            writer: location.writer,
+            number: location.number,
             mark: None,
         };
         match action {
-            Action::Assign { target, .. } => self.note_name(alloc, learned, stand, *target),
-            Action::Fill { array, .. } => self.note_name(alloc, learned, stand, *array),
-            Action::Insert { array, .. } => self.note_name(alloc, learned, stand, *array),
+            Action::Assign { target, .. } => self.note_name(alloc, fact_base, location, *target),
+            Action::Fill { array, .. } => self.note_name(alloc, fact_base, location, *array),
+            Action::Insert { array, .. } => self.note_name(alloc, fact_base, location, *array),
             Action::Call { call, .. } => {
-                self.note_names(alloc, learned, stand, call.outputs.as_slice())
+                self.note_names(alloc, fact_base, location, call.outputs.as_slice())
             }
-            Action::When { then, .. } => self.note_block(alloc, learned, inside, then),
+            Action::When { then, .. } => self.note_block(alloc, fact_base, inside, then),
             Action::Choose { then, other, .. } => {
-                self.note_block(alloc, learned, inside, then)?;
-                self.note_block(alloc, learned, inside, other)
+                self.note_block(alloc, fact_base, inside, then)?;
+                self.note_block(alloc, fact_base, inside, other)
             }
-            Action::Range { body, .. } => self.note_block(alloc, learned, inside, body),
-            Action::Each { body, .. } => self.note_block(alloc, learned, inside, body),
-            Action::Wait { content, .. } => self.note_block(alloc, learned, stand, content),
+            Action::Range { body, .. } => self.note_block(alloc, fact_base, inside, body),
+            Action::Each { body, .. } => self.note_block(alloc, fact_base, inside, body),
+            Action::Wait { content, .. } => self.note_block(alloc, fact_base, location, content),
             Action::Declare(_) => Ok(()),
             Action::Print { .. } => Ok(()),
             Action::Assert { .. } => Ok(()),
@@ -223,42 +230,42 @@ impl Writers {
     fn note_names(
         &mut self,
         alloc: Global,
-        learned: &Learned,
-        stand: Stand,
+        fact_base: &FactBase,
+        location: RelativeLocation,
         names: &[Name],
     ) -> Result<(), AllocError> {
         for name in names {
-            self.note_name(alloc, learned, stand, *name)?;
+            self.note_name(alloc, fact_base, location, *name)?;
         }
         Ok(())
     }
 
-    /// Notes the statement for the variable that a name denotes, where that is none of a block that is not open.
+    /// Records a writer for the variable that a name denotes. Skips variables of blocks that are not open.
     fn note_name(
         &mut self,
         alloc: Global,
-        learned: &Learned,
-        stand: Stand,
+        fact_base: &FactBase,
+        location: RelativeLocation,
         name: Name,
     ) -> Result<(), AllocError> {
-        if name.up < stand.depth {
+        if name.up < location.depth {
             return Ok(());
         }
         let seen = Name {
-            up: name.up - stand.depth,
+            up: name.up - location.depth,
             what: name.what,
             shape: name.shape,
         };
-        let place = learned.instances.place(stand.instance, seen);
-        self.add(alloc, Target::whole(place), stand)?;
-        match stand.mark {
+        let place = fact_base.instances.place(location.instance, seen);
+        self.add(alloc, WriteTarget::whole(place), location)?;
+        match location.mark {
             Some(mark) => self.add(
                 alloc,
-                Target {
+                WriteTarget {
                     place,
                     mark: Some(mark),
                 },
-                stand,
+                location,
             ),
             None => {
                 self.open.insert(place)?;
@@ -267,16 +274,21 @@ impl Writers {
         }
     }
 
-    /// Notes a statement for what it would write.
-    fn add(&mut self, alloc: Global, target: Target, stand: Stand) -> Result<(), AllocError> {
-        if let Some(number) = stand.number {
+    /// Adds a writer to a target.
+    fn add(
+        &mut self,
+        alloc: Global,
+        target: WriteTarget,
+        location: RelativeLocation,
+    ) -> Result<(), AllocError> {
+        if let Some(number) = location.number {
             self.add_number(alloc, target, number)?;
         }
         if !self.found.contains_key(&target) {
             self.found.insert(target, Vec::new(alloc))?;
         }
         match self.found.get_mut(&target) {
-            Some(writers) => add_writer(writers, stand.writer),
+            Some(writers) => add_writer(writers, location.writer),
             None => Ok(()),
         }
     }
@@ -284,7 +296,7 @@ impl Writers {
     fn add_number(
         &mut self,
         alloc: Global,
-        target: Target,
+        target: WriteTarget,
         number: usize,
     ) -> Result<(), AllocError> {
         if !self.blocked.contains_key(&target) {
@@ -297,9 +309,10 @@ impl Writers {
     }
 }
 
-/// The mark of the key under which a statement writes an element, where it does and that is known.
+/// Returns the mark of the key of the element that a statement writes. Returns `None` if it writes no element or the
+/// key is unknown.
 fn mark_of<A: Allocator>(
-    learned: &Learned,
+    fact_base: &FactBase,
     instance: usize,
     statement: &Statement<A>,
 ) -> Option<u64> {
@@ -307,11 +320,11 @@ fn mark_of<A: Allocator>(
         return None;
     };
     let node = index.cell.node;
-    let value = learned.facts.value(Place { instance, node })?;
+    let value = fact_base.facts.value(Place { instance, node })?;
     Some(KeyRef::of_value(value)?.mark())
 }
 
-/// Adds a number, unless it is the last one.
+/// Appends a number, unless it equals the last one.
 fn add_last(numbers: &mut Vec<usize>, number: usize) -> Result<(), AllocError> {
     if numbers.last().copied() != Some(number) {
         numbers.push(number)?;
@@ -319,7 +332,7 @@ fn add_last(numbers: &mut Vec<usize>, number: usize) -> Result<(), AllocError> {
     Ok(())
 }
 
-/// Adds a statement, unless it is there or there are enough of them.
+/// Appends a writer, unless its offset is present or the list holds 4 writers.
 fn add_writer(writers: &mut Vec<Writer>, writer: Writer) -> Result<(), AllocError> {
     if writers.len() >= MOST || has_offset(writers.as_slice(), writer.at) {
         return Ok(());

@@ -1,77 +1,85 @@
-//! How much of a script's meaning is worked out for what is said of a run.
+//! Evaluation of a script's meaning for the diagnostics of a run, within limits on rounds and live statements.
+//!
+//! The number of rounds grows from try to try, until all rounds are done or the printed fault is known.
 
 use crate::faults::is_known;
-use crate::printed::Printed;
+use crate::printed::PrintedFault;
 use flow::script::Flow;
+use meaning::observer::NoObserver;
 use meaning::rounds_within;
-use meaning::watch::Unwatched;
-use meaning_openings::fault::MeaningFault;
-use meaning_openings::room::Room;
+use meaning_openings::fault::MeaningError;
+use meaning_openings::live_limits::LiveLimits;
 use meaning_outcomes::knowledge::Knowledge;
-use meaning_round::state::State;
+use meaning_round::state::RoundState;
 use std::alloc::{AllocError, Allocator, Global};
 
-/// How many rounds of a script are worked out at first.
+/// Number of rounds of the first try.
 const FIRST_ROUNDS: u32 = 16;
 
-/// How many times as many are the next time, at most.
+/// Maximum factor by which the number of rounds grows between two tries.
 const GROWTH: u32 = 4;
 
-/// The most times.
+/// Maximum number of tries.
 const MOST_TRIES: usize = 17;
 
-/// Rounds times blocks: so much is tried at last.
+/// Upper bound of rounds times blocks for each try after the first. The blocks are counted after the previous try.
 const MOST_WORK: u64 = 60_000_000;
 
-/// Whatever the run, so many turns and statements may be live, and for each of its events so many more.
+/// Base number of turns, and of statements, that may be live in any run. `LIVE_BY_EVENT` more are allowed for each
+/// event.
 const FEWEST_LIVE: usize = 100_000;
 
 const LIVE_BY_EVENT: usize = 20;
 
-/// The most of both.
+/// Maximum number of live turns, and of live statements.
 const MOST_LIVE: usize = 1_000_000;
 
-/// How much may be live of a script for what is said of a run of so many events.
-pub fn room_for(alloc: Global, events: usize) -> Room {
+/// Returns the limits on live turns and statements for the diagnostics of a run of `events` events.
+pub fn limits_for(alloc: Global, events: usize) -> LiveLimits {
     let wanted = events
         .saturating_mul(LIVE_BY_EVENT)
         .saturating_add(FEWEST_LIVE);
-    Room {
+    LiveLimits {
         alloc,
         most: wanted.min(MOST_LIVE),
     }
 }
 
-/// What is known of a script behind all its rounds.
+/// Returns the known facts of a script after all its rounds.
 ///
 /// # Errors
 ///
-/// `MeaningFault::TooLarge` where that is too much to be worked out, and `MeaningFault::Memory` where memory that was asked for was refused.
-pub fn known_whole<A: Allocator>(room: Room, flow: &Flow<A>) -> Result<Knowledge, MeaningFault> {
+/// Returns `MeaningError::TooLarge` if the meaning exceeds the limits, and `MeaningError::Memory` if an allocation
+/// fails.
+pub fn known_whole<A: Allocator>(
+    room: LiveLimits,
+    flow: &Flow<A>,
+) -> Result<Knowledge, MeaningError> {
     known_with(room, flow, None)
 }
 
-/// What is known of a script behind as many rounds as make known the fault that a run has printed.
+/// Returns the known facts of a script after enough rounds to know the printed fault, or after all rounds.
 ///
 /// # Errors
 ///
-/// The same.
+/// Returns `MeaningError::TooLarge` if the meaning exceeds the limits, and `MeaningError::Memory` if an allocation
+/// fails.
 pub fn known_for<A: Allocator>(
-    room: Room,
+    room: LiveLimits,
     flow: &Flow<A>,
-    printed: &Printed,
-) -> Result<Knowledge, MeaningFault> {
+    printed: &PrintedFault,
+) -> Result<Knowledge, MeaningError> {
     known_with(room, flow, Some(printed))
 }
 
 fn known_with<A: Allocator>(
-    room: Room,
+    room: LiveLimits,
     flow: &Flow<A>,
-    printed: Option<&Printed>,
-) -> Result<Knowledge, MeaningFault> {
+    printed: Option<&PrintedFault>,
+) -> Result<Knowledge, MeaningError> {
     let mut limit = FIRST_ROUNDS;
     for _ in 0..MOST_TRIES {
-        let known = rounds_within(room, &Unwatched, flow, limit)?;
+        let known = rounds_within(room, &NoObserver, flow, limit)?;
         if is_enough(room.alloc, &known, printed)? {
             return Ok(known);
         }
@@ -81,14 +89,14 @@ fn known_with<A: Allocator>(
         }
         limit = more;
     }
-    Err(MeaningFault::TooLarge)
+    Err(MeaningError::TooLarge)
 }
 
-/// Whether the rounds are over, or the fault is known.
+/// Returns true if all rounds are done, or if the printed fault is known.
 fn is_enough(
     alloc: Global,
     known: &Knowledge,
-    printed: Option<&Printed>,
+    printed: Option<&PrintedFault>,
 ) -> Result<bool, AllocError> {
     if known.finished {
         return Ok(true);
@@ -99,9 +107,9 @@ fn is_enough(
     }
 }
 
-/// How many rounds are tried behind so many, by the blocks that were live then.
+/// Returns the number of rounds for the next try after `limit` rounds, given the number of blocks that are open then.
 fn more_rounds(known: &Knowledge, limit: u32) -> u32 {
-    let blocks = known.learned.instances.all.len() as u64;
+    let blocks = known.fact_base.instances.all.len() as u64;
     let most = MOST_WORK / blocks.max(1);
     match u32::try_from(most) {
         Ok(most) => most.min(limit.saturating_mul(GROWTH)),
@@ -109,12 +117,12 @@ fn more_rounds(known: &Knowledge, limit: u32) -> u32 {
     }
 }
 
-/// What is known of a script before anything of it is worked out.
+/// Returns the known facts of a script before its first round.
 ///
 /// # Errors
 ///
-/// `AllocError` where memory that was asked for was refused.
+/// Returns `AllocError` if an allocation fails.
 pub fn known_before<A: Allocator>(alloc: Global, flow: &Flow<A>) -> Result<Knowledge, AllocError> {
-    let state = State::new(alloc, flow)?;
+    let state = RoundState::new(alloc, flow)?;
     Knowledge::of(alloc, state, 0, false)
 }

@@ -1,84 +1,87 @@
-//! Faults, as a person reads of them.
+//! Diagnostics for faults.
 
-use crate::hints::say_hint_behind;
-use crate::near_keys::say_near_key;
-use crate::printed::Printed;
-use crate::reasons::{say_plain, say_reason};
-use explain_blocked::path::{say_path, say_steps};
-use explain_blocked::scene::Scene;
-use explain_inputs::blocking::instance_at;
-use explain_text::words::say;
+use crate::hints::write_hint_behind;
+use crate::near_keys::write_near_key;
+use crate::printed::PrintedFault;
+use crate::reasons::{write_plain, write_reason};
+use explain_blocked::context::ExplainContext;
+use explain_blocked::path::{write_path, write_steps};
+use explain_inputs::blocked_statement::instance_at;
+use explain_text::words::write_str;
 use meaning_facts::facts::{FaultFact, Place};
 use meaning_outcomes::knowledge::Knowledge;
 use paths::{FaultKind, Step};
 use std::alloc::{AllocError, Allocator, Global};
 use std::collections::HashMap;
 
-/// Adds what is said of each fault that is known of a script, in the order in which they are told:
-/// `FILE:LINE:COLUMN: F3 NoElement: A has no element 3: it is closed and has the keys 0 to 2`, the line of the source with the place
-/// marked, and its path in words.
+/// Appends a diagnostic for each known fault of a script, in the order of the printed lines.
+///
+/// A diagnostic has the form
+/// `FILE:LINE:COLUMN: F3 NoElement: A has no element 3: it is closed and has the keys 0 to 2`.
+/// The source line with the position marked, the path and, where one is known, a hint follow.
 ///
 /// # Errors
 ///
-/// `AllocError` where memory that was asked for was refused.
+/// Returns `AllocError` if an allocation fails.
 pub fn add_all_faults<'t, 'a, A: Allocator>(
-    scene: &Scene<'t, 'a, A>,
+    context: &ExplainContext<'t, 'a, A>,
     out: &mut Vec<u8>,
     file: &str,
 ) -> Result<(), AllocError> {
-    let firsts = first_nodes(scene.alloc, scene.known)?;
-    let faults = scene.known.faults()?;
+    let firsts = first_nodes(context.alloc, context.known)?;
+    let faults = context.known.faults()?;
     for fault in &faults {
         let statement = &fault.statement;
         let path = statement.path.as_slice();
-        if let Some(fact) = fact_at(scene.known, &firsts, fault.kind, statement.at, path) {
-            add_fault(scene, out, file, fact)?;
+        if let Some(fact) = fact_at(context.known, &firsts, fault.kind, statement.at, path) {
+            add_fault(context, out, file, fact)?;
         }
     }
     Ok(())
 }
 
-/// Adds the same of the fault that a run has printed. Of one that is not known of the script, no values.
+/// Appends the diagnostic for the fault that a run has printed. If the fault is not among the known facts, no values
+/// are included.
 ///
 /// # Errors
 ///
-/// `AllocError` where memory that was asked for was refused.
+/// Returns `AllocError` if an allocation fails.
 pub fn add_printed_fault<'t, 'a, A: Allocator>(
-    scene: &Scene<'t, 'a, A>,
+    context: &ExplainContext<'t, 'a, A>,
     out: &mut Vec<u8>,
     file: &str,
-    printed: &Printed,
+    printed: &PrintedFault,
 ) -> Result<(), AllocError> {
-    match fact_of(scene.alloc, scene.known, printed)? {
-        Some(fact) => add_fault(scene, out, file, fact),
-        None => add_plain(scene, out, file, printed),
+    match fact_of(context.alloc, context.known, printed)? {
+        Some(fact) => add_fault(context, out, file, fact),
+        None => add_plain(context, out, file, printed),
     }
 }
 
-/// Whether the fault that a run has printed is known.
+/// Returns true if the printed fault is among the known facts.
 pub(crate) fn is_known(
     alloc: Global,
     known: &Knowledge,
-    printed: &Printed,
+    printed: &PrintedFault,
 ) -> Result<bool, AllocError> {
     Ok(fact_of(alloc, known, printed)?.is_some())
 }
 
-/// The fault that a run has printed, where it is known.
+/// Returns the fact of the printed fault, or `None` if it is not known.
 fn fact_of(
     alloc: Global,
     known: &Knowledge,
-    printed: &Printed,
+    printed: &PrintedFault,
 ) -> Result<Option<FaultFact>, AllocError> {
     let firsts = first_nodes(alloc, known)?;
     let path = printed.path.as_slice();
     Ok(fact_at(known, &firsts, printed.kind, printed.at, path))
 }
 
-/// Of each statement with a fault the first node that has it, by the fault without its node.
+/// Returns a map from each fault, with its node set to 0, to the smallest node that has it.
 fn first_nodes(alloc: Global, known: &Knowledge) -> Result<HashMap<FaultFact, u32>, AllocError> {
     let mut firsts = HashMap::new(alloc);
-    for fault in known.learned.facts.faults.iter() {
+    for fault in known.fact_base.facts.faults.iter() {
         note_first(&mut firsts, *fault)?;
     }
     Ok(firsts)
@@ -108,7 +111,7 @@ fn with_node(fault: FaultFact, node: u32) -> FaultFact {
     }
 }
 
-/// The first fault of a kind that the statement at an offset has under a path.
+/// Returns the fact with the smallest node for a fault of this kind, of the statement at an offset with this path.
 fn fact_at(
     known: &Knowledge,
     firsts: &HashMap<FaultFact, u32>,
@@ -116,7 +119,7 @@ fn fact_at(
     at: usize,
     path: &[Step],
 ) -> Option<FaultFact> {
-    let instance = instance_at(&known.learned.instances, path)?;
+    let instance = instance_at(&known.fact_base.instances, path)?;
     let place = Place { instance, node: 0 };
     let key = FaultFact { kind, at, place };
     let node = *firsts.get(&key)?;
@@ -124,59 +127,60 @@ fn fact_at(
 }
 
 fn add_fault<'t, 'a, A: Allocator>(
-    scene: &Scene<'t, 'a, A>,
+    context: &ExplainContext<'t, 'a, A>,
     out: &mut Vec<u8>,
     file: &str,
     fact: FaultFact,
 ) -> Result<(), AllocError> {
-    scene.lines.say_start(out, file, fact.at)?;
-    say(out, fact.kind.name())?;
-    say(out, ": ")?;
-    if !say_reason(scene, out, fact)? {
-        say_plain(out, fact.kind)?;
+    context.lines.say_start(out, file, fact.at)?;
+    write_str(out, fact.kind.name())?;
+    write_str(out, ": ")?;
+    if !write_reason(context, out, fact)? {
+        write_plain(out, fact.kind)?;
     }
-    say(out, "\n")?;
-    scene.lines.add_mark(out, mark_of(scene, fact))?;
-    say_path(scene, out, fact.place.instance)?;
-    if say_near_key(scene, out, fact)? {
+    write_str(out, "\n")?;
+    context.lines.add_mark(out, mark_of(context, fact))?;
+    write_path(context, out, fact.place.instance)?;
+    if write_near_key(context, out, fact)? {
         return Ok(());
     }
-    let steps = scene.known.learned.instances.path(fact.place.instance);
-    say_hint_behind(scene, out, fact.kind, fact.at, steps)
+    let steps = context.known.fact_base.instances.path(fact.place.instance);
+    write_hint_behind(context, out, fact.kind, fact.at, steps)
 }
 
-/// What is marked of a fault: its cell where that is on the line of the statement, and else the statement.
-fn mark_of<'t, 'a, A: Allocator>(scene: &Scene<'t, 'a, A>, fact: FaultFact) -> usize {
-    let Some(spot) = scene.index.spot(fact.place.node) else {
+/// Returns the offset to mark: that of the faulty cell if it is on the line of the statement, else that of the
+/// statement.
+fn mark_of<'t, 'a, A: Allocator>(context: &ExplainContext<'t, 'a, A>, fact: FaultFact) -> usize {
+    let Some(spot) = context.index.cell(fact.place.node) else {
         return fact.at;
     };
-    let end = scene.lines.text().len();
-    let line = scene.lines.begin(fact.at.min(end));
-    if scene.lines.begin(spot.cell.at.min(end)) == line {
+    let end = context.lines.text().len();
+    let line = context.lines.begin(fact.at.min(end));
+    if context.lines.begin(spot.cell.at.min(end)) == line {
         spot.cell.at
     } else {
         fact.at
     }
 }
 
-/// Adds what is said of a fault of which no values are known.
+/// Appends the diagnostic for a fault without known values.
 fn add_plain<'t, 'a, A: Allocator>(
-    scene: &Scene<'t, 'a, A>,
+    context: &ExplainContext<'t, 'a, A>,
     out: &mut Vec<u8>,
     file: &str,
-    printed: &Printed,
+    printed: &PrintedFault,
 ) -> Result<(), AllocError> {
-    scene.lines.say_start(out, file, printed.at)?;
-    say(out, printed.kind.name())?;
-    say(out, ": ")?;
-    say_plain(out, printed.kind)?;
-    say(out, "\n")?;
-    scene.lines.add_mark(out, printed.at)?;
-    let inner = printed.inner_first(scene.alloc)?;
+    context.lines.say_start(out, file, printed.at)?;
+    write_str(out, printed.kind.name())?;
+    write_str(out, ": ")?;
+    write_plain(out, printed.kind)?;
+    write_str(out, "\n")?;
+    context.lines.add_mark(out, printed.at)?;
+    let inner = printed.inner_first(context.alloc)?;
     if !inner.is_empty() {
-        say(out, "    ")?;
-        say_steps(scene, out, usize::MAX, inner.as_slice())?;
-        say(out, "\n")?;
+        write_str(out, "    ")?;
+        write_steps(context, out, usize::MAX, inner.as_slice())?;
+        write_str(out, "\n")?;
     }
-    say_hint_behind(scene, out, printed.kind, printed.at, inner.as_slice())
+    write_hint_behind(context, out, printed.kind, printed.at, inner.as_slice())
 }

@@ -1,7 +1,7 @@
-//! What to write instead of what had a fault.
+//! Hints for faults: what to write instead.
 
-use explain_blocked::scene::Scene;
-use explain_text::words::{say, say_count};
+use explain_blocked::context::ExplainContext;
+use explain_text::words::{write_count, write_str};
 use lexer::lexer::Lexer;
 use lexer::token::TokenKind;
 use meaning_facts::instances::MOST_STEPS;
@@ -11,7 +11,9 @@ use std::alloc::{AllocError, Allocator};
 const BOTH_SIDES: &str =
     "hint: && and || work out both of their sides: test the one in an if, and the other in an if inside of it\n";
 
-/// How often a function calls itself at most, where each call stands in a branch: both are steps, and the first call is none of itself.
+/// Maximum number of times that a function can call itself if each call stands in a branch.
+///
+/// Both the call and the branch are steps, and the first call is not made by the function itself.
 const CALLS: usize = MOST_STEPS / 2 - 1;
 
 const ONCE: &str =
@@ -29,44 +31,50 @@ const ENDLESS: &str =
 const NEGATIVE: &str =
     "hint: keys are not counted from the end: the last element is A[size(A) - 1], where the keys begin with 0\n";
 
-/// Adds the line of a hint, where one is known of a fault of this kind that the statement at an offset has.
-fn say_hint(out: &mut Vec<u8>, text: &[u8], kind: FaultKind, at: usize) -> Result<(), AllocError> {
+/// Appends a hint for a fault of this kind of the statement at an offset. Appends nothing if no hint is known.
+fn write_hint(
+    out: &mut Vec<u8>,
+    text: &[u8],
+    kind: FaultKind,
+    at: usize,
+) -> Result<(), AllocError> {
     match kind {
         FaultKind::DivideByZero | FaultKind::NoElement if joins_conditions(text, at) => {
-            say(out, BOTH_SIDES)
+            write_str(out, BOTH_SIDES)
         }
-        FaultKind::NoElement if has_negative_key(text, at) => say(out, NEGATIVE),
-        FaultKind::ElementTwice => say(out, ONCE),
-        FaultKind::BadStep if stands_still(text, at) => say(out, STILL),
-        FaultKind::BadStep => say(out, UPWARDS),
-        FaultKind::TooDeep => say_depth(out),
+        FaultKind::NoElement if has_negative_key(text, at) => write_str(out, NEGATIVE),
+        FaultKind::ElementTwice => write_str(out, ONCE),
+        FaultKind::BadStep if has_zero_step(text, at) => write_str(out, STILL),
+        FaultKind::BadStep => write_str(out, UPWARDS),
+        FaultKind::TooDeep => write_depth(out),
         _ => Ok(()),
     }
 }
 
-/// Adds the line of a hint, where one is known of a fault of this kind that the statement at an offset has, which stands behind these steps, the
-/// innermost first.
-pub fn say_hint_behind<'t, 'a, A: Allocator>(
-    scene: &Scene<'t, 'a, A>,
+/// Appends a hint for a fault of this kind, given the steps to the statement, innermost first. Appends nothing if no
+/// hint is known.
+pub fn write_hint_behind<'t, 'a, A: Allocator>(
+    context: &ExplainContext<'t, 'a, A>,
     out: &mut Vec<u8>,
     kind: FaultKind,
     at: usize,
     steps: &[Step],
 ) -> Result<(), AllocError> {
-    if kind == FaultKind::TooDeep && is_endless(scene, steps) {
-        return say(out, ENDLESS);
+    if kind == FaultKind::TooDeep && is_endless(context, steps) {
+        return write_str(out, ENDLESS);
     }
-    say_hint(out, scene.lines.text(), kind, at)
+    write_hint(out, context.lines.text(), kind, at)
 }
 
-/// Whether the innermost step is a call that calls alone lead to from itself, so that nothing ends them.
-fn is_endless<'t, 'a, A: Allocator>(scene: &Scene<'t, 'a, A>, steps: &[Step]) -> bool {
+/// Returns true if the innermost step is a call that is reached again from itself through calls alone, so that the
+/// recursion cannot end.
+fn is_endless<'t, 'a, A: Allocator>(context: &ExplainContext<'t, 'a, A>, steps: &[Step]) -> bool {
     let Some(innermost) = steps.first() else {
         return false;
     };
     for i in 0..steps.len() {
         let step = &steps[i];
-        if scene.index.function_at(step.offset).is_none() {
+        if context.index.function_at(step.offset).is_none() {
             return false;
         }
         if i > 0 && step.offset == innermost.offset {
@@ -76,16 +84,16 @@ fn is_endless<'t, 'a, A: Allocator>(scene: &Scene<'t, 'a, A>, steps: &[Step]) ->
     false
 }
 
-fn say_depth(out: &mut Vec<u8>) -> Result<(), AllocError> {
-    say(out, "hint: with an if in it a function calls itself ")?;
-    say_count(out, CALLS)?;
-    say(
+fn write_depth(out: &mut Vec<u8>) -> Result<(), AllocError> {
+    write_str(out, "hint: with an if in it a function calls itself ")?;
+    write_count(out, CALLS)?;
+    write_str(
         out,
         " times at most: what goes on longer goes on along an array, s[i] = s[i - 1] + ..\n",
     )
 }
 
-/// Whether the statement at an offset has an `&&` or `||` before its end or its block.
+/// Returns true if an `&&` or `||` stands before the end, or the first block, of the statement at an offset.
 fn joins_conditions(text: &[u8], at: usize) -> bool {
     let mut lexer = Lexer::behind(text, at.min(text.len()));
     for _ in at..text.len() {
@@ -101,7 +109,8 @@ fn joins_conditions(text: &[u8], at: usize) -> bool {
     false
 }
 
-/// Whether the statement at an offset has a `-` right behind a `[` before its end or its block.
+/// Returns true if a `-` directly after a `[` stands before the end, or the first block, of the statement at an
+/// offset.
 fn has_negative_key(text: &[u8], at: usize) -> bool {
     let mut lexer = Lexer::behind(text, at.min(text.len()));
     let mut last = TokenKind::End;
@@ -118,8 +127,9 @@ fn has_negative_key(text: &[u8], at: usize) -> bool {
     false
 }
 
-/// Whether the range of the loop at an offset goes upwards by a step of 0, where its bounds and its step are numbers that stand there.
-fn stands_still(text: &[u8], at: usize) -> bool {
+/// Returns true if the range of the loop at an offset rises with step 0, where its bounds and step are number
+/// literals.
+fn has_zero_step(text: &[u8], at: usize) -> bool {
     let mut lexer = Lexer::behind(text, at.min(text.len()));
     for _ in at..text.len() {
         match lexer.next() {
@@ -133,7 +143,8 @@ fn stands_still(text: &[u8], at: usize) -> bool {
     false
 }
 
-/// Whether two bounds that rise, and a 0 as the step, stand up to the end of the brackets; none where there are others than numbers.
+/// Returns whether the next tokens, up to the closing bracket, are two rising bounds and a step of 0. Returns `None`
+/// if they are not three number literals.
 fn is_still(lexer: &mut Lexer<'_>) -> Option<bool> {
     let low = number_before(lexer, TokenKind::Colon)?;
     let high = number_before(lexer, TokenKind::Colon)?;
@@ -141,7 +152,7 @@ fn is_still(lexer: &mut Lexer<'_>) -> Option<bool> {
     Some(step == b"0".as_slice() && is_at_most(low, high))
 }
 
-/// The digits of the number that is the next token, where a token of this kind stands behind it.
+/// Returns the digits of the next token if it is a number, followed by a token of kind `end`.
 fn number_before<'t>(lexer: &mut Lexer<'t>, end: TokenKind) -> Option<&'t [u8]> {
     let Some(Ok(number)) = lexer.next() else {
         return None;
@@ -156,7 +167,7 @@ fn number_before<'t>(lexer: &mut Lexer<'t>, end: TokenKind) -> Option<&'t [u8]> 
     }
 }
 
-/// Whether a number is at most another one, by their digits, of which none is a 0 in front.
+/// Returns true if a number is at most another one, given their digits without leading zeros.
 fn is_at_most(low: &[u8], high: &[u8]) -> bool {
     if low.len() != high.len() {
         return low.len() < high.len();

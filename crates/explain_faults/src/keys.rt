@@ -1,39 +1,39 @@
-//! Which keys an array has.
+//! The keys of an array, as they are shown in diagnostics.
 
-use explain_blocked::words::say_text;
-use explain_text::words::{say, say_count, say_number};
+use explain_blocked::value_text::write_text;
+use explain_text::words::{write_count, write_number, write_str};
 use std::alloc::AllocError;
 use values::key::Key;
 use values::map::Element;
 
-/// The most keys that are told one by one.
+/// Maximum number of keys that are listed one by one.
 const MOST: usize = 8;
 
-/// Adds the keys of elements, which rise: from the first to the last where none is left out between them, and else one by one those
-/// that are next to a wanted one.
-pub fn say_keys(
+/// Appends the keys of elements, which are sorted. Consecutive numbers are written as a range, otherwise keys near
+/// `wanted` are listed.
+pub fn write_keys(
     out: &mut Vec<u8>,
     elements: &[Element],
     wanted: Option<&Key>,
 ) -> Result<(), AllocError> {
     let (Some(first), Some(last)) = (elements.first(), elements.last()) else {
-        return say(out, "no elements");
+        return write_str(out, "no elements");
     };
     if elements.len() == 1 {
-        say(out, "the key ")?;
-        return say_key(out, &first.key);
+        write_str(out, "the key ")?;
+        return write_key(out, &first.key);
     }
-    say(out, "the keys ")?;
+    write_str(out, "the keys ")?;
     if is_span(&first.key, &last.key, elements.len()) {
-        say_key(out, &first.key)?;
-        say(out, " to ")?;
-        say_key(out, &last.key)
+        write_key(out, &first.key)?;
+        write_str(out, " to ")?;
+        write_key(out, &last.key)
     } else {
-        say_each(out, elements, first_shown(elements, wanted))
+        write_each(out, elements, first_shown(elements, wanted))
     }
 }
 
-/// Whether there are just so many numbers from one to another.
+/// Returns true if `count` numbers lie from `first` to `last`, both included.
 fn is_span(first: &Key, last: &Key, count: usize) -> bool {
     let (Key::Number(first), Key::Number(last)) = (first, last) else {
         return false;
@@ -44,7 +44,8 @@ fn is_span(first: &Key, last: &Key, count: usize) -> bool {
     }
 }
 
-/// Where the keys begin that are told: so that as many are below a wanted one as above it, where there are that many.
+/// Returns the position of the first listed key. It is chosen so that half of the listed keys are below `wanted`, as
+/// far as possible.
 fn first_shown(elements: &[Element], wanted: Option<&Key>) -> usize {
     let Some(wanted) = wanted else {
         return 0;
@@ -60,37 +61,37 @@ fn first_shown(elements: &[Element], wanted: Option<&Key>) -> usize {
     below.saturating_sub(MOST / 2).min(last)
 }
 
-/// Adds the keys of elements from a place on.
-fn say_each(out: &mut Vec<u8>, elements: &[Element], first: usize) -> Result<(), AllocError> {
+/// Appends the keys of elements from a position on, at most 8, and the number of the other keys.
+fn write_each(out: &mut Vec<u8>, elements: &[Element], first: usize) -> Result<(), AllocError> {
     let mut told: usize = 0;
     for i in first..elements.len() {
         if told >= MOST {
             break;
         }
         if told > 0 {
-            say(out, ", ")?;
+            write_str(out, ", ")?;
         }
-        say_key(out, &elements[i].key)?;
+        write_key(out, &elements[i].key)?;
         told = told.saturating_add(1);
     }
     if told == elements.len() {
         return Ok(());
     }
-    say(out, " and ")?;
-    say_count(out, elements.len().saturating_sub(told))?;
-    say(out, " more")
+    write_str(out, " and ")?;
+    write_count(out, elements.len().saturating_sub(told))?;
+    write_str(out, " more")
 }
 
-/// Adds `[3]` or `["a"]`.
-pub fn say_element(out: &mut Vec<u8>, key: &Key) -> Result<(), AllocError> {
-    say(out, "[")?;
-    say_key(out, key)?;
-    say(out, "]")
+/// Appends a key in square brackets, as `[3]` or `["a"]`.
+pub fn write_element(out: &mut Vec<u8>, key: &Key) -> Result<(), AllocError> {
+    write_str(out, "[")?;
+    write_key(out, key)?;
+    write_str(out, "]")
 }
 
-fn say_key(out: &mut Vec<u8>, key: &Key) -> Result<(), AllocError> {
+fn write_key(out: &mut Vec<u8>, key: &Key) -> Result<(), AllocError> {
     match key {
-        Key::Number(number) => say_number(out, *number),
-        Key::Text(text) => say_text(out, text.as_bytes()),
+        Key::Number(number) => write_number(out, *number),
+        Key::Text(text) => write_text(out, text.as_bytes()),
     }
 }

@@ -1,4 +1,6 @@
-//! What is said to a person of faults, of an end at a limit, and of traces that are none: the place, the values that were met, and the path in words.
+//! Diagnostics for faults, for runs cut off at a limit, and for invalid traces, with positions, values and paths.
+//!
+//! The values are computed again from the script's meaning, so that no run has to carry them.
 #![tactic(auto)]
 
 pub mod extent;

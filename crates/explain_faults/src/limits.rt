@@ -1,99 +1,108 @@
-//! An end at a limit, as a person reads of it.
+//! Diagnostics for runs and meanings cut off at a limit, and for invalid thread counts.
 
-use explain_text::words::{say, say_count};
+use explain_text::words::{write_count, write_str};
 use std::alloc::AllocError;
 
-/// What was done where a run was cut off: so many events, with so many items that could begin and so many that ran.
+/// The progress of a run that was cut off: the number of events, of ready items and of running items.
 #[derive(Clone, Copy, Debug, PartialEq, Eq)]
-pub struct Left {
+pub struct LimitCounts {
     pub events: usize,
     pub ready: usize,
     pub running: usize,
 }
 
-/// Adds what is said of a run that was cut off.
+/// Appends the diagnostic for a run that was cut off at its limit of events.
 ///
 /// # Errors
 ///
-/// `AllocError` where memory that was asked for was refused.
-pub fn add_limit_of_steps(out: &mut Vec<u8>, file: &str, left: Left) -> Result<(), AllocError> {
-    say(out, file)?;
-    say(out, ": limit: cut off after ")?;
-    say_left(out, left)?;
-    say(
+/// Returns `AllocError` if an allocation fails.
+pub fn add_limit_of_steps(
+    out: &mut Vec<u8>,
+    file: &str,
+    left: LimitCounts,
+) -> Result<(), AllocError> {
+    write_str(out, file)?;
+    write_str(out, ": limit: cut off after ")?;
+    write_left(out, left)?;
+    write_str(
         out,
         "; --steps N allows N events, which are starts and ends of items\n",
     )
 }
 
-/// Adds what is said of a trace that ends before the script's run does.
+/// Appends the diagnostic for a trace that ends before the script's run does.
 ///
 /// # Errors
 ///
-/// `AllocError` where memory that was asked for was refused.
-pub fn add_limit_of_trace(out: &mut Vec<u8>, file: &str, left: Left) -> Result<(), AllocError> {
-    say(out, file)?;
-    say(out, ": limit: the trace ends here, after ")?;
-    say_left(out, left)?;
-    say(out, "\n")
+/// Returns `AllocError` if an allocation fails.
+pub fn add_limit_of_trace(
+    out: &mut Vec<u8>,
+    file: &str,
+    left: LimitCounts,
+) -> Result<(), AllocError> {
+    write_str(out, file)?;
+    write_str(out, ": limit: the trace ends here, after ")?;
+    write_left(out, left)?;
+    write_str(out, "\n")
 }
 
-fn say_left(out: &mut Vec<u8>, left: Left) -> Result<(), AllocError> {
-    say_some(out, left.events, "event", "events")?;
-    say(out, ", with ")?;
-    say_some(out, left.ready, "item", "items")?;
-    say(out, " ready and ")?;
-    say_count(out, left.running)?;
-    say(out, " running")
+fn write_left(out: &mut Vec<u8>, left: LimitCounts) -> Result<(), AllocError> {
+    write_some(out, left.events, "event", "events")?;
+    write_str(out, ", with ")?;
+    write_some(out, left.ready, "item", "items")?;
+    write_str(out, " ready and ")?;
+    write_count(out, left.running)?;
+    write_str(out, " running")
 }
 
-/// Adds what is said of a run for which too many threads were asked.
+/// Appends the diagnostic for a run that was requested with too many threads.
 ///
 /// # Errors
 ///
-/// `AllocError` where memory that was asked for was refused.
+/// Returns `AllocError` if an allocation fails.
 pub fn add_bad_count(out: &mut Vec<u8>, engines: usize, workers: usize) -> Result<(), AllocError> {
-    say(out, "swt: R1 BadCount: ")?;
-    say_some(out, engines, "engine", "engines")?;
-    say(out, " and ")?;
-    say_some(out, workers, "worker", "workers")?;
-    say(out, " are ")?;
-    say_count(out, engines.saturating_add(workers))?;
-    say(out, " threads, and a run has 64 at most\n")
+    write_str(out, "swt: R1 BadCount: ")?;
+    write_some(out, engines, "engine", "engines")?;
+    write_str(out, " and ")?;
+    write_some(out, workers, "worker", "workers")?;
+    write_str(out, " are ")?;
+    write_count(out, engines.saturating_add(workers))?;
+    write_str(out, " threads, and a run has 64 at most\n")
 }
 
-/// Adds what is said of a meaning that was cut off after so many rounds, with so many statements that were not done.
+/// Appends the diagnostic for a meaning that was cut off after `rounds` rounds, with `statements` statements not
+/// done.
 ///
 /// # Errors
 ///
-/// `AllocError` where memory that was asked for was refused.
+/// Returns `AllocError` if an allocation fails.
 pub fn add_limit_of_rounds(
     out: &mut Vec<u8>,
     file: &str,
     rounds: usize,
     statements: usize,
 ) -> Result<(), AllocError> {
-    say(out, file)?;
-    say(out, ": limit: cut off after ")?;
-    say_some(out, rounds, "round", "rounds")?;
-    say(out, ", with ")?;
-    say_some(out, statements, "statement", "statements")?;
-    say(out, " not done; --rounds N allows N rounds\n")
+    write_str(out, file)?;
+    write_str(out, ": limit: cut off after ")?;
+    write_some(out, rounds, "round", "rounds")?;
+    write_str(out, ", with ")?;
+    write_some(out, statements, "statement", "statements")?;
+    write_str(out, " not done; --rounds N allows N rounds\n")
 }
 
-/// Adds that no more is said of a script, since its meaning is too large to be worked out.
+/// Appends the note that a script is not explained further because its meaning is too large.
 ///
 /// # Errors
 ///
-/// `AllocError` where memory that was asked for was refused.
+/// Returns `AllocError` if an allocation fails.
 pub fn add_too_large(out: &mut Vec<u8>, file: &str) -> Result<(), AllocError> {
-    say(out, file)?;
-    say(out, ": not explained: too large\n")
+    write_str(out, file)?;
+    write_str(out, ": not explained: too large\n")
 }
 
-/// Adds a number of things.
-fn say_some(out: &mut Vec<u8>, count: usize, one: &str, many: &str) -> Result<(), AllocError> {
-    say_count(out, count)?;
-    say(out, " ")?;
-    say(out, if count == 1 { one } else { many })
+/// Appends a count with its noun, in the singular or the plural.
+fn write_some(out: &mut Vec<u8>, count: usize, one: &str, many: &str) -> Result<(), AllocError> {
+    write_count(out, count)?;
+    write_str(out, " ")?;
+    write_str(out, if count == 1 { one } else { many })
 }

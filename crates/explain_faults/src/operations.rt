@@ -1,45 +1,51 @@
-//! The operation that has a fault, with the values of its operands.
+//! The operation that has a fault, with the values of its operands, and the messages of failed assertions.
 
-use crate::parts::{faulty, value_of};
+use crate::parts::{faulty_part, value_of};
+use explain_blocked::context::ExplainContext;
 use explain_blocked::index::CellSite;
-use explain_blocked::scene::Scene;
-use explain_blocked::words::say_scalar;
-use explain_text::words::{say, say_bytes};
-use flow::cell::Form;
+use explain_blocked::value_text::write_scalar;
+use explain_text::words::{write_bytes, write_str};
+use flow::cell::CellForm;
 use flow::expression::{Expr, Operation};
 use paths::FaultKind;
 use std::alloc::{AllocError, Allocator};
 use values::op::{Factor, Sign};
 use values::value::Value;
 
-/// The most bytes of a message that are shown.
+/// Maximum number of bytes of a message that are shown.
 const LONGEST_MESSAGE: usize = 200;
 
-/// Adds the operation of a cell that has its fault, and what is wrong with it. Whether anything was added.
-pub fn say_operation<'t, 'a, A: Allocator>(
-    scene: &Scene<'t, 'a, A>,
+/// Appends the operation of a cell that has the fault, and what is wrong with it. Returns true if anything was
+/// appended.
+pub fn write_operation<'t, 'a, A: Allocator>(
+    context: &ExplainContext<'t, 'a, A>,
     out: &mut Vec<u8>,
     instance: usize,
     spot: &CellSite<'a, A>,
     kind: FaultKind,
 ) -> Result<bool, AllocError> {
-    let Form::Compute(expr) = &spot.cell.form else {
+    let CellForm::Compute(expr) = &spot.cell.form else {
         return Ok(false);
     };
-    let learned = &scene.known.learned;
-    let Some(Expr::Operation(operation, operands)) = faulty(learned, scene.alloc, instance, expr)?
+    let fact_base = &context.known.fact_base;
+    let Some(Expr::Operation(operation, operands)) = faulty_part(
+        fact_base,
+        context.alloc,
+        instance,
+        expr,
+    )?
     else {
         return Ok(false);
     };
-    say(out, before(operation))?;
-    say_operands(scene, out, instance, operation, operands)?;
-    say(out, behind(operation))?;
-    say(out, wrong_of(kind))?;
+    write_str(out, before(operation))?;
+    write_operands(context, out, instance, operation, operands)?;
+    write_str(out, behind(operation))?;
+    write_str(out, wrong_of(kind))?;
     Ok(true)
 }
 
-fn say_operands<'t, 'a, A: Allocator>(
-    scene: &Scene<'t, 'a, A>,
+fn write_operands<'t, 'a, A: Allocator>(
+    context: &ExplainContext<'t, 'a, A>,
     out: &mut Vec<u8>,
     instance: usize,
     operation: &Operation<A>,
@@ -47,21 +53,21 @@ fn say_operands<'t, 'a, A: Allocator>(
 ) -> Result<(), AllocError> {
     let mut sign = "";
     for (i, operand) in operands.iter().enumerate() {
-        say(out, sign)?;
+        write_str(out, sign)?;
         sign = between(operation, i);
-        say_operand(scene, out, instance, operand)?;
+        write_operand(context, out, instance, operand)?;
     }
     Ok(())
 }
 
-fn say_operand<'t, 'a, A: Allocator>(
-    scene: &Scene<'t, 'a, A>,
+fn write_operand<'t, 'a, A: Allocator>(
+    context: &ExplainContext<'t, 'a, A>,
     out: &mut Vec<u8>,
     instance: usize,
     operand: &Expr<A>,
 ) -> Result<(), AllocError> {
-    match value_of(&scene.known.learned, scene.alloc, instance, operand)? {
-        Some(Ok(Value::One(scalar))) => say_scalar(out, &scalar),
+    match value_of(&context.known.fact_base, context.alloc, instance, operand)? {
+        Some(Ok(Value::One(scalar))) => write_scalar(out, &scalar),
         _ => Ok(()),
     }
 }
@@ -74,7 +80,7 @@ fn before<A: Allocator>(operation: &Operation<A>) -> &'static str {
     }
 }
 
-/// The operator behind an operand.
+/// Returns the operator after an operand.
 fn between<A: Allocator>(operation: &Operation<A>, i: usize) -> &'static str {
     match operation {
         Operation::Sum(signs) => match signs.as_slice().get(i) {
@@ -108,23 +114,23 @@ fn wrong_of(kind: FaultKind) -> &'static str {
     }
 }
 
-/// Adds the message of the assertion that a cell is. Whether anything was added.
-pub fn say_message<'t, 'a, A: Allocator>(
-    scene: &Scene<'t, 'a, A>,
+/// Appends the message of a failed assertion. Returns true if anything was appended.
+pub fn write_message<'t, 'a, A: Allocator>(
+    context: &ExplainContext<'t, 'a, A>,
     out: &mut Vec<u8>,
     instance: usize,
     spot: &CellSite<'a, A>,
 ) -> Result<bool, AllocError> {
-    let Form::Compute(Expr::Operation(Operation::Assert, operands)) = &spot.cell.form else {
+    let CellForm::Compute(Expr::Operation(Operation::Assert, operands)) = &spot.cell.form else {
         return Ok(false);
     };
     let Some(message) = operands.as_slice().get(1) else {
         return Ok(false);
     };
-    match value_of(&scene.known.learned, scene.alloc, instance, message)? {
+    match value_of(&context.known.fact_base, context.alloc, instance, message)? {
         Some(Ok(value)) => {
-            say(out, "not true: ")?;
-            say_bytes(out, value.text(), LONGEST_MESSAGE)?;
+            write_str(out, "not true: ")?;
+            write_bytes(out, value.text(), LONGEST_MESSAGE)?;
             Ok(true)
         }
         _ => Ok(false),

@@ -1,36 +1,37 @@
-//! Expressions worked out once more, part by part, to find the one that has the fault.
+//! Evaluation of expressions part by part, to find the innermost faulty part.
 
-use flow::cell::Form;
+use flow::cell::CellForm;
 use flow::expression::{Expr, Operation};
-use meaning_facts::evaluation::Outcome;
-use meaning_facts::learned::Learned;
+use meaning_facts::evaluation::CellResult;
+use meaning_facts::fact_base::FactBase;
 use std::alloc::{AllocError, Allocator, Global};
 
-/// The value or the fault of an expression in an instance, where it is known.
+/// Returns the value or the fault of an expression in an instance, or `None` if neither is known.
 pub fn value_of<A: Allocator>(
-    learned: &Learned,
+    fact_base: &FactBase,
     alloc: Global,
     instance: usize,
     expr: &Expr<A>,
-) -> Result<Option<Outcome>, AllocError> {
-    let form = Form::Compute(copied(alloc, expr)?);
-    learned.outcome(alloc, instance, &form)
+) -> Result<Option<CellResult>, AllocError> {
+    let form = CellForm::Compute(copied(alloc, expr)?);
+    fact_base.outcome(alloc, instance, &form)
 }
 
-/// The innermost part of an expression that has its fault, the first in reading order.
+/// Returns the innermost faulty part of an expression, the first in reading order, or `None` if the expression has no
+/// known fault.
 #[cycle(search)]
-pub fn faulty<'e, A: Allocator>(
-    learned: &Learned,
+pub fn faulty_part<'e, A: Allocator>(
+    fact_base: &FactBase,
     alloc: Global,
     instance: usize,
     expr: &'e Expr<A>,
 ) -> Result<Option<&'e Expr<A>>, AllocError> {
-    match value_of(learned, alloc, instance, expr)? {
+    match value_of(fact_base, alloc, instance, expr)? {
         Some(Err(_)) => {}
         _ => return Ok(None),
     }
     let inside = match expr {
-        Expr::Operation(_, operands) => faulty_in(learned, alloc, instance, operands)?,
+        Expr::Operation(_, operands) => faulty_in(fact_base, alloc, instance, operands)?,
         _ => None,
     };
     match inside {
@@ -41,20 +42,20 @@ pub fn faulty<'e, A: Allocator>(
 
 #[cycle(search)]
 fn faulty_in<'e, A: Allocator>(
-    learned: &Learned,
+    fact_base: &FactBase,
     alloc: Global,
     instance: usize,
     exprs: &'e Vec<Expr<A>, A>,
 ) -> Result<Option<&'e Expr<A>>, AllocError> {
     for expr in exprs {
-        if let Some(found) = faulty(learned, alloc, instance, expr)? {
+        if let Some(found) = faulty_part(fact_base, alloc, instance, expr)? {
             return Ok(Some(found));
         }
     }
     Ok(None)
 }
 
-/// The same expression.
+/// Returns a copy of an expression in the memory of `alloc`.
 #[cycle(copy)]
 fn copied<A: Allocator>(alloc: Global, expr: &Expr<A>) -> Result<Expr<Global>, AllocError> {
     match expr {

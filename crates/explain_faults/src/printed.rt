@@ -1,4 +1,4 @@
-//! The fault that a run has printed, read from its line.
+//! Parser for the line with which a run reports its fault.
 
 use explain_text::position::line_begin;
 use paths::{FaultKind, Step};
@@ -7,34 +7,35 @@ use values::key::Key;
 use values::number;
 use values::text::{Bytes, Text};
 
-/// What the line of a fault begins with.
+/// Prefix of the line of a fault.
 const START: &[u8] = b"swt: fault ";
 
-/// A fault: its kind, the offset of its statement, and the path of that, the outermost step first.
+/// A printed fault: its kind, the offset of its statement and the path of the statement, outermost step first.
 #[derive(Drop)]
-pub struct Printed {
+pub struct PrintedFault {
     pub kind: FaultKind,
     pub at: usize,
     pub path: Vec<Step>,
 }
 
-impl Printed {
-    /// The fault that the last line of a text tells, as in `swt: fault F3 NoElement 19 /4.1`.
+impl PrintedFault {
+    /// Parses the fault in the last line of a text, such as `swt: fault F3 NoElement 19 /4.1`. Returns `None` if that
+    /// line is not a fault.
     ///
     /// # Errors
     ///
-    /// `AllocError` where memory that was asked for was refused.
-    pub fn read(alloc: Global, text: &[u8]) -> Result<Option<Printed>, AllocError> {
+    /// Returns `AllocError` if an allocation fails.
+    pub fn read(alloc: Global, text: &[u8]) -> Result<Option<PrintedFault>, AllocError> {
         let Some(rest) = last_line(text).strip_prefix(START) else {
             return Ok(None);
         };
         let Some((kind, rest)) = kind_of(rest) else {
             return Ok(None);
         };
-        let (_, rest) = cut(rest, b' ');
-        let (offset, path) = cut(rest, b' ');
+        let (_, rest) = split_at_byte(rest, b' ');
+        let (offset, path) = split_at_byte(rest, b' ');
         match offset_of(offset) {
-            Some(at) => Ok(Some(Printed {
+            Some(at) => Ok(Some(PrintedFault {
                 kind,
                 at,
                 path: steps_of(alloc, path)?,
@@ -43,7 +44,7 @@ impl Printed {
         }
     }
 
-    /// The path with the innermost step first.
+    /// Returns the path with the innermost step first.
     pub fn inner_first(&self, alloc: Global) -> Result<Vec<Step>, AllocError> {
         let mut steps = Vec::new(alloc);
         for step in &self.path {
@@ -54,14 +55,15 @@ impl Printed {
     }
 }
 
-/// The last line of a text, without the byte that ends it.
+/// Returns the last line of a text, without the last byte of the text, which is the line feed.
 fn last_line(text: &[u8]) -> &[u8] {
     let end = text.len().saturating_sub(1);
     &text[line_begin(text, end)..end]
 }
 
-/// What stands before the first byte of this kind, and what stands behind it.
-fn cut(bytes: &[u8], at: u8) -> (&[u8], &[u8]) {
+/// Splits bytes at the first byte equal to `at`, which is in neither part. Without such a byte, the second part is
+/// empty.
+fn split_at_byte(bytes: &[u8], at: u8) -> (&[u8], &[u8]) {
     for i in 0..bytes.len() {
         if bytes[i] == at {
             return (&bytes[..i], &bytes[i + 1..]);
@@ -70,7 +72,7 @@ fn cut(bytes: &[u8], at: u8) -> (&[u8], &[u8]) {
     (bytes, &[])
 }
 
-/// The kind whose number and name a text begins with, and what stands behind them.
+/// Returns the fault kind whose number and name a text starts with, and the rest of the text.
 fn kind_of(text: &[u8]) -> Option<(FaultKind, &[u8])> {
     for kind in &FaultKind::ALL {
         if let Some(rest) = text.strip_prefix(kind.name().as_bytes()) {
@@ -85,7 +87,7 @@ fn offset_of(digits: &[u8]) -> Option<usize> {
     usize::try_from(number).ok()
 }
 
-/// The steps of a path as `/4.1/9.-3/7."a"`; none of `/`.
+/// Parses the steps of a path such as `/4.1/9.-3/7."a"`. The path `/` has no steps.
 fn steps_of(alloc: Global, path: &[u8]) -> Result<Vec<Step>, AllocError> {
     let mut steps = Vec::new(alloc);
     let mut rest = path;
@@ -99,7 +101,7 @@ fn steps_of(alloc: Global, path: &[u8]) -> Result<Vec<Step>, AllocError> {
     Ok(steps)
 }
 
-/// What stands before the first `/` that no text holds, and what stands behind it.
+/// Splits a path at the first `/` outside of a quoted text. Without such a byte, the second part is empty.
 fn cut_step(path: &[u8]) -> (&[u8], &[u8]) {
     let mut in_text = false;
     let mut is_spelled = false;
@@ -117,7 +119,7 @@ fn cut_step(path: &[u8]) -> (&[u8], &[u8]) {
 }
 
 fn step_of(alloc: Global, step: &[u8]) -> Result<Option<Step>, AllocError> {
-    let (at, key) = cut(step, b'.');
+    let (at, key) = split_at_byte(step, b'.');
     let Some(offset) = offset_of(at) else {
         return Ok(None);
     };
@@ -137,7 +139,7 @@ fn key_of(alloc: Global, key: &[u8]) -> Result<Option<Key>, AllocError> {
     }
 }
 
-/// The text that is spelled up to a quote.
+/// Decodes the text up to the closing quote, with its escapes.
 fn text_of(alloc: Global, bytes: &[u8]) -> Result<Text, AllocError> {
     let mut text = Bytes::new(alloc);
     let mut rest = bytes;
@@ -158,7 +160,7 @@ fn text_of(alloc: Global, bytes: &[u8]) -> Result<Text, AllocError> {
     Text::new(alloc, text)
 }
 
-/// The byte that a letter behind a `\` stands for.
+/// Returns the byte that an escape stands for, given the byte after the `\`.
 fn escaped(byte: u8) -> u8 {
     match byte {
         b'n' => b'\n',

@@ -1,9 +1,10 @@
-//! What to write instead.
+//! The hint type: a text with an optional second place.
 
 use lexer::token::Span;
 
-/// What to write instead, and the place that this speaks of where it is another one than that of the refusal. Where there is a place, the words
-/// go on with ` at` and that.
+/// A hint on what to write instead, with a place if it refers to another one than the refusal.
+///
+/// If there is a place, the text is continued by ` at` and that place.
 #[derive(Clone, Copy, Debug, PartialEq, Eq)]
 pub struct Advice {
     pub words: &'static str,
@@ -11,12 +12,12 @@ pub struct Advice {
 }
 
 impl Advice {
-    /// Advice on the place of the refusal.
+    /// Creates a hint about the place of the refusal.
     pub fn here(words: &'static str) -> Option<Advice> {
         Some(Advice { words, at: None })
     }
 
-    /// Advice on another place.
+    /// Creates a hint about another place.
     pub fn of(words: &'static str, at: Span) -> Option<Advice> {
         Some(Advice {
             words,

@@ -1,14 +1,14 @@
-//! Brackets: arrays, literals, ranges and blocks.
+//! Hints about brackets: arrays, array literals, ranges and blocks.
 
 use crate::advice::Advice;
-use crate::around::Around;
 use crate::kinds::{begins_value, is_plain, is_type, wants_value};
+use crate::token_context::TokenContext;
 use lexer::token::TokenKind;
 
 const NAMED: &str = "give the array a name first: int A[] = [1, 2]; and then f(A)";
 
-/// Where a bracket stands where none can, or something in square brackets that can not.
-pub fn bracket(around: &Around<'_>) -> Option<Advice> {
+/// Returns a hint about a bracket that is not allowed here, or about a token that is not allowed in square brackets.
+pub fn bracket(around: &TokenContext<'_>) -> Option<Advice> {
     match around.found.kind {
         TokenKind::OpenSquare => square(around),
         TokenKind::OpenCurly => curly(around),
@@ -19,7 +19,7 @@ pub fn bracket(around: &Around<'_>) -> Option<Advice> {
     }
 }
 
-fn square(around: &Around<'_>) -> Option<Advice> {
+fn square(around: &TokenContext<'_>) -> Option<Advice> {
     if around.found.span == around.first.span {
         return Advice::here("several outputs are taken in round brackets: (x, y) = f(1);");
     }
@@ -47,7 +47,7 @@ fn square(around: &Around<'_>) -> Option<Advice> {
     }
 }
 
-fn curly(around: &Around<'_>) -> Option<Advice> {
+fn curly(around: &TokenContext<'_>) -> Option<Advice> {
     if around.found.span == around.first.span {
         return Advice::here("a block does not stand alone: if (true) { .. }");
     }
@@ -65,13 +65,13 @@ fn curly(around: &Around<'_>) -> Option<Advice> {
     }
 }
 
-/// Whether a bracket stands in no other one, or right behind a name.
-fn is_alone(around: &Around<'_>) -> bool {
+/// Returns true if the bracket is directly in a block or outside all brackets, or follows a name without a space.
+fn is_alone(around: &TokenContext<'_>) -> bool {
     around.last.span.to == around.found.span.from
         || matches!(around.opener.kind, TokenKind::OpenCurly | TokenKind::End)
 }
 
-/// Where values stand in curly brackets, of which the first is of this kind.
+/// Returns the hint about values in curly brackets. `first`: the kind of the first token in them.
 fn listed(first: TokenKind) -> &'static str {
     match first {
         TokenKind::Text => {
@@ -81,7 +81,7 @@ fn listed(first: TokenKind) -> &'static str {
     }
 }
 
-fn round(around: &Around<'_>) -> Option<Advice> {
+fn round(around: &TokenContext<'_>) -> Option<Advice> {
     if around.last.kind == TokenKind::Name && around.before_last.kind == TokenKind::In {
         if around.last.text == b"range".as_slice() {
             return Advice::here(
@@ -108,8 +108,8 @@ fn round(around: &Around<'_>) -> Option<Advice> {
     }
 }
 
-/// Where nothing stands in round brackets.
-fn end_of_round(around: &Around<'_>) -> Option<Advice> {
+/// Returns a hint if a pair of round brackets is empty.
+fn end_of_round(around: &TokenContext<'_>) -> Option<Advice> {
     if around.last.kind != TokenKind::OpenRound {
         return None;
     }
@@ -120,7 +120,7 @@ fn end_of_round(around: &Around<'_>) -> Option<Advice> {
     }
 }
 
-fn end_of_square(around: &Around<'_>) -> Option<Advice> {
+fn end_of_square(around: &TokenContext<'_>) -> Option<Advice> {
     if around.opener_before.kind == TokenKind::In {
         return Advice::here("foreach goes over a range, as [0:9], or over an array by its name");
     }
@@ -133,8 +133,8 @@ fn end_of_square(around: &Around<'_>) -> Option<Advice> {
     Advice::here("an array without elements is declared without a value: int A[];")
 }
 
-/// Where something stands in the brackets of a declaration, or a type in those of an expression.
-fn length(around: &Around<'_>) -> Option<Advice> {
+/// Returns a hint about a token in the brackets of a declaration, or about a type in the brackets of an expression.
+fn length(around: &TokenContext<'_>) -> Option<Advice> {
     let is_length = is_plain(around.found.kind) || is_type(around.found.kind);
     if !is_length
         || around.opener.kind != TokenKind::OpenSquare
@@ -152,8 +152,8 @@ fn length(around: &Around<'_>) -> Option<Advice> {
     None
 }
 
-/// Where a type stands before a value, or in brackets before it.
-fn cast(around: &Around<'_>) -> Option<Advice> {
+/// Returns a hint about a type that precedes a value, by itself or in brackets.
+fn cast(around: &TokenContext<'_>) -> Option<Advice> {
     let is_called = around.next.kind == TokenKind::OpenRound && begins_value(around.last.kind);
     let is_in_brackets = around.last.kind == TokenKind::OpenRound
         && (wants_value(around.opener_before.kind)

@@ -1,10 +1,10 @@
-//! Bytes that begin no token.
+//! Hints about bytes that begin no token, including characters outside ASCII.
 
 use crate::comments::{NESTED, begins_more};
 use crate::literals::last_sign;
 use std::alloc::{AllocError, Global};
 
-/// Characters past ASCII that stand for one of it, by the bytes that they begin with.
+/// A character outside ASCII that resembles an ASCII one, by its bytes in UTF-8.
 #[derive(Clone, Copy, Debug)]
 struct Character {
     bytes: &'static [u8],
@@ -96,11 +96,11 @@ static CHARACTERS: [Character; 19] = [
     },
 ];
 
-/// What to write instead of the byte at an offset, which begins no token.
+/// Returns a hint about the byte at an offset, which begins no token.
 ///
 /// # Errors
 ///
-/// `AllocError` where memory that was asked for was refused.
+/// Returns `AllocError` if an allocation fails.
 pub fn on_byte(alloc: Global, text: &[u8], at: usize) -> Result<Option<Vec<u8>>, AllocError> {
     let (before, rest) = text.split_at(at.min(text.len()));
     let Some(byte) = rest.first() else {
@@ -115,7 +115,7 @@ pub fn on_byte(alloc: Global, text: &[u8], at: usize) -> Result<Option<Vec<u8>>,
     }
 }
 
-/// What is said of a character past ASCII.
+/// Returns the hint about a character outside ASCII, or about a byte that is not part of one.
 fn past_ascii(alloc: Global, before: &[u8], rest: &[u8]) -> Result<Vec<u8>, AllocError> {
     if before.is_empty() && rest.starts_with(b"\xEF\xBB\xBF") {
         return words(
@@ -150,7 +150,8 @@ fn words(alloc: Global, words: &str) -> Result<Vec<u8>, AllocError> {
     Vec::from_slice(alloc, words.as_bytes())
 }
 
-/// The bytes of the character past ASCII that a text begins with, and none where it begins with no such.
+/// Returns the bytes of the UTF-8 character outside ASCII at the beginning of a text, or an empty slice if there is
+/// none.
 fn first_character(text: &[u8]) -> &[u8] {
     let count = match text.first() {
         Some(0xC2..=0xDF) => 2,
@@ -170,7 +171,7 @@ fn first_character(text: &[u8]) -> &[u8] {
     character
 }
 
-/// What is said of an ASCII byte that begins no token.
+/// Returns a hint about an ASCII byte that begins no token.
 fn on_sign(before: &[u8], byte: u8, rest: &[u8]) -> Option<&'static str> {
     match byte {
         b'.' | b'&' if last_sign(before) == b'"' => Some("strings are joined by +: \"a\" + \"b\""),
@@ -216,7 +217,7 @@ fn on_sign(before: &[u8], byte: u8, rest: &[u8]) -> Option<&'static str> {
     }
 }
 
-/// Whether a text ends with the word `int`, `string` or `boolean`, and a blank at most.
+/// Returns true if a text ends with the word `int`, `string` or `boolean`, followed by at most one space.
 fn is_behind_type(text: &[u8]) -> bool {
     let text = match text.strip_suffix(b" ") {
         Some(before) => before,
@@ -225,7 +226,7 @@ fn is_behind_type(text: &[u8]) -> bool {
     text.ends_with(b"int") || text.ends_with(b"string") || text.ends_with(b"boolean")
 }
 
-/// What is said of a point.
+/// Returns the hint about a point.
 fn on_point(before: &[u8], rest: &[u8]) -> &'static str {
     let is_number = matches!(before.last(), Some(b'0'..=b'9'))
         || matches!(rest.get(1), Some(b'0'..=b'9'));

@@ -1,18 +1,20 @@
-//! Comments that stand in one another.
+//! Hints about nested comments, which the language does not have.
 
 use crate::advice::Advice;
-use crate::around::Around;
+use crate::token_context::TokenContext;
 use lexer::fault::LexFault;
 use lexer::lexer::Lexer;
 use lexer::token::TokenKind;
 
-/// What to write instead of a comment in a comment.
+/// The hint about a comment within a comment.
 pub const NESTED: &str =
     "a comment ends with the first */ behind its /*: no comment stands in another one";
 
-/// Where a comment has ended before, since another one stands in it: the text up to the token begins more comments than it ends, and the first
-/// fault behind is the end of one.
-pub fn nested(text: &[u8], around: &Around<'_>) -> Option<Advice> {
+/// Returns a hint if a comment has ended early because it contains another one.
+///
+/// This is assumed under two conditions. The text before the token begins more comments than it ends, and the first
+/// lexical fault after it is the end of a comment.
+pub fn nested(text: &[u8], around: &TokenContext<'_>) -> Option<Advice> {
     if around.found.kind == TokenKind::End {
         return None;
     }
@@ -24,12 +26,12 @@ pub fn nested(text: &[u8], around: &Around<'_>) -> Option<Advice> {
     }
 }
 
-/// Whether a text begins more comments than it ends.
+/// Returns true if a text has more occurrences of `/*` than of `*/`.
 pub fn begins_more(text: &[u8]) -> bool {
     count_of(b'/', b'*', text) > count_of(b'*', b'/', text)
 }
 
-/// How often two bytes stand in a text one behind the other.
+/// Returns the number of places at which two bytes follow each other in a text.
 fn count_of(first: u8, second: u8, text: &[u8]) -> usize {
     let mut count: usize = 0;
     for i in 1..text.len() {
@@ -40,7 +42,7 @@ fn count_of(first: u8, second: u8, text: &[u8]) -> usize {
     count
 }
 
-/// Whether the first fault of a text is the `/` of a `*/`.
+/// Returns true if the first lexical fault of a text is the `/` of a `*/`.
 fn ends_comment(text: &[u8]) -> bool {
     let mut lexer = Lexer::new(text);
     for _ in 0..text.len() {

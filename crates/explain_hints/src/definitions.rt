@@ -1,30 +1,35 @@
-//! Functions of a text that may be no script.
+//! Search for function definitions in a text that may not parse.
 
 use crate::kinds::is_type;
 use lexer::lexer::Lexer;
 use lexer::token::TokenKind;
 
-/// How much of the head of a function has been read.
+/// The prefix of a function head that precedes the current token.
 #[derive(Clone, Copy, Debug, PartialEq, Eq)]
-enum Head {
+enum HeadState {
     Nothing,
-    /// The bracket that closes the outputs.
+    /// Up to the bracket that closes the outputs.
     Outputs,
-    /// The name behind that.
+    /// Up to the name after the outputs.
     Name,
-    /// The bracket that opens the inputs.
+    /// Up to the bracket that opens the inputs.
     Inputs,
 }
 
-/// Whether a text defines a function of a name: a `)`, the name, a `(`, and a type or a `)` stand in it one behind another.
+/// Returns true if a text defines a function with this name.
+///
+/// It does if it has a `)`, the name, a `(`, and a type or a `)` as consecutive tokens. The search ends at the first
+/// lexical fault.
 pub fn is_defined(text: &[u8], name: &[u8]) -> bool {
     let mut lexer = Lexer::new(text);
-    let mut head = Head::Nothing;
+    let mut head = HeadState::Nothing;
     for _ in 0..text.len() {
         let Some(Ok(token)) = lexer.next() else {
             return false;
         };
-        if head == Head::Inputs && (is_type(token.kind) || token.kind == TokenKind::CloseRound) {
+        if head == HeadState::Inputs
+            && (is_type(token.kind) || token.kind == TokenKind::CloseRound)
+        {
             return true;
         }
         head = next_head(head, token.kind, token.text == name);
@@ -32,12 +37,12 @@ pub fn is_defined(text: &[u8], name: &[u8]) -> bool {
     false
 }
 
-/// How much has been read with one more token, which is the name or not.
-fn next_head(head: Head, kind: TokenKind, is_it: bool) -> Head {
+/// Returns the state after one more token. `is_it`: whether the token has the text of the name.
+fn next_head(head: HeadState, kind: TokenKind, is_it: bool) -> HeadState {
     match (head, kind) {
-        (_, TokenKind::CloseRound) => Head::Outputs,
-        (Head::Outputs, TokenKind::Name) if is_it => Head::Name,
-        (Head::Name, TokenKind::OpenRound) => Head::Inputs,
-        _ => Head::Nothing,
+        (_, TokenKind::CloseRound) => HeadState::Outputs,
+        (HeadState::Outputs, TokenKind::Name) if is_it => HeadState::Name,
+        (HeadState::Name, TokenKind::OpenRound) => HeadState::Inputs,
+        _ => HeadState::Nothing,
     }
 }

@@ -1,14 +1,16 @@
-//! Ends of statements, and what stands behind them.
+//! Hints about the end of a statement, and about tokens that follow it.
 
 use crate::advice::Advice;
-use crate::around::Around;
 use crate::kinds::{
     begins_value, ends_expression, is_arithmetic, is_form, is_plain, is_type, opens, wants_value,
 };
+use crate::token_context::TokenContext;
 use lexer::token::TokenKind;
 
-/// Where a statement is empty, or ends before its value, or where an `else` has no `if`.
-pub fn ending(around: &Around<'_>) -> Option<Advice> {
+/// Returns a hint about an empty statement, a value in place of a statement, or a misplaced `else`, `if` or `in`.
+///
+/// It also covers malformed calls and priorities.
+pub fn ending(around: &TokenContext<'_>) -> Option<Advice> {
     let found = around.found.kind;
     if found == TokenKind::Semicolon && around.found.span == around.first.span {
         return empty(around);
@@ -52,8 +54,8 @@ pub fn ending(around: &Around<'_>) -> Option<Advice> {
     called(around)
 }
 
-/// What is said of something else before a call than its priority.
-fn priority(around: &Around<'_>) -> &'static str {
+/// Returns the hint about a text before a call that is not its priority.
+fn priority(around: &TokenContext<'_>) -> &'static str {
     let is_value = around.third.kind == TokenKind::Assign
         && around.third.span == around.last.span
         && matches!(around.found.kind, TokenKind::Name | TokenKind::OpenRound);
@@ -64,8 +66,8 @@ fn priority(around: &Around<'_>) -> &'static str {
     }
 }
 
-/// Whether something else stands before a call than its priority.
-fn is_priority(around: &Around<'_>) -> bool {
+/// Returns true if the text before a call is not its priority.
+fn is_priority(around: &TokenContext<'_>) -> bool {
     let is_there = around.second.span == around.last.span
         || around.third.span == around.last.span
         || around.last.kind != TokenKind::CloseRound && !is_plain(around.found.kind);
@@ -77,8 +79,8 @@ fn is_priority(around: &Around<'_>) -> bool {
         || around.last.kind == TokenKind::At
 }
 
-/// Whether a statement begins as a value, and ends or goes on as one.
-fn is_value(around: &Around<'_>) -> bool {
+/// Returns true if a statement begins as a value, and ends or continues as one.
+fn is_value(around: &TokenContext<'_>) -> bool {
     let found = around.found.kind;
     if around.found.span == around.first.span {
         return found != TokenKind::Name
@@ -100,8 +102,8 @@ fn is_value(around: &Around<'_>) -> bool {
             && goes_on
 }
 
-/// Where a statement has nothing but its `;`.
-fn empty(around: &Around<'_>) -> Option<Advice> {
+/// Returns the hint about a statement that consists of its `;` alone.
+fn empty(around: &TokenContext<'_>) -> Option<Advice> {
     if around.last.kind == TokenKind::CloseCurly {
         Advice::here("no ; stands behind a }")
     } else {
@@ -109,8 +111,8 @@ fn empty(around: &Around<'_>) -> Option<Advice> {
     }
 }
 
-/// Where a call has no brackets, or types stand in them or in a value.
-fn called(around: &Around<'_>) -> Option<Advice> {
+/// Returns a hint about a call without brackets, or about a type in a call or in a value.
+fn called(around: &TokenContext<'_>) -> Option<Advice> {
     let is_behind_name = around.last.kind == TokenKind::Name
         && (around.first.span == around.last.span || around.first.kind == TokenKind::At);
     if is_behind_name && !around.is_on_new_line && is_plain(around.found.kind) {
@@ -135,8 +137,8 @@ fn called(around: &Around<'_>) -> Option<Advice> {
     }
 }
 
-/// Where a value is missing behind an operator.
-pub fn value(around: &Around<'_>) -> Option<Advice> {
+/// Returns a hint about a missing value or name: after an operator, a `,` or a type, or before an operator.
+pub fn value(around: &TokenContext<'_>) -> Option<Advice> {
     if around.last.kind == TokenKind::Assign && around.first.kind == TokenKind::OpenRound {
         return Advice::here(
             "several variables take the outputs of one call: (x, y) = f(1); else each has an assignment of its own",

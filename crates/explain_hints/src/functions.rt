@@ -1,6 +1,6 @@
-//! Functions that other languages have.
+//! Table of functions that other languages have, with what to write instead.
 
-use crate::bytes::{Row, row_of};
+use crate::replacements::{Replacement, row_of};
 
 const PRINTED: &str = "printf prints: printf(\"%i\", n); printf(\"%s\", s);";
 
@@ -15,7 +15,7 @@ const STRINGS: &str = "strings are joined by + and compared by ==, and nothing t
 const RECKONED: &str =
     "write it as a function: (int r) max(int a, int b) { if (a > b) { r = a; } else { r = b; } }";
 
-/// That nothing is known from outside of a script.
+/// The hint that a script has no input from outside.
 pub(crate) const OUTSIDE: &str =
     "a script reads no files, words or settings: what it is to know stands in it";
 
@@ -50,719 +50,719 @@ const MAGNITUDE: &str =
 const WHOLE: &str =
     "there are whole numbers alone: scale them, as 1500 for 1.5, and write what reckons with them as a function";
 
-/// Functions that are not there, and what is there instead.
-static FUNCTIONS: [Row; 177] = [
-    Row {
+/// Functions that do not exist in the language, with what to write instead.
+static FUNCTIONS: [Replacement; 177] = [
+    Replacement {
         word: "trace",
         words: PRINTED,
     },
-    Row {
+    Replacement {
         word: "print",
         words: PRINTED,
     },
-    Row {
+    Replacement {
         word: "println",
         words: PRINTED,
     },
-    Row {
+    Replacement {
         word: "echo",
         words: PRINTED,
     },
-    Row {
+    Replacement {
         word: "puts",
         words: PRINTED,
     },
-    Row {
+    Replacement {
         word: "fprintf",
         words: PRINTED,
     },
-    Row {
+    Replacement {
         word: "log",
         words: PRINTED,
     },
-    Row {
+    Replacement {
         word: "sprintf",
         words: MADE,
     },
-    Row {
+    Replacement {
         word: "format",
         words: MADE,
     },
-    Row {
+    Replacement {
         word: "str",
         words: MADE,
     },
-    Row {
+    Replacement {
         word: "string",
         words: MADE,
     },
-    Row {
+    Replacement {
         word: "itoa",
         words: MADE,
     },
-    Row {
+    Replacement {
         word: "int2string",
         words: MADE,
     },
-    Row {
+    Replacement {
         word: "to_string",
         words: MADE,
     },
-    Row {
+    Replacement {
         word: "tostring",
         words: MADE,
     },
-    Row {
+    Replacement {
         word: "toString",
         words: MADE,
     },
-    Row {
+    Replacement {
         word: "repr",
         words: MADE,
     },
-    Row {
+    Replacement {
         word: "fromfloat",
         words: MADE,
     },
-    Row {
+    Replacement {
         word: "atoi",
         words: READ,
     },
-    Row {
+    Replacement {
         word: "string2int",
         words: READ,
     },
-    Row {
+    Replacement {
         word: "parseint",
         words: READ,
     },
-    Row {
+    Replacement {
         word: "parseInt",
         words: READ,
     },
-    Row {
+    Replacement {
         word: "to_int",
         words: READ,
     },
-    Row {
+    Replacement {
         word: "tofloat",
         words: READ,
     },
-    Row {
+    Replacement {
         word: "strlen",
         words: COUNTED,
     },
-    Row {
+    Replacement {
         word: "length",
         words: COUNTED,
     },
-    Row {
+    Replacement {
         word: "len",
         words: COUNTED,
     },
-    Row {
+    Replacement {
         word: "count",
         words: COUNTED,
     },
-    Row {
+    Replacement {
         word: "substring",
         words: STRINGS,
     },
-    Row {
+    Replacement {
         word: "substr",
         words: STRINGS,
     },
-    Row {
+    Replacement {
         word: "split",
         words: STRINGS,
     },
-    Row {
+    Replacement {
         word: "replace",
         words: STRINGS,
     },
-    Row {
+    Replacement {
         word: "find",
         words: STRINGS,
     },
-    Row {
+    Replacement {
         word: "concat",
         words: STRINGS,
     },
-    Row {
+    Replacement {
         word: "max",
         words: RECKONED,
     },
-    Row {
+    Replacement {
         word: "min",
         words: RECKONED,
     },
-    Row {
+    Replacement {
         word: "abs",
         words: MAGNITUDE,
     },
-    Row {
+    Replacement {
         word: "pow",
         words: RECKONED,
     },
-    Row {
+    Replacement {
         word: "sqrt",
         words: RECKONED,
     },
-    Row {
+    Replacement {
         word: "sum",
         words: "write the sums to an array: s[i] = s[i - 1] + A[i]",
     },
-    Row {
+    Replacement {
         word: "contains",
         words: THERE,
     },
-    Row {
+    Replacement {
         word: "exists",
         words: THERE,
     },
-    Row {
+    Replacement {
         word: "range",
         words: "a range stands behind foreach alone: foreach i in [0:9] { .. }",
     },
-    Row {
+    Replacement {
         word: "argv",
         words: OUTSIDE,
     },
-    Row {
+    Replacement {
         word: "args",
         words: OUTSIDE,
     },
-    Row {
+    Replacement {
         word: "argp",
         words: OUTSIDE,
     },
-    Row {
+    Replacement {
         word: "getenv",
         words: OUTSIDE,
     },
-    Row {
+    Replacement {
         word: "input",
         words: OUTSIDE,
     },
-    Row {
+    Replacement {
         word: "read",
         words: OUTSIDE,
     },
-    Row {
+    Replacement {
         word: "glob",
         words: OUTSIDE,
     },
-    Row {
+    Replacement {
         word: "exit",
         words: ENDED,
     },
-    Row {
+    Replacement {
         word: "random",
         words: SEEDED,
     },
-    Row {
+    Replacement {
         word: "tracef",
         words: PRINTED,
     },
-    Row {
+    Replacement {
         word: "printi",
         words: PRINTED,
     },
-    Row {
+    Replacement {
         word: "prints",
         words: PRINTED,
     },
-    Row {
+    Replacement {
         word: "write",
         words: PRINTED,
     },
-    Row {
+    Replacement {
         word: "writeln",
         words: PRINTED,
     },
-    Row {
+    Replacement {
         word: "disp",
         words: PRINTED,
     },
-    Row {
+    Replacement {
         word: "display",
         words: PRINTED,
     },
-    Row {
+    Replacement {
         word: "cat",
         words: PRINTED,
     },
-    Row {
+    Replacement {
         word: "cout",
         words: PRINTED,
     },
-    Row {
+    Replacement {
         word: "say",
         words: PRINTED,
     },
-    Row {
+    Replacement {
         word: "int2str",
         words: MADE,
     },
-    Row {
+    Replacement {
         word: "num2str",
         words: MADE,
     },
-    Row {
+    Replacement {
         word: "itos",
         words: MADE,
     },
-    Row {
+    Replacement {
         word: "inttostring",
         words: MADE,
     },
-    Row {
+    Replacement {
         word: "stoi",
         words: READ,
     },
-    Row {
+    Replacement {
         word: "parse",
         words: READ,
     },
-    Row {
+    Replacement {
         word: "str2num",
         words: READ,
     },
-    Row {
+    Replacement {
         word: "int",
         words: READ,
     },
-    Row {
+    Replacement {
         word: "size_of",
         words: COUNTED,
     },
-    Row {
+    Replacement {
         word: "sizeof",
         words: COUNTED,
     },
-    Row {
+    Replacement {
         word: "numel",
         words: COUNTED,
     },
-    Row {
+    Replacement {
         word: "length_of",
         words: COUNTED,
     },
-    Row {
+    Replacement {
         word: "join",
         words: STRINGS,
     },
-    Row {
+    Replacement {
         word: "strip",
         words: STRINGS,
     },
-    Row {
+    Replacement {
         word: "trim",
         words: STRINGS,
     },
-    Row {
+    Replacement {
         word: "upper",
         words: STRINGS,
     },
-    Row {
+    Replacement {
         word: "lower",
         words: STRINGS,
     },
-    Row {
+    Replacement {
         word: "toupper",
         words: STRINGS,
     },
-    Row {
+    Replacement {
         word: "tolower",
         words: STRINGS,
     },
-    Row {
+    Replacement {
         word: "uppercase",
         words: STRINGS,
     },
-    Row {
+    Replacement {
         word: "lowercase",
         words: STRINGS,
     },
-    Row {
+    Replacement {
         word: "substr_",
         words: STRINGS,
     },
-    Row {
+    Replacement {
         word: "strcmp",
         words: STRINGS,
     },
-    Row {
+    Replacement {
         word: "equals",
         words: STRINGS,
     },
-    Row {
+    Replacement {
         word: "startswith",
         words: STRINGS,
     },
-    Row {
+    Replacement {
         word: "indexof",
         words: STRINGS,
     },
-    Row {
+    Replacement {
         word: "mod",
         words: RECKONED,
     },
-    Row {
+    Replacement {
         word: "floor",
         words: RECKONED,
     },
-    Row {
+    Replacement {
         word: "ceil",
         words: RECKONED,
     },
-    Row {
+    Replacement {
         word: "round",
         words: RECKONED,
     },
-    Row {
+    Replacement {
         word: "exp",
         words: RECKONED,
     },
-    Row {
+    Replacement {
         word: "sqr",
         words: RECKONED,
     },
-    Row {
+    Replacement {
         word: "square",
         words: RECKONED,
     },
-    Row {
+    Replacement {
         word: "gcd",
         words: RECKONED,
     },
-    Row {
+    Replacement {
         word: "rand",
         words: SEEDED,
     },
-    Row {
+    Replacement {
         word: "randint",
         words: SEEDED,
     },
-    Row {
+    Replacement {
         word: "seed",
         words: SEEDED,
     },
-    Row {
+    Replacement {
         word: "quit",
         words: ENDED,
     },
-    Row {
+    Replacement {
         word: "stop",
         words: ENDED,
     },
-    Row {
+    Replacement {
         word: "abort",
         words: ENDED,
     },
-    Row {
+    Replacement {
         word: "error",
         words: ENDED,
     },
-    Row {
+    Replacement {
         word: "throw",
         words: ENDED,
     },
-    Row {
+    Replacement {
         word: "raise",
         words: ENDED,
     },
-    Row {
+    Replacement {
         word: "assertEqual",
         words: CHECKED,
     },
-    Row {
+    Replacement {
         word: "assert_eq",
         words: CHECKED,
     },
-    Row {
+    Replacement {
         word: "assertTrue",
         words: CHECKED,
     },
-    Row {
+    Replacement {
         word: "check",
         words: CHECKED,
     },
-    Row {
+    Replacement {
         word: "require",
         words: CHECKED,
     },
-    Row {
+    Replacement {
         word: "expect",
         words: CHECKED,
     },
-    Row {
+    Replacement {
         word: "append",
         words: GROWN,
     },
-    Row {
+    Replacement {
         word: "push",
         words: GROWN,
     },
-    Row {
+    Replacement {
         word: "add",
         words: GROWN,
     },
-    Row {
+    Replacement {
         word: "push_back",
         words: GROWN,
     },
-    Row {
+    Replacement {
         word: "insert",
         words: GROWN,
     },
-    Row {
+    Replacement {
         word: "extend",
         words: GROWN,
     },
-    Row {
+    Replacement {
         word: "array",
         words: DECLARED,
     },
-    Row {
+    Replacement {
         word: "zeros",
         words: FILLED,
     },
-    Row {
+    Replacement {
         word: "ones",
         words: FILLED,
     },
-    Row {
+    Replacement {
         word: "linspace",
         words: FILLED,
     },
-    Row {
+    Replacement {
         word: "arange",
         words: FILLED,
     },
-    Row {
+    Replacement {
         word: "list",
         words: DECLARED,
     },
-    Row {
+    Replacement {
         word: "vector",
         words: DECLARED,
     },
-    Row {
+    Replacement {
         word: "sleep",
         words: ORDERED,
     },
-    Row {
+    Replacement {
         word: "wait_for",
         words: ORDERED,
     },
-    Row {
+    Replacement {
         word: "fork",
         words: ORDERED,
     },
-    Row {
+    Replacement {
         word: "spawn",
         words: ORDERED,
     },
-    Row {
+    Replacement {
         word: "parallel",
         words: ORDERED,
     },
-    Row {
+    Replacement {
         word: "open",
         words: OUTSIDE,
     },
-    Row {
+    Replacement {
         word: "fopen",
         words: OUTSIDE,
     },
-    Row {
+    Replacement {
         word: "readline",
         words: OUTSIDE,
     },
-    Row {
+    Replacement {
         word: "readln",
         words: OUTSIDE,
     },
-    Row {
+    Replacement {
         word: "readint",
         words: OUTSIDE,
     },
-    Row {
+    Replacement {
         word: "gets",
         words: OUTSIDE,
     },
-    Row {
+    Replacement {
         word: "scanf",
         words: OUTSIDE,
     },
-    Row {
+    Replacement {
         word: "stdin",
         words: OUTSIDE,
     },
-    Row {
+    Replacement {
         word: "file",
         words: OUTSIDE,
     },
-    Row {
+    Replacement {
         word: "system",
         words: OUTSIDE,
     },
-    Row {
+    Replacement {
         word: "exec",
         words: OUTSIDE,
     },
-    Row {
+    Replacement {
         word: "run",
         words: OUTSIDE,
     },
-    Row {
+    Replacement {
         word: "time",
         words: OUTSIDE,
     },
-    Row {
+    Replacement {
         word: "now",
         words: OUTSIDE,
     },
-    Row {
+    Replacement {
         word: "date",
         words: OUTSIDE,
     },
-    Row {
+    Replacement {
         word: "clock",
         words: OUTSIDE,
     },
-    Row {
+    Replacement {
         word: "sort",
         words: RANKED,
     },
-    Row {
+    Replacement {
         word: "sorted",
         words: RANKED,
     },
-    Row {
+    Replacement {
         word: "reverse",
         words: MAPPED,
     },
-    Row {
+    Replacement {
         word: "map",
         words: MAPPED,
     },
-    Row {
+    Replacement {
         word: "filter",
         words: MAPPED,
     },
-    Row {
+    Replacement {
         word: "reduce",
         words: MAPPED,
     },
-    Row {
+    Replacement {
         word: "keys",
         words: "foreach has the keys beside the values: foreach v, k in A { .. }",
     },
-    Row {
+    Replacement {
         word: "has",
         words: THERE,
     },
-    Row {
+    Replacement {
         word: "isset",
         words: THERE,
     },
-    Row {
+    Replacement {
         word: "has_key",
         words: THERE,
     },
-    Row {
+    Replacement {
         word: "if_else",
         words: CHOSEN,
     },
-    Row {
+    Replacement {
         word: "iff",
         words: CHOSEN,
     },
-    Row {
+    Replacement {
         word: "ifelse",
         words: CHOSEN,
     },
-    Row {
+    Replacement {
         word: "not",
         words: "not is !: !(x > 0)",
     },
-    Row {
+    Replacement {
         word: "and",
         words: "and is &&: x > 0 && y > 0",
     },
-    Row {
+    Replacement {
         word: "or",
         words: "or is ||: x > 0 || y > 0",
     },
-    Row {
+    Replacement {
         word: "abs_integer",
         words: MAGNITUDE,
     },
-    Row {
+    Replacement {
         word: "fabs",
         words: MAGNITUDE,
     },
-    Row {
+    Replacement {
         word: "max_integer",
         words: RECKONED,
     },
-    Row {
+    Replacement {
         word: "min_integer",
         words: RECKONED,
     },
-    Row {
+    Replacement {
         word: "pow_integer",
         words: RECKONED,
     },
-    Row {
+    Replacement {
         word: "factorial",
         words: RECKONED,
     },
-    Row {
+    Replacement {
         word: "sign",
         words: RECKONED,
     },
-    Row {
+    Replacement {
         word: "sin",
         words: WHOLE,
     },
-    Row {
+    Replacement {
         word: "cos",
         words: WHOLE,
     },
-    Row {
+    Replacement {
         word: "tan",
         words: WHOLE,
     },
-    Row {
+    Replacement {
         word: "log10",
         words: WHOLE,
     },
-    Row {
+    Replacement {
         word: "ln",
         words: WHOLE,
     },
-    Row {
+    Replacement {
         word: "itof",
         words: WHOLE,
     },
-    Row {
+    Replacement {
         word: "float",
         words: WHOLE,
     },
-    Row {
+    Replacement {
         word: "ord",
         words: STRINGS,
     },
-    Row {
+    Replacement {
         word: "chr",
         words: STRINGS,
     },
 ];
 
-/// What is there instead of a function of another language.
+/// Returns the hint about a function of another language, or `None` if the table has no such name.
 pub fn on_function(name: &[u8]) -> Option<&'static str> {
     row_of(&FUNCTIONS, name)
 }

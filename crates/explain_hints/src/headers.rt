@@ -1,10 +1,10 @@
-//! Imports, and what stands before the block of a function, an `if`, a loop or a `wait`.
+//! Hints about imports, and about the text before the block of a function, an `if`, a loop or a `wait`.
 
 use crate::advice::Advice;
-use crate::around::Around;
 use crate::kinds::{
     begins_statement, closes, ends_expression, is_arithmetic, is_plain, is_type, is_word,
 };
+use crate::token_context::TokenContext;
 use lexer::lexer::Lexer;
 use lexer::token::TokenKind;
 
@@ -15,8 +15,8 @@ const OUTPUTS: &str =
 
 const BODY: &str = "a function has its block right behind its inputs: (int r) f(int n) { r = n; }";
 
-/// Where a module is not there, or an import has another form.
-pub fn import(around: &Around<'_>) -> Option<Advice> {
+/// Returns a hint about an unknown module, or about a malformed or misplaced import.
+pub fn import(around: &TokenContext<'_>) -> Option<Advice> {
     if around.last.kind == TokenKind::Import {
         return Advice::here(
             "io, string and assert are the modules, and their functions are there without an import",
@@ -34,8 +34,8 @@ pub fn import(around: &Around<'_>) -> Option<Advice> {
     None
 }
 
-/// Where the block of an `if`, an `else`, a `wait` or a loop is not there.
-pub fn block(around: &Around<'_>) -> Option<Advice> {
+/// Returns a hint if the block of an `if`, an `else`, a `wait` or a loop is missing.
+pub fn block(around: &TokenContext<'_>) -> Option<Advice> {
     if around.found.kind == TokenKind::CloseRound {
         return None;
     }
@@ -70,8 +70,8 @@ pub fn block(around: &Around<'_>) -> Option<Advice> {
     None
 }
 
-/// Whether what a loop goes over has ended.
-fn is_source_end(around: &Around<'_>) -> bool {
+/// Returns true if the source of a loop, its array or range, is complete.
+fn is_source_end(around: &TokenContext<'_>) -> bool {
     around.last.kind == TokenKind::CloseSquare && around.opener.kind != TokenKind::OpenRound
         || around.last.kind == TokenKind::Name
             && around.before_last.kind == TokenKind::In
@@ -80,8 +80,8 @@ fn is_source_end(around: &Around<'_>) -> bool {
                 || begins_statement(around.found.kind))
 }
 
-/// Where what stands behind `if`, `wait` or `foreach` has another form.
-pub fn form(around: &Around<'_>) -> Option<Advice> {
+/// Returns a hint about a malformed condition, `wait` list or loop head.
+pub fn form(around: &TokenContext<'_>) -> Option<Advice> {
     match around.last.kind {
         TokenKind::If => Advice::here("a condition stands in brackets: if (x > 0) { .. }"),
         TokenKind::Wait => Advice::here(match around.next.kind {
@@ -94,8 +94,8 @@ pub fn form(around: &Around<'_>) -> Option<Advice> {
     }
 }
 
-/// Where a loop's variable has another form.
-fn looped(around: &Around<'_>) -> Option<Advice> {
+/// Returns the hint about a malformed loop variable.
+fn looped(around: &TokenContext<'_>) -> Option<Advice> {
     if around.found.kind == TokenKind::OpenRound {
         Advice::here("a loop has no brackets round its head: foreach i in [0:9] { .. }")
     } else if is_type(around.found.kind) {
@@ -105,16 +105,16 @@ fn looped(around: &Around<'_>) -> Option<Advice> {
     }
 }
 
-/// Where what a loop goes over has another form.
-fn source(around: &Around<'_>) -> Option<Advice> {
+/// Returns the hint about a malformed loop source.
+fn source(around: &TokenContext<'_>) -> Option<Advice> {
     if is_type(around.first.kind) {
         return word_as_name(around);
     }
     Advice::here("foreach goes over a range, as [0:9], or over an array by its name")
 }
 
-/// Where `wait` has something else than names in its brackets.
-fn waited(around: &Around<'_>) -> Option<Advice> {
+/// Returns a hint about a `wait` list with anything but names, or about the rest of a loop head.
+fn waited(around: &TokenContext<'_>) -> Option<Advice> {
     if around.opener.kind == TokenKind::OpenRound
         && around.opener_before.kind == TokenKind::Wait
         && around.found.kind != TokenKind::OpenCurly
@@ -137,8 +137,8 @@ fn waited(around: &Around<'_>) -> Option<Advice> {
     None
 }
 
-/// Where a word of the language is taken for a name.
-pub fn word_as_name(around: &Around<'_>) -> Option<Advice> {
+/// Returns a hint about a keyword that is used as a name.
+pub fn word_as_name(around: &TokenContext<'_>) -> Option<Advice> {
     if is_type(around.last.kind) && is_word(around.found.kind) {
         return Advice::here("this is a word of the language: take another name");
     }
@@ -152,8 +152,8 @@ pub fn word_as_name(around: &Around<'_>) -> Option<Advice> {
     None
 }
 
-/// Where the head of a function has another form.
-pub fn function(around: &Around<'_>) -> Option<Advice> {
+/// Returns a hint about a malformed function head.
+pub fn function(around: &TokenContext<'_>) -> Option<Advice> {
     let found = around.found.kind;
     if found == TokenKind::OpenRound
         && is_type(around.first.kind)
@@ -185,8 +185,10 @@ pub fn function(around: &Around<'_>) -> Option<Advice> {
     None
 }
 
-/// Where the output of a function is declared before it, without brackets: a type, a name, and behind that the name of a function with its inputs.
-pub fn declared_output(text: &[u8], around: &Around<'_>) -> Option<Advice> {
+/// Returns a hint if the output of a function is declared before it without brackets.
+///
+/// The tokens are a type and a name, followed by the name of a function with its inputs.
+pub fn declared_output(text: &[u8], around: &TokenContext<'_>) -> Option<Advice> {
     let is_declared = is_type(around.first.kind)
         && (around.second.span == around.last.span || around.last.kind == TokenKind::CloseSquare);
     if is_declared && around.found.kind == TokenKind::Name && has_inputs(text, around) {
@@ -196,8 +198,8 @@ pub fn declared_output(text: &[u8], around: &Around<'_>) -> Option<Advice> {
     }
 }
 
-/// Whether inputs stand behind the token, or brackets without any before a block.
-fn has_inputs(text: &[u8], around: &Around<'_>) -> bool {
+/// Returns true if the following token opens inputs, or an empty pair of brackets before a block.
+fn has_inputs(text: &[u8], around: &TokenContext<'_>) -> bool {
     if around.next.kind != TokenKind::OpenRound {
         return false;
     }
@@ -211,8 +213,8 @@ fn has_inputs(text: &[u8], around: &Around<'_>) -> bool {
     }
 }
 
-/// Whether a statement begins as a call, and goes on as a function would.
-fn is_called(around: &Around<'_>) -> bool {
+/// Returns true if a statement begins as a call, and continues as a function definition.
+fn is_called(around: &TokenContext<'_>) -> bool {
     let is_declared = matches!(around.next.kind, TokenKind::Name | TokenKind::OpenSquare);
     let in_brackets = is_type(around.found.kind)
         && is_declared
@@ -224,8 +226,8 @@ fn is_called(around: &Around<'_>) -> bool {
     around.first.kind == TokenKind::Name && (in_brackets || behind)
 }
 
-/// Where something is wrong behind the outputs of a function, or in a list of targets.
-fn headed(around: &Around<'_>) -> Option<Advice> {
+/// Returns a hint about an error after the outputs of a function, or in a list of targets.
+fn headed(around: &TokenContext<'_>) -> Option<Advice> {
     if is_type(around.second.kind) {
         return match around.opener.kind {
             TokenKind::OpenRound => listed(around),
@@ -255,8 +257,8 @@ fn headed(around: &Around<'_>) -> Option<Advice> {
     None
 }
 
-/// Where something is wrong among the outputs or the inputs of a function.
-fn listed(around: &Around<'_>) -> Option<Advice> {
+/// Returns a hint about an error within the outputs or the inputs of a function.
+fn listed(around: &TokenContext<'_>) -> Option<Advice> {
     match around.found.kind {
         kind if ends_expression(around.last.kind) && (kind == TokenKind::Name || is_type(kind)) => {
             Advice::here("a , or a ) is missing before this")
@@ -272,8 +274,8 @@ fn listed(around: &Around<'_>) -> Option<Advice> {
     }
 }
 
-/// Where something is wrong behind the outputs of a function.
-fn behind_outputs(around: &Around<'_>) -> Option<Advice> {
+/// Returns a hint about an error after the outputs of a function.
+fn behind_outputs(around: &TokenContext<'_>) -> Option<Advice> {
     match around.last.kind {
         TokenKind::Name => {
             Advice::here("a function's inputs stand in brackets: (int r) f(int n) { r = n; }")

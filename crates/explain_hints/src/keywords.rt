@@ -1,59 +1,60 @@
-//! Words of the language that are misspelt.
+//! Hints about misspelt keywords.
 
 use crate::advice::Advice;
-use crate::around::Around;
-use crate::bytes::{Row, row_of};
 use crate::definitions::is_defined;
 use crate::nearest::nearer;
+use crate::replacements::{Replacement, row_of};
+use crate::token_context::TokenContext;
 use crate::words::is_variable;
 use lexer::token::TokenKind;
 use std::alloc::{AllocError, Global};
 
-/// The words with which a statement begins, or goes on behind a block.
-static KEYWORDS: [Row; 8] = [
-    Row {
+/// The keywords that begin a statement or continue one after a block, with their hints.
+static KEYWORDS: [Replacement; 8] = [
+    Replacement {
         word: "foreach",
         words: "did you mean foreach?",
     },
-    Row {
+    Replacement {
         word: "if",
         words: "did you mean if?",
     },
-    Row {
+    Replacement {
         word: "else",
         words: "did you mean else?",
     },
-    Row {
+    Replacement {
         word: "wait",
         words: "did you mean wait?",
     },
-    Row {
+    Replacement {
         word: "int",
         words: "did you mean int?",
     },
-    Row {
+    Replacement {
         word: "string",
         words: "did you mean string?",
     },
-    Row {
+    Replacement {
         word: "boolean",
         words: "did you mean boolean?",
     },
-    Row {
+    Replacement {
         word: "import",
         words: "did you mean import?",
     },
 ];
 
-/// Where the first word of the statement is near to a word of the language, and is no variable or function of the script.
+/// Returns a hint if the first word of the statement resembles a keyword, and is not a variable or a function of the
+/// script.
 ///
 /// # Errors
 ///
-/// `AllocError` where memory that was asked for was refused.
+/// Returns `AllocError` if an allocation fails.
 pub fn near_keyword(
     alloc: Global,
     text: &[u8],
-    around: &Around<'_>,
+    around: &TokenContext<'_>,
 ) -> Result<Option<Advice>, AllocError> {
     let word = around.first.text;
     if around.first.kind != TokenKind::Name || is_variable(around) || !is_new(text, around) {
@@ -72,8 +73,9 @@ pub fn near_keyword(
     }
 }
 
-/// Whether the first word of the statement is no function that the text defines or that is there without.
-fn is_new(text: &[u8], around: &Around<'_>) -> bool {
+/// Returns false if the first word of the statement is called as `printf`, `assert` or a function that the text
+/// defines; else true.
+fn is_new(text: &[u8], around: &TokenContext<'_>) -> bool {
     around.second.kind != TokenKind::OpenRound
         || around.first.text != b"printf".as_slice()
             && around.first.text != b"assert".as_slice()

@@ -1,8 +1,8 @@
-//! Kinds of tokens, by what they are good for.
+//! Classes of token kinds.
 
 use lexer::token::TokenKind;
 
-/// Whether a token of this kind is a type.
+/// Returns true if a token of this kind is a type.
 pub fn is_type(kind: TokenKind) -> bool {
     matches!(
         kind,
@@ -10,17 +10,18 @@ pub fn is_type(kind: TokenKind) -> bool {
     )
 }
 
-/// Whether a token of this kind begins a statement of its own, and nothing else.
+/// Returns true if a token of this kind is a type, `if`, `foreach`, `wait` or `import`, with which a statement or an
+/// import begins.
 pub fn begins_statement(kind: TokenKind) -> bool {
     is_type(kind) || is_form(kind) || kind == TokenKind::Import
 }
 
-/// Whether a token of this kind is the first word of a form of statement.
+/// Returns true if a token of this kind is `if`, `foreach` or `wait`.
 pub fn is_form(kind: TokenKind) -> bool {
     matches!(kind, TokenKind::If | TokenKind::Foreach | TokenKind::Wait)
 }
 
-/// Whether a token of this kind is a word of the language.
+/// Returns true if a token of this kind is a keyword.
 pub fn is_word(kind: TokenKind) -> bool {
     begins_statement(kind)
         || matches!(
@@ -29,12 +30,12 @@ pub fn is_word(kind: TokenKind) -> bool {
         )
 }
 
-/// Whether an expression can end with a token of this kind.
+/// Returns true if an expression can end with a token of this kind.
 pub fn ends_expression(kind: TokenKind) -> bool {
     is_plain(kind) || matches!(kind, TokenKind::CloseRound | TokenKind::CloseSquare)
 }
 
-/// Whether a token of this kind is an expression by itself.
+/// Returns true if a token of this kind is an expression by itself.
 pub fn is_plain(kind: TokenKind) -> bool {
     matches!(
         kind,
@@ -42,7 +43,7 @@ pub fn is_plain(kind: TokenKind) -> bool {
     )
 }
 
-/// Whether a token of this kind compares.
+/// Returns true if a token of this kind is a comparison operator.
 pub fn is_comparison(kind: TokenKind) -> bool {
     matches!(
         kind,
@@ -55,7 +56,7 @@ pub fn is_comparison(kind: TokenKind) -> bool {
     )
 }
 
-/// Whether a token of this kind reckons with numbers.
+/// Returns true if a token of this kind is an arithmetic operator.
 pub fn is_arithmetic(kind: TokenKind) -> bool {
     matches!(
         kind,
@@ -67,7 +68,7 @@ pub fn is_arithmetic(kind: TokenKind) -> bool {
     )
 }
 
-/// Whether a token of this kind wants a value behind it.
+/// Returns true if a token of this kind has to be followed by a value.
 pub fn wants_value(kind: TokenKind) -> bool {
     is_comparison(kind)
         || is_arithmetic(kind)
@@ -77,7 +78,7 @@ pub fn wants_value(kind: TokenKind) -> bool {
         )
 }
 
-/// Whether a value begins behind a token of this kind.
+/// Returns true if a value can begin after a token of this kind.
 pub fn begins_value(kind: TokenKind) -> bool {
     wants_value(kind)
         || matches!(
@@ -86,7 +87,7 @@ pub fn begins_value(kind: TokenKind) -> bool {
         )
 }
 
-/// Whether a token of this kind opens a bracket.
+/// Returns true if a token of this kind opens a bracket.
 pub fn opens(kind: TokenKind) -> bool {
     matches!(
         kind,
@@ -94,7 +95,7 @@ pub fn opens(kind: TokenKind) -> bool {
     )
 }
 
-/// Whether a token of this kind closes a bracket.
+/// Returns true if a token of this kind closes a bracket.
 pub fn closes(kind: TokenKind) -> bool {
     matches!(
         kind,

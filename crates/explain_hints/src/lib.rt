@@ -1,10 +1,12 @@
-//! What to write instead of a text that is no script, and which name is nearest to one that is not there.
+//! Hints on refused scripts: for a lexical or syntactic fault, a guess at what to write instead, and for an unknown
+//! name the nearest known one.
+//!
+//! Each rule is a table lookup or a test on the kinds of the tokens near the fault. A hint is a guess: no other result
+//! depends on it.
 #![tactic(auto)]
 
 pub mod advice;
-pub mod around;
 mod brackets;
-mod bytes;
 pub mod characters;
 mod comments;
 mod definitions;
@@ -17,6 +19,8 @@ pub mod literals;
 mod marks;
 mod missing;
 pub mod nearest;
+mod replacements;
+pub mod token_context;
 pub mod unexpected;
 pub mod variables;
 mod words;

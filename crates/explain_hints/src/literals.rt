@@ -1,9 +1,9 @@
-//! Numbers, strings and escapes that are none.
+//! Hints about malformed numbers, strings and escapes.
 
-/// The text of the least whole number, without its sign.
+/// The digits of the least whole number, without its sign.
 const LEAST: &[u8] = b"9223372036854775808";
 
-/// What to write instead of the number that begins at an offset.
+/// Returns the hint about the malformed number that begins at offset `at`.
 pub fn on_number(text: &[u8], number: &[u8], at: usize) -> &'static str {
     if number == LEAST && is_negative(text, at) {
         return "the least whole number is written -9223372036854775807 - 1";
@@ -17,7 +17,7 @@ pub fn on_number(text: &[u8], number: &[u8], at: usize) -> &'static str {
     }
 }
 
-/// Whether a number has other bytes than digits.
+/// Returns true if a number has other bytes than digits.
 fn has_others(number: &[u8]) -> bool {
     for byte in number {
         if !byte.is_ascii_digit() {
@@ -27,13 +27,13 @@ fn has_others(number: &[u8]) -> bool {
     false
 }
 
-/// Whether the last byte before an offset that is no space is a `-`.
+/// Returns true if the last byte before an offset that is not a space is a `-`.
 fn is_negative(text: &[u8], at: usize) -> bool {
     let (before, _) = text.split_at(at.min(text.len()));
     last_sign(before) == b'-'
 }
 
-/// The last byte of a text that is no space; a space where there is none.
+/// Returns the last byte of a text that is not a space, or a space if there is none.
 pub fn last_sign(text: &[u8]) -> u8 {
     let mut last = b' ';
     for byte in text {
@@ -44,7 +44,7 @@ pub fn last_sign(text: &[u8]) -> u8 {
     last
 }
 
-/// What to write instead of a string that its line leaves open up to an offset of a text.
+/// Returns the hint about a string that is not closed on its line. `to`: the offset up to which the lexer read it.
 pub fn on_string(text: &[u8], to: usize) -> &'static str {
     match text.get(to) {
         Some(b'\t') => "a tab in a string is written \\t",
@@ -54,7 +54,7 @@ pub fn on_string(text: &[u8], to: usize) -> &'static str {
     }
 }
 
-/// What to write instead of an escape.
+/// Returns the hint about an unknown escape.
 pub fn on_escape(escape: &[u8]) -> &'static str {
     match escape {
         [b'\\', b'%'] => "a % is written %% in a format",

@@ -1,8 +1,8 @@
-//! Signs: operators, `=`, `,` and `:`.
+//! Hints about operators, `=`, `,` and `:`.
 
 use crate::advice::Advice;
-use crate::around::Around;
 use crate::kinds::{begins_value, ends_expression, is_arithmetic, is_comparison, is_type};
+use crate::token_context::TokenContext;
 use lexer::token::TokenKind;
 
 const COMPARED: &str = "a comparison is ==";
@@ -22,8 +22,9 @@ const ARROW: &str =
 
 const POWERS: &str = "there are no powers: x * x, or a function that multiplies";
 
-/// Where a sign is none of this language, or stands where another one is wanted.
-pub fn sign(around: &Around<'_>) -> Option<Advice> {
+/// Returns a hint about an operator or a separator that is not part of the language, or that is used in place of
+/// another one.
+pub fn sign(around: &TokenContext<'_>) -> Option<Advice> {
     match around.found.kind {
         TokenKind::Assign => assign(around),
         TokenKind::Comma => comma(around),
@@ -32,12 +33,12 @@ pub fn sign(around: &Around<'_>) -> Option<Advice> {
     }
 }
 
-/// Whether the token behind stands right behind, and is of this kind.
-fn goes_on(around: &Around<'_>, kind: TokenKind) -> bool {
+/// Returns true if the next token follows without a space and is of this kind.
+fn goes_on(around: &TokenContext<'_>, kind: TokenKind) -> bool {
     around.next.kind == kind && around.next.span.from == around.found.span.to
 }
 
-fn assign(around: &Around<'_>) -> Option<Advice> {
+fn assign(around: &TokenContext<'_>) -> Option<Advice> {
     if let Some(advice) = mixed(around).or(behind_brackets(around)) {
         return Some(advice);
     }
@@ -73,8 +74,8 @@ fn assign(around: &Around<'_>) -> Option<Advice> {
     None
 }
 
-/// Where a `=` is part of a sign of another language.
-fn mixed(around: &Around<'_>) -> Option<Advice> {
+/// Returns a hint about a `=` that is part of an operator of another language.
+fn mixed(around: &TokenContext<'_>) -> Option<Advice> {
     if goes_on(around, TokenKind::Greater) {
         return Advice::here(match around.opener.kind {
             TokenKind::OpenRound => "at least is >=",
@@ -92,8 +93,8 @@ fn mixed(around: &Around<'_>) -> Option<Advice> {
     None
 }
 
-/// Where a `=` stands behind round brackets, and in none.
-fn behind_brackets(around: &Around<'_>) -> Option<Advice> {
+/// Returns a hint about a `=` that follows round brackets and is not in brackets itself.
+fn behind_brackets(around: &TokenContext<'_>) -> Option<Advice> {
     let is_in_brackets = matches!(
         around.opener.kind,
         TokenKind::OpenRound | TokenKind::OpenSquare
@@ -112,7 +113,7 @@ fn behind_brackets(around: &Around<'_>) -> Option<Advice> {
     None
 }
 
-fn comma(around: &Around<'_>) -> Option<Advice> {
+fn comma(around: &TokenContext<'_>) -> Option<Advice> {
     match around.last.kind {
         TokenKind::Comma => return Advice::here("there is one , too many"),
         TokenKind::OpenSquare if is_type(around.next.kind) => {
@@ -142,8 +143,8 @@ fn comma(around: &Around<'_>) -> Option<Advice> {
     }
 }
 
-/// Where something is listed outside of brackets.
-fn listed(around: &Around<'_>) -> Option<Advice> {
+/// Returns a hint about a `,` outside brackets.
+fn listed(around: &TokenContext<'_>) -> Option<Advice> {
     let is_in_number = around.last.kind == TokenKind::Number
         && around.last.span.to == around.found.span.from
         && (goes_on(around, TokenKind::Number) || around.next.kind == TokenKind::End);
@@ -167,7 +168,7 @@ fn listed(around: &Around<'_>) -> Option<Advice> {
     Advice::here("a , stands in brackets alone: a statement ends with a ;, and a ( may be missing")
 }
 
-fn colon(around: &Around<'_>) -> Option<Advice> {
+fn colon(around: &TokenContext<'_>) -> Option<Advice> {
     if goes_on(around, TokenKind::Assign) {
         return Advice::here(ASSIGNED);
     }
@@ -191,8 +192,8 @@ fn colon(around: &Around<'_>) -> Option<Advice> {
     }
 }
 
-/// Where a `:` stands between a name and its type or its value.
-fn typed(around: &Around<'_>) -> Option<Advice> {
+/// Returns a hint about a `:` between a name and its type or its value.
+fn typed(around: &TokenContext<'_>) -> Option<Advice> {
     if goes_on(around, TokenKind::Colon) {
         return Advice::here("a name has no parts before it, and goes by itself: f(x)");
     }
@@ -208,7 +209,7 @@ fn typed(around: &Around<'_>) -> Option<Advice> {
     None
 }
 
-fn operator(around: &Around<'_>) -> Option<Advice> {
+fn operator(around: &TokenContext<'_>) -> Option<Advice> {
     match (around.last.kind, around.found.kind) {
         (TokenKind::Times, TokenKind::Times) => Advice::here(POWERS),
         (TokenKind::Less, TokenKind::Greater) => Advice::here(UNEQUAL),
@@ -224,8 +225,8 @@ fn operator(around: &Around<'_>) -> Option<Advice> {
     }
 }
 
-/// Where an operator would change a variable.
-fn changed(around: &Around<'_>) -> Option<Advice> {
+/// Returns a hint about an operator that would update a variable in place.
+fn changed(around: &TokenContext<'_>) -> Option<Advice> {
     let found = around.found.kind;
     let joins = is_arithmetic(found) || found == TokenKind::And || found == TokenKind::Or;
     if joins && goes_on(around, TokenKind::Assign) {
@@ -261,8 +262,8 @@ fn changed(around: &Around<'_>) -> Option<Advice> {
     None
 }
 
-/// Where a comparison stands for a `=`, or comparisons stand in a row.
-fn compared(around: &Around<'_>) -> Option<Advice> {
+/// Returns a hint about a comparison in place of a `=`, or about a chain of comparisons.
+fn compared(around: &TokenContext<'_>) -> Option<Advice> {
     if !is_comparison(around.found.kind) || is_type(around.last.kind) {
         return None;
     }
@@ -284,8 +285,8 @@ fn compared(around: &Around<'_>) -> Option<Advice> {
     None
 }
 
-/// Where an operator stands before a value or behind one that has none there.
-fn misplaced(around: &Around<'_>) -> Option<Advice> {
+/// Returns a hint about an operator on the wrong side of a value.
+fn misplaced(around: &TokenContext<'_>) -> Option<Advice> {
     match around.found.kind {
         TokenKind::Plus if begins_value(around.last.kind) => {
             Advice::here("a value has no + in front")

@@ -1,12 +1,12 @@
-//! Brackets that are not closed, and signs that are missing.
+//! Hints about unbalanced brackets, and about a missing `;`, `,` or operator.
 
 use crate::advice::Advice;
-use crate::around::Around;
 use crate::kinds::{begins_statement, closes, ends_expression, is_plain, is_type};
+use crate::token_context::TokenContext;
 use lexer::token::{Span, TokenKind};
 
-/// Where a bracket is not closed, or was not opened.
-pub fn bracket(around: &Around<'_>) -> Option<Advice> {
+/// Returns a hint about a bracket that is not closed or was not opened.
+pub fn bracket(around: &TokenContext<'_>) -> Option<Advice> {
     let opener = around.opener.span;
     match around.opener.kind {
         TokenKind::OpenRound if ends_round(around) => {
@@ -24,15 +24,15 @@ pub fn bracket(around: &Around<'_>) -> Option<Advice> {
     }
 }
 
-/// Whether a closing bracket stands here that does not close a block.
-fn is_other_end(around: &Around<'_>) -> bool {
+/// Returns true if the token is a closing bracket, but not that of a block.
+fn is_other_end(around: &TokenContext<'_>) -> bool {
     matches!(
         around.found.kind,
         TokenKind::CloseRound | TokenKind::CloseSquare
     )
 }
 
-fn unopened(around: &Around<'_>) -> Option<Advice> {
+fn unopened(around: &TokenContext<'_>) -> Option<Advice> {
     match around.found.kind {
         TokenKind::CloseRound => Advice::here("no ( is open for this )"),
         TokenKind::CloseSquare => Advice::here("no [ is open for this ]"),
@@ -40,18 +40,18 @@ fn unopened(around: &Around<'_>) -> Option<Advice> {
     }
 }
 
-/// Whether a round bracket can not go on with what stands here.
-fn ends_round(around: &Around<'_>) -> bool {
+/// Returns true if a round bracket cannot continue with the token.
+fn ends_round(around: &TokenContext<'_>) -> bool {
     is_past(around) || around.found.kind == TokenKind::CloseSquare
 }
 
-/// Whether a square bracket can not go on with what stands here.
-fn ends_square(around: &Around<'_>) -> bool {
+/// Returns true if a square bracket cannot continue with the token.
+fn ends_square(around: &TokenContext<'_>) -> bool {
     is_past(around) || around.found.kind == TokenKind::CloseRound
 }
 
-/// Whether what stands here belongs to no expression.
-fn is_past(around: &Around<'_>) -> bool {
+/// Returns true if the token cannot be part of an expression.
+fn is_past(around: &TokenContext<'_>) -> bool {
     begins_statement(around.found.kind)
         || matches!(
             around.found.kind,
@@ -65,8 +65,8 @@ fn is_past(around: &Around<'_>) -> bool {
         || around.is_on_new_line && around.found.kind == TokenKind::Name
 }
 
-/// Where a `;`, a `,` or an operator is missing.
-pub fn sign(around: &Around<'_>) -> Option<Advice> {
+/// Returns a hint about a missing `;`, `,` or operator.
+pub fn sign(around: &TokenContext<'_>) -> Option<Advice> {
     let is_ended = ends_expression(around.last.kind) || around.first.kind == TokenKind::Import;
     if !is_ended {
         return None;
@@ -82,15 +82,15 @@ pub fn sign(around: &Around<'_>) -> Option<Advice> {
     }
 }
 
-/// Whether a string stands right behind a name.
-fn is_prefixed(around: &Around<'_>) -> bool {
+/// Returns true if a string follows a name without a space.
+fn is_prefixed(around: &TokenContext<'_>) -> bool {
     around.found.kind == TokenKind::Text
         && around.last.kind == TokenKind::Name
         && around.last.span.to == around.found.span.from
 }
 
-/// Where a `;` is missing behind the last token, or an operator.
-fn semicolon(around: &Around<'_>) -> Option<Advice> {
+/// Returns a hint about a `;`, `=` or operator that is missing after the last token.
+fn semicolon(around: &TokenContext<'_>) -> Option<Advice> {
     let to = around.last.span.to;
     let behind = Span { from: to, to };
     let is_end = begins_statement(around.found.kind)
@@ -129,8 +129,8 @@ fn semicolon(around: &Around<'_>) -> Option<Advice> {
     }
 }
 
-/// Whether a variable that is declared, or an element, stands before the token.
-fn is_target(around: &Around<'_>) -> bool {
+/// Returns true if the preceding tokens are a declared variable or an element.
+fn is_target(around: &TokenContext<'_>) -> bool {
     let is_declared = is_type(around.first.kind) && around.second.span == around.last.span;
     let is_element = around.first.kind == TokenKind::Name
         && around.last.kind == TokenKind::CloseSquare
@@ -138,8 +138,8 @@ fn is_target(around: &Around<'_>) -> bool {
     is_declared || is_element
 }
 
-/// Where a `,` or an operator is missing in brackets.
-fn between(around: &Around<'_>) -> Option<Advice> {
+/// Returns a hint about a `,` or an operator that is missing within brackets.
+fn between(around: &TokenContext<'_>) -> Option<Advice> {
     if around.found.kind == TokenKind::Text && around.last.kind == TokenKind::Text {
         return Advice::here("strings are joined by +: \"a\" + \"b\"");
     }

@@ -1,18 +1,21 @@
-//! Tokens that can not stand where they stand.
+//! Hints about a token that is not allowed at its place.
+//!
+//! The rules are tried in a fixed order, and the first hint is used. Words come first, then the form of the statement,
+//! then operators and missing tokens.
 
 use crate::advice::Advice;
-use crate::around::Around;
 use crate::keywords::near_keyword;
+use crate::token_context::TokenContext;
 use crate::{brackets, comments, endings, headers, marks, missing, words};
 use std::alloc::{AllocError, Global};
 
-/// What to write instead of the token that begins at an offset of a text, or that is missing at its end.
+/// Returns a hint about the token that begins at an offset, or about a token that is missing at the end of the text.
 ///
 /// # Errors
 ///
-/// `AllocError` where memory that was asked for was refused.
+/// Returns `AllocError` if an allocation fails.
 pub fn on_unexpected(alloc: Global, text: &[u8], at: usize) -> Result<Option<Advice>, AllocError> {
-    let around = Around::new(alloc, text, at)?;
+    let around = TokenContext::new(alloc, text, at)?;
     if let Some(advice) = by_words(text, &around) {
         return Ok(Some(advice));
     }
@@ -22,8 +25,8 @@ pub fn on_unexpected(alloc: Global, text: &[u8], at: usize) -> Result<Option<Adv
     }
 }
 
-/// By words.
-fn by_words(text: &[u8], around: &Around<'_>) -> Option<Advice> {
+/// Tries the rules about words.
+fn by_words(text: &[u8], around: &TokenContext<'_>) -> Option<Advice> {
     comments::nested(text, around)
         .or(headers::declared_output(text, around))
         .or(words::first_word(text, around))
@@ -33,16 +36,16 @@ fn by_words(text: &[u8], around: &Around<'_>) -> Option<Advice> {
         .or(headers::word_as_name(around))
 }
 
-/// By what a statement begins as.
-fn by_form(around: &Around<'_>) -> Option<Advice> {
+/// Tries the rules about the form of the statement.
+fn by_form(around: &TokenContext<'_>) -> Option<Advice> {
     words::two_names(around)
         .or(headers::form(around))
         .or(headers::block(around))
         .or(headers::function(around))
 }
 
-/// By signs, and by what is missing.
-fn by_signs(around: &Around<'_>) -> Option<Advice> {
+/// Tries the rules about operators, brackets and missing tokens.
+fn by_signs(around: &TokenContext<'_>) -> Option<Advice> {
     marks::sign(around)
         .or(brackets::bracket(around))
         .or(endings::ending(around))

@@ -1,125 +1,125 @@
-//! Variables that other languages have.
+//! Table of variables and constants that other languages have, with what to write instead.
 
-use crate::bytes::{Row, row_of};
 use crate::functions::OUTSIDE;
+use crate::replacements::{Replacement, row_of};
 
 const NONE: &str = "every variable has a value: take one that stands for none, as -1 or \"\"";
 
 const SCALED: &str = "there are whole numbers alone: scale them, as 31416 for 3.1416";
 
-/// Variables that are not there, and what is there instead.
-static VARIABLES: [Row; 27] = [
-    Row {
+/// Variables that do not exist in the language, with what to write instead.
+static VARIABLES: [Replacement; 27] = [
+    Replacement {
         word: "True",
         words: "write true",
     },
-    Row {
+    Replacement {
         word: "TRUE",
         words: "write true",
     },
-    Row {
+    Replacement {
         word: "False",
         words: "write false",
     },
-    Row {
+    Replacement {
         word: "FALSE",
         words: "write false",
     },
-    Row {
+    Replacement {
         word: "null",
         words: NONE,
     },
-    Row {
+    Replacement {
         word: "NULL",
         words: NONE,
     },
-    Row {
+    Replacement {
         word: "nil",
         words: NONE,
     },
-    Row {
+    Replacement {
         word: "None",
         words: NONE,
     },
-    Row {
+    Replacement {
         word: "yes",
         words: "write true",
     },
-    Row {
+    Replacement {
         word: "on",
         words: "write true",
     },
-    Row {
+    Replacement {
         word: "no",
         words: "write false",
     },
-    Row {
+    Replacement {
         word: "off",
         words: "write false",
     },
-    Row {
+    Replacement {
         word: "undefined",
         words: NONE,
     },
-    Row {
+    Replacement {
         word: "nan",
         words: NONE,
     },
-    Row {
+    Replacement {
         word: "NaN",
         words: NONE,
     },
-    Row {
+    Replacement {
         word: "argc",
         words: OUTSIDE,
     },
-    Row {
+    Replacement {
         word: "argv",
         words: OUTSIDE,
     },
-    Row {
+    Replacement {
         word: "args",
         words: OUTSIDE,
     },
-    Row {
+    Replacement {
         word: "stdin",
         words: OUTSIDE,
     },
-    Row {
+    Replacement {
         word: "PI",
         words: SCALED,
     },
-    Row {
+    Replacement {
         word: "pi",
         words: SCALED,
     },
-    Row {
+    Replacement {
         word: "ture",
         words: "write true",
     },
-    Row {
+    Replacement {
         word: "treu",
         words: "write true",
     },
-    Row {
+    Replacement {
         word: "tru",
         words: "write true",
     },
-    Row {
+    Replacement {
         word: "flase",
         words: "write false",
     },
-    Row {
+    Replacement {
         word: "fasle",
         words: "write false",
     },
-    Row {
+    Replacement {
         word: "fals",
         words: "write false",
     },
 ];
 
-/// What is there instead of a variable of another language.
+/// Returns the hint about a variable of another language, or `None` if the table has no such name.
 pub fn on_variable(name: &[u8]) -> Option<&'static str> {
     row_of(&VARIABLES, name)
 }

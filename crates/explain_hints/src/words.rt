@@ -1,10 +1,10 @@
-//! Words that other languages have.
+//! Tables of words that other languages have, and the rules that look words up in them.
 
 use crate::advice::Advice;
-use crate::around::Around;
-use crate::bytes::{Row, row_of};
 use crate::definitions::is_defined;
 use crate::kinds::{is_plain, is_type};
+use crate::replacements::{Replacement, row_of};
+use crate::token_context::TokenContext;
 use lexer::token::TokenKind;
 
 const LOOP: &str =
@@ -38,896 +38,897 @@ const ORDERED: &str = "signs compare: == and != all, and < <= > >= numbers";
 const ONE_FILE: &str =
     "a script is one file: there are no structures, types, files or packages of its own";
 
-/// Words that begin a statement elsewhere, and none here.
-static FIRST_WORDS: [Row; 121] = [
-    Row {
+/// Words that begin a statement in other languages, but not in this one.
+static FIRST_WORDS: [Replacement; 121] = [
+    Replacement {
         word: "for",
         words: LOOP,
     },
-    Row {
+    Replacement {
         word: "iterate",
         words: ENDLESS,
     },
-    Row {
+    Replacement {
         word: "while",
         words: ENDLESS,
     },
-    Row {
+    Replacement {
         word: "until",
         words: ENDLESS,
     },
-    Row {
+    Replacement {
         word: "repeat",
         words: ENDLESS,
     },
-    Row {
+    Replacement {
         word: "loop",
         words: ENDLESS,
     },
-    Row {
+    Replacement {
         word: "do",
         words: ENDLESS,
     },
-    Row {
+    Replacement {
         word: "break",
         words: "all turns of a loop run at once, and none ends it: put what is left out into an if",
     },
-    Row {
+    Replacement {
         word: "continue",
         words: "a turn has no early end: put what is left out into an if",
     },
-    Row {
+    Replacement {
         word: "switch",
         words: CASES,
     },
-    Row {
+    Replacement {
         word: "match",
         words: CASES,
     },
-    Row {
+    Replacement {
         word: "case",
         words: CASES,
     },
-    Row {
+    Replacement {
         word: "default",
         words: CASES,
     },
-    Row {
+    Replacement {
         word: "elif",
         words: ELSE_IF,
     },
-    Row {
+    Replacement {
         word: "elsif",
         words: ELSE_IF,
     },
-    Row {
+    Replacement {
         word: "elseif",
         words: ELSE_IF,
     },
-    Row {
+    Replacement {
         word: "main",
         words: "there is no main: the statements of a script stand at its top, without a block",
     },
-    Row {
+    Replacement {
         word: "app",
         words: "there are no programs to be called: a function is written in the script, (int r) f(int n) { .. }",
     },
-    Row {
+    Replacement {
         word: "global",
         words: "a variable of the script is declared plainly, int n = 4;, and a function gets it as an input",
     },
-    Row {
+    Replacement {
         word: "const",
         words: PLAIN,
     },
-    Row {
+    Replacement {
         word: "final",
         words: PLAIN,
     },
-    Row {
+    Replacement {
         word: "static",
         words: PLAIN,
     },
-    Row {
+    Replacement {
         word: "type",
         words: ONE_FILE,
     },
-    Row {
+    Replacement {
         word: "typedef",
         words: ONE_FILE,
     },
-    Row {
+    Replacement {
         word: "struct",
         words: ONE_FILE,
     },
-    Row {
+    Replacement {
         word: "class",
         words: ONE_FILE,
     },
-    Row {
+    Replacement {
         word: "enum",
         words: ONE_FILE,
     },
-    Row {
+    Replacement {
         word: "package",
         words: ONE_FILE,
     },
-    Row {
+    Replacement {
         word: "include",
         words: ONE_FILE,
     },
-    Row {
+    Replacement {
         word: "using",
         words: ONE_FILE,
     },
-    Row {
+    Replacement {
         word: "from",
         words: ONE_FILE,
     },
-    Row {
+    Replacement {
         word: "return",
         words: RETURNED,
     },
-    Row {
+    Replacement {
         word: "def",
         words: DEFINED,
     },
-    Row {
+    Replacement {
         word: "function",
         words: DEFINED,
     },
-    Row {
+    Replacement {
         word: "func",
         words: DEFINED,
     },
-    Row {
+    Replacement {
         word: "fn",
         words: DEFINED,
     },
-    Row {
+    Replacement {
         word: "try",
         words: "a fault ends the run: test before, with an if",
     },
-    Row {
+    Replacement {
         word: "print",
         words: PRINTED,
     },
-    Row {
+    Replacement {
         word: "println",
         words: PRINTED,
     },
-    Row {
+    Replacement {
         word: "echo",
         words: PRINTED,
     },
-    Row {
+    Replacement {
         word: "pragma",
         words: "there are no settings in a script",
     },
-    Row {
+    Replacement {
         word: "forall",
         words: LOOP,
     },
-    Row {
+    Replacement {
         word: "parallel",
         words: LOOP,
     },
-    Row {
+    Replacement {
         word: "parfor",
         words: LOOP,
     },
-    Row {
+    Replacement {
         word: "foreach_",
         words: LOOP,
     },
-    Row {
+    Replacement {
         word: "each",
         words: LOOP,
     },
-    Row {
+    Replacement {
         word: "end",
         words: BLOCKS,
     },
-    Row {
+    Replacement {
         word: "endif",
         words: BLOCKS,
     },
-    Row {
+    Replacement {
         word: "endfor",
         words: BLOCKS,
     },
-    Row {
+    Replacement {
         word: "endwhile",
         words: BLOCKS,
     },
-    Row {
+    Replacement {
         word: "fi",
         words: BLOCKS,
     },
-    Row {
+    Replacement {
         word: "done",
         words: BLOCKS,
     },
-    Row {
+    Replacement {
         word: "begin",
         words: BLOCKS,
     },
-    Row {
+    Replacement {
         word: "then",
         words: BLOCKS,
     },
-    Row {
+    Replacement {
         word: "unless",
         words: "write if (!(x > 0)) { .. }",
     },
-    Row {
+    Replacement {
         word: "when",
         words: "write if (x > 0) { .. }; what has to come after x stands in wait (x) { .. }",
     },
-    Row {
+    Replacement {
         word: "given",
         words: "write if (x > 0) { .. }; what has to come after x stands in wait (x) { .. }",
     },
-    Row {
+    Replacement {
         word: "select",
         words: "write if (x > 0) { .. }; what has to come after x stands in wait (x) { .. }",
     },
-    Row {
+    Replacement {
         word: "otherwise",
         words: CASES,
     },
-    Row {
+    Replacement {
         word: "cout",
         words: PRINTED,
     },
-    Row {
+    Replacement {
         word: "cerr",
         words: PRINTED,
     },
-    Row {
+    Replacement {
         word: "std",
         words: PRINTED,
     },
-    Row {
+    Replacement {
         word: "write",
         words: PRINTED,
     },
-    Row {
+    Replacement {
         word: "writeln",
         words: PRINTED,
     },
-    Row {
+    Replacement {
         word: "puts",
         words: PRINTED,
     },
-    Row {
+    Replacement {
         word: "disp",
         words: PRINTED,
     },
-    Row {
+    Replacement {
         word: "display",
         words: PRINTED,
     },
-    Row {
+    Replacement {
         word: "Print",
         words: PRINTED,
     },
-    Row {
+    Replacement {
         word: "Println",
         words: PRINTED,
     },
-    Row {
+    Replacement {
         word: "printline",
         words: PRINTED,
     },
-    Row {
+    Replacement {
         word: "use",
         words: ONE_FILE,
     },
-    Row {
+    Replacement {
         word: "module",
         words: ONE_FILE,
     },
-    Row {
+    Replacement {
         word: "extern",
         words: ONE_FILE,
     },
-    Row {
+    Replacement {
         word: "namespace",
         words: ONE_FILE,
     },
-    Row {
+    Replacement {
         word: "require",
         words: ONE_FILE,
     },
-    Row {
+    Replacement {
         word: "call",
         words: "a function is called by its name alone: f(3);",
     },
-    Row {
+    Replacement {
         word: "delete",
         words: "nothing is taken away: a variable and an element have one value",
     },
-    Row {
+    Replacement {
         word: "del",
         words: "nothing is taken away: a variable and an element have one value",
     },
-    Row {
+    Replacement {
         word: "free",
         words: "nothing is taken away: a variable and an element have one value",
     },
-    Row {
+    Replacement {
         word: "throw",
         words: "a fault ends the run: test before, with an if, or say what has to hold: assert(x > 0, \"x is positive\");",
     },
-    Row {
+    Replacement {
         word: "raise",
         words: "a fault ends the run: test before, with an if, or say what has to hold: assert(x > 0, \"x is positive\");",
     },
-    Row {
+    Replacement {
         word: "catch",
         words: "a fault ends the run: test before, with an if, or say what has to hold: assert(x > 0, \"x is positive\");",
     },
-    Row {
+    Replacement {
         word: "except",
         words: "a fault ends the run: test before, with an if, or say what has to hold: assert(x > 0, \"x is positive\");",
     },
-    Row {
+    Replacement {
         word: "panic",
         words: "a fault ends the run: test before, with an if, or say what has to hold: assert(x > 0, \"x is positive\");",
     },
-    Row {
+    Replacement {
         word: "async",
         words: "all that can run runs at once: what has to come after x stands in wait (x) { .. }",
     },
-    Row {
+    Replacement {
         word: "await",
         words: "all that can run runs at once: what has to come after x stands in wait (x) { .. }",
     },
-    Row {
+    Replacement {
         word: "spawn",
         words: "all that can run runs at once: what has to come after x stands in wait (x) { .. }",
     },
-    Row {
+    Replacement {
         word: "sync",
         words: "all that can run runs at once: what has to come after x stands in wait (x) { .. }",
     },
-    Row {
+    Replacement {
         word: "sub",
         words: DEFINED,
     },
-    Row {
+    Replacement {
         word: "proc",
         words: DEFINED,
     },
-    Row {
+    Replacement {
         word: "procedure",
         words: DEFINED,
     },
-    Row {
+    Replacement {
         word: "subroutine",
         words: DEFINED,
     },
-    Row {
+    Replacement {
         word: "method",
         words: DEFINED,
     },
-    Row {
+    Replacement {
         word: "lambda",
         words: DEFINED,
     },
-    Row {
+    Replacement {
         word: "public",
         words: DEFINED,
     },
-    Row {
+    Replacement {
         word: "private",
         words: DEFINED,
     },
-    Row {
+    Replacement {
         word: "export",
         words: DEFINED,
     },
-    Row {
+    Replacement {
         word: "inline",
         words: DEFINED,
     },
-    Row {
+    Replacement {
         word: "template",
         words: DEFINED,
     },
-    Row {
+    Replacement {
         word: "mutable",
         words: PLAIN,
     },
-    Row {
+    Replacement {
         word: "mut",
         words: PLAIN,
     },
-    Row {
+    Replacement {
         word: "val",
         words: PLAIN,
     },
-    Row {
+    Replacement {
         word: "local",
         words: PLAIN,
     },
-    Row {
+    Replacement {
         word: "my",
         words: PLAIN,
     },
-    Row {
+    Replacement {
         word: "our",
         words: PLAIN,
     },
-    Row {
+    Replacement {
         word: "dim",
         words: PLAIN,
     },
-    Row {
+    Replacement {
         word: "DIM",
         words: PLAIN,
     },
-    Row {
+    Replacement {
         word: "volatile",
         words: PLAIN,
     },
-    Row {
+    Replacement {
         word: "register",
         words: PLAIN,
     },
-    Row {
+    Replacement {
         word: "pass",
         words: "a block may be empty: { }",
     },
-    Row {
+    Replacement {
         word: "goto",
         words: ENDLESS,
     },
-    Row {
+    Replacement {
         word: "whlie",
         words: ENDLESS,
     },
-    Row {
+    Replacement {
         word: "wihle",
         words: ENDLESS,
     },
-    Row {
+    Replacement {
         word: "wile",
         words: ENDLESS,
     },
-    Row {
+    Replacement {
         word: "retrun",
         words: RETURNED,
     },
-    Row {
+    Replacement {
         word: "retunr",
         words: RETURNED,
     },
-    Row {
+    Replacement {
         word: "retrn",
         words: RETURNED,
     },
-    Row {
+    Replacement {
         word: "swich",
         words: CASES,
     },
-    Row {
+    Replacement {
         word: "swtich",
         words: CASES,
     },
-    Row {
+    Replacement {
         word: "REM",
         words: "a comment begins with //",
     },
-    Row {
+    Replacement {
         word: "rem",
         words: "a comment begins with //",
     },
 ];
 
-/// Words that are types elsewhere, and none here.
-static TYPES: [Row; 73] = [
-    Row {
+/// Words that are types in other languages, but not in this one.
+static TYPES: [Replacement; 73] = [
+    Replacement {
         word: "float",
         words: NUMBER,
     },
-    Row {
+    Replacement {
         word: "double",
         words: NUMBER,
     },
-    Row {
+    Replacement {
         word: "real",
         words: NUMBER,
     },
-    Row {
+    Replacement {
         word: "bool",
         words: "write boolean",
     },
-    Row {
+    Replacement {
         word: "Bool",
         words: "write boolean",
     },
-    Row {
+    Replacement {
         word: "Boolean",
         words: "write boolean",
     },
-    Row {
+    Replacement {
         word: "logical",
         words: "write boolean",
     },
-    Row {
+    Replacement {
         word: "Int",
         words: "write int",
     },
-    Row {
+    Replacement {
         word: "Integer",
         words: "write int",
     },
-    Row {
+    Replacement {
         word: "integer",
         words: "write int",
     },
-    Row {
+    Replacement {
         word: "long",
         words: "write int",
     },
-    Row {
+    Replacement {
         word: "short",
         words: "write int",
     },
-    Row {
+    Replacement {
         word: "unsigned",
         words: "write int",
     },
-    Row {
+    Replacement {
         word: "number",
         words: "write int",
     },
-    Row {
+    Replacement {
         word: "byte",
         words: "write int",
     },
-    Row {
+    Replacement {
         word: "str",
         words: "write string",
     },
-    Row {
+    Replacement {
         word: "String",
         words: "write string",
     },
-    Row {
+    Replacement {
         word: "char",
         words: "write string",
     },
-    Row {
+    Replacement {
         word: "text",
         words: "write string",
     },
-    Row {
+    Replacement {
         word: "void",
         words: "write () f(int n) { .. } for a function without outputs, without the void",
     },
-    Row {
+    Replacement {
         word: "file",
         words: "there are no files: write int, string or boolean",
     },
-    Row {
+    Replacement {
         word: "blob",
         words: "there are no files: write int, string or boolean",
     },
-    Row {
+    Replacement {
         word: "var",
         words: "write int, string or boolean",
     },
-    Row {
+    Replacement {
         word: "let",
         words: "write int, string or boolean",
     },
-    Row {
+    Replacement {
         word: "auto",
         words: "write int, string or boolean",
     },
-    Row {
+    Replacement {
         word: "any",
         words: "write int, string or boolean",
     },
-    Row {
+    Replacement {
         word: "Float",
         words: NUMBER,
     },
-    Row {
+    Replacement {
         word: "Double",
         words: NUMBER,
     },
-    Row {
+    Replacement {
         word: "f32",
         words: NUMBER,
     },
-    Row {
+    Replacement {
         word: "f64",
         words: NUMBER,
     },
-    Row {
+    Replacement {
         word: "decimal",
         words: NUMBER,
     },
-    Row {
+    Replacement {
         word: "i32",
         words: "write int",
     },
-    Row {
+    Replacement {
         word: "i64",
         words: "write int",
     },
-    Row {
+    Replacement {
         word: "u32",
         words: "write int",
     },
-    Row {
+    Replacement {
         word: "u64",
         words: "write int",
     },
-    Row {
+    Replacement {
         word: "uint",
         words: "write int",
     },
-    Row {
+    Replacement {
         word: "size_t",
         words: "write int",
     },
-    Row {
+    Replacement {
         word: "int64",
         words: "write int",
     },
-    Row {
+    Replacement {
         word: "int32",
         words: "write int",
     },
-    Row {
+    Replacement {
         word: "int8_t",
         words: "write int",
     },
-    Row {
+    Replacement {
         word: "int16_t",
         words: "write int",
     },
-    Row {
+    Replacement {
         word: "int32_t",
         words: "write int",
     },
-    Row {
+    Replacement {
         word: "int64_t",
         words: "write int",
     },
-    Row {
+    Replacement {
         word: "uint8_t",
         words: "write int",
     },
-    Row {
+    Replacement {
         word: "uint16_t",
         words: "write int",
     },
-    Row {
+    Replacement {
         word: "uint32_t",
         words: "write int",
     },
-    Row {
+    Replacement {
         word: "uint64_t",
         words: "write int",
     },
-    Row {
+    Replacement {
         word: "INTEGER",
         words: "write int",
     },
-    Row {
+    Replacement {
         word: "Str",
         words: "write string",
     },
-    Row {
+    Replacement {
         word: "chars",
         words: "write string",
     },
-    Row {
+    Replacement {
         word: "varchar",
         words: "write string",
     },
-    Row {
+    Replacement {
         word: "list",
         words: ARRAY,
     },
-    Row {
+    Replacement {
         word: "List",
         words: ARRAY,
     },
-    Row {
+    Replacement {
         word: "array",
         words: ARRAY,
     },
-    Row {
+    Replacement {
         word: "Array",
         words: ARRAY,
     },
-    Row {
+    Replacement {
         word: "vector",
         words: ARRAY,
     },
-    Row {
+    Replacement {
         word: "Vector",
         words: ARRAY,
     },
-    Row {
+    Replacement {
         word: "tuple",
         words: ARRAY,
     },
-    Row {
+    Replacement {
         word: "set",
         words: ARRAY,
     },
-    Row {
+    Replacement {
         word: "map",
         words: TEXTS,
     },
-    Row {
+    Replacement {
         word: "Map",
         words: TEXTS,
     },
-    Row {
+    Replacement {
         word: "dict",
         words: TEXTS,
     },
-    Row {
+    Replacement {
         word: "Dict",
         words: TEXTS,
     },
-    Row {
+    Replacement {
         word: "hash",
         words: TEXTS,
     },
-    Row {
+    Replacement {
         word: "object",
         words: TEXTS,
     },
-    Row {
+    Replacement {
         word: "struct",
         words: TEXTS,
     },
-    Row {
+    Replacement {
         word: "const",
         words: "leave out the word",
     },
-    Row {
+    Replacement {
         word: "final",
         words: "leave out the word",
     },
-    Row {
+    Replacement {
         word: "val",
         words: "leave out the word",
     },
-    Row {
+    Replacement {
         word: "mut",
         words: "leave out the word",
     },
-    Row {
+    Replacement {
         word: "ref",
         words: "leave out the word",
     },
-    Row {
+    Replacement {
         word: "out",
         words: "leave out the word",
     },
-    Row {
+    Replacement {
         word: "inout",
         words: "leave out the word",
     },
 ];
 
-/// Operators that are words elsewhere.
-static OPERATORS: [Row; 25] = [
-    Row {
+/// Operators that are words in other languages.
+static OPERATORS: [Replacement; 25] = [
+    Replacement {
         word: "and",
         words: "and is &&",
     },
-    Row {
+    Replacement {
         word: "or",
         words: "or is ||",
     },
-    Row {
+    Replacement {
         word: "not",
         words: "not is !",
     },
-    Row {
+    Replacement {
         word: "mod",
         words: "the remainder is %%",
     },
-    Row {
+    Replacement {
         word: "div",
         words: "whole numbers are divided by %/",
     },
-    Row {
+    Replacement {
         word: "new",
         words: "there is no new: an array is declared by int A[]; and has what is written to it",
     },
-    Row {
+    Replacement {
         word: "then",
         words: BLOCKS,
     },
-    Row {
+    Replacement {
         word: "is",
         words: "a comparison is ==",
     },
-    Row {
+    Replacement {
         word: "eq",
         words: "a comparison is ==",
     },
-    Row {
+    Replacement {
         word: "ne",
         words: "unequal is !=",
     },
-    Row {
+    Replacement {
         word: "isnt",
         words: "unequal is !=",
     },
-    Row {
+    Replacement {
         word: "lt",
         words: ORDERED,
     },
-    Row {
+    Replacement {
         word: "gt",
         words: ORDERED,
     },
-    Row {
+    Replacement {
         word: "le",
         words: ORDERED,
     },
-    Row {
+    Replacement {
         word: "ge",
         words: ORDERED,
     },
-    Row {
+    Replacement {
         word: "xor",
         words: "there is no xor: of two booleans one alone is true where a != b",
     },
-    Row {
+    Replacement {
         word: "as",
         words: "there are no casts: toint(s) reads a number, fromint(n) writes one",
     },
-    Row {
+    Replacement {
         word: "plus",
         words: "plus is +",
     },
-    Row {
+    Replacement {
         word: "minus",
         words: "minus is -",
     },
-    Row {
+    Replacement {
         word: "times",
         words: "times is *",
     },
-    Row {
+    Replacement {
         word: "to",
         words: "a range is [0:9]",
     },
-    Row {
+    Replacement {
         word: "for",
         words: "a loop writes the elements: foreach i in [0:9] { A[i] = i * 2; }",
     },
-    Row {
+    Replacement {
         word: "begin",
         words: BLOCKS,
     },
-    Row {
+    Replacement {
         word: "do",
         words: BLOCKS,
     },
-    Row {
+    Replacement {
         word: "of",
         words: "an array is declared by its name with brackets: int A[];",
     },
 ];
 
-/// Where the first word of the statement is one of another language, and no variable or function of the script.
-pub fn first_word(text: &[u8], around: &Around<'_>) -> Option<Advice> {
+/// Returns a hint if the first word of the statement is a keyword of another language, unless the script uses it as a
+/// name.
+pub fn first_word(text: &[u8], around: &TokenContext<'_>) -> Option<Advice> {
     if around.first.kind != TokenKind::Name || is_variable(around) {
         return None;
     }
@@ -938,16 +939,17 @@ pub fn first_word(text: &[u8], around: &Around<'_>) -> Option<Advice> {
     Advice::here(words)
 }
 
-/// Whether the first word of the statement is used as a variable.
-pub fn is_variable(around: &Around<'_>) -> bool {
+/// Returns true if the first word of the statement is used as a variable.
+pub fn is_variable(around: &TokenContext<'_>) -> bool {
     matches!(
         around.second.kind,
         TokenKind::Assign | TokenKind::OpenSquare
     )
 }
 
-/// Where a type of another language stands before a name, or where a type is wanted. The words go on with its place.
-pub fn other_type(around: &Around<'_>) -> Option<Advice> {
+/// Returns a hint about a type of another language before a name, or where a type is required. The hint refers to the
+/// place of that type.
+pub fn other_type(around: &TokenContext<'_>) -> Option<Advice> {
     let is_before_name = matches!(around.found.kind, TokenKind::Name | TokenKind::OpenSquare);
     if around.last.kind == TokenKind::Name && is_before_name && !around.is_on_new_line {
         return Advice::of(row_of(&TYPES, around.last.text)?, around.last.span);
@@ -958,8 +960,8 @@ pub fn other_type(around: &Around<'_>) -> Option<Advice> {
     None
 }
 
-/// Where a statement begins with two names, or with a name before its type.
-pub fn two_names(around: &Around<'_>) -> Option<Advice> {
+/// Returns a hint about a statement that begins with two names, or with a name before its type.
+pub fn two_names(around: &TokenContext<'_>) -> Option<Advice> {
     if around.first.kind != TokenKind::Name
         || around.second.span != around.found.span
         || around.is_on_new_line
@@ -982,8 +984,8 @@ pub fn two_names(around: &Around<'_>) -> Option<Advice> {
     })
 }
 
-/// Where an operator is a word.
-pub fn other_operator(around: &Around<'_>) -> Option<Advice> {
+/// Returns a hint about an operator that is written as a word.
+pub fn other_operator(around: &TokenContext<'_>) -> Option<Advice> {
     let is_loop_head = around.first.kind == TokenKind::Foreach
         && around.second.span == around.last.span;
     if is_loop_head || around.is_on_new_line && begins_as_variable(around) {
@@ -1001,8 +1003,8 @@ pub fn other_operator(around: &Around<'_>) -> Option<Advice> {
     None
 }
 
-/// Whether a statement that assigns or calls begins with the token.
-fn begins_as_variable(around: &Around<'_>) -> bool {
+/// Returns true if the token begins a statement that assigns or calls.
+fn begins_as_variable(around: &TokenContext<'_>) -> bool {
     matches!(
         around.next.kind,
         TokenKind::Assign | TokenKind::OpenSquare | TokenKind::OpenRound

@@ -73,12 +73,12 @@ module _ (s : Core) (K : Knowledge) (path : Path) (g : Sight) (sees : Sees s K p
 
 -- of the inputs of a statement just those are not known that are not seen
 pub not_seen_exact : (bytes : List ℕ) (t : Table) (tree : Tree) → Reads bytes tree → WellTyped tree t → SinglyAssigned (core t tree)
-    → (k : Learning) → IsKnowledgeOf (core t tree) k → (i : ℕ) → i < length k.learned.instances.all.items → (xs : List Input)
-    → AreMissing (core t tree) (Known (core t tree) k.rounds) (path_of k.learned.instances.all.items i) xs (not_seen (sight_of k.learned i) xs)
+    → (k : Learning) → IsKnowledgeOf (core t tree) k → (i : ℕ) → i < length k.fact_base.instances.all.items → (xs : List Input)
+    → AreMissing (core t tree) (Known (core t tree) k.rounds) (path_of k.fact_base.instances.all.items i) xs (not_seen (sight_of k.fact_base i) xs)
 not_seen_exact bytes t tree r w single k known i within xs =
     let s = core t tree in
-    let path = path_of k.learned.instances.all.items i in
+    let path = path_of k.fact_base.instances.all.items i in
     let one = one_scalar_known s (accepted_formed bytes t tree r w single) single k.rounds in
-    let sees = subst (λ (g : Sight). Sees s (Known s k.rounds) path g) (sym (sees_kept s k.learned known.placed i within))
-    (seen.sees s (Known s k.rounds) (kept_of k.learned) known.keeps one path) in
-    exact s (Known s k.rounds) path (sight_of k.learned i) sees xs
+    let sees = subst (λ (g : Sight). Sees s (Known s k.rounds) path g) (sym (sees_kept s k.fact_base known.placed i within))
+    (seen.sees s (Known s k.rounds) (kept_of k.fact_base) known.keeps one path) in
+    exact s (Known s k.rounds) path (sight_of k.fact_base i) sees xs

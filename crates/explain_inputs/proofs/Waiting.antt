@@ -16,12 +16,12 @@ use Rattle.paths.specs.declared.steps.Step.{Step}
 use Rattle.meaning_facts.specs.Paths.{at_path, child_at, child_behind, path_of, path_in, step_view, IsTree}
 use Rattle.meaning_facts.proofs.Keeping.{at_path_of, found_there}
 use Rattle.meaning_outcomes.specs.declared.knowledge.Knowledge.{Knowledge as Learning}
-use Rattle.paths.specs.declared.statements.Statement.{Statement}
+use Rattle.paths.specs.declared.statements.StatementInstance.{StatementInstance}
 use Rattle.meaning_outcomes.specs.Known.{IsKnowledgeOf}
 use Rattle.meaning_outcomes.specs.Read.{path_of as statement_path}
 use Rattle.flow_index.specs.Candidates.{can_be_blocked, is_candidate, candidates, only}
 use Rattle.flow_index.specs.Sites.{site_view}
-use Rattle.explain_inputs.specs.declared.blocking.Waiting.{Waiting}
+use Rattle.explain_inputs.specs.declared.blocked_statement.BlockedStatement.{BlockedStatement}
 use Rattle.explain_inputs.specs.Blocking.{IsWaiting}
 use Rattle.explain_inputs.specs.Inputs.{Input, inputs_of, inputs_view}
 use Rattle.explain_inputs.specs.Missing.{AreMissing}
@@ -90,12 +90,12 @@ some_there t h j = by (cases_lt j (length t.all.items))
     by (inr g) = (0, ap (λ o. at_path t (path_in o)) (slice_get_past t.all.items j g))
 
 -- so nothing is missing at the path of a blocked statement
-pub stuck_there : (s : Core) (k : Learning) (b : Statement) → IsKnowledgeOf s k → (n : ℕ) (a : Action) → Stuck s (Known s k.rounds) (statement_path b) b.at n a
-    → at_path k.learned.instances (statement_path b) ≡ None → ⊥
+pub stuck_there : (s : Core) (k : Learning) (b : StatementInstance) → IsKnowledgeOf s k → (n : ℕ) (a : Action) → Stuck s (Known s k.rounds) (statement_path b) b.at n a
+    → at_path k.fact_base.instances (statement_path b) ≡ None → ⊥
 stuck_there s k b known n a h e =
     let x = known.stuck.all b.at (statement_path b) (n, a, h) in
-    let i = some_there k.learned.instances known.placed.tree x.0.instance in
-    let q : Some i.0 ≡ None = sym i.1 ∙ ap (at_path k.learned.instances) x.3 ∙ e in
+    let i = some_there k.fact_base.instances known.placed.tree x.0.instance in
+    let q : Some i.0 ≡ None = sym i.1 ∙ ap (at_path k.fact_base.instances) x.3 ∙ e in
     absurd (cc (q))
 
 -- STEP BY STEP
@@ -124,14 +124,14 @@ step_lost t path i e =
 
 -- WHAT IT WAITS FOR
 
-pub waits_so : {A : Type 0} (s : Core) (k : Learning) (b : Statement) (w : Waiting A) (xs : List Input) → IsKnowledgeOf s k
-    → Some (site_view w.site.now) ≡ only (candidates b.at (script_stmts s)) → at_path k.learned.instances (statement_path b) ≡ Some w.instance
+pub waits_so : {A : Type 0} (s : Core) (k : Learning) (b : StatementInstance) (w : BlockedStatement A) (xs : List Input) → IsKnowledgeOf s k
+    → Some (site_view w.site.now) ≡ only (candidates b.at (script_stmts s)) → at_path k.fact_base.instances (statement_path b) ≡ Some w.instance
     → xs ≡ inputs_of (stmt_action (site_view w.site.now))
-    → (w.instance < length k.learned.instances.all.items → AreMissing s (Known s k.rounds) (path_of k.learned.instances.all.items w.instance) xs (inputs_view w.missing.items))
+    → (w.instance < length k.fact_base.instances.all.items → AreMissing s (Known s k.rounds) (path_of k.fact_base.instances.all.items w.instance) xs (inputs_view w.missing.items))
     → (n : ℕ) (a : Action) → Stuck s (Known s k.rounds) (statement_path b) b.at n a → IsWaiting s k b n a w
 waits_so s k b w xs known e p i m n a h =
     let same : site_view w.site.now ≡ stmt b.at n a = found_is s k.rounds n b.at a (statement_path b) (site_view w.site.now) h (sym e) in
-    let there = found_there k.learned.instances known.placed.tree (statement_path b) w.instance p in
+    let there = found_there k.fact_base.instances known.placed.tree (statement_path b) w.instance p in
     let reads : xs ≡ inputs_of a = i ∙ ap (λ (z : Stmt). inputs_of (stmt_action z)) same in
     let K = Known s k.rounds in
     let found = inputs_view w.missing.items in
@@ -140,5 +140,5 @@ waits_so s k b w xs known e p i m n a h =
       within = there.0;
       path = there.1;
       missing = subst (λ (q : Path). AreMissing s K q (inputs_of a) found) there.1
-          (subst (λ (z : List Input). AreMissing s K (path_of k.learned.instances.all.items w.instance) z found) reads (m there.0));
+          (subst (λ (z : List Input). AreMissing s K (path_of k.fact_base.instances.all.items w.instance) z found) reads (m there.0));
     }

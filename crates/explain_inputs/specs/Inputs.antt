@@ -1,12 +1,13 @@
--- What a statement reads, in the order in which its cells stand.
+-- The inputs of a statement, in the order of its cells.
 use Rattle.std.specs.Prelude.{ℕ, List, [], ◌∷◌, ◌++◌, map}
 use Rattle.language.specs.Core.{Name, Expr, literal, name, whole, operator, Exprs, none, also, Form, compute, read, Part, inner, calls, Outer, Awaited, scalar, array, Action, each, wait}
 use Rattle.language.specs.Parts.{outers}
 use Rattle.flow.specs.View.{name_view}
-use Rattle.explain_inputs.specs.declared.input.Input.{Input as Told}
-use Rattle.explain_inputs.specs.declared.input.Input.TheVariants as Is
+use Rattle.explain_inputs.specs.declared.input.StatementInput.{StatementInput as Told}
+use Rattle.explain_inputs.specs.declared.input.StatementInput.TheVariants as Is
 
--- the scalar of a variable or of a cell; a whole array; the element of an array at the index that a cell of the statement has
+-- the scalar of a variable or of a cell; a whole array; the element of an array at the index that is the value of a
+-- cell of the statement
 pub data Input : Type 0 where
   one_scalar whole_array : Name → Input
   an_element : (array : Name) → (index : ℕ) → Input
@@ -19,7 +20,7 @@ input_view (Is.Element a i) = an_element (name_view a) i
 abbrev pub inputs_view : List Told → List Input
 inputs_view xs = map input_view xs
 
--- what an expression reads
+-- the inputs of an expression
 abbrev mutual
   pub expr_inputs : Expr → List Input
   expr_inputs (literal v) = []
@@ -31,12 +32,12 @@ abbrev mutual
   exprs_inputs none = []
   exprs_inputs (also e es) = expr_inputs e ++ exprs_inputs es
 
--- what a cell reads
+-- the inputs of a cell
 abbrev pub form_inputs : Form → List Input
 form_inputs (compute e) = expr_inputs e
 form_inputs (read a i) = an_element a i ∷ []
 
--- what the cells inside an outermost one read
+-- the inputs of the cells inside an outermost one
 abbrev pub part_inputs : Part → List Input
 part_inputs (inner c) = form_inputs c.form
 part_inputs (calls c) = []
@@ -52,12 +53,12 @@ abbrev pub outers_inputs : List Outer → List Input
 outers_inputs [] = []
 outers_inputs (o ∷ os) = outer_inputs o ++ outers_inputs os
 
--- what a `wait` waits for
+-- the input of a `wait` for one name
 abbrev pub awaited_input : Awaited → Input
 awaited_input (scalar x) = one_scalar x
 awaited_input (array a) = whole_array a
 
--- what a statement reads that can be blocked; its own cells are among it
+-- the inputs of a statement that can be blocked; its own cells are included
 abbrev pub inputs_of : Action → List Input
 inputs_of (each a x t b) = whole_array a ∷ []
 inputs_of (wait ns b) = map awaited_input ns

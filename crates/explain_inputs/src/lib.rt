@@ -1,6 +1,6 @@
-//! What a statement waits for: which of its inputs are not known.
+//! Missing inputs of blocked statements: what a statement reads, and which of these inputs are not known.
 #![tactic(auto)]
 
-pub mod blocking;
+pub mod blocked_statement;
 pub mod input;
 pub mod missing;

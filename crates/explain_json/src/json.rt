@@ -1,22 +1,24 @@
-//! A refusal as a line of JSON, and warnings, a line each.
+//! Conversion of a refusal or of warnings to JSON objects, one a line.
 
-use explain_refusals::refusal::{Refusal, refusal_of};
-use explain_refusals::told::{Hint, Note};
-use explain_text::lines::Lines;
+use explain_refusals::diagnostic::{Diagnostic, refusal_of};
+use explain_refusals::explanation::{Hint, Note};
+use explain_text::line_index::LineIndex;
 use explain_text::position::{Position, position_of};
-use explain_text::words::say_place;
-use explain_warnings::told::{hint_of, name_of, sentence, warnings_of};
+use explain_text::words::write_place;
+use explain_warnings::render::{hint_of, name_of, sentence, warnings_of};
 use explain_warnings::warning::Warning;
 use lexer::token::Span;
 use serde_json::{Value, json};
 use std::alloc::{AllocError, Global};
 
-/// The refusal of a text as a JSON object without an end of line: the file, where the place begins and ends, the code and the name of the
-/// rule, what is said of it, what to write instead or `null`, and the other places that these speak of. None where the text is accepted.
+/// Returns the refusal of a text as a JSON object without a line end, or `None` if the text is accepted.
+///
+/// The object has the file, the span, the code and name of the rule, the message, a hint or `null`, and the related
+/// spans.
 ///
 /// # Errors
 ///
-/// `AllocError` where memory that was asked for was refused.
+/// Returns `AllocError` if an allocation fails.
 pub fn json_line(alloc: Global, file: &str, text: &[u8]) -> Result<Option<String>, AllocError> {
     match refusal_of(alloc, text)? {
         None => Ok(None),
@@ -31,18 +33,18 @@ fn line_of(
     alloc: Global,
     file: &str,
     text: &[u8],
-    refusal: &Refusal,
+    refusal: &Diagnostic,
 ) -> Result<String, AllocError> {
     let described = described(alloc, file, text, refusal)?;
     described.to_string(alloc)
 }
 
-/// A refusal as JSON.
+/// Converts a refusal to a JSON object.
 fn described(
     alloc: Global,
     file: &str,
     text: &[u8],
-    refusal: &Refusal,
+    refusal: &Diagnostic,
 ) -> Result<Value, AllocError> {
     let (code, name) = cut(refusal.rule.as_bytes());
     let code = string_of(alloc, code)?;
@@ -65,7 +67,7 @@ fn described(
     })
 }
 
-/// What stands before the first blank, and behind it.
+/// Splits bytes at the first space, which is in neither part. Without a space, the second part is empty.
 fn cut(bytes: &[u8]) -> (&[u8], &[u8]) {
     for i in 0..bytes.len() {
         if bytes[i] == b' ' {
@@ -75,7 +77,7 @@ fn cut(bytes: &[u8]) -> (&[u8], &[u8]) {
     (bytes, &[])
 }
 
-/// Bytes as a string of JSON: what is no UTF-8 is U+FFFD.
+/// Converts bytes to a JSON string. Invalid UTF-8 becomes U+FFFD.
 fn string_of(alloc: Global, bytes: &[u8]) -> Result<Value, AllocError> {
     Ok(Value::String(String::from_utf8_lossy(alloc, bytes)?))
 }
@@ -84,13 +86,13 @@ fn start_of(text: &[u8], at: Span) -> Position {
     position_of(text, at.from.min(text.len()))
 }
 
-/// Where a place ends.
+/// Returns the end of a span as a JSON object with line and column.
 fn end_value(alloc: Global, text: &[u8], at: Span) -> Result<Value, AllocError> {
     let end = position_of(text, at.to.min(text.len()));
     json!(in alloc; {"line": end.line as u64, "column": end.column as u64})
 }
 
-/// What to write instead, with the line and the column of the place that it speaks of where there is one.
+/// Converts a hint to JSON: its text, with the position of its span if it has one. Without a hint, returns `null`.
 fn hint_value(alloc: Global, text: &[u8], hint: &Option<Hint>) -> Result<Value, AllocError> {
     let Some(hint) = hint else {
         return Ok(Value::Null);
@@ -98,13 +100,18 @@ fn hint_value(alloc: Global, text: &[u8], hint: &Option<Hint>) -> Result<Value, 
     let mut words = Vec::from_slice(alloc, hint.words.as_slice())?;
     if let Some(at) = hint.at {
         words.extend_from_slice(b" at ")?;
-        say_place(&mut words, text, at.from)?;
+        write_place(&mut words, text, at.from)?;
     }
     string_of(alloc, words.as_slice())
 }
 
-/// The other places that are spoken of, each with what is said of it.
-fn related(alloc: Global, file: &str, text: &[u8], refusal: &Refusal) -> Result<Value, AllocError> {
+/// Returns the spans to which the note and the hint refer, each with its message.
+fn related(
+    alloc: Global,
+    file: &str,
+    text: &[u8],
+    refusal: &Diagnostic,
+) -> Result<Value, AllocError> {
     let mut places = Vec::new(alloc);
     if let Some(note) = refusal.told.note {
         places.push(place_value(alloc, file, text, words_of(note), note.at)?)?;
@@ -117,7 +124,7 @@ fn related(alloc: Global, file: &str, text: &[u8], refusal: &Refusal) -> Result<
     Ok(Value::Array(places))
 }
 
-/// What is said of another place, without the word that leads to it.
+/// Returns the text of a note without the final ` at`.
 fn words_of(note: Note) -> &'static [u8] {
     let words = note.words.as_bytes();
     match words.strip_suffix(b" at") {
@@ -145,15 +152,16 @@ fn place_value(
     })
 }
 
-/// The warnings of a text that is accepted as JSON objects, each on a line of its own: as a refusal, with the word `warning` in place of a
-/// rule's number.
+/// Returns the warnings of an accepted text as JSON objects, each on a line of its own.
+///
+/// The members are those of a refusal, with `warning` as the code.
 ///
 /// # Errors
 ///
-/// `AllocError` where memory that was asked for was refused.
+/// Returns `AllocError` if an allocation fails.
 pub fn warning_lines(alloc: Global, file: &str, text: &[u8]) -> Result<Vec<u8>, AllocError> {
     let warnings = warnings_of(alloc, text)?;
-    let lines = Lines::of(alloc, text)?;
+    let lines = LineIndex::of(alloc, text)?;
     let mut out = Vec::new(alloc);
     for warning in &warnings {
         let line = warning_line(alloc, file, &lines, *warning)?;
@@ -166,7 +174,7 @@ pub fn warning_lines(alloc: Global, file: &str, text: &[u8]) -> Result<Vec<u8>, 
 fn warning_line(
     alloc: Global,
     file: &str,
-    lines: &Lines<'_>,
+    lines: &LineIndex<'_>,
     warning: Warning,
 ) -> Result<String, AllocError> {
     let message = sentence(alloc, lines.text(), warning)?;
@@ -175,19 +183,19 @@ fn warning_line(
     described.to_string(alloc)
 }
 
-/// A warning as JSON.
+/// Converts a warning to a JSON object.
 fn warning_value(
     alloc: Global,
     file: &str,
-    lines: &Lines<'_>,
+    lines: &LineIndex<'_>,
     warning: Warning,
     message: Value,
 ) -> Result<Value, AllocError> {
     let from = position_in(lines, warning.at.from);
     let end = position_in(lines, warning.at.to);
     let end = json!(in alloc; {"line": end.line as u64, "column": end.column as u64})?;
-    let name = name_of(warning.oddity);
-    let hint = hint_of(warning.oddity);
+    let name = name_of(warning.warning_kind);
+    let hint = hint_of(warning.warning_kind);
     let related = Value::Array(Vec::new(alloc));
     json!(in alloc; {
         "file": file,
@@ -202,6 +210,6 @@ fn warning_value(
     })
 }
 
-fn position_in(lines: &Lines<'_>, at: usize) -> Position {
+fn position_in(lines: &LineIndex<'_>, at: usize) -> Position {
     lines.position(at.min(lines.text().len()))
 }

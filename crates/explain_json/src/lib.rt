@@ -1,4 +1,4 @@
-//! Refusals as lines of JSON, for editors and other programs.
+//! Refusals and warnings as JSON objects, one a line, for editors and other programs.
 #![tactic(auto)]
 
 pub mod json;

@@ -1,4 +1,5 @@
--- Whether the ways through a block assign a variable by its name. A loop is on every way and counts on none.
+-- Whether the control paths through a block assign a variable, by its name. A loop is on every control path and
+-- counts as assigning nothing.
 use Rattle.std.specs.Prelude.{ℕ, Bool, true, false, List, [], ◌∷◌, Option, Some, None, if◌then◌else◌, ◌&&◌, ◌||◌}
 use Rattle.std.specs.Str.{bytes_eq}
 use Rattle.language.specs.Tree.{Word, Declaration, RightSide, Statement, statement, Command, declare, assign, write, assign_all, calls, choice, choice_else, loop, waits, Body, body, Statements, no_statements, and_statement}
@@ -12,12 +13,12 @@ abbrev pub declaration_assigns : List ℕ → Declaration → Option RightSide �
 declaration_assigns name d None = false
 declaration_assigns name d (Some r) = bytes_eq d.name.text name
 
--- in both branches, where each way is asked for, and else in one
+-- both branches for every control path, otherwise at least one
 abbrev pub both_or_one : Bool → Bool → Bool → Bool
 both_or_one true one other = one && other
 both_or_one false one other = one || other
 
--- each way assigns it, or some way does
+-- every control path assigns the name, or some control path does
 abbrev mutual
   pub assigns_in : Bool → List ℕ → Statement → Bool
   assigns_in each name (statement nd c) = command_assigns each name c

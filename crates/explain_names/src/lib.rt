@@ -1,10 +1,13 @@
-//! Where a script declares and assigns its variables, which function a name is of, and what an `if` leaves out.
+//! Occurrences of variable names in a script: where each variable is declared and assigned, and which variables an
+//! `if` assigns only in part.
+//!
+//! The lookups compare names by their bytes. They serve the texts about refused scripts.
 #![tactic(auto)]
 
-mod inner;
+pub mod control_paths;
+mod innermost_if;
 pub mod lookup;
-pub mod mention;
-pub mod mentions;
-pub mod partly;
-pub mod refused;
-pub mod ways;
+pub mod occurrence;
+pub mod occurrences;
+pub mod partial_assignment;
+pub mod refused_script;

@@ -1,41 +1,49 @@
-//! What is looked up among the places of names.
+//! Lookups among the occurrences of names, and of functions by name.
 ghost use Rattle.std.specs.Prelude.{◌≡◌, IfOk, option_map};
 ghost use Rattle.syntax_trees.specs.View.{composite_of, part_of, tree_of};
 ghost use Rattle.explain_names.specs.Lookups.{bytes_at, fits, function_named, last_fitting, wants};
 ghost use Rattle.explain_names.specs.Mentions.{mentions_around};
 
-use crate::mention::{Kind, Mention};
-use crate::mentions::mentions_around;
-use crate::refused::Refused;
+use crate::occurrence::{Occurrence, OccurrenceKind};
+use crate::occurrences::mentions_around;
+use crate::refused_script::RefusedScript;
 use lexer::token::Span;
 use std::alloc::{AllocError, Allocator};
 use syntax_trees::tree::{Function, Item, Script};
 
-/// What is looked for.
+/// The kind of occurrence that is looked up.
 #[derive(Clone, Copy, Debug, PartialEq, Eq)]
-pub enum Lookup {
+pub enum LookupKind {
     /// A declaration of a variable.
     Declaration,
-    /// An assignment by name; inputs and variables of loops are assigned where they are declared.
+    /// An assignment by name. Inputs and loop variables are assigned where they are declared.
     Assignment,
     /// A write of an element.
     Element,
 }
 
-impl Lookup {
-    /// Whether a place of this kind is wanted.
-    pub fn takes(self, kind: Kind) -> bool
+impl LookupKind {
+    /// Returns true if an occurrence of this kind matches.
+    pub fn takes(self, kind: OccurrenceKind) -> bool
         ensures { result ≡ wants self kind }
     {
         match self {
-            Lookup::Declaration => { matches!(kind, Kind::Declared | Kind::Output | Kind::Given) }
-            Lookup::Assignment => matches!(kind, Kind::Assigned | Kind::Given),
-            Lookup::Element => matches!(kind, Kind::Written),
+            LookupKind::Declaration => {
+                matches!(
+                    kind,
+                    OccurrenceKind::Declared | OccurrenceKind::Output | OccurrenceKind::Given
+                )
+            }
+            LookupKind::Assignment => matches!(
+                kind,
+                OccurrenceKind::Assigned | OccurrenceKind::Given
+            ),
+            LookupKind::Element => matches!(kind, OccurrenceKind::Written),
         }
     }
 }
 
-/// The bytes of a place; none where the text has no such place.
+/// Returns the bytes of a span, or no bytes if the text has no such span.
 pub fn bytes_at(text: &[u8], at: Span) -> &[u8]
     ensures { result.now ≡ bytes_at text.now at }
 {
@@ -46,32 +54,34 @@ pub fn bytes_at(text: &[u8], at: Span) -> &[u8]
     }
 }
 
-/// The last place of this name that is of the kind that is wanted and ends at an offset or before it.
+/// Returns the last occurrence of a name that is of the wanted kind and ends at or before an offset.
 pub fn last_before(
     text: &[u8],
-    mentions: &[Mention],
-    wanted: Lookup,
+    occurrences: &[Occurrence],
+    wanted: LookupKind,
     name: &[u8],
     before: usize,
-) -> Option<Mention>
-    ensures { result ≡ last_fitting (fits text.now wanted name.now before) mentions.now }
+) -> Option<Occurrence>
+    ensures { result ≡ last_fitting (fits text.now wanted name.now before) occurrences.now }
 {
     let mut found = None;
-    for mention in mentions {
-        if fits(text, wanted, name, before, *mention) {
-            found = Some(*mention);
+    for occurrence in occurrences {
+        if fits(text, wanted, name, before, *occurrence) {
+            found = Some(*occurrence);
         }
     }
     found
 }
 
-fn fits(text: &[u8], wanted: Lookup, name: &[u8], before: usize, mention: Mention) -> bool
-    ensures { result ≡ fits text.now wanted name.now before mention }
+fn fits(text: &[u8], wanted: LookupKind, name: &[u8], before: usize, occurrence: Occurrence) -> bool
+    ensures { result ≡ fits text.now wanted name.now before occurrence }
 {
-    wanted.takes(mention.kind) && mention.at.to <= before && bytes_at(text, mention.at) == name
+    wanted.takes(occurrence.kind)
+        && occurrence.at.to <= before
+        && bytes_at(text, occurrence.at) == name
 }
 
-/// The first function of a name.
+/// Returns the first function with this name.
 pub fn function_named<'a, A: Allocator>(
     name: &[u8],
     script: &'a Script<A>,
@@ -88,12 +98,13 @@ pub fn function_named<'a, A: Allocator>(
     None
 }
 
-/// The place of a name's last mention that is of the kind that is wanted and ends at an offset or before it, in the block of the
-/// function, or of the script, that the name stands in.
+/// Returns the span of the last occurrence of a name that is of the wanted kind and ends at or before an offset.
+///
+/// The occurrences are those of the function that contains `name`, or else those of the script's own statements.
 pub fn place_before<A: Allocator>(
-    refused: &Refused<'_, A>,
+    refused: &RefusedScript<'_, A>,
     name: Span,
-    wanted: Lookup,
+    wanted: LookupKind,
     before: usize,
 ) -> Result<Option<Span>, AllocError>
     ensures { IfOk result (λ place. place ≡ option_map (λ m. m.at)
@@ -101,25 +112,25 @@ pub fn place_before<A: Allocator>(
         (mentions_around name.from (tree_of refused.now.script.now)))) }
 {
     let text = refused.text;
-    let mentions = mentions_around(refused.alloc, name.from, refused.script)?;
+    let occurrences = mentions_around(refused.alloc, name.from, refused.script)?;
     match last_before(
         text,
-        mentions.as_slice(),
+        occurrences.as_slice(),
         wanted,
         bytes_at(text, name),
         before,
     ) {
         None => Ok(None),
-        Some(mention) => Ok(Some(mention.at)),
+        Some(occurrence) => Ok(Some(occurrence.at)),
     }
 }
 
-/// What stands at a place, the last of what is said of it.
-pub fn kind_at(mentions: &[Mention], at: Span) -> Option<Kind> {
+/// Returns the kind of the last listed occurrence with this span.
+pub fn kind_at(occurrences: &[Occurrence], at: Span) -> Option<OccurrenceKind> {
     let mut kind = None;
-    for mention in mentions {
-        if mention.at == at {
-            kind = Some(mention.kind);
+    for occurrence in occurrences {
+        if occurrence.at == at {
+            kind = Some(occurrence.kind);
         }
     }
     kind

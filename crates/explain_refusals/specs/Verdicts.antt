@@ -1,4 +1,4 @@
--- What it means that a text is a script, that it is refused at a place, and that words name that place.
+-- Meaning of a verdict: a text is a script, a text is refused at a place, and a diagnostic begins with that place.
 use Rattle.std.specs.Prelude.{◌≡◌, ◌⊎◌, ℕ, List, ◌∷◌, ◌++◌, Some, length, min}
 use Rattle.lexer.specs.declared.token.Span.{Span}
 use Rattle.language.specs.Reads.{Reads}
@@ -18,7 +18,7 @@ use Rattle.assign_check.specs.declared.fault.AssignFault.{AssignFault}
 use Rattle.explain_text.specs.Positions.{IsPosition, place_text}
 use Rattle.explain_text.specs.declared.position.Position.{Position}
 
--- it reads as a tree that is well typed and singly assigned
+-- the text parses to a tree that is well typed and singly assigned
 pub record IsScript (src : List ℕ) : Type 0 where
   pub tree : Tree
   pub table : Table
@@ -26,13 +26,13 @@ pub record IsScript (src : List ℕ) : Type 0 where
   pub typed : WellTyped tree table
   pub single : SinglyAssigned (core table tree)
 
--- it has no tree, and this is where reading it stops
+-- the text does not parse, and this is the place of its fault
 pub record IsUnread (src : List ℕ) (at : Span) : Type 0 where
   pub fault : ParseFault
   pub refused : parsing.Refuses src fault
   pub place : parsing.place_of fault ≡ Some at
 
--- its tree is well typed for no table of names, and breaks a rule of the types here
+-- the tree is well typed for no table of names, and breaks a typing rule at this place
 pub record IsIllTyped (src : List ℕ) (at : Span) : Type 0 where
   pub tree : Tree
   pub fault : TypeFault
@@ -41,7 +41,7 @@ pub record IsIllTyped (src : List ℕ) (at : Span) : Type 0 where
   pub broken : typing.Breaks tree fault
   pub place : type_faults.span_of fault ≡ Some at
 
--- its tree is well typed and not singly assigned, and breaks a rule of that here
+-- the tree is well typed but not singly assigned, and breaks a rule of single assignment at this place
 pub record IsNotSingle (src : List ℕ) (at : Span) : Type 0 where
   pub tree : Tree
   pub table : Table
@@ -55,14 +55,14 @@ pub record IsNotSingle (src : List ℕ) (at : Span) : Type 0 where
 abbrev pub IsRefusedAt : List ℕ → Span → Type 0
 IsRefusedAt src at = IsUnread src at ⊎ (IsIllTyped src at ⊎ IsNotSingle src at)
 
--- the words begin with the file, and the line and the column where the place begins
+-- the words begin with the file, and the line and the column at which the place begins
 pub record BeginsAt (file src : List ℕ) (at : Span) (words : List ℕ) : Type 0 where
   pub position : Position
   pub is_position : IsPosition src (min at.from (length src)) position
   pub rest : List ℕ
   pub is : words ≡ place_text file position ++ 58 ∷ 32 ∷ rest
 
--- words on a refusal: the text is refused at the place that they begin with
+-- a diagnostic: the text is refused at the place with which the words begin
 pub record Explains (file src words : List ℕ) : Type 0 where
   pub at : Span
   pub refused : IsRefusedAt src at

@@ -1,37 +1,37 @@
-//! What stands round a place of a text that reads as a script, token by token.
+//! Token searches near a place of a text that parses as a script: in calls, loop heads and formats.
 
-use explain_hints::around::Around;
+use explain_hints::token_context::TokenContext;
 use lexer::lexer::Lexer;
 use lexer::token::{Token, TokenKind};
 use std::alloc::{AllocError, Global};
 
-/// Who takes the values of a call.
+/// The consumer of the values of a call.
 #[derive(Clone, Copy, Debug, PartialEq, Eq)]
-pub enum Taker {
-    /// Nobody: the call is a statement.
+pub enum ValueConsumer {
+    /// No consumer: the call is a statement.
     Nobody,
     /// An expression, or one variable.
     One,
-    /// So many names in brackets.
+    /// A list of names in brackets, with its length.
     Names(usize),
 }
 
-/// Who takes the values of the call whose name begins at an offset.
-pub fn taker_of(alloc: Global, text: &[u8], at: usize) -> Result<Taker, AllocError> {
-    let around = Around::new(alloc, text, at)?;
+/// Returns the consumer of the values of a call. `at`: the offset at which the called name begins.
+pub fn taker_of(alloc: Global, text: &[u8], at: usize) -> Result<ValueConsumer, AllocError> {
+    let around = TokenContext::new(alloc, text, at)?;
     let is_first = around.first.span == around.found.span;
     if is_first
         || around.first.kind == TokenKind::At && around.opener.kind != TokenKind::OpenRound
     {
-        return Ok(Taker::Nobody);
+        return Ok(ValueConsumer::Nobody);
     }
     if around.first.kind == TokenKind::OpenRound && around.last.kind == TokenKind::Assign {
-        return Ok(Taker::Names(count_behind(text, around.first.span.from)));
+        return Ok(ValueConsumer::Names(count_behind(text, around.first.span.from)));
     }
-    Ok(Taker::One)
+    Ok(ValueConsumer::One)
 }
 
-/// How many things stand in the brackets that open at an offset or behind it, with a `,` between them.
+/// Returns the number of comma-separated entries in the first brackets that open at an offset or after it.
 pub fn count_behind(text: &[u8], at: usize) -> usize {
     let mut lexer = Lexer::behind(text, at.min(text.len()));
     let mut depth: usize = 0;
@@ -63,7 +63,9 @@ pub fn count_behind(text: &[u8], at: usize) -> usize {
     }
 }
 
-/// The array that the loop goes over whose value's or key's name ends at an offset.
+/// Returns the name of the array that a loop iterates over, or `None` for a range.
+///
+/// `at` is the offset at which the name of the loop's value or key ends.
 pub fn looped_array(text: &[u8], at: usize) -> Option<&[u8]> {
     let mut lexer = Lexer::behind(text, at.min(text.len()));
     let mut token = next_token(&mut lexer)?;
@@ -82,7 +84,7 @@ pub fn looped_array(text: &[u8], at: usize) -> Option<&[u8]> {
     }
 }
 
-/// Whether a `,` stands right before what begins at an offset.
+/// Returns true if the token before an offset is a `,`.
 pub fn is_behind_comma(text: &[u8], at: usize) -> bool {
     let mut lexer = Lexer::behind(text, 0);
     let mut last = TokenKind::End;
@@ -95,9 +97,9 @@ pub fn is_behind_comma(text: &[u8], at: usize) -> bool {
     last == TokenKind::Comma
 }
 
-/// Whether an argument of `printf` begins at an offset, behind the format.
+/// Returns true if an argument of `printf` other than the format begins at an offset.
 pub fn is_printed(alloc: Global, text: &[u8], at: usize) -> Result<bool, AllocError> {
-    let around = Around::new(alloc, text, at)?;
+    let around = TokenContext::new(alloc, text, at)?;
     Ok(
         around.last.kind == TokenKind::Comma
             && around.opener.kind == TokenKind::OpenRound
@@ -105,7 +107,9 @@ pub fn is_printed(alloc: Global, text: &[u8], at: usize) -> Result<bool, AllocEr
     )
 }
 
-/// How many values the format takes that stands in the brackets that open at an offset or behind it; none where no string stands there.
+/// Returns the number of values that a format takes, or `None` if the first argument is not a string.
+///
+/// The format is searched in the first brackets that open at an offset or after it.
 pub fn conversions_behind(text: &[u8], at: usize) -> Option<usize> {
     let mut lexer = Lexer::behind(text, at.min(text.len()));
     let _bracket = next_token(&mut lexer)?;
@@ -124,7 +128,7 @@ pub fn conversions_behind(text: &[u8], at: usize) -> Option<usize> {
     Some(count)
 }
 
-/// Whether a name stands between an offset and the next `;`.
+/// Returns true if a name occurs between an offset and the next `;`.
 pub fn is_read_behind(text: &[u8], at: usize, name: &[u8]) -> bool {
     let mut lexer = Lexer::behind(text, at.min(text.len()));
     for _ in at..text.len() {
@@ -140,7 +144,7 @@ pub fn is_read_behind(text: &[u8], at: usize, name: &[u8]) -> bool {
     false
 }
 
-/// The next token, if there is one.
+/// Returns the next token, or `None` at the end or at a lexical fault.
 pub fn next_token<'t>(lexer: &mut Lexer<'t>) -> Option<Token<'t>> {
     match lexer.next() {
         Some(Ok(token)) => Some(token),

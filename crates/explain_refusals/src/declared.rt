@@ -1,19 +1,19 @@
-//! Declarations that a script lacks, as they are written.
+//! Suggested declarations for variables that a script does not declare.
 
 use crate::calls::next_token;
-use explain_names::lookup::{Lookup, function_named, last_before};
-use explain_names::mention::{Mention, Sort};
-use explain_names::refused::Refused;
-use explain_text::words::say;
+use explain_names::lookup::{LookupKind, function_named, last_before};
+use explain_names::occurrence::{DisplayType, Occurrence};
+use explain_names::refused_script::RefusedScript;
+use explain_text::words::write_str;
 use lexer::lexer::Lexer;
 use lexer::token::{Span, Token, TokenKind};
 use std::alloc::{AllocError, Allocator};
 use syntax_trees::tree::{Base, Keys, Shape};
 
-/// The most bytes of a statement that a hint repeats.
+/// The maximum length of a quoted statement in a hint, in bytes.
 const MOST: usize = 60;
 
-/// What the declaration of a variable begins with.
+/// Returns the type keyword of a declaration, followed by a space.
 pub fn type_of(base: Base) -> &'static str {
     match base {
         Base::Int => "int ",
@@ -22,11 +22,15 @@ pub fn type_of(base: Base) -> &'static str {
     }
 }
 
-/// Adds the declaration of a variable, up to what stands behind its name.
-pub fn say_declaration(out: &mut Vec<u8>, sort: Sort, name: &[u8]) -> Result<(), AllocError> {
-    say(out, type_of(sort.base))?;
+/// Appends the declaration of a variable: its type, its name and the brackets of an array.
+pub fn write_declaration(
+    out: &mut Vec<u8>,
+    sort: DisplayType,
+    name: &[u8],
+) -> Result<(), AllocError> {
+    write_str(out, type_of(sort.base))?;
     out.extend_from_slice(name)?;
-    say(
+    write_str(
         out,
         match sort.shape {
             Shape::Scalar => "",
@@ -36,7 +40,9 @@ pub fn say_declaration(out: &mut Vec<u8>, sort: Sort, name: &[u8]) -> Result<(),
     )
 }
 
-/// What stands from an offset to the end of the statement, with the `;`; nothing where that is another line, or further than `MOST` bytes.
+/// Returns the text from an offset to the end of the statement, with its `;`.
+///
+/// The result is empty if that text has a line end or more than `MOST` bytes.
 pub fn rest_of_statement(text: &[u8], at: usize) -> &[u8] {
     let from = at.min(text.len());
     let mut lexer = Lexer::behind(text, from);
@@ -53,7 +59,7 @@ pub fn rest_of_statement(text: &[u8], at: usize) -> &[u8] {
     &[]
 }
 
-/// The bytes of a place, where they are not many and on one line.
+/// Returns the bytes of a place, or an empty slice if they are more than `MOST` or contain a line end.
 fn on_one_line(text: &[u8], at: Span) -> &[u8] {
     if at.from > at.to || at.to > text.len() || at.to - at.from > MOST {
         return &[];
@@ -62,15 +68,20 @@ fn on_one_line(text: &[u8], at: Span) -> &[u8] {
     if bytes.contains(&b'\n') { &[] } else { bytes }
 }
 
-/// What type a variable may have that nothing declares, by what stands behind its name: an index, or a `=` and a value.
-pub fn sort_behind<A: Allocator>(refused: &Refused<'_, A>, mentions: &[Mention], at: Span) -> Sort {
+/// Returns a guess at the type of an undeclared variable, from the tokens after its name: an index, or a `=` and a
+/// value.
+pub fn sort_behind<A: Allocator>(
+    refused: &RefusedScript<'_, A>,
+    occurrences: &[Occurrence],
+    at: Span,
+) -> DisplayType {
     let text = refused.text;
     let mut lexer = Lexer::behind(text, at.to.min(text.len()));
     let mut shape = Shape::Scalar;
     let mut is_assigned = false;
     match next_token(&mut lexer) {
         Some(token) if token.kind == TokenKind::OpenSquare => {
-            let key = base_of(refused, mentions, next_token(&mut lexer));
+            let key = base_of(refused, occurrences, next_token(&mut lexer));
             shape = Shape::Array(if key == Base::Text {
                 Keys::Texts
             } else {
@@ -88,18 +99,18 @@ pub fn sort_behind<A: Allocator>(refused: &Refused<'_, A>, mentions: &[Mention],
             shape = Shape::Array(Keys::Numbers);
             value = next_token(&mut lexer);
         }
-        base = base_of(refused, mentions, value);
+        base = base_of(refused, occurrences, value);
     }
     if is_assigned && compares(&mut lexer, text.len()) {
         base = Base::Boolean;
     }
-    Sort { base, shape }
+    DisplayType { base, shape }
 }
 
-/// What a value may be that begins with this token.
+/// Returns a guess at the base type of a value, from its first token.
 fn base_of<A: Allocator>(
-    refused: &Refused<'_, A>,
-    mentions: &[Mention],
+    refused: &RefusedScript<'_, A>,
+    occurrences: &[Occurrence],
     first: Option<Token<'_>>,
 ) -> Base {
     let Some(first) = first else {
@@ -108,15 +119,15 @@ fn base_of<A: Allocator>(
     match first.kind {
         TokenKind::Text => Base::Text,
         TokenKind::True | TokenKind::False | TokenKind::Not => Base::Boolean,
-        TokenKind::Name => base_of_name(refused, mentions, first),
+        TokenKind::Name => base_of_name(refused, occurrences, first),
         _ => Base::Int,
     }
 }
 
-/// What a function of a name gives first, or a variable of it is.
+/// Returns the base type of the first output of a function with this name, or else of a variable with this name.
 fn base_of_name<A: Allocator>(
-    refused: &Refused<'_, A>,
-    mentions: &[Mention],
+    refused: &RefusedScript<'_, A>,
+    occurrences: &[Occurrence],
     name: Token<'_>,
 ) -> Base {
     if name.text == b"fromint".as_slice() || name.text == b"strcat".as_slice() {
@@ -129,13 +140,13 @@ fn base_of_name<A: Allocator>(
     }
     let declared = last_before(
         refused.text,
-        mentions,
-        Lookup::Declaration,
+        occurrences,
+        LookupKind::Declaration,
         name.text,
         name.span.from,
     );
     match declared {
-        Some(mention) => match mention.sort {
+        Some(occurrence) => match occurrence.sort {
             Some(sort) => sort.base,
             None => Base::Int,
         },
@@ -143,7 +154,8 @@ fn base_of_name<A: Allocator>(
     }
 }
 
-/// Whether a token of a kind stands before the next `;`, of so many tokens; goes past it.
+/// Returns true if a token of this kind precedes the next `;`, and advances the lexer past it. At most `most` tokens
+/// are read.
 fn passes(lexer: &mut Lexer<'_>, most: usize, kind: TokenKind) -> bool {
     for _ in 0..most {
         match next_token(lexer) {
@@ -155,7 +167,8 @@ fn passes(lexer: &mut Lexer<'_>, most: usize, kind: TokenKind) -> bool {
     false
 }
 
-/// Whether a sign that gives a boolean stands before the next `;` or `,`, outside of brackets, of so many tokens.
+/// Returns true if an operator with a boolean result precedes the next `;` or `,`, outside brackets. At most `most`
+/// tokens are read.
 fn compares(lexer: &mut Lexer<'_>, most: usize) -> bool {
     let mut depth: usize = 0;
     for _ in 0..most {
@@ -173,7 +186,7 @@ fn compares(lexer: &mut Lexer<'_>, most: usize) -> bool {
     false
 }
 
-/// Whether an operator gives a boolean.
+/// Returns true if an operator of this kind has a boolean result.
 fn gives_boolean(kind: TokenKind) -> bool {
     matches!(
         kind,

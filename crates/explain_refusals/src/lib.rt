@@ -1,14 +1,17 @@
-//! What a refusal means, for a person: its line and column, the line of the source with the place marked, and the other
-//! place that it speaks of.
+//! Diagnostics for refused scripts: line and column, the broken rule, the source line with the place marked, a related
+//! place and a hint.
+//!
+//! The crate parses and checks a script again to find the refusal, so that no crate below has to carry lines and
+//! columns.
 #![tactic(auto)]
 
-mod assignments_told;
 mod calls;
-mod counts_told;
 mod declared;
-mod names_told;
-pub mod refusal;
-mod sorts;
+pub mod diagnostic;
+mod explain_assignments;
+mod explain_counts;
+mod explain_names_unknown;
+mod explain_types;
+pub mod explanation;
 mod texts;
-pub mod told;
-mod types_told;
+mod type_mismatch;

@@ -1,6 +1,6 @@
-//! Texts that are no scripts, explained.
+//! Explanations of lexical and syntactic faults.
 
-use crate::told::{Explanation, Hint};
+use crate::explanation::{Explanation, Hint};
 use explain_hints::characters::on_byte;
 use explain_hints::literals::{on_escape, on_number, on_string};
 use explain_hints::unexpected::on_unexpected;
@@ -11,7 +11,7 @@ use lexer::token::Span;
 use std::alloc::{AllocError, Global};
 use syntax::error::ParseFault;
 
-/// What is said of a text that is no script.
+/// Returns the explanation of a text that does not parse.
 pub fn told_of_text(
     alloc: Global,
     text: &[u8],
@@ -21,7 +21,7 @@ pub fn told_of_text(
     Ok(sentence_of_text(alloc, text, fault)?.with(hint))
 }
 
-/// What to write instead of a text that is no script.
+/// Returns the hint about a text that does not parse.
 fn hint_of_text(alloc: Global, text: &[u8], fault: ParseFault) -> Result<Option<Hint>, AllocError> {
     match fault {
         ParseFault::Lex(fault) => hint_of_token(alloc, text, fault),
@@ -51,7 +51,7 @@ fn hint_of_token(alloc: Global, text: &[u8], fault: LexFault) -> Result<Option<H
     }
 }
 
-/// What is wrong with a text that is no script.
+/// Returns the sentence about a text that does not parse.
 fn sentence_of_text(
     alloc: Global,
     text: &[u8],
@@ -104,7 +104,7 @@ fn told_of_token(alloc: Global, text: &[u8], fault: LexFault) -> Result<Explanat
     }
 }
 
-/// What is said of a byte that no script has there.
+/// Returns the sentence about a byte that begins no token.
 fn told_of_byte(alloc: Global, text: &[u8], at: Span) -> Result<Explanation, AllocError> {
     match bytes_at(text, at) {
         [byte, ..] if *byte == b'"' || *byte < b' ' || *byte > b'~' => {

@@ -3,7 +3,8 @@ use Rattle.std.specs.Prelude.{◌≡◌, ◌≤◌, ◌+◌, ℕ, List, min, nat
 use Rattle.explain_text.specs.declared.quote.Window.{Window}
 use Rattle.explain_text.specs.Positions.{BeginsLine, EndsLine}
 
--- a part of the offset's line, of 120 bytes at most, that has the offset; and whether the line begins before it and ends behind it
+-- a part of the offset's line, of at most 120 bytes, that contains the offset; and whether the line begins before it
+-- and ends after it
 pub record IsWindow (text : List ℕ) (at : ℕ) (w : Window) : Type 0 where
   pub begin : ℕ
   pub end : ℕ
@@ -17,7 +18,7 @@ pub record IsWindow (text : List ℕ) (at : ℕ) (w : Window) : Type 0 where
   pub before_is : w.cut_before ≡ nat_lt begin w.from
   pub behind_is : w.cut_behind ≡ nat_lt w.to end
 
--- where the offset's line ends, or 121 bytes behind the offset if it ends later
+-- the end of the offset's line, or 121 bytes after the offset if the line ends later
 pub record IsNearEnd (text : List ℕ) (at near : ℕ) : Type 0 where
   pub end : ℕ
   pub ends : EndsLine text at end

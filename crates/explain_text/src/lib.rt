@@ -1,7 +1,7 @@
-//! Words on a text: its lines and columns, the line of a place with that marked, numbers, and pieces of text one behind another.
+//! Text output for diagnostics: lines and columns of offsets, source lines with a marked position, and numbers.
 #![tactic(auto)]
 
-pub mod lines;
+pub mod line_index;
 pub mod position;
 pub mod quote;
 pub mod words;

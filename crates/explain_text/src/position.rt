@@ -1,28 +1,28 @@
-//! Lines and columns.
+//! Lines and columns of offsets.
 ghost use Rattle.std.specs.Prelude.{◌≡◌, ◌≤◌, length};
 ghost use Rattle.explain_text.specs.Positions.{BeginsLine, IsLine, IsPosition};
 
-/// A place in a text as a person counts it, from 1 on. A tab is one column.
+/// A position in a text, with line and column counted from 1. A column is a byte, so a tab is one column.
 #[derive(Clone, Copy, PartialEq, Eq, Debug, Drop)]
 pub struct Position {
     pub line: usize,
     pub column: usize,
 }
 
-/// A line of a text: its number, from 1 on, and the offset where it begins.
+/// A line of a text: its number, counted from 1, and the offset at which it begins.
 #[derive(Clone, Copy, PartialEq, Eq, Debug, Drop)]
-pub struct Line {
+pub struct SourceLine {
     pub number: usize,
     pub begin: usize,
 }
 
-/// The first line of each text.
-pub(crate) const FIRST: Line = Line {
+/// The first line of every text.
+pub(crate) const FIRST: SourceLine = SourceLine {
     number: 1,
     begin: 0,
 };
 
-/// The line and the column of an offset.
+/// Returns the line and the column of an offset.
 pub fn position_of(text: &[u8], at: usize) -> Position
     requires { at ≤ length text.now }
     ensures { IsPosition text.now at result }
@@ -30,7 +30,7 @@ pub fn position_of(text: &[u8], at: usize) -> Position
     position_in(text, line_of(text, at), at)
 }
 
-/// Where the line of an offset begins.
+/// Returns the offset at which the line of an offset begins.
 pub fn line_begin(text: &[u8], at: usize) -> usize
     requires { at ≤ length text.now }
     ensures { BeginsLine text.now at result }
@@ -38,16 +38,16 @@ pub fn line_begin(text: &[u8], at: usize) -> usize
     line_of(text, at).begin
 }
 
-/// The line of an offset.
-fn line_of(text: &[u8], at: usize) -> Line
+/// Returns the line of an offset.
+fn line_of(text: &[u8], at: usize) -> SourceLine
     requires { at ≤ length text.now }
     ensures { IsLine text.now at result }
 {
     line_from(text, FIRST, 0, at)
 }
 
-/// The line of an offset, by that of an offset before it.
-pub(crate) fn line_from(text: &[u8], line: Line, from: usize, at: usize) -> Line
+/// Returns the line of an offset, given the line of an offset that is not after it.
+pub(crate) fn line_from(text: &[u8], line: SourceLine, from: usize, at: usize) -> SourceLine
     requires line { IsLine text.now from line }
     requires order { from ≤ at }
     requires within { at ≤ length text.now }
@@ -61,11 +61,11 @@ pub(crate) fn line_from(text: &[u8], line: Line, from: usize, at: usize) -> Line
             begin = i + 1;
         }
     }
-    Line { number, begin }
+    SourceLine { number, begin }
 }
 
-/// The line and the column of an offset, by its line.
-pub(crate) fn position_in(text: &[u8], line: Line, at: usize) -> Position
+/// Returns the line and the column of an offset, given its line.
+pub(crate) fn position_in(text: &[u8], line: SourceLine, at: usize) -> Position
     requires line { IsLine text.now at line }
     requires within { at ≤ length text.now }
     ensures { IsPosition text.now at result }

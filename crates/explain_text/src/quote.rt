@@ -1,4 +1,4 @@
-//! The line of a source, with a place on it marked.
+//! Quotes of source lines, with a span of the line marked.
 ghost use Rattle.std.specs.Prelude.{◌≡◌, ◌≤◌, ◌+◌, length, min};
 ghost use Rattle.explain_text.specs.Positions.{BeginsLine};
 ghost use Rattle.explain_text.specs.Windows.{IsNearEnd, IsWindow};
@@ -7,10 +7,10 @@ use crate::position::line_begin;
 use lexer::token::Span;
 use std::alloc::AllocError;
 
-/// The most columns of a line that are shown.
+/// Maximum number of columns of a line that are shown.
 pub const WIDTH: usize = 120;
 
-/// What stands before a line that is shown, and before its marks.
+/// Indentation of a shown line and of its marks.
 const INDENT: &[u8] = b"    ";
 
 /// The part of a line that is shown.
@@ -18,13 +18,13 @@ const INDENT: &[u8] = b"    ";
 pub struct Window {
     pub from: usize,
     pub to: usize,
-    /// Whether the line begins before it.
+    /// Whether the line begins before this part.
     pub cut_before: bool,
-    /// Whether the line goes on behind it.
+    /// Whether the line continues after this part.
     pub cut_behind: bool,
 }
 
-/// The part of an offset's line that is shown: the whole line, or `WIDTH` bytes of it round the offset.
+/// Returns the part of an offset's line that is shown: the whole line, or `WIDTH` bytes of it around the offset.
 pub fn window_round(text: &[u8], at: usize) -> Window
     requires { at ≤ length text.now }
     ensures { IsWindow text.now at result }
@@ -32,7 +32,7 @@ pub fn window_round(text: &[u8], at: usize) -> Window
     window_in(text, line_begin(text, at), at)
 }
 
-/// The same, by where the line begins.
+/// Returns the part of an offset's line that is shown, given the offset at which the line begins.
 pub(crate) fn window_in(text: &[u8], begin: usize, at: usize) -> Window
     requires begins { BeginsLine text.now at begin }
     requires within { at ≤ length text.now }
@@ -59,7 +59,8 @@ pub(crate) fn window_in(text: &[u8], begin: usize, at: usize) -> Window
     }
 }
 
-/// Where the line of an offset ends, at its line feed or with the text; or where more of it is behind the offset than is shown.
+/// Returns the end of an offset's line: its line feed or the end of the text. Returns the offset plus 121 if the line
+/// ends later.
 #[tactic(auto, using(crate::proofs::Ends::near_here, crate::proofs::Ends::near_most))]
 fn near_end(text: &[u8], at: usize) -> usize
     requires { at ≤ length text.now }
@@ -74,7 +75,7 @@ fn near_end(text: &[u8], at: usize) -> usize
     most
 }
 
-/// How far the line of an offset is looked at.
+/// Returns the offset up to which the end of a line is searched.
 fn reach(text: &[u8], at: usize) -> usize
     requires { at ≤ length text.now }
     ensures { result ≡ min (length text.now) (at + 121) }
@@ -86,14 +87,15 @@ fn reach(text: &[u8], at: usize) -> usize
     }
 }
 
-/// Adds the line on which a place begins, and under it a mark for each of its bytes on that line.
+/// Appends the line on which a span begins, and under it a mark for each byte of the span that is shown, at least
+/// one.
 pub fn add_quote(out: &mut Vec<u8>, text: &[u8], at: Span) -> Result<(), AllocError> {
     let from = at.from.min(text.len());
     let begin = line_begin(text, from);
     add_quoted(out, text, begin, from, at.to.min(text.len()))
 }
 
-/// The same of a place from one offset to another, by where the line of the first begins.
+/// Appends the line at `begin`, and under it a mark for each byte from `from` to `to` that is shown, at least one.
 pub(crate) fn add_quoted(
     out: &mut Vec<u8>,
     text: &[u8],
@@ -152,7 +154,8 @@ fn add_marks(
     Ok(())
 }
 
-/// How a byte of the source is shown: a tab as it is, the end of a line as a space, what is no character as `?`.
+/// Returns the byte that is shown for a byte of the source: a tab as it is, a carriage return as a space. A byte that
+/// is not printable ASCII is shown as `?`.
 fn shown_as(byte: u8) -> u8 {
     match byte {
         b'\t' | b' '..=b'~' => byte,

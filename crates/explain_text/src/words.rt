@@ -1,4 +1,4 @@
-//! Words, put one behind another.
+//! Output of strings, numbers and positions.
 ghost use Rattle.std.specs.Prelude.{◌≡◌, ◌++◌, OnOk};
 ghost use Rattle.explain_text.specs.Positions.{place_text};
 
@@ -8,25 +8,26 @@ use itoa::Buffer;
 use lexer::token::Span;
 use std::alloc::AllocError;
 
-pub fn say(out: &mut Vec<u8>, words: &str) -> Result<(), AllocError> {
+pub fn write_str(out: &mut Vec<u8>, words: &str) -> Result<(), AllocError> {
     out.extend_from_slice(words.as_bytes())?;
     Ok(())
 }
 
-pub fn say_count(out: &mut Vec<u8>, count: usize) -> Result<(), AllocError> {
+pub fn write_count(out: &mut Vec<u8>, count: usize) -> Result<(), AllocError> {
     let mut buffer = Buffer::new();
     out.extend_from_slice(buffer.format(count).as_bytes())?;
     Ok(())
 }
 
-pub fn say_number(out: &mut Vec<u8>, number: i64) -> Result<(), AllocError> {
+pub fn write_number(out: &mut Vec<u8>, number: i64) -> Result<(), AllocError> {
     let mut buffer = Buffer::new();
     out.extend_from_slice(buffer.format(number).as_bytes())?;
     Ok(())
 }
 
-/// Adds so many bytes of a text at most, with `?` for what is no character.
-pub fn say_bytes(out: &mut Vec<u8>, bytes: &[u8], most: usize) -> Result<(), AllocError> {
+/// Appends at most `most` bytes of a text, and `..` if it is longer. A byte that is not printable ASCII is written as
+/// `?`.
+pub fn write_bytes(out: &mut Vec<u8>, bytes: &[u8], most: usize) -> Result<(), AllocError> {
     for byte in &bytes[..bytes.len().min(most)] {
         out.push(if *byte < b' ' || *byte > b'~' {
             b'?'
@@ -34,22 +35,22 @@ pub fn say_bytes(out: &mut Vec<u8>, bytes: &[u8], most: usize) -> Result<(), All
             *byte
         })?;
     }
-    say(out, if bytes.len() > most { ".." } else { "" })
+    write_str(out, if bytes.len() > most { ".." } else { "" })
 }
 
-/// Adds `LINE:COLUMN` of an offset.
-pub fn say_place(out: &mut Vec<u8>, text: &[u8], at: usize) -> Result<(), AllocError> {
-    say_position(out, position_of(text, at.min(text.len())))
+/// Appends `LINE:COLUMN` for an offset. An offset past the end is reported as the end of the text.
+pub fn write_place(out: &mut Vec<u8>, text: &[u8], at: usize) -> Result<(), AllocError> {
+    write_position(out, position_of(text, at.min(text.len())))
 }
 
-/// Adds `LINE:COLUMN`.
-pub(crate) fn say_position(out: &mut Vec<u8>, position: Position) -> Result<(), AllocError> {
-    say_count(out, position.line)?;
-    say(out, ":")?;
-    say_count(out, position.column)
+/// Appends `LINE:COLUMN` for a position.
+pub(crate) fn write_position(out: &mut Vec<u8>, position: Position) -> Result<(), AllocError> {
+    write_count(out, position.line)?;
+    write_str(out, ":")?;
+    write_count(out, position.column)
 }
 
-/// Adds `FILE:LINE:COLUMN`.
+/// Appends `FILE:LINE:COLUMN` for a position.
 pub fn add_place(out: &mut Vec<u8>, file: &str, position: Position) -> Result<(), AllocError>
     ensures { OnOk result (out.new.items ≡ out.old.items ++ place_text file.now position) }
 {
@@ -63,13 +64,18 @@ pub fn add_place(out: &mut Vec<u8>, file: &str, position: Position) -> Result<()
     Ok(())
 }
 
-/// Adds `FILE:LINE:COLUMN: ` of an offset.
-pub fn say_start(out: &mut Vec<u8>, file: &str, text: &[u8], at: usize) -> Result<(), AllocError> {
+/// Appends `FILE:LINE:COLUMN: ` for an offset. An offset past the end is reported as the end of the text.
+pub fn write_start(
+    out: &mut Vec<u8>,
+    file: &str,
+    text: &[u8],
+    at: usize,
+) -> Result<(), AllocError> {
     add_place(out, file, position_of(text, at.min(text.len())))?;
-    say(out, ": ")
+    write_str(out, ": ")
 }
 
-/// Adds the line of an offset with that marked.
+/// Appends the line of an offset, and a line with a mark under the offset.
 pub fn add_mark(out: &mut Vec<u8>, text: &[u8], at: usize) -> Result<(), AllocError> {
     let to = at.saturating_add(1);
     add_quote(out, text, Span { from: at, to })

@@ -5,7 +5,7 @@ use Rattle.std.proofs.lemmas.List.{drop_more, drop_all}
 use mathlib.Core.Path.{fun_ext}
 use Rattle.language.specs.Table.{Table}
 use Rattle.language.specs.Tree.{Tree}
-use Rattle.explain_warnings.specs.declared.mention.Kind.TheVariants as Is
+use Rattle.explain_warnings.specs.declared.name_use.NameUseKind.TheVariants as Is
 use Rattle.explain_warnings.specs.Mentions.{tree_mentions}
 use Rattle.explain_warnings.specs.Marks.{uses_local}
 use Rattle.explain_warnings.specs.Warnings.{parts_warnings, warnings}

@@ -1,9 +1,9 @@
--- What is odd, in one word.
+-- Names of the kinds of warnings.
 use Rattle.std.specs.Prelude.{ℕ, List, codes}
-use Rattle.explain_warnings.specs.declared.warning.Oddity.{Oddity}
-use Rattle.explain_warnings.specs.declared.warning.Oddity.TheVariants as Odd
+use Rattle.explain_warnings.specs.declared.warning.WarningKind.{WarningKind}
+use Rattle.explain_warnings.specs.declared.warning.WarningKind.TheVariants as Odd
 
-abbrev pub oddity_name : Oddity → List ℕ
+abbrev pub oddity_name : WarningKind → List ℕ
 oddity_name Odd.NeverUsed = codes "NeverUsed"
 oddity_name Odd.NeverRead = codes "NeverRead"
 oddity_name Odd.IdleInput = codes "IdleInput"

@@ -1,9 +1,13 @@
-//! What is odd in a script that is accepted: variables that are never used or never read, and loops whose range is empty.
+//! Warnings about accepted scripts: unused variables, variables and inputs that are never read, and loops over empty
+//! ranges.
+//!
+//! Names are resolved by the table of the type check, so that variables of one name in different blocks are distinct.
+//! The time is linear in the length of the script.
 #![tactic(auto)]
 
 mod marks;
-pub mod mention;
-mod mentions;
+pub mod name_use;
+mod name_uses;
 mod reads;
-pub mod told;
+pub mod render;
 pub mod warning;

@@ -1,22 +1,22 @@
-//! The variables that expressions read.
+//! Collection of the variables that expressions read, in the order of the text.
 ghost use Rattle.std.specs.Prelude.{◌≡◌, ◌++◌, ◌∷◌, [], OnOk, map, option_map};
 ghost use Rattle.syntax_trees.specs.View.{word_of, words_view, expression_view, form_view, right_of, calling_of};
 ghost use Rattle.language.specs.Tree.{expressions_of};
 ghost use Rattle.explain_warnings.specs.Mentions as specs;
 
-use crate::mention::{Kind, Mention};
+use crate::name_use::{NameUse, NameUseKind};
 use std::alloc::{AllocError, Allocator};
 use syntax_trees::tree::{Call, Expr, ExprKind, Name, Right};
 
-/// Adds the place of a name.
+/// Appends an occurrence of a name.
 pub fn add<A: Allocator>(
-    kind: Kind,
+    kind: NameUseKind,
     name: &Name<A>,
-    mentions: &mut Vec<Mention>,
+    name_uses: &mut Vec<NameUse>,
 ) -> Result<(), AllocError>
-    ensures { OnOk result (mentions.new.items ≡ mentions.old.items ++ specs.mention kind (word_of name.now) ∷ []) }
+    ensures { OnOk result (name_uses.new.items ≡ name_uses.old.items ++ specs.name_use kind (word_of name.now) ∷ []) }
 {
-    mentions.push(Mention {
+    name_uses.push(NameUse {
         kind,
         number: name.number,
         at: name.span,
@@ -24,107 +24,107 @@ pub fn add<A: Allocator>(
     Ok(())
 }
 
-/// Adds the places of names, all of one kind.
+/// Appends an occurrence of each name, all of one kind.
 pub fn add_all<A: Allocator>(
-    kind: Kind,
+    kind: NameUseKind,
     names: &Vec<Name<A>, A>,
-    mentions: &mut Vec<Mention>,
+    name_uses: &mut Vec<NameUse>,
 ) -> Result<(), AllocError>
-    ensures { OnOk result (mentions.new.items ≡ mentions.old.items ++ map (specs.mention kind) (words_view names.now)) }
+    ensures { OnOk result (name_uses.new.items ≡ name_uses.old.items ++ map (specs.name_use kind) (words_view names.now)) }
 {
     for name in names {
-        add(kind, name, mentions)?;
+        add(kind, name, name_uses)?;
     }
     Ok(())
 }
 
-/// Adds what an expression reads.
+/// Appends the reads of an expression.
 #[cycle(read)]
-pub fn read<A: Allocator>(expr: &Expr<A>, mentions: &mut Vec<Mention>) -> Result<(), AllocError>
-    ensures { OnOk result (mentions.new.items ≡ mentions.old.items ++ specs.reads_of (expression_view expr.now)) }
+pub fn read<A: Allocator>(expr: &Expr<A>, name_uses: &mut Vec<NameUse>) -> Result<(), AllocError>
+    ensures { OnOk result (name_uses.new.items ≡ name_uses.old.items ++ specs.reads_of (expression_view expr.now)) }
 {
-    read_form(&expr.kind, mentions)
+    read_form(&expr.kind, name_uses)
 }
 
 #[cycle(read)]
 fn read_form<A: Allocator>(
     kind: &ExprKind<A>,
-    mentions: &mut Vec<Mention>,
+    name_uses: &mut Vec<NameUse>,
 ) -> Result<(), AllocError>
-    ensures { OnOk result (mentions.new.items ≡ mentions.old.items ++ specs.form_reads (form_view kind.now)) }
+    ensures { OnOk result (name_uses.new.items ≡ name_uses.old.items ++ specs.form_reads (form_view kind.now)) }
 {
     match kind {
         ExprKind::Number(_) | ExprKind::Text(_) | ExprKind::Truth(_) => Ok(()),
-        ExprKind::Variable(name) => add(Kind::Read, name, mentions),
+        ExprKind::Variable(name) => add(NameUseKind::Read, name, name_uses),
         ExprKind::Element(name, index) => {
-            add(Kind::Read, name, mentions)?;
-            read(index, mentions)
+            add(NameUseKind::Read, name, name_uses)?;
+            read(index, name_uses)
         }
-        ExprKind::Call(_, arguments) => read_all(arguments, mentions),
-        ExprKind::Prefixed(_, operand) => read(operand, mentions),
-        ExprKind::Chain(_, operands) => read_all(operands, mentions),
+        ExprKind::Call(_, arguments) => read_all(arguments, name_uses),
+        ExprKind::Prefixed(_, operand) => read(operand, name_uses),
+        ExprKind::Chain(_, operands) => read_all(operands, name_uses),
     }
 }
 
-/// Adds what expressions read, one after another.
+/// Appends the reads of expressions in order.
 #[cycle(read)]
 pub fn read_all<A: Allocator>(
     exprs: &Vec<Expr<A>, A>,
-    mentions: &mut Vec<Mention>,
+    name_uses: &mut Vec<NameUse>,
 ) -> Result<(), AllocError>
-    ensures { OnOk result (mentions.new.items ≡ mentions.old.items ++ specs.all_reads (expressions_of (map expression_view exprs.now.items))) }
+    ensures { OnOk result (name_uses.new.items ≡ name_uses.old.items ++ specs.all_reads (expressions_of (map expression_view exprs.now.items))) }
 {
     for expr in exprs {
-        read(expr, mentions)?;
+        read(expr, name_uses)?;
     }
     Ok(())
 }
 
-/// Adds what a right side reads.
+/// Appends the reads of a right side.
 pub fn read_right<A: Allocator>(
     right: &Right<A>,
-    mentions: &mut Vec<Mention>,
+    name_uses: &mut Vec<NameUse>,
 ) -> Result<(), AllocError>
-    ensures { OnOk result (mentions.new.items ≡ mentions.old.items ++ specs.right_reads (right_of right.now)) }
+    ensures { OnOk result (name_uses.new.items ≡ name_uses.old.items ++ specs.right_reads (right_of right.now)) }
 {
     match right {
-        Right::Value(value) => read(value, mentions),
-        Right::List(list) => read_all(&list.elements, mentions),
+        Right::Value(value) => read(value, name_uses),
+        Right::List(list) => read_all(&list.elements, name_uses),
     }
 }
 
-/// Adds what the right side of a declaration reads, where it has one.
+/// Appends the reads of the right side of a declaration, if it has one.
 pub fn read_initial<A: Allocator>(
     right: &Option<Right<A>>,
-    mentions: &mut Vec<Mention>,
+    name_uses: &mut Vec<NameUse>,
 ) -> Result<(), AllocError>
-    ensures { OnOk result (mentions.new.items ≡ mentions.old.items ++ specs.initial_reads (option_map right_of right.now)) }
+    ensures { OnOk result (name_uses.new.items ≡ name_uses.old.items ++ specs.initial_reads (option_map right_of right.now)) }
 {
     match right {
         None => Ok(()),
-        Some(right) => read_right(right, mentions),
+        Some(right) => read_right(right, name_uses),
     }
 }
 
-/// Adds what the arguments of a call read.
+/// Appends the reads of the arguments of a call.
 pub fn read_call<A: Allocator>(
     call: &Call<A>,
-    mentions: &mut Vec<Mention>,
+    name_uses: &mut Vec<NameUse>,
 ) -> Result<(), AllocError>
-    ensures { OnOk result (mentions.new.items ≡ mentions.old.items ++ specs.calling_reads (calling_of call.now)) }
+    ensures { OnOk result (name_uses.new.items ≡ name_uses.old.items ++ specs.calling_reads (calling_of call.now)) }
 {
-    read_all(&call.arguments, mentions)
+    read_all(&call.arguments, name_uses)
 }
 
-/// Adds what the step of a range reads, where it has one.
+/// Appends the reads of the step of a range, if it has one.
 pub fn read_step<A: Allocator>(
     step: &Option<Expr<A>>,
-    mentions: &mut Vec<Mention>,
+    name_uses: &mut Vec<NameUse>,
 ) -> Result<(), AllocError>
-    ensures { OnOk result (mentions.new.items ≡ mentions.old.items ++ specs.step_reads (option_map expression_view step.now)) }
+    ensures { OnOk result (name_uses.new.items ≡ name_uses.old.items ++ specs.step_reads (option_map expression_view step.now)) }
 {
     match step {
         None => Ok(()),
-        Some(step) => read(step, mentions),
+        Some(step) => read(step, name_uses),
     }
 }

@@ -1,4 +1,7 @@
-//! Warnings of a script that is accepted.
+//! Computation of the warnings of a script.
+//!
+//! A first pass over the script collects all occurrences, and marks the variables that are read or written. A second
+//! pass emits the warnings in the order of the text.
 ghost use Rattle.std.specs.Prelude.{◌≡◌, ◌++◌, OnOk, IfOk};
 ghost use Rattle.syntax_trees.specs.View.{declaration_of, declarations_view, composite_of, part_of, tree_of};
 ghost use Rattle.types.specs.Typed.{table_of};
@@ -6,46 +9,47 @@ ghost use Rattle.explain_warnings.specs.Marks.{is_marked};
 ghost use Rattle.explain_warnings.specs.Warnings as specs;
 
 use crate::marks::{input_marks, is_marked, local_marks};
-use crate::mention::{Kind, Mention};
-use crate::mentions::{block, is_spared, statement, tree_mentions};
+use crate::name_use::{NameUse, NameUseKind};
+use crate::name_uses::{block, is_spared, statement, tree_mentions};
 use lexer::token::Span;
 use std::alloc::{AllocError, Allocator, Global};
 use syntax_trees::tree::{Decl, Function, Item, Script};
 use types::typed::Typed;
 
-/// What is odd.
+/// The kind of a warning.
 #[derive(Clone, Copy, Debug, PartialEq, Eq)]
-pub enum Oddity {
-    /// Nothing names a variable besides its declaration.
+pub enum WarningKind {
+    /// A variable that is neither read nor written after its declaration.
     NeverUsed,
-    /// A variable is assigned or written, and never read.
+    /// A variable that is assigned or written, and never read.
     NeverRead,
-    /// A function never reads an input.
+    /// An input that its function never reads.
     IdleInput,
-    /// The range of a loop has no value.
+    /// A loop over an empty range.
     EmptyRange,
 }
 
-/// What is odd, and where: the name of a variable where it is declared, or where a range begins.
+/// A warning with its place: the declared name of a variable, or the beginning of a range.
 #[derive(Clone, Copy, Debug, PartialEq, Eq)]
 pub struct Warning {
-    pub oddity: Oddity,
+    pub warning_kind: WarningKind,
     pub at: Span,
 }
 
-/// Which variables of statements are read, and which are written, by number.
+/// The sets of local variables that are read and written, by number.
 #[derive(Clone, Copy)]
-struct Uses<'a> {
+struct UsedVariables<'a> {
     read: &'a [bool],
     written: &'a [bool],
 }
 
-/// What is odd in a script that is accepted, in the order of the text, by what its names refer to. Of a variable whose name begins with `_`
-/// nothing is said, nor of a loop's variable.
+/// Returns the warnings of a well typed script in the order of its text. `typed`: the table of its names.
+///
+/// Variables whose name begins with `_` and loop variables have no warnings.
 ///
 /// # Errors
 ///
-/// `AllocError` where memory that was asked for was refused.
+/// Returns `AllocError` if an allocation fails.
 pub fn warnings<A: Allocator>(
     alloc: Global,
     typed: &Typed,
@@ -53,10 +57,10 @@ pub fn warnings<A: Allocator>(
 ) -> Result<Vec<Warning>, AllocError>
     ensures { IfOk result (λ found. found.items ≡ specs.warnings (table_of typed.now) (tree_of script.now)) }
 {
-    let mentions = tree_mentions(alloc, script)?;
-    let read = local_marks(alloc, typed, Kind::Read, mentions.as_slice())?;
-    let written = local_marks(alloc, typed, Kind::Written, mentions.as_slice())?;
-    let uses = Uses {
+    let name_uses = tree_mentions(alloc, script)?;
+    let read = local_marks(alloc, typed, NameUseKind::Read, name_uses.as_slice())?;
+    let written = local_marks(alloc, typed, NameUseKind::Written, name_uses.as_slice())?;
+    let uses = UsedVariables {
         read: read.as_slice(),
         written: written.as_slice(),
     };
@@ -66,7 +70,7 @@ pub fn warnings<A: Allocator>(
 fn parts<A: Allocator>(
     alloc: Global,
     typed: &Typed,
-    uses: &Uses<'_>,
+    uses: &UsedVariables<'_>,
     script: &Script<A>,
 ) -> Result<Vec<Warning>, AllocError>
     ensures { IfOk result (λ found. found.items
@@ -79,11 +83,11 @@ fn parts<A: Allocator>(
     Ok(found)
 }
 
-/// Adds what is odd in a part.
+/// Appends the warnings of a part.
 fn part<A: Allocator>(
     alloc: Global,
     typed: &Typed,
-    uses: &Uses<'_>,
+    uses: &UsedVariables<'_>,
     item: &Item<A>,
     found: &mut Vec<Warning>,
 ) -> Result<(), AllocError>
@@ -94,32 +98,32 @@ fn part<A: Allocator>(
         Item::Import(_) => Ok(()),
         Item::Function(one) => function(alloc, typed, uses, one, found),
         Item::Statement(one) => {
-            let mut mentions = Vec::new(alloc);
-            statement(one, &mut mentions)?;
-            say_all(uses, mentions.as_slice(), found)
+            let mut name_uses = Vec::new(alloc);
+            statement(one, &mut name_uses)?;
+            write_all(uses, name_uses.as_slice(), found)
         }
     }
 }
 
-/// Adds what is odd in a function: inputs first, and then what its block has.
+/// Appends the warnings of a function: those of its inputs, then those of its block.
 fn function<A: Allocator>(
     alloc: Global,
     typed: &Typed,
-    uses: &Uses<'_>,
+    uses: &UsedVariables<'_>,
     function: &Function<A>,
     found: &mut Vec<Warning>,
 ) -> Result<(), AllocError>
     ensures { OnOk result (found.new.items ≡ found.old.items
         ++ specs.function_warnings (table_of typed.now) (is_marked uses.now.read.now) (is_marked uses.now.written.now) (composite_of function.now)) }
 {
-    let mut mentions = Vec::new(alloc);
-    block(&function.body, &mut mentions)?;
-    let read = input_marks(alloc, typed, Kind::Read, mentions.as_slice())?;
+    let mut name_uses = Vec::new(alloc);
+    block(&function.body, &mut name_uses)?;
+    let read = input_marks(alloc, typed, NameUseKind::Read, name_uses.as_slice())?;
     idle_inputs(read.as_slice(), &function.inputs, found)?;
-    say_all(uses, mentions.as_slice(), found)
+    write_all(uses, name_uses.as_slice(), found)
 }
 
-/// Adds the inputs that are not read.
+/// Appends a warning for each input that is not read.
 fn idle_inputs<A: Allocator>(
     read: &[bool],
     inputs: &Vec<Decl<A>, A>,
@@ -133,7 +137,7 @@ fn idle_inputs<A: Allocator>(
     Ok(())
 }
 
-/// Adds an input that is not read.
+/// Appends a warning for an input unless it is read or its name begins with `_`.
 fn idle_input<A: Allocator>(
     is_read: bool,
     input: &Decl<A>,
@@ -143,46 +147,46 @@ fn idle_input<A: Allocator>(
 {
     if !is_read && !is_spared(input.name.text.as_slice()) {
         found.push(Warning {
-            oddity: Oddity::IdleInput,
+            warning_kind: WarningKind::IdleInput,
             at: input.name.span,
         })?;
     }
     Ok(())
 }
 
-/// Adds what is odd at mentions.
-fn say_all(
-    uses: &Uses<'_>,
-    mentions: &[Mention],
+/// Appends the warnings at these occurrences.
+fn write_all(
+    uses: &UsedVariables<'_>,
+    name_uses: &[NameUse],
     found: &mut Vec<Warning>,
 ) -> Result<(), AllocError>
-    ensures { OnOk result (found.new.items ≡ found.old.items ++ specs.all_said (is_marked uses.now.read.now) (is_marked uses.now.written.now) mentions.now) }
+    ensures { OnOk result (found.new.items ≡ found.old.items ++ specs.all_said (is_marked uses.now.read.now) (is_marked uses.now.written.now) name_uses.now) }
 {
-    for mention in mentions {
-        let odd = oddity_at(uses, *mention);
-        add(odd, mention.at, found)?;
+    for name_use in name_uses {
+        let odd = oddity_at(uses, *name_use);
+        add(odd, name_use.at, found)?;
     }
     Ok(())
 }
 
-fn add(odd: Option<Oddity>, at: Span, found: &mut Vec<Warning>) -> Result<(), AllocError>
+fn add(odd: Option<WarningKind>, at: Span, found: &mut Vec<Warning>) -> Result<(), AllocError>
     ensures { OnOk result (found.new.items ≡ found.old.items ++ specs.warned odd at) }
 {
-    if let Some(oddity) = odd {
-        found.push(Warning { oddity, at })?;
+    if let Some(warning_kind) = odd {
+        found.push(Warning { warning_kind, at })?;
     }
     Ok(())
 }
 
-/// What is odd at a mention.
-fn oddity_at(uses: &Uses<'_>, mention: Mention) -> Option<Oddity>
-    ensures { result ≡ specs.oddity_at (is_marked uses.now.read.now) (is_marked uses.now.written.now) mention }
+/// Returns the kind of the warning at an occurrence, or `None`.
+fn oddity_at(uses: &UsedVariables<'_>, name_use: NameUse) -> Option<WarningKind>
+    ensures { result ≡ specs.oddity_at (is_marked uses.now.read.now) (is_marked uses.now.written.now) name_use }
 {
-    match mention.kind {
-        Kind::Read | Kind::Written => None,
-        Kind::EmptyRange => Some(Oddity::EmptyRange),
-        Kind::Declared => {
-            let number = mention.number as usize;
+    match name_use.kind {
+        NameUseKind::Read | NameUseKind::Written => None,
+        NameUseKind::EmptyRange => Some(WarningKind::EmptyRange),
+        NameUseKind::Declared => {
+            let number = name_use.number as usize;
             unread(
                 is_marked(uses.read, number),
                 is_marked(uses.written, number),
@@ -191,15 +195,15 @@ fn oddity_at(uses: &Uses<'_>, mention: Mention) -> Option<Oddity>
     }
 }
 
-/// What is odd of a variable that is read, or written, or neither.
-fn unread(is_read: bool, is_written: bool) -> Option<Oddity>
+/// Returns the kind of the warning for a declared variable, or `None` if it is read.
+fn unread(is_read: bool, is_written: bool) -> Option<WarningKind>
     ensures { result ≡ specs.unread is_read is_written }
 {
     if is_read {
         None
     } else if is_written {
-        Some(Oddity::NeverRead)
+        Some(WarningKind::NeverRead)
     } else {
-        Some(Oddity::NeverUsed)
+        Some(WarningKind::NeverUsed)
     }
 }

@@ -3,7 +3,7 @@ use Rattle.std.specs.Prelude.{◌≡◌, ℕ, suc, ◌+◌, ◌<◌, Bool, true,
 use Rattle.std.specs.List.{list_all}
 use Rattle.std.proofs.Common.{sym, ap, ◌∙◌, get_or}
 use Rattle.std.proofs.lemmas.List.{drop_more}
-use Rattle.flow.specs.declared.cell.Part.{Part}
+use Rattle.flow.specs.declared.cell.CellPart.{CellPart}
 use Rattle.flow.specs.declared.expression.Expr.{Expr}
 use Rattle.flow.specs.declared.name.Name.{Name}
 use Rattle.flow.specs.declared.script.Function.{Function}
@@ -72,7 +72,7 @@ exprs_step A os es i d l =
     ap (λ (z : List (Expr A)). are_declared os (exprs_names (exprs_view z))) (drop_more es i d l)
     ∙ names_append os (expr_names (expr_view (get_or es i d))) (exprs_names (exprs_view (drop (i + 1) es)))
 
-pub parts_step : {A : Type 0} (os : List Owner) (fs : ℕ) (ps : List (Part A)) (i : ℕ) (d : Part A) → i < length ps
+pub parts_step : {A : Type 0} (os : List Owner) (fs : ℕ) (ps : List (CellPart A)) (i : ℕ) (d : CellPart A) → i < length ps
     → parts_fit os fs (parts_view (drop i ps)) ≡ part_fits os fs (part_view (get_or ps i d)) && parts_fit os fs (parts_view (drop (i + 1) ps))
 parts_step os fs ps i d l = ap (λ z. parts_fit os fs (parts_view z)) (drop_more ps i d l)
 

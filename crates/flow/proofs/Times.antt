@@ -3,7 +3,7 @@ use Rattle.std.specs.Prelude.{◌≡◌, ℕ, zero, suc, ◌+◌, ◌<◌, ◌�
 use Rattle.std.specs.List.{flat_map}
 use Rattle.std.proofs.Common.{rules, arith, sym, ap, ◌∙◌, get_or}
 use Rattle.std.proofs.lemmas.List.{drop_more}
-use Rattle.flow.specs.declared.cell.Part.{Part}
+use Rattle.flow.specs.declared.cell.CellPart.{CellPart}
 use Rattle.flow.specs.declared.name.Name.{Name}
 use Rattle.flow.specs.declared.statement.Block.{Block}
 use Rattle.flow.specs.declared.statement.Action.{Wait, the_lemmas}
@@ -12,7 +12,7 @@ use Rattle.flow.specs.declared.statement.Statement.{Statement, out-Statement}
 use Rattle.flow.specs.View.{action_view, awaited_view, block_of, block_view, name_view, names_view, part_view, parts_view, statement_view, statements_view, waits_around}
 use Rattle.language.specs.Core as core
 use Rattle.language.specs.Parts.{outer_parts}
-use Rattle.flow.specs.declared.declaring.Times.{Times}
+use Rattle.flow.specs.declared.declaring.Multiplicity.{Multiplicity}
 use Rattle.flow.specs.Names.{action_nodes, block_nodes, here_nodes, part_nodes, stmt_nodes}
 use Rattle.flow.specs.Viewed.{number_as, plus, times_as}
 use Rattle.flow.specs.Whole.{times}
@@ -32,7 +32,7 @@ times-append n (x ∷ xs) ys = by (nat_eq n x) (times-append n xs ys)
     by true h = omega arith
     by false h = h
 
-often : (k : ℕ) → 2 ≤ k → number_as k ≡ Times.Often
+often : (k : ℕ) → 2 ≤ k → number_as k ≡ Multiplicity.Often
 often zero h = absurd (omega (arith, h))
 often (suc zero) h = absurd (omega (arith, h))
 often (suc (suc k)) h = refl
@@ -49,33 +49,33 @@ number_plus (suc (suc m)) (suc (suc k)) = often (suc (suc m) + suc (suc k)) (ome
 pub times_plus : (n : ℕ) (xs ys : List ℕ) → times_as n (xs ++ ys) ≡ plus (times_as n xs) (times_as n ys)
 times_plus n xs ys = ap number_as (times-append n xs ys) ∙ number_plus (times n xs) (times n ys)
 
-pub plus_never : (t : Times) → plus t Times.Never ≡ t
-plus_never Times.Never = refl
-plus_never Times.Once = refl
-plus_never Times.Often = refl
+pub plus_never : (t : Multiplicity) → plus t Multiplicity.Never ≡ t
+plus_never Multiplicity.Never = refl
+plus_never Multiplicity.Once = refl
+plus_never Multiplicity.Often = refl
 
-plus_assoc : (a b c : Times) → plus (plus a b) c ≡ plus a (plus b c)
-plus_assoc Times.Never b c = refl
-plus_assoc Times.Once Times.Never c = refl
-plus_assoc Times.Once Times.Once Times.Never = refl
-plus_assoc Times.Once Times.Once Times.Once = refl
-plus_assoc Times.Once Times.Once Times.Often = refl
-plus_assoc Times.Once Times.Often Times.Never = refl
-plus_assoc Times.Once Times.Often Times.Once = refl
-plus_assoc Times.Once Times.Often Times.Often = refl
-plus_assoc Times.Often Times.Never c = refl
-plus_assoc Times.Often Times.Once Times.Never = refl
-plus_assoc Times.Often Times.Once Times.Once = refl
-plus_assoc Times.Often Times.Once Times.Often = refl
-plus_assoc Times.Often Times.Often Times.Never = refl
-plus_assoc Times.Often Times.Often Times.Once = refl
-plus_assoc Times.Often Times.Often Times.Often = refl
+plus_assoc : (a b c : Multiplicity) → plus (plus a b) c ≡ plus a (plus b c)
+plus_assoc Multiplicity.Never b c = refl
+plus_assoc Multiplicity.Once Multiplicity.Never c = refl
+plus_assoc Multiplicity.Once Multiplicity.Once Multiplicity.Never = refl
+plus_assoc Multiplicity.Once Multiplicity.Once Multiplicity.Once = refl
+plus_assoc Multiplicity.Once Multiplicity.Once Multiplicity.Often = refl
+plus_assoc Multiplicity.Once Multiplicity.Often Multiplicity.Never = refl
+plus_assoc Multiplicity.Once Multiplicity.Often Multiplicity.Once = refl
+plus_assoc Multiplicity.Once Multiplicity.Often Multiplicity.Often = refl
+plus_assoc Multiplicity.Often Multiplicity.Never c = refl
+plus_assoc Multiplicity.Often Multiplicity.Once Multiplicity.Never = refl
+plus_assoc Multiplicity.Often Multiplicity.Once Multiplicity.Once = refl
+plus_assoc Multiplicity.Often Multiplicity.Once Multiplicity.Often = refl
+plus_assoc Multiplicity.Often Multiplicity.Often Multiplicity.Never = refl
+plus_assoc Multiplicity.Often Multiplicity.Often Multiplicity.Once = refl
+plus_assoc Multiplicity.Often Multiplicity.Often Multiplicity.Often = refl
 
 -- what was counted, with what a next piece gives
-pub one_more : (n : ℕ) (t : Times) (xs ys : List ℕ) → plus t (times_as n (xs ++ ys)) ≡ plus (plus t (times_as n xs)) (times_as n ys)
+pub one_more : (n : ℕ) (t : Multiplicity) (xs ys : List ℕ) → plus t (times_as n (xs ++ ys)) ≡ plus (plus t (times_as n xs)) (times_as n ys)
 one_more n t xs ys = ap (plus t) (times_plus n xs ys) ∙ sym (plus_assoc t (times_as n xs) (times_as n ys))
 
-pub parts_step : {A : Type 0} (ps : List (Part A)) (i : ℕ) (d : Part A) → i < length ps
+pub parts_step : {A : Type 0} (ps : List (CellPart A)) (i : ℕ) (d : CellPart A) → i < length ps
     → flat_map part_nodes (parts_view (drop i ps)) ≡ part_nodes (part_view (get_or ps i d)) ++ flat_map part_nodes (parts_view (drop (i + 1) ps))
 parts_step ps i d l = ap (λ z. flat_map part_nodes (parts_view z)) (drop_more ps i d l)
 

@@ -4,3 +4,5 @@ pub mod Names
 pub mod Whole
 pub mod Tests
 pub mod Viewed
+pub mod Listed
+pub mod Cells

@@ -1,10 +1,10 @@
--- What a statement names, what it declares, and which blocks it opens.
+-- The names that a statement uses, the nodes that it declares, and the blocks that it opens.
 use Rattle.std.specs.Prelude.{ℕ, zero, List, [], ◌∷◌, ◌++◌, map, option_to_list}
 use Rattle.std.specs.List.{flat_map}
 use Rattle.language.specs.Core.{Owned, local, Name, here, Expr, Exprs, literal, name, whole, operator, none, also, Form, compute, read, Part, inner, calls, Awaited, scalar, array, Stmt, stmt, Action, declare, call_alone, assign, fill, insert, when, choose, range, each, wait, Block, no_stmts, stmts}
 use Rattle.language.specs.Parts.{parts, outer_parts, outers}
 
--- WHAT A STATEMENT NAMES
+-- NAMES THAT A STATEMENT USES
 
 abbrev mutual
   pub expr_names : Expr → List Name
@@ -30,7 +30,7 @@ abbrev pub awaited_name : Awaited → Name
 awaited_name (scalar x) = x
 awaited_name (array x) = x
 
--- beside its cells and calls: what it sets, goes through or waits for
+-- names of a statement outside its cells and calls: those it assigns, iterates over or waits for
 abbrev pub own_names : Action → List Name
 own_names (assign x e) = x ∷ []
 own_names (fill a e) = a ∷ []
@@ -42,9 +42,9 @@ own_names _ = []
 abbrev pub names_used : Action → List Name
 names_used a = own_names a ++ flat_map part_names (parts a)
 
--- WHAT IT DECLARES
+-- NODES THAT A STATEMENT DECLARES
 
--- the node of what is of the block that names it
+-- the node of a name that belongs to the block that uses it
 abbrev pub nodes_here : (up : ℕ) → Owned → List ℕ
 nodes_here zero (local n) = n ∷ []
 nodes_here _ _ = []
@@ -57,7 +57,7 @@ abbrev pub part_nodes : Part → List ℕ
 part_nodes (inner c) = c.node ∷ []
 part_nodes (calls c) = flat_map here_nodes c.outputs
 
--- what stands in a `wait` is declared in the block around it
+-- the content of a `wait` declares in the block around it
 abbrev mutual
   pub action_nodes : Action → List ℕ
   action_nodes (declare v) = v ∷ []
@@ -72,7 +72,7 @@ abbrev mutual
   block_nodes no_stmts = []
   block_nodes (stmts s b) = stmt_nodes s ++ block_nodes b
 
--- WHAT IT OPENS
+-- BLOCKS THAT A STATEMENT OPENS
 
 -- a block that a statement opens, with the variables of a loop
 pub record Opened : Type 0 where

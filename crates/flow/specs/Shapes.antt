@@ -18,7 +18,7 @@ is_array Shape.Scalar = false
 abbrev pub Declared : Type 0
 Declared = List (ℕ × Bool)
 
--- what a statement declares, and the blocks inside it
+-- the declarations of a statement and of its nested blocks
 abbrev pub action_step : {A : Type 0} → Action-F A Declared Declared Declared → Declared
 action_step (Does.Declare v) = (v.node, is_array v.shape) ∷ []
 action_step (Does.Call p ps c) = []
@@ -33,7 +33,7 @@ action_step (Does.Range r v k b) = b.value
 action_step (Does.Each a v k b) = b.value
 action_step (Does.Wait ns hs b) = b.value
 
--- what statements declare, one after another
+-- the declarations of statements, one after another
 abbrev pub together : List Declared → Declared
 together [] = []
 together (d ∷ ds) = d ++ together ds

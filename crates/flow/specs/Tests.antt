@@ -1,4 +1,4 @@
--- The same as tests, statement by statement.
+-- `IsWhole` as computable tests, statement by statement.
 use Rattle.std.specs.Prelude.{ℕ, zero, suc, Bool, true, false, ◌&&◌, List, [], ◌∷◌, ◌++◌, length, nat_eq, nat_lt, option_to_list}
 use Rattle.std.specs.List.{list_all}
 use Rattle.language.specs.Core.{Owned, local, input, output, Name, Part, inner, calls, Stmt, stmt, Action, when, choose, range, each, wait, Block, no_stmts, stmts, Function, Core}
@@ -16,7 +16,7 @@ declares o (local n) = is_one (times n o.nodes)
 declares o (input i) = nat_lt i o.inputs
 declares o (output i) = nat_lt i o.outputs
 
--- a name leads so many blocks outwards
+-- a name refers the given number of blocks outwards
 abbrev pub leads : List Owner → ℕ → Owned → Bool
 leads [] k x = false
 leads (o ∷ os) zero x = declares o x
@@ -35,11 +35,11 @@ part_fits os fs (calls c) = are_declared os (c.inputs ++ c.outputs) && nat_lt c.
 abbrev pub parts_fit : List Owner → ℕ → List Part → Bool
 parts_fit os fs ps = list_all (part_fits os fs) ps
 
--- what a statement itself uses
+-- the names and functions that a statement uses outside its nested blocks
 abbrev pub is_fit : List Owner → ℕ → Action → Bool
 is_fit os fs a = are_declared os (own_names a) && parts_fit os fs (parts a)
 
--- a block, with what lies inside of it
+-- a block with its nested blocks
 abbrev mutual
   pub fits_inside : List Owner → ℕ → Action → Bool
   fits_inside os fs (when c b) = fits (opened_owner (record { variables = []; block = b }) ∷ os) fs b
@@ -56,7 +56,7 @@ abbrev mutual
   fits os fs no_stmts = true
   fits os fs (stmts s b) = fits_stmt os fs s && fits os fs b
 
--- waits inside of another one, with nothing beside them
+-- the waits merged into another one
 abbrev pub headers_fit : {A : Type 0} → List Owner → List (Header A) → Bool
 headers_fit os hs = list_all (λ h. are_declared os (names_view h.names.items)) hs
 

@@ -6,20 +6,20 @@ use Rattle.values.specs.Operators as op
 use Rattle.language.specs.Core as core
 use Rattle.language.specs.Core.{Core, Stmt, stmt, stmts, no_stmts}
 use Rattle.language.specs.Resolved.{pieces_or_none, awaited_as}
-use Rattle.flow.specs.declared.name.Owned.{Owned}
-use Rattle.flow.specs.declared.name.Owned.TheVariants as Own
+use Rattle.flow.specs.declared.name.NameBinding.{NameBinding}
+use Rattle.flow.specs.declared.name.NameBinding.TheVariants as Own
 use Rattle.flow.specs.declared.name.Name.{Name}
 use Rattle.flow.specs.declared.expression.Operation.{Operation}
 use Rattle.flow.specs.declared.expression.Operation.TheVariants as Op
 use Rattle.flow.specs.declared.expression.Expr.{Expr, Expr-F, fold-Expr}
 use Rattle.flow.specs.declared.expression.Expr.TheOpen as Has
-use Rattle.flow.specs.declared.cell.Form.{Form}
-use Rattle.flow.specs.declared.cell.Form.TheVariants as Is
+use Rattle.flow.specs.declared.cell.CellForm.{CellForm}
+use Rattle.flow.specs.declared.cell.CellForm.TheVariants as Is
 use Rattle.flow.specs.declared.cell.Cell.{Cell}
 use Rattle.flow.specs.declared.cell.Call.{Call}
-use Rattle.flow.specs.declared.cell.Part.{Part}
-use Rattle.flow.specs.declared.cell.Part.TheVariants as Stands
-use Rattle.flow.specs.declared.cell.Outer.{Outer}
+use Rattle.flow.specs.declared.cell.CellPart.{CellPart}
+use Rattle.flow.specs.declared.cell.CellPart.TheVariants as Stands
+use Rattle.flow.specs.declared.cell.OuterCell.{OuterCell}
 use Rattle.flow.specs.declared.statement.Header.{Header}
 use Rattle.flow.specs.declared.statement.Action.{Action, Action-F, fold-Action}
 use Rattle.flow.specs.declared.statement.Action.TheOpen as Does
@@ -30,7 +30,7 @@ use Rattle.flow.specs.declared.script.Flow.{Flow}
 
 -- NAMES
 
-abbrev pub owned_view : Owned → core.Owned
+abbrev pub owned_view : NameBinding → core.Owned
 owned_view (Own.Local n) = core.local n
 owned_view (Own.Input i) = core.input i
 owned_view (Own.Output i) = core.output i
@@ -41,7 +41,7 @@ name_view n = record { up = n.up; what = owned_view n.what }
 abbrev pub names_view : List Name → List core.Name
 names_view ns = map name_view ns
 
--- what a `wait` waits for under a name
+-- the awaited value or array of a name of a `wait`
 abbrev pub awaited_view : Name → core.Awaited
 awaited_view n = awaited_as n.shape (name_view n)
 
@@ -70,7 +70,7 @@ abbrev pub operands : List core.Expr → core.Exprs
 operands [] = core.none
 operands (e ∷ es) = core.also e (operands es)
 
--- an expression, where those that stand in it are seen already
+-- an expression whose nested expressions are views already
 abbrev pub expr_step : {A : Type 0} → Expr-F A core.Expr → core.Expr
 expr_step (Has.Number n) = core.literal (Scalar.Number n)
 expr_step (Has.Text v) = core.literal (Scalar.Text v.items)
@@ -87,7 +87,7 @@ exprs_view es = operands (map expr_view es)
 
 -- CELLS AND CALLS
 
-abbrev pub form_view : {A : Type 0} → Form A → core.Form
+abbrev pub form_view : {A : Type 0} → CellForm A → core.Form
 form_view (Is.Compute e) = core.compute (expr_view e)
 form_view (Is.Read array index) = core.read (name_view array) index
 
@@ -97,14 +97,14 @@ cell_view c = record { node = c.node; form = form_view c.form }
 abbrev pub call_view : {A : Type 0} → Call A → core.Call
 call_view c = record { at = c.at; function = c.function; inputs = names_view c.inputs.items; outputs = names_view c.outputs.items }
 
-abbrev pub part_view : {A : Type 0} → Part A → core.Part
+abbrev pub part_view : {A : Type 0} → CellPart A → core.Part
 part_view (Stands.Inner c) = core.inner (cell_view c)
 part_view (Stands.Calls c) = core.calls (call_view c)
 
-abbrev pub parts_view : {A : Type 0} → List (Part A) → List core.Part
+abbrev pub parts_view : {A : Type 0} → List (CellPart A) → List core.Part
 parts_view ps = map part_view ps
 
-abbrev pub outer_view : {A : Type 0} → Outer A → core.Outer
+abbrev pub outer_view : {A : Type 0} → OuterCell A → core.Outer
 outer_view o = record { parts = parts_view o.parts.items; cell = cell_view o.cell }
 
 -- STATEMENTS
@@ -114,12 +114,12 @@ abbrev pub block_of : List Stmt → core.Block
 block_of [] = no_stmts
 block_of (s ∷ ss) = stmts s (block_of ss)
 
--- a block that is waits one in another, outermost first, with a content in the innermost
+-- a block of nested waits, outermost first, with a content in the innermost
 abbrev pub waits_around : {A : Type 0} → List (Header A) → core.Block → core.Block
 waits_around [] b = b
 waits_around (h ∷ hs) b = stmts (stmt h.at h.node (core.wait (map awaited_view h.names.items) (waits_around hs b))) no_stmts
 
--- what a statement does, where its blocks are seen already
+-- the action of a statement whose blocks are views already
 abbrev pub action_step : {A : Type 0} → Action-F A core.Action core.Block Stmt → core.Action
 action_step (Does.Declare v) = core.declare v.node
 action_step (Does.Call p ps c) = core.call_alone p (parts_view ps.items) (call_view c.value)

@@ -1,27 +1,27 @@
--- What the program keeps, seen as the definition has it.
+-- Data of the program in terms of the definitions.
 use Rattle.std.specs.Prelude.{ℕ, zero, suc, List, [], ◌∷◌, ◌++◌, option_to_list}
 use Rattle.flow.specs.View.{block_view}
-use Rattle.flow.specs.declared.declaring.Times.{Times}
+use Rattle.flow.specs.declared.declaring.Multiplicity.{Multiplicity}
 use Rattle.flow.specs.declared.scopes.Scope.{Scope}
 use Rattle.flow.specs.declared.scopes.Scopes.{Scopes, Scopes-F, fold-Scopes}
 use Rattle.flow.specs.declared.scopes.Scopes.TheOpen as Are
 use Rattle.flow.specs.Names.{block_nodes}
 use Rattle.flow.specs.Whole.{Owner, times}
 
-abbrev pub number_as : ℕ → Times
-number_as zero = Times.Never
-number_as (suc zero) = Times.Once
-number_as (suc (suc n)) = Times.Often
+abbrev pub number_as : ℕ → Multiplicity
+number_as zero = Multiplicity.Never
+number_as (suc zero) = Multiplicity.Once
+number_as (suc (suc n)) = Multiplicity.Often
 
--- how often a number stands in a list, as far as it matters
-abbrev pub times_as : ℕ → List ℕ → Times
+-- how often a number occurs in a list: never, once or often
+abbrev pub times_as : ℕ → List ℕ → Multiplicity
 times_as n ns = number_as (times n ns)
 
--- how often in two lists
-abbrev pub plus : Times → Times → Times
-plus Times.Never t = t
-plus t Times.Never = t
-plus _ _ = Times.Often
+-- how often it occurs in two lists
+abbrev pub plus : Multiplicity → Multiplicity → Multiplicity
+plus Multiplicity.Never t = t
+plus t Multiplicity.Never = t
+plus _ _ = Multiplicity.Often
 
 abbrev pub owner_of : {A : Type 0} → Scope A → Owner
 owner_of s = record { inputs = s.inputs; outputs = s.outputs; nodes = (option_to_list s.value ++ option_to_list s.turn) ++ block_nodes (block_view s.block.now) }

@@ -1,16 +1,17 @@
--- When a core is whole: each name is declared once where it leads to, and each function that is called is there.
+-- When a core is whole: each name is declared once where it refers to, and each called function exists.
 use Rattle.std.specs.Prelude.{◌≡◌, ℕ, suc, ◌<◌, List, [], ◌∷◌, ◌++◌, length, Some, slice_get, cond, nat_eq}
 use Rattle.language.specs.Core.{Owned, local, input, output, Name, Call, stmt, Action, Awaited, wait, Block, Function, Core}
 use Rattle.language.specs.Members.{◌∈◌}
 use Rattle.language.specs.Parts.{block_list, parts, part_calls}
 use Rattle.flow.specs.Names.{block_nodes, names_used, opens, Opened}
 
--- how often a number stands in a list
+-- how often a number occurs in a list
 abbrev pub times : ℕ → List ℕ → ℕ
 times n [] = 0
 times n (x ∷ xs) = cond (nat_eq n x) (suc (times n xs)) (times n xs)
 
--- what declares names: how many inputs and outputs a function has whose body it is, and the nodes of variables and cells
+-- an owner of names: the numbers of inputs and outputs of the function whose body it is, and the nodes of variables and
+-- cells
 pub record Owner : Type 0 where
   pub inputs : ℕ
   pub outputs : ℕ
@@ -30,14 +31,14 @@ Declares o (local n) = times n o.nodes ≡ 1
 Declares o (input i) = i < o.inputs
 Declares o (output i) = i < o.outputs
 
--- a block of a script, with what declares names around it: itself first, then outwards
+-- a block of a script, with the owners of names around it, innermost first
 pub data IsWithin (s : Core) : List Owner → Block → Type 0 where
   of_script : IsWithin s (script_owner s ∷ []) s.body
   of_function : (i : ℕ) {f : Function} → slice_get s.functions i ≡ Some f → IsWithin s (function_owner f ∷ []) f.body
   in_wait : {os : List Owner} {b c : Block} {at n : ℕ} {xs : List Awaited} → IsWithin s os b → stmt at n (wait xs c) ∈ block_list b → IsWithin s os c
   opened : {os : List Owner} {b : Block} {at n : ℕ} {a : Action} {o : Opened} → IsWithin s os b → stmt at n a ∈ block_list b → o ∈ opens a → IsWithin s (opened_owner o ∷ os) o.block
 
--- the name is declared once, in the block that it leads to
+-- the name is declared once, in the block that it refers to
 pub record IsDeclared (os : List Owner) (x : Name) : Type 0 where
   pub owner : Owner
   pub there : slice_get os x.up ≡ Some owner

@@ -4,27 +4,27 @@ use crate::expression::Expr;
 use crate::name::Name;
 use std::alloc::Allocator;
 
-/// What a cell is.
+/// The form of a cell: a computed value or an array element.
 #[derive(Drop)]
-pub enum Form<A: Allocator> {
+pub enum CellForm<A: Allocator> {
     /// The value of an expression.
     Compute(Expr<A>),
-    /// The element of an array at the index that the cell of this node has.
+    /// The element of an array at the index that the cell of node `index` holds.
     Read { array: Name, index: u32 },
 }
 
-/// A cell: its node, the offset of the first token of its expression, which for an element is the array's name, and what it
-/// is.
+/// A cell: its node, the offset of the first token of its expression, and its form. For an array element the first
+/// token is the array's name.
 #[derive(Drop)]
 pub struct Cell<A: Allocator> {
     pub node: u32,
     pub at: usize,
-    pub form: Form<A>,
+    pub form: CellForm<A>,
 }
 
-/// A call of a composite function: the offset of the called name, which function of the script it is, and what its inputs and
-/// outputs stand for. An input stands for a cell or an array, an output for a variable (Swift/T Guide, on composite
-/// functions).
+/// A call of a composite function: the offset of the called name, the index of the function in the script, and the
+/// names bound to its inputs and outputs. An input is bound to a cell or an array, an output to a variable (Swift/T
+/// Guide, on composite functions).
 #[derive(Drop)]
 pub struct Call<A: Allocator> {
     pub at: usize,
@@ -33,16 +33,17 @@ pub struct Call<A: Allocator> {
     pub outputs: Vec<Name, A>,
 }
 
-/// What stands inside of an outermost cell or before a call.
+/// A cell or call nested in an outermost cell, or evaluated before a call.
 #[derive(Drop)]
-pub enum Part<A: Allocator> {
+pub enum CellPart<A: Allocator> {
     Inner(Cell<A>),
     Calls(Call<A>),
 }
 
-/// An outermost cell of a statement, one that lies in no other, with the parts inside it, inner ones before outer ones.
+/// An outermost cell of a statement, which is nested in no other, with its nested parts. Inner parts precede outer
+/// parts.
 #[derive(Drop)]
-pub struct Outer<A: Allocator> {
-    pub parts: Vec<Part<A>, A>,
+pub struct OuterCell<A: Allocator> {
+    pub parts: Vec<CellPart<A>, A>,
     pub cell: Cell<A>,
 }

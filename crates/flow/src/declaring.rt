@@ -1,4 +1,4 @@
-//! How often a block declares a node.
+//! Counts of the declarations of a node in a block: never, once or often.
 ghost use Rattle.std.specs.Prelude.{◌≡◌, ◌∷◌, [], option_map, option_to_list};
 ghost use Rattle.std.specs.List.{flat_map};
 ghost use Rattle.flow.specs.View.{action_view, block_view, name_view, names_view, outer_view, part_view, parts_view};
@@ -6,45 +6,45 @@ ghost use Rattle.language.specs.Parts.{outer_parts};
 ghost use Rattle.flow.specs.Names.{action_nodes, block_nodes, here_nodes, part_nodes};
 ghost use Rattle.flow.specs.Viewed.{plus, times_as};
 
-use crate::cell::{Outer, Part};
-use crate::name::{Name, Owned};
+use crate::cell::{CellPart, OuterCell};
+use crate::name::{Name, NameBinding};
 use crate::statement::{Action, Block, Range};
 use std::alloc::Allocator;
 
-/// How often something is declared.
+/// The number of declarations of a node, up to two.
 #[derive(Clone, Copy, PartialEq, Eq, Debug)]
-pub(crate) enum Times {
+pub(crate) enum Multiplicity {
     Never,
     Once,
     Often,
 }
 
-impl Times {
-    /// How often in two parts.
-    pub(crate) fn and(self, other: Times) -> Times
+impl Multiplicity {
+    /// Returns the sum of two multiplicities.
+    pub(crate) fn and(self, other: Multiplicity) -> Multiplicity
         ensures { result ≡ plus self other }
     {
         match (self, other) {
-            (Times::Never, other) => other,
-            (this, Times::Never) => this,
-            _ => Times::Often,
+            (Multiplicity::Never, other) => other,
+            (this, Multiplicity::Never) => this,
+            _ => Multiplicity::Often,
         }
     }
 }
 
-/// How often a variable is the one of a node.
-pub(crate) fn times_of_variable(node: u32, variable: Option<u32>) -> Times
+/// Returns `Once` if the variable has this node, otherwise `Never`.
+pub(crate) fn times_of_variable(node: u32, variable: Option<u32>) -> Multiplicity
     ensures { result ≡ times_as node (option_to_list variable) }
 {
     match variable {
-        Some(other) if other == node => Times::Once,
-        _ => Times::Never,
+        Some(other) if other == node => Multiplicity::Once,
+        _ => Multiplicity::Never,
     }
 }
 
-/// How often a statement declares a node.
+/// Returns how often a statement declares a node in the instance of its own block. A `wait` includes its content.
 #[cycle(block)]
-fn times_in_action<A: Allocator>(node: u32, action: &Action<A>) -> Times
+fn times_in_action<A: Allocator>(node: u32, action: &Action<A>) -> Multiplicity
     ensures { result ≡ times_as node (action_nodes (action_view action.now)) }
 {
     match action {
@@ -58,32 +58,32 @@ fn times_in_action<A: Allocator>(node: u32, action: &Action<A>) -> Times
         Action::When { condition, .. } => times_in_outer(node, condition),
         Action::Choose { condition, .. } => times_in_outer(node, condition),
         Action::Range { range, .. } => times_in_range(node, range),
-        Action::Each { .. } => Times::Never,
+        Action::Each { .. } => Multiplicity::Never,
         Action::Wait { content, .. } => times_in_block(node, content),
     }
 }
 
-/// How often a block's instance declares a node.
+/// Returns how often an instance of a block declares a node.
 #[cycle(block)]
-pub(crate) fn times_in_block<A: Allocator>(node: u32, block: &Block<A>) -> Times
+pub(crate) fn times_in_block<A: Allocator>(node: u32, block: &Block<A>) -> Multiplicity
     ensures { result ≡ times_as node (block_nodes (block_view block.now)) }
 {
-    let mut times = Times::Never;
+    let mut times = Multiplicity::Never;
     for statement in &block.statements {
         times = times.and(times_in_action(node, &statement.action));
     }
     times
 }
 
-/// How often two outermost cells declare a node.
-fn times_in_two<A: Allocator>(node: u32, one: &Outer<A>, other: &Outer<A>) -> Times
+/// Returns how often two outermost cells declare a node.
+fn times_in_two<A: Allocator>(node: u32, one: &OuterCell<A>, other: &OuterCell<A>) -> Multiplicity
     ensures { result ≡ times_as node (flat_map part_nodes (outer_parts (outer_view one.now ∷ outer_view other.now ∷ []))) }
 {
     times_in_outer(node, one).and(times_in_outer(node, other))
 }
 
-/// How often the bounds and the step of a range declare a node.
-fn times_in_range<A: Allocator>(node: u32, range: &Range<A>) -> Times
+/// Returns how often the bounds and the step of a range declare a node.
+fn times_in_range<A: Allocator>(node: u32, range: &Range<A>) -> Multiplicity
     ensures { result ≡ times_as node (flat_map part_nodes
         (outer_parts (outer_view range.now.low ∷ outer_view range.now.high ∷ option_to_list (option_map outer_view range.now.step)))) }
 {
@@ -91,60 +91,60 @@ fn times_in_range<A: Allocator>(node: u32, range: &Range<A>) -> Times
     times_in_outer(node, &range.low).and(upper)
 }
 
-/// How often the step of a range declares a node.
-fn times_in_step<A: Allocator>(node: u32, step: &Option<Outer<A>>) -> Times
+/// Returns how often the step of a range declares a node.
+fn times_in_step<A: Allocator>(node: u32, step: &Option<OuterCell<A>>) -> Multiplicity
     ensures { result ≡ times_as node (flat_map part_nodes (outer_parts (option_to_list (option_map outer_view step.now)))) }
 {
     match step {
         Some(outer) => times_in_outer(node, outer),
-        None => Times::Never,
+        None => Multiplicity::Never,
     }
 }
 
-/// How often an outermost cell declares a node, with what is inside it.
-fn times_in_outer<A: Allocator>(node: u32, outer: &Outer<A>) -> Times
+/// Returns how often an outermost cell and its nested parts declare a node.
+fn times_in_outer<A: Allocator>(node: u32, outer: &OuterCell<A>) -> Multiplicity
     ensures { result ≡ times_as node (flat_map part_nodes (outer_parts (outer_view outer.now ∷ []))) }
 {
     times_in_parts(node, &outer.parts).and(times_of_variable(node, Some(outer.cell.node)))
 }
 
-/// How often cells and calls in an expression declare a node.
-fn times_in_parts<A: Allocator>(node: u32, parts: &Vec<Part<A>, A>) -> Times
+/// Returns how often the cells and calls in an expression declare a node.
+fn times_in_parts<A: Allocator>(node: u32, parts: &Vec<CellPart<A>, A>) -> Multiplicity
     ensures { result ≡ times_as node (flat_map part_nodes (parts_view parts.now.items)) }
 {
-    let mut times = Times::Never;
+    let mut times = Multiplicity::Never;
     for part in parts {
         times = times.and(times_in_part(node, part));
     }
     times
 }
 
-fn times_in_part<A: Allocator>(node: u32, part: &Part<A>) -> Times
+fn times_in_part<A: Allocator>(node: u32, part: &CellPart<A>) -> Multiplicity
     ensures { result ≡ times_as node (part_nodes (part_view part.now)) }
 {
     match part {
-        Part::Inner(cell) => times_of_variable(node, Some(cell.node)),
-        Part::Calls(call) => times_in_names(node, call.outputs.as_slice()),
+        CellPart::Inner(cell) => times_of_variable(node, Some(cell.node)),
+        CellPart::Calls(call) => times_in_names(node, call.outputs.as_slice()),
     }
 }
 
-/// How often names are the variable of a node in their own block.
-fn times_in_names(node: u32, names: &[Name]) -> Times
+/// Returns how many of the names refer to this node in their own block.
+fn times_in_names(node: u32, names: &[Name]) -> Multiplicity
     ensures { result ≡ times_as node (flat_map here_nodes (names_view names.now)) }
 {
-    let mut times = Times::Never;
+    let mut times = Multiplicity::Never;
     for name in names {
         times = times.and(times_in_name(node, name));
     }
     times
 }
 
-/// How often a name is the variable of a node in its own block.
-fn times_in_name(node: u32, name: &Name) -> Times
+/// Returns `Once` if the name refers to this node in its own block, otherwise `Never`.
+fn times_in_name(node: u32, name: &Name) -> Multiplicity
     ensures { result ≡ times_as node (here_nodes (name_view name.now)) }
 {
     match (name.up, name.what) {
-        (0, Owned::Local(other)) => times_of_variable(node, Some(other)),
-        _ => Times::Never,
+        (0, NameBinding::Local(other)) => times_of_variable(node, Some(other)),
+        _ => Multiplicity::Never,
     }
 }

@@ -4,7 +4,8 @@ use crate::name::Name;
 use std::alloc::Allocator;
 use values::op::{Factor, Order, Sign};
 
-/// What is done with the operands of one expression, with what stands in it (Swift/T Guide, on operators).
+/// The operation that an expression applies to its operands, with its signs, operators or format (Swift/T Guide, on
+/// operators).
 #[derive(Drop)]
 pub enum Operation<A: Allocator> {
     /// The signs between the operands of a chain of `+` and `-`.
@@ -22,15 +23,15 @@ pub enum Operation<A: Allocator> {
     FromInt,
     ToInt,
     Size,
-    /// The bytes of the format of a `printf`. A text that is no format, and a first argument that is no text, print nothing:
-    /// no script that is accepted has these.
+    /// The bytes of the format of a `printf`. A text that is not a format, or a first argument that is not a text,
+    /// prints nothing. No accepted script has either.
     Printf(Vec<u8, A>),
     Assert,
-    /// An array literal: the operands are its elements.
+    /// An array literal, whose operands are its elements.
     Literal,
 }
 
-/// An expression without the cells and calls that lie in it: those are named by their nodes.
+/// An expression without its nested cells and calls, to which it refers by their nodes.
 #[cycle(expr)]
 #[derive(Drop)]
 pub enum Expr<A: Allocator> {
@@ -40,7 +41,7 @@ pub enum Expr<A: Allocator> {
     Truth(bool),
     /// A scalar variable or a cell.
     Name(Name),
-    /// A whole array, where its elements or their number are wanted.
+    /// A whole array, for its elements or their number.
     Whole(Name),
     Operation(Operation<A>, Vec<Expr<A>, A>),
 }

@@ -1,4 +1,4 @@
-//! Whether what a statement itself names is declared, and what it calls is there.
+//! Checks that the names used by a statement are declared and that the functions it calls exist.
 ghost use Rattle.std.specs.Prelude.{◌≡◌, ◌∷◌, ◌++◌, [], option_map, option_to_list};
 ghost use Rattle.flow.specs.View.{action_view, call_view, cell_view, expr_view, exprs_view, form_view, name_view, names_view, outer_view, part_view, parts_view};
 ghost use Rattle.language.specs.Core.{calls, here};
@@ -7,15 +7,16 @@ ghost use Rattle.flow.specs.Names.{expr_names, exprs_names, form_names};
 ghost use Rattle.flow.specs.Tests.{are_declared, is_fit, part_fits, parts_fit};
 ghost use Rattle.flow.specs.Viewed.{owners_of};
 
-use crate::cell::{Call, Form, Outer, Part};
+use crate::cell::{Call, CellForm, CellPart, OuterCell};
 use crate::expression::Expr;
-use crate::name::{Name, Owned};
+use crate::name::{Name, NameBinding};
 use crate::scopes::{Scopes, is_declared};
 use crate::statement::{Action, Range};
 use language::tree::Shape;
 use std::alloc::Allocator;
 
-/// Whether what a statement names beside the blocks inside it is declared, and what it calls is there.
+/// Returns true if all names that a statement uses outside its nested blocks are declared and all functions that it
+/// calls exist.
 pub(crate) fn is_fit<'a, A: Allocator>(
     scopes: &Scopes<'a, A>,
     functions: usize,
@@ -45,11 +46,11 @@ pub(crate) fn is_fit<'a, A: Allocator>(
     }
 }
 
-/// Whether a call that is a statement, with what stands before it, is fit.
+/// Returns true if all names and functions in a call statement and in the parts before it exist.
 fn is_call_alone_fit<'a, A: Allocator>(
     scopes: &Scopes<'a, A>,
     functions: usize,
-    parts: &Vec<Part<A>, A>,
+    parts: &Vec<CellPart<A>, A>,
     call: &Call<A>,
 ) -> bool
     ensures { result ≡ parts_fit (owners_of scopes.now) functions (parts_view parts.now.items ++ calls (call_view call.now) ∷ []) }
@@ -57,19 +58,19 @@ fn is_call_alone_fit<'a, A: Allocator>(
     are_parts_fit(scopes, functions, parts) && is_call_fit(scopes, functions, call)
 }
 
-/// Whether two outermost cells are fit.
+/// Returns true if all names and functions in two outermost cells exist.
 fn are_two_fit<'a, A: Allocator>(
     scopes: &Scopes<'a, A>,
     functions: usize,
-    one: &Outer<A>,
-    other: &Outer<A>,
+    one: &OuterCell<A>,
+    other: &OuterCell<A>,
 ) -> bool
     ensures { result ≡ parts_fit (owners_of scopes.now) functions (outer_parts (outer_view one.now ∷ outer_view other.now ∷ [])) }
 {
     is_outer_fit(scopes, functions, one) && is_outer_fit(scopes, functions, other)
 }
 
-/// Whether the bounds and the step of a range are fit.
+/// Returns true if all names and functions in the bounds and the step of a range exist.
 fn is_range_fit<'a, A: Allocator>(
     scopes: &Scopes<'a, A>,
     functions: usize,
@@ -86,7 +87,7 @@ fn is_range_fit<'a, A: Allocator>(
 fn is_step_fit<'a, A: Allocator>(
     scopes: &Scopes<'a, A>,
     functions: usize,
-    step: &Option<Outer<A>>,
+    step: &Option<OuterCell<A>>,
 ) -> bool
     ensures { result ≡ parts_fit (owners_of scopes.now) functions (outer_parts (option_to_list (option_map outer_view step.now))) }
 {
@@ -96,22 +97,22 @@ fn is_step_fit<'a, A: Allocator>(
     }
 }
 
-/// Whether an outermost cell is fit, with what is inside it.
+/// Returns true if all names and functions in an outermost cell and its nested parts exist.
 fn is_outer_fit<'a, A: Allocator>(
     scopes: &Scopes<'a, A>,
     functions: usize,
-    outer: &Outer<A>,
+    outer: &OuterCell<A>,
 ) -> bool
     ensures { result ≡ parts_fit (owners_of scopes.now) functions (outer_parts (outer_view outer.now ∷ [])) }
 {
     are_parts_fit(scopes, functions, &outer.parts) && is_form_fit(scopes, &outer.cell.form)
 }
 
-/// Whether cells and calls in an expression are fit.
+/// Returns true if all names and functions in the cells and calls of an expression exist.
 fn are_parts_fit<'a, A: Allocator>(
     scopes: &Scopes<'a, A>,
     functions: usize,
-    parts: &Vec<Part<A>, A>,
+    parts: &Vec<CellPart<A>, A>,
 ) -> bool
     ensures { result ≡ parts_fit (owners_of scopes.now) functions (parts_view parts.now.items) }
 {
@@ -123,12 +124,16 @@ fn are_parts_fit<'a, A: Allocator>(
     true
 }
 
-fn is_part_fit<'a, A: Allocator>(scopes: &Scopes<'a, A>, functions: usize, part: &Part<A>) -> bool
+fn is_part_fit<'a, A: Allocator>(
+    scopes: &Scopes<'a, A>,
+    functions: usize,
+    part: &CellPart<A>,
+) -> bool
     ensures { result ≡ part_fits (owners_of scopes.now) functions (part_view part.now) }
 {
     match part {
-        Part::Inner(cell) => is_form_fit(scopes, &cell.form),
-        Part::Calls(call) => is_call_fit(scopes, functions, call),
+        CellPart::Inner(cell) => is_form_fit(scopes, &cell.form),
+        CellPart::Calls(call) => is_call_fit(scopes, functions, call),
     }
 }
 
@@ -140,29 +145,30 @@ fn is_call_fit<'a, A: Allocator>(scopes: &Scopes<'a, A>, functions: usize, call:
         && call.function < functions
 }
 
-/// Whether the names in a cell are declared.
-fn is_form_fit<'a, A: Allocator>(scopes: &Scopes<'a, A>, form: &Form<A>) -> bool
+/// Returns true if the names in a cell are declared.
+fn is_form_fit<'a, A: Allocator>(scopes: &Scopes<'a, A>, form: &CellForm<A>) -> bool
     ensures { result ≡ are_declared (owners_of scopes.now) (form_names (form_view form.now)) }
 {
     match form {
-        Form::Compute(expression) => is_expression_fit(scopes, expression),
-        Form::Read { array, index } => is_declared(scopes, *array) && is_index_fit(scopes, *index),
+        CellForm::Compute(expression) => is_expression_fit(scopes, expression),
+        CellForm::Read { array, index } => is_declared(scopes, *array)
+            && is_index_fit(scopes, *index),
     }
 }
 
-/// Whether the cell that gives an index is declared in the block that names it.
+/// Returns true if the cell of an index is declared in the block that uses it.
 fn is_index_fit<'a, A: Allocator>(scopes: &Scopes<'a, A>, index: u32) -> bool
     ensures { result ≡ are_declared (owners_of scopes.now) (here index ∷ []) }
 {
     let cell = Name {
         up: 0,
-        what: Owned::Local(index),
+        what: NameBinding::Local(index),
         shape: Shape::Scalar,
     };
     is_declared(scopes, cell)
 }
 
-/// Whether the names in an expression are declared.
+/// Returns true if the names in an expression are declared.
 #[cycle(expression)]
 fn is_expression_fit<'a, A: Allocator>(scopes: &Scopes<'a, A>, expression: &Expr<A>) -> bool
     ensures { result ≡ are_declared (owners_of scopes.now) (expr_names (expr_view expression.now)) }
@@ -190,7 +196,7 @@ fn are_expressions_fit<'a, A: Allocator>(
     true
 }
 
-/// Whether names are declared.
+/// Returns true if all the names are declared.
 pub(crate) fn are_names_fit<'a, A: Allocator>(scopes: &Scopes<'a, A>, names: &Vec<Name, A>) -> bool
     ensures { result ≡ are_declared (owners_of scopes.now) (names_view names.now.items) }
 {

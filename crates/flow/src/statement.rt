@@ -1,12 +1,11 @@
 //! Statements of a flow.
 
-use crate::cell::{Call, Outer, Part};
+use crate::cell::{Call, CellPart, OuterCell};
 use crate::name::Name;
 use language::tree::Shape;
 use std::alloc::Allocator;
 
-/// A variable where it is declared: its node, whether it is an array, and the bytes of its name. Also an input, an output, and
-/// a loop's variable.
+/// A declared variable, input, output or loop variable: its node, its shape and the bytes of its name.
 #[derive(Drop)]
 pub struct Variable<A: Allocator> {
     pub node: u32,
@@ -18,7 +17,7 @@ impl<A: Allocator> Variable<A> {
     ghost use Rattle.std.specs.Prelude.{◌≡◌};
     ghost use Rattle.flow.specs.Shapes.{is_array};
 
-    /// Whether it is an array.
+    /// Returns true if the variable is an array.
     pub fn is_array(&self) -> bool
         ensures { result ≡ is_array self.now.shape }
     {
@@ -29,8 +28,8 @@ impl<A: Allocator> Variable<A> {
     }
 }
 
-/// A `wait` inside of another one, with nothing beside it there: the offset of its first token, its node, and what it waits
-/// for.
+/// A `wait` that is the only content of another `wait`: the offset of its first token, its node, and the names that it
+/// waits for.
 #[derive(Drop)]
 pub struct Header<A: Allocator> {
     pub at: usize,
@@ -41,78 +40,78 @@ pub struct Header<A: Allocator> {
 /// A range, with both ends included.
 #[derive(Drop)]
 pub struct Range<A: Allocator> {
-    pub low: Outer<A>,
-    pub high: Outer<A>,
-    /// A missing step is 1.
-    pub step: Option<Outer<A>>,
+    pub low: OuterCell<A>,
+    pub high: OuterCell<A>,
+    /// The step; a missing step is 1.
+    pub step: Option<OuterCell<A>>,
 }
 
-/// What a statement does, with its outermost cells. A declaration with a right side is two statements, and so is none here
-/// with both.
+/// The action of a statement, with its outermost cells. A declaration with a right side is two statements, so no action
+/// has both.
 #[cycle(statement)]
 #[derive(Drop)]
 pub enum Action<A: Allocator> {
     Declare(Variable<A>),
-    /// A call of a composite function that gives variables their values, or none. The parts stand before it, inner ones before
-    /// outer ones.
+    /// A call of a composite function that assigns variables, or none. The parts are evaluated before the call; inner
+    /// parts precede outer parts.
     Call {
         priority: i32,
-        parts: Vec<Part<A>, A>,
+        parts: Vec<CellPart<A>, A>,
         call: Box<Call<A>, A>,
     },
-    /// A scalar gets a value.
+    /// An assignment to a scalar.
     Assign {
         target: Name,
-        right: Box<Outer<A>, A>,
+        right: Box<OuterCell<A>, A>,
     },
-    /// An array gets all its elements: those of another or of a literal.
+    /// An assignment of all elements of an array, from another array or a literal.
     Fill {
         array: Name,
-        right: Box<Outer<A>, A>,
+        right: Box<OuterCell<A>, A>,
     },
-    /// An array gets one element.
+    /// An assignment of one array element.
     Insert {
         array: Name,
-        index: Box<Outer<A>, A>,
-        right: Box<Outer<A>, A>,
+        index: Box<OuterCell<A>, A>,
+        right: Box<OuterCell<A>, A>,
     },
-    /// A line of `printf`, which is the cell.
+    /// A `printf`; the cell is its line.
     Print {
         priority: i32,
-        line: Box<Outer<A>, A>,
+        line: Box<OuterCell<A>, A>,
     },
-    /// An `assert`, which is the cell.
+    /// An `assert`; the cell is its check.
     Assert {
         priority: i32,
-        check: Box<Outer<A>, A>,
+        check: Box<OuterCell<A>, A>,
     },
     /// An `if` without `else`.
     When {
-        condition: Box<Outer<A>, A>,
+        condition: Box<OuterCell<A>, A>,
         then: Box<Block<A>, A>,
     },
     /// An `if` with `else`. An `else if` is a block of one statement.
     Choose {
-        condition: Box<Outer<A>, A>,
+        condition: Box<OuterCell<A>, A>,
         then: Box<Block<A>, A>,
         other: Box<Block<A>, A>,
     },
-    /// A `foreach` over a range: the value, and the number of the turn from 0 on where it has a name.
+    /// A `foreach` over a range: the value, and the index of the turn from 0 if it has a name.
     Range {
         range: Box<Range<A>, A>,
         value: Variable<A>,
         turn: Option<Variable<A>>,
         body: Box<Block<A>, A>,
     },
-    /// A `foreach` over an array: the element, and its key where it has a name.
+    /// A `foreach` over an array: the element, and its key if it has a name.
     Each {
         array: Name,
         value: Variable<A>,
         key: Option<Variable<A>>,
         body: Box<Block<A>, A>,
     },
-    /// A `wait`: what it waits for, and then the waits that are inside of it one in another with nothing beside them, outermost
-    /// first. The content is that of the innermost.
+    /// A `wait`: the names that it waits for, the merged inner waits, outermost first, and the content of the innermost
+    /// wait. Each inner wait is the only content of the wait around it.
     Wait {
         names: Vec<Name, A>,
         inner: Vec<Header<A>, A>,
@@ -120,7 +119,8 @@ pub enum Action<A: Allocator> {
     },
 }
 
-/// The statements in braces, with the offset of the `{`; for an `else if` that of its `if`, and 0 for the script's own block.
+/// The statements in braces, with the offset of the `{`. For an `else if` the offset is that of its `if`, and for the
+/// script's own block it is 0.
 #[cycle(statement)]
 #[derive(Drop)]
 pub struct Block<A: Allocator> {
@@ -128,7 +128,7 @@ pub struct Block<A: Allocator> {
     pub statements: Vec<Statement<A>, A>,
 }
 
-/// A statement: the offset of its first token, its node, and what it does.
+/// A statement: the offset of its first token, its node and its action.
 #[cycle(statement)]
 #[derive(Drop)]
 pub struct Statement<A: Allocator> {

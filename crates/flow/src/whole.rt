@@ -1,4 +1,4 @@
-//! Whole flows.
+//! Test whether a flow is whole: each name is declared exactly once and each called function exists.
 ghost use Rattle.std.specs.Prelude.{◌≡◌, ◌++◌, ◌↔◌, true, map, option_map, option_to_list};
 ghost use Rattle.std.specs.List.{list_all};
 ghost use Rattle.flow.specs.View.{action_view, block_view, core_of, function_view, statement_view};
@@ -13,8 +13,8 @@ use crate::statement::{Action, Block, Header, Statement, Variable};
 use std::alloc::Allocator;
 
 impl<A: Allocator> Flow<A> {
-    /// Whether each name that it uses is declared once in the block that it leads to, and each function that it calls is there. Takes no
-    /// memory.
+    /// Returns true if each name that the flow uses is declared exactly once in the block that it refers to, and each
+    /// called function exists. Does not allocate.
     pub fn is_whole(&self) -> bool
         ensures { (result ≡ true) ↔ IsWhole (core_of self.now) }
     {
@@ -56,7 +56,7 @@ fn is_function_fit<A: Allocator>(count: usize, function: &Function<A>) -> bool
     is_block_fit(&Scopes::Within(inside, &outside), count, &function.body)
 }
 
-/// Whether the blocks inside a statement are fit.
+/// Returns true if all names and functions in the nested blocks of a statement exist.
 #[cycle(block)]
 fn are_blocks_fit<'a, A: Allocator>(
     scopes: &Scopes<'a, A>,
@@ -100,7 +100,7 @@ fn are_blocks_fit<'a, A: Allocator>(
     }
 }
 
-/// Whether a statement is fit, with the blocks inside it.
+/// Returns true if all names and functions in a statement and its nested blocks exist.
 #[cycle(block)]
 fn is_statement_fit<'a, A: Allocator>(
     scopes: &Scopes<'a, A>,
@@ -113,7 +113,7 @@ fn is_statement_fit<'a, A: Allocator>(
         && are_blocks_fit(scopes, functions, &statement.action)
 }
 
-/// Whether the statements of a block are fit, with the blocks inside them.
+/// Returns true if all names and functions in the statements of a block and their nested blocks exist.
 #[cycle(block)]
 fn is_block_fit<'a, A: Allocator>(
     scopes: &Scopes<'a, A>,
@@ -130,7 +130,7 @@ fn is_block_fit<'a, A: Allocator>(
     true
 }
 
-/// Whether what waits inside of another wait, with nothing beside it, waits for names that are declared.
+/// Returns true if the names of the merged inner waits are declared.
 fn are_headers_fit<'a, A: Allocator>(scopes: &Scopes<'a, A>, headers: &Vec<Header<A>, A>) -> bool
     ensures { result ≡ headers_fit (owners_of scopes.now) headers.now.items }
 {
@@ -142,7 +142,7 @@ fn are_headers_fit<'a, A: Allocator>(scopes: &Scopes<'a, A>, headers: &Vec<Heade
     true
 }
 
-/// What an opened block declares, with the variables of a loop.
+/// Creates the scope of a nested block, with the variables of its loop.
 fn opened<A: Allocator>(value: Option<u32>, turn: Option<u32>, block: &Block<A>) -> Scope<'_, A>
     ensures { owner_of result ≡ opened_owner (record { variables = option_to_list value ++ option_to_list turn; block = block_view block.entry.now }) }
 {
@@ -155,7 +155,7 @@ fn opened<A: Allocator>(value: Option<u32>, turn: Option<u32>, block: &Block<A>)
     }
 }
 
-/// The node of a variable, where there is one.
+/// Returns the node of a variable, if there is one.
 fn node_of<A: Allocator>(variable: &Option<Variable<A>>) -> Option<u32>
     ensures { result ≡ option_map (λ v. v.node) variable.now }
 {

@@ -9,8 +9,8 @@ use Rattle.std.proofs.lemmas.Option.{slice_get-get_or, slice_get-map, slice_get_
 use Rattle.language.specs.Core.{Core, Stmt}
 use Rattle.language.specs.Parts.{script_stmts}
 use Rattle.flow_index.specs.declared.site.Site.{Site}
-use Rattle.flow_index.specs.declared.table.Found.TheVariants as Is
-use Rattle.flow_index.specs.declared.table.Sites.{Sites}
+use Rattle.flow_index.specs.declared.statement_index.SiteEntry.TheVariants as Is
+use Rattle.flow_index.specs.declared.statement_index.StatementIndex.{StatementIndex}
 use Rattle.flow_index.specs.Candidates.{candidates, only}
 use Rattle.flow_index.specs.Sites.{site_view, AreSites}
 use Rattle.flow_index.proofs.Noting.{nothing_noted, only_noted, several_noted}
@@ -25,7 +25,7 @@ pub item_at : {X : Type 0} (xs : List X) (i : ℕ) (r : Option (Bor X)) → IfSo
 item_at xs i None e m = sym (slice_get_past xs i m)
 item_at {X} xs i (Some b) e m = ap (λ (z : X). Some z) e ∙ sym (slice_get-get_or xs i b.now m.0)
 
-module _ {A : Type 0} (s : Core) (sites : Sites A) (at : ℕ) (h : AreSites s sites) where
+module _ {A : Type 0} (s : Core) (sites : StatementIndex A) (at : ℕ) (h : AreSites s sites) where
   pub found_once : (i : ℕ) → get nat_eq sites.found at ≡ Some (Is.Once i) → option_map (site_view {A = A}) (slice_get sites.all.items i) ≡ only (candidates at (script_stmts s))
   found_once i e =
       sym (slice_get-map (site_view {A = A}) sites.all.items i) ∙ ap (λ (z : List Stmt). slice_get z i) h.all

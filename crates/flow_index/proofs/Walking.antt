@@ -5,7 +5,7 @@ use Rattle.std.proofs.lemmas.List.{append_assoc, append-nil, drop_more}
 use Rattle.flow.specs.declared.name.Name.{Name}
 use Rattle.flow.specs.declared.statement.Block.{Block, out-Block}
 use Rattle.flow.specs.declared.statement.Action.{Action, Choose, Each, Range, Wait, When, the_lemmas}
-use Rattle.flow.specs.declared.cell.Outer.{Outer}
+use Rattle.flow.specs.declared.cell.OuterCell.{OuterCell}
 use Rattle.flow.specs.declared.statement.Header.{Header}
 use Rattle.flow.specs.declared.statement.Range.{Range as Ranged}
 use Rattle.flow.specs.declared.statement.Variable.{Variable}
@@ -21,7 +21,7 @@ pub view_wait : {A : Type 0} → (ns : Vec Name A) (hs : Vec (Header A) A) (b : 
     → action_view (Wait ns hs b) ≡ core.wait (map awaited_view ns.items) (waits_around hs.items (block_view b.value))
 view_wait ns hs b = search (rules, the_lemmas)
 
-pub view_choose : {A : Type 0} → (c : Box (Outer A) A) (b d : Box (Block A) A)
+pub view_choose : {A : Type 0} → (c : Box (OuterCell A) A) (b d : Box (Block A) A)
     → action_view (Choose c b d) ≡ core.choose (outer_view c.value) (block_view b.value) (block_view d.value)
 view_choose c b d = search (rules, the_lemmas)
 
@@ -92,7 +92,7 @@ listed_block A b = ap block_list (view_block A b) ∙ list_of_block (statements_
 
 -- WHAT A STATEMENT ADDS
 
-pub inside_when : {A : Type 0} (c : Box (Outer A) A) (b : Box (Block A) A) → blocks_inside (action_view (When c b)) ≡ blocks_of (block_view b.value)
+pub inside_when : {A : Type 0} (c : Box (OuterCell A) A) (b : Box (Block A) A) → blocks_inside (action_view (When c b)) ≡ blocks_of (block_view b.value)
 inside_when c b =
     let view : action_view (When c b) ≡ core.when (outer_view c.value) (block_view b.value) = search (rules, the_lemmas) in
     ap blocks_inside view
@@ -115,7 +115,7 @@ pub one_within : {A : Type 0} (a : Action A) (x b : Block A) (old made : List St
 one_within a x b old made e q h =
     h ∙ ap (λ (z : Block _). old ++ stmts_within (block_view z)) q ∙ ap (λ (z : List core.Block). old ++ stmts_among z) (sym e)
 
-pub two_within : {A : Type 0} (a : Action A) (c : Box (Outer A) A) (b d : Box (Block A) A) (x y : Block A) (old half made : List Stmt) → a ≡ Choose c b d → x ≡ b.value → y ≡ d.value
+pub two_within : {A : Type 0} (a : Action A) (c : Box (OuterCell A) A) (b d : Box (Block A) A) (x y : Block A) (old half made : List Stmt) → a ≡ Choose c b d → x ≡ b.value → y ≡ d.value
     → half ≡ old ++ stmts_within (block_view x) → made ≡ half ++ stmts_within (block_view y) → made ≡ old ++ stmts_among (blocks_inside (action_view a))
 two_within {A} a c b d x y old half made e p q g h =
     let first = blocks_of (block_view b.value) in

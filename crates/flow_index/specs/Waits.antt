@@ -1,4 +1,4 @@
--- Waits one in another, with nothing beside them.
+-- Waits that are each the only content of the enclosing one.
 use Rattle.std.specs.Prelude.{List, [], ◌∷◌, map}
 use Rattle.language.specs.Core as core
 use Rattle.language.specs.Core.{Stmt, stmt, wait}

@@ -1,6 +1,6 @@
-//! All statements of a flow, each as it stands there, and the one at an offset that can be blocked.
+//! An index of all statements of a flow, with lookup by offset of the statement there that can be blocked.
 #![tactic(auto)]
 
 pub mod site;
-pub mod table;
+pub mod statement_index;
 mod walk;

@@ -1,4 +1,4 @@
-//! A statement of a flow, where it stands.
+//! Sites: statements of a flow with the functions that contain them.
 ghost use Rattle.std.specs.Prelude.{◌≡◌};
 ghost use Rattle.flow.specs.View.{action_view};
 ghost use Rattle.language.specs.Parts.{stmt_action, stmt_at, stmt_node};
@@ -8,51 +8,51 @@ ghost use Rattle.flow_index.specs.Sites.{site_view};
 use flow::statement::{Action, Block, Header, Statement};
 use std::alloc::Allocator;
 
-/// How a statement stands in a flow.
+/// The form in which a statement is stored in a flow.
 #[derive(Drop)]
-pub enum Form<'a, A: Allocator> {
-    /// As a statement of a block.
+pub enum StatementForm<'a, A: Allocator> {
+    /// A statement of a block.
     Whole(&'a Statement<A>),
-    /// As a `wait` inside of another one, with nothing beside it there: its header, the waits inside of it, outermost first,
-    /// and the content of the innermost.
+    /// A `wait` that is the only content of another `wait`. Stored are its header, the headers of the waits nested in
+    /// it, outermost first, and the content of the innermost wait.
     Inner(&'a Header<A>, &'a [Header<A>], &'a Block<A>),
 }
 
-/// A statement, with the function that it stands in if any.
+/// A statement, with the number of the function that contains it if any.
 #[derive(Drop)]
 pub struct Site<'a, A: Allocator> {
     pub function: Option<usize>,
-    pub form: Form<'a, A>,
+    pub form: StatementForm<'a, A>,
 }
 
 impl<'a, A: Allocator> Site<'a, A> {
-    /// The offset of its first token.
+    /// Returns the offset of the first token.
     pub fn at(&self) -> usize
         ensures { result ≡ stmt_at (site_view self.now) }
     {
         match &self.form {
-            Form::Whole(statement) => statement.at,
-            Form::Inner(wait, _, _) => wait.at,
+            StatementForm::Whole(statement) => statement.at,
+            StatementForm::Inner(wait, _, _) => wait.at,
         }
     }
 
-    /// Its node.
+    /// Returns the node of the statement.
     pub fn node(&self) -> u32
         ensures { result ≡ stmt_node (site_view self.now) }
     {
         match &self.form {
-            Form::Whole(statement) => statement.node,
-            Form::Inner(wait, _, _) => wait.node,
+            StatementForm::Whole(statement) => statement.node,
+            StatementForm::Inner(wait, _, _) => wait.node,
         }
     }
 
-    /// Whether it can be blocked: it is no declaration, and no call alone.
+    /// Returns true if the statement can be blocked: it is neither a declaration nor a call alone.
     pub fn can_be_blocked(&self) -> bool
         ensures { result ≡ can_be_blocked (stmt_action (site_view self.now)) }
     {
         match &self.form {
-            Form::Whole(statement) => is_blockable(&statement.action),
-            Form::Inner(_, _, _) => true,
+            StatementForm::Whole(statement) => is_blockable(&statement.action),
+            StatementForm::Inner(_, _, _) => true,
         }
     }
 }

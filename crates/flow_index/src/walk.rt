@@ -1,16 +1,16 @@
-//! All statements of a flow: of each block its own, and then those of the blocks inside it.
+//! Traversal of a flow that lists all statements: those of a block, then those of the blocks inside it.
 ghost use Rattle.std.specs.Prelude.{◌≡◌, ◌++◌, ◌∷◌, [], map, IfOk, OnOk};
 ghost use Rattle.language.specs.Parts.{block_list, blocks_inside, function_blocks, script_stmts, stmts_among, stmts_within};
 ghost use Rattle.flow.specs.View.{action_view, block_view, core_of, function_view};
 ghost use Rattle.flow_index.specs.Sites.{site_view, sites_view};
 ghost use Rattle.flow_index.specs.Waits.{waits_inside};
 
-use crate::site::{Form, Site};
+use crate::site::{Site, StatementForm};
 use flow::script::{Flow, Function};
 use flow::statement::{Action, Block, Header};
 use std::alloc::{AllocError, Allocator, Global};
 
-/// All statements of a flow.
+/// Returns all statements of a flow.
 #[tactic(auto, using(crate::proofs::Walking::among_joins))]
 pub(crate) fn sites_of<'a, A: Allocator>(
     alloc: Global,
@@ -36,7 +36,7 @@ fn add_functions<'a, A: Allocator>(
     Ok(())
 }
 
-/// Adds the statements of a block, and those of the blocks inside it.
+/// Appends the statements of a block, then those of the blocks inside it.
 #[cycle(walk)]
 fn add_block<'a, A: Allocator>(
     sites: &mut Vec<Site<'a, A>>,
@@ -52,7 +52,7 @@ fn add_block<'a, A: Allocator>(
     Ok(())
 }
 
-/// Adds the statements of the blocks inside a statement.
+/// Appends the statements of the blocks inside a statement.
 #[cycle(walk)]
 fn add_inside<'a, A: Allocator>(
     sites: &mut Vec<Site<'a, A>>,
@@ -83,7 +83,7 @@ fn add_inside<'a, A: Allocator>(
     }
 }
 
-/// Adds the statements of a block alone.
+/// Appends the statements of a block, without those of the blocks inside it.
 fn add_statements<'a, A: Allocator>(
     sites: &mut Vec<Site<'a, A>>,
     function: Option<usize>,
@@ -94,13 +94,13 @@ fn add_statements<'a, A: Allocator>(
     for statement in &block.statements {
         sites.push(Site {
             function,
-            form: Form::Whole(statement),
+            form: StatementForm::Whole(statement),
         })?;
     }
     Ok(())
 }
 
-/// Adds waits that are inside of another one with nothing beside them.
+/// Appends the waits that are each the only content of an enclosing `wait`.
 fn add_waits<'a, A: Allocator>(
     sites: &mut Vec<Site<'a, A>>,
     function: Option<usize>,
@@ -112,7 +112,7 @@ fn add_waits<'a, A: Allocator>(
     for i in 0..waits.len() {
         sites.push(Site {
             function,
-            form: Form::Inner(&waits[i], &waits[i + 1..], content),
+            form: StatementForm::Inner(&waits[i], &waits[i + 1..], content),
         })?;
     }
     Ok(())

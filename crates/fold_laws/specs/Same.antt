@@ -1,11 +1,11 @@
--- Cores that are the same but for expressions of literals, each of which may stand as the value that it comes to.
+-- Cores that differ only in expressions of literals, each of which may stand as its value.
 use Rattle.std.specs.Prelude.{◌≡◌, ℕ, ℤ, List, [], ◌∷◌, map, Option, Some, None, Ok}
 use Rattle.values.specs.declared.value.Scalar.{Scalar}
 use Rattle.values.specs.declared.value.Value.TheVariants.{One}
 use Rattle.values.specs.Operators.{Operation, evaluated}
 use Rattle.language.specs.Core.{Name, Expr, literal, name, whole, operator, Exprs, none, also, Form, compute, read, Cell, Call, Part, inner, calls, Outer, Awaited, Stmt, stmt, Action, declare, call_alone, assign, fill, insert, print, assert, when, choose, range, each, wait, Block, no_stmts, stmts, Function, Core}
 
--- an expression of literals that comes to this scalar, without a fault
+-- an expression of literals that evaluates to this scalar, without a fault
 mutual
   pub data ComesTo : Expr → Scalar → Type 0 where
     a_literal : {v : Scalar} → ComesTo (literal v) v
@@ -27,7 +27,7 @@ mutual
     same_none : SameExprs none none
     same_also : {e d : Expr} {es ds : Exprs} → SameExpr e d → SameExprs es ds → SameExprs (also e es) (also d ds)
 
--- members of two lists, one by one
+-- two lists are related element by element
 pub data Pairwise {X : Type 0} (R : X → X → Type 0) : List X → List X → Type 0 where
   no_pair : Pairwise R [] []
   a_pair : {x y : X} {xs ys : List X} → R x y → Pairwise R xs ys → Pairwise R (x ∷ xs) (y ∷ ys)

@@ -1,4 +1,6 @@
-//! Cores that are the same but for expressions of literals mean the same. Nothing here runs: each function has an empty body, and its contract is a law.
+//! The law that cores which differ only in expressions of literals have the same meaning.
+//!
+//! Nothing here runs: each function has an empty body, and its contract is a law.
 #![tactic(auto)]
 
 ghost use Rattle.std.specs.Prelude.{ℕ, List};
@@ -12,10 +14,14 @@ ghost use Rattle.language.specs.Facts.{Fault};
 ghost use Rattle.language.specs.Places.{Path, Place};
 ghost use Rattle.fold_laws.specs.Same.{SameAction, SameBlock, SameCore};
 
-/// Where two cores are the same but for expressions of literals, each of which may stand as the value that it comes to, they know the same after each
-/// round: each cell's value and fault, each write of an element, each line. So they have the same lines and faults, and the same statements are blocked, in
-/// each round and ever; the same arrays are closed, the same variables have values, and one writes a key twice where the other does. The same paths have live
-/// blocks, the same so, and the like headers are ready with the same values. A core is the same as itself.
+/// Proves that two cores have the same meaning if they differ only in expressions of literals.
+///
+/// In either core, an expression of literals may stand as the value that it evaluates to. After each round both cores
+/// know the same facts: values and faults of cells, writes of elements, and lines. So the lines and faults are the
+/// same, and the same statements are blocked, in each round and in the meaning. The same arrays are closed, the same
+/// variables have values, and one core writes a key twice if the other does. The same paths have live blocks, which are
+/// the same in this sense. Corresponding headers are ready with the same values. The relation is reflexive and
+/// symmetric.
 pub fn same_meaning()
     ensures rounds { (c d : Core) → SameCore c d → (n : ℕ) (f : Fact) → Known c n f → Known d n f }
     ensures itself { (c : Core) → SameCore c c }

@@ -62,3 +62,7 @@ pub mod BlockedHas
 pub mod BlockedFrom
 pub mod HeadlineOf
 pub mod AssertedCores
+pub mod Once
+pub mod Loops
+pub mod Bounds
+pub mod Same

@@ -1,4 +1,5 @@
--- What names and types give of assertions: the cell of an assertion applies the operator that gives true or a fault.
+-- A property of assertions that follows from names and types: the cell of an assertion applies the operator that
+-- results in true or a fault.
 use Rattle.std.specs.Prelude.{◌≡◌, ℕ, ℤ}
 use Rattle.values.specs.Operators.{assert as assertion}
 use Rattle.language.specs.Core.{Exprs, operator, compute, Outer, stmt, assert, Core}

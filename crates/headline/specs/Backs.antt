@@ -1,5 +1,6 @@
--- What the lemmas from the script to the code ask of knowledge: each fact follows from the rest, a scalar is one, closed arrays can be listed.
--- Nothing here says that knowledge is closed under the rules, or that no key has two writers, so it can hold of what is known after some rounds.
+-- The premises on knowledge in the lemmas from the script to the code: each fact follows from the rest, a scalar is
+-- unique, and closed arrays can be listed. Closure under the rules and single writers are not required. So the
+-- knowledge after some rounds can meet the premises.
 use Rattle.std.specs.Prelude.{◌≡◌, List}
 use Rattle.values.specs.declared.map.Element.{Element}
 use Rattle.values.specs.declared.value.Scalar.{Scalar}
@@ -10,7 +11,8 @@ use Rattle.language.specs.Facts.{Fact, value, Knowledge, Elements}
 use Rattle.language.specs.Meaning.{Closed, HasValue, New, cell_value, cell_fault, assigned, filled, inserted, printed, bad_range, too_deep_header, too_deep_call, written_twice}
 use Rattle.language.specs.Places.{Place}
 
--- of what a statement adds, the values of its outermost cells are known before (a whole array's value and its elements come in one round)
+-- the values of the outermost cells of a statement are known before what it adds; only the value of a whole array and
+-- its elements become known in one round
 abbrev pub RightKnown : (s : Core) (K : Knowledge) {f : Fact} → New s K f → Type 0
 RightKnown s K (assigned {path = path} {c = c} {v = v} h g) = K (value (path, c.cell.node) v)
 RightKnown s K (inserted {path = path} {i = i} {c = c} {u = u} {v = v} h g k m) = K (value (path, i.cell.node) u) × K (value (path, c.cell.node) (One v))

@@ -1,4 +1,4 @@
--- What a script knows of the data of its code: the script's reading of the inputs of tasks.
+-- The script's reading of the inputs of tasks: the data of the code as the script determines them.
 use Rattle.std.specs.Prelude.{◌≡◌, ℕ, ◌<◌, ℤ, true, false, pos, Bool, List, [], Some, slice_get, length}
 use Rattle.dataflow.specs.System.{In, Input, StoredScalar, ClosedArray, ElementOf, ElementAt, Answer, Found, Missing, Content}
 use Rattle.values.specs.declared.key.Key.{Key}
@@ -20,7 +20,7 @@ use Rattle.headline.specs.Headline.{script_path, script_place}
 use Rattle.code_rules.specs.IsCodeOf.{Layout, CallAs, BodyAs}
 
 module _ (s : Core) (K : Knowledge) where
-  -- all elements of a closed array, in their order
+  -- all elements of a closed array, in order
   pub record AllElements (a : Place) (xs : List (Key × Scalar)) : Type 0 where
     pub closed : Closed s K a
     pub in_order : in_key_order xs ≡ true
@@ -50,7 +50,7 @@ module _ (s : Core) (K : Knowledge) where
   HasAll (Constant c) x = ⊥
   HasAll Nowhere x = ⊥
 
-  -- what the script answers to an input of a task
+  -- the script's answer to an input of a task
   abbrev pub Answers : Input CodePlaces.Place Key → Answer Key Scalar → Type 0
   Answers (StoredScalar d) x = (v : Scalar) × Has d v × (x ≡ Found v)
   Answers (ClosedArray a) x = HasAll a x
@@ -58,8 +58,8 @@ module _ (s : Core) (K : Knowledge) where
   Answers (ElementAt a d) x = (v : Scalar) × Has d v × HasElement a (key_of v) x
 
 module _ (s : Core) (C : Code) (l : Layout) (K : Knowledge) where
-  -- a place of the code stands for a place of the script: it is the same place; or the script has there a plain cell of a live
-  -- statement, and it stands for the name, or is the literal, that the cell consists of
+  -- a place of the code stands for a place of the script: it is the same place; or the script has a plain cell of a
+  -- live statement there. The place of the code then stands for the name, or is the literal, that the cell consists of
   pub data Stands : Bool → CodePlaces.Place → Place → Type 0 where
     same : {p : List Step} {v : Variable} → Stands v.array (Datum p v) (script_place p v)
     plain : {path : Path} {st : Stmt} {n : ℕ} {x : Name} {a : CodePlaces.Place}
@@ -72,7 +72,8 @@ module _ (s : Core) (C : Code) (l : Layout) (K : Knowledge) where
     one_ready : {at n : ℕ} {ns : List Awaited} {c : Block} → Ready s K path (wait ns c) [] → Waited path (stmt at n (wait ns c)) c
     more_ready : {at n : ℕ} {ns : List Awaited} {st : Stmt} {c : Block} → Ready s K path (wait ns (stmts st no_stmts)) [] → Waited path st c → Waited path (stmt at n (wait ns (stmts st no_stmts))) c
 
-  -- a live block of the script with the body that stands for it, and how both were opened; `k` is the number of inputs of the function that it lies in
+  -- a live block of the script with the body that stands for it, and how both were opened; `k` is the number of inputs
+  -- of the enclosing function
   pub data Chain : List Step → ℕ → ℕ → Block → Type 0 where
     at_script : BodyAs C l 0 s.body 0 → Chain [] 0 0 s.body
     by_header : {p : List Step} {t k : ℕ} {b : Block} {at n : ℕ} {a : Action} {c : Block} {u : ℕ} (j : ℕ) {vs : List Value} {key : Key}

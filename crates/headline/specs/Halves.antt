@@ -1,4 +1,5 @@
--- Half a round: what is known after n rounds, and the scalars that follow from it. Elements, lines and faults wait, so no key gets a second writer.
+-- Half a round: what is known after n rounds, and the scalars that follow from it. Elements, lines and faults are left
+-- out, so no key gets a second writer.
 use Rattle.std.specs.Prelude.{◌≡◌, ◌⊎◌, ℕ}
 use Rattle.dataflow.specs.System.{Effect}
 use Rattle.dataflow.specs.Facts.{Ever}
@@ -18,6 +19,6 @@ use Rattle.headline.specs.Inclusions.{Facts}
 abbrev pub Half : Core → ℕ → Knowledge
 Half s n f = Known s n f ⊎ ((p : Place) × (u : Scalar) × (f ≡ value p (One u)) × New s (Known s n) f)
 
--- what is read off half a round is in what the code ever has
+-- every fact that half a round yields is a fact of the code
 abbrev pub HalfIn : Core → Code → ℕ → Type 0
 HalfIn s C n = (t : Task) (e : Effect Task CodePlaces.Place Key Scalar) → Facts s C (Half s n) t e → Ever (code_system C) t e

@@ -1,4 +1,5 @@
--- The lemmas between the two meanings, for knowledge K of the script and the facts of the code that the script's answers yield.
+-- The lemmas between the two meanings, for knowledge K of the script and the facts of the code that the script's
+-- answers yield.
 use Rattle.std.specs.Prelude.{◌≡◌, ℕ, Bool, true, false, List}
 use Rattle.dataflow.specs.System.{In, Input, StoredScalar, ClosedArray, ElementOf, ElementAt, Effect, Bad}
 use Rattle.dataflow.specs.Facts as Fa
@@ -23,14 +24,14 @@ use Rattle.headline.specs.Answered.{Reading, Shown}
 use Rattle.headline.specs.Chains.{Answers}
 
 module _ (s : Core) (C : Code) (K : Knowledge) where
-  -- the code's facts, read off what the script knows
+  -- the facts of the code, given what is known of the script
   abbrev pub Facts : Task → Effect Task CodePlaces.Place Key Scalar → Type 0
   Facts t e = Shown (code_system C) (Answers s K) t e
 
   abbrev pub LiveTask : Task → Type 0
   LiveTask t = Live (code_system C) (Reading (code_system C) (Answers s K)) t
 
-  -- what the code writes at a datum, as the script knows it
+  -- the value at a key of a datum, as it is known of the script
   abbrev pub Knows : Bool → Place → Key → Scalar → Type 0
   Knows false at key x = (key ≡ only) × HasValue s K at x
   Knows true at key x = (writer : Place) × K (element at key writer x)
@@ -46,14 +47,14 @@ module _ (s : Core) (C : Code) (K : Knowledge) where
   abbrev pub WrittenFrom : Type 0
   WrittenFrom = (p : List Step) (v : Variable) (key : Key) (x : Scalar) → IsRead (Datum p v) → Knows v.array (script_place p v) key x → Written (code_system C) Facts (Datum p v) key x
 
-  -- what is closed in the code is closed in the script, and what is closed in the script is closed in the code
+  -- what is closed in the code is closed in the script, and the converse
   abbrev pub ClosedTo : Type 0
   ClosedTo = (p : List Step) (v : Variable) → v.array ≡ true → Fa.Closed (code_system C) Facts (Datum p v) → Closed s K (script_place p v)
 
   abbrev pub ClosedFrom : Type 0
   ClosedFrom = (p : List Step) (v : Variable) → v.array ≡ true → IsRead (Datum p v) → Closed s K (script_place p v) → Fa.Closed (code_system C) Facts (Datum p v)
 
-  -- the inputs of a live task are data, scalars where scalars are wanted and arrays where arrays are
+  -- the inputs of a live task are data, each a scalar or an array as required
   abbrev pub IsDatumOf : Bool → CodePlaces.Place → Type 0
   IsDatumOf b d = (p : List Step) × (v : Variable) × (d ≡ Datum p v) × (v.array ≡ b)
 
@@ -66,7 +67,7 @@ module _ (s : Core) (C : Code) (K : Knowledge) where
   abbrev pub InputsFit : Type 0
   InputsFit = (t : Task) (i : Input CodePlaces.Place Key) → LiveTask t → In i ((code_system C).inputs t) → FitsKind i
 
-  -- of a clean script, an array's key has one task that writes it
+  -- a key of an array is written by one task, for a clean script
   abbrev pub ArraysOnce : Type 0
   ArraysOnce = (p : List Step) (v : Variable) → v.array ≡ true → OneWriter (code_system C) Facts (Datum p v)
 
@@ -82,6 +83,7 @@ module _ (s : Core) (C : Code) (K : Knowledge) where
   abbrev pub FaultsTo : Type 0
   FaultsTo = (i c : ℕ) (p : List Step) (f : EntryFault) → Comes (code_system C) Facts (Item i p c) (Bad f) → Faults K (script_fault (OfTask f)) (entry C i).at (script_path p)
 
-  -- the facts of K's next round, in other facts of the code that leave nothing out; for the rounds of a script whose code is clean
+  -- the facts of K's next round are among other facts of the code, which are complete; for the rounds of a script whose
+  -- code is clean
   abbrev pub RoundIn : (Task → Effect Task CodePlaces.Place Key Scalar → Type 0) → Type 0
   RoundIn F = (t : Task) (e : Effect Task CodePlaces.Place Key Scalar) → Facts t e → F t e

@@ -1,4 +1,5 @@
--- What is asked of knowledge for the two meanings to be compared: it is closed under the rules, follows from itself, and is of one mind.
+-- The premises on knowledge for the comparison of the two meanings: it is closed under the rules, follows from itself,
+-- and is consistent.
 use Rattle.std.specs.Prelude.{◌≡◌, List}
 use Rattle.values.specs.declared.map.Element.{Element}
 use Rattle.values.specs.declared.key.Key.{Key}

@@ -7,3 +7,4 @@ pub mod Inclusions
 pub mod Halves
 pub mod Worked
 pub mod Asserted
+pub mod Live

@@ -1,7 +1,7 @@
--- The code of two scripts: a recursive function, and a function that fills its caller's array in a loop.
+-- The code of two scripts: a recursive function, and a function that fills an array of its caller in a loop.
 use Rattle.std.specs.Prelude.{ℕ, ◌||◌, true, false, pos, nat_eq, [], ◌∷◌, Some, None}
 use Rattle.values.specs.Operators.{Operation, printf, compare, sum_of, product_of, size}
-use Rattle.values.specs.declared.format.Piece.TheVariants.{Byte, Number as digits}
+use Rattle.values.specs.declared.format.FormatPiece.TheVariants.{Byte, Number as digits}
 use Rattle.values.specs.declared.key.Key.TheVariants.{Number as number_key}
 use Rattle.values.specs.declared.op.Factor.TheVariants.{Times}
 use Rattle.values.specs.declared.op.Order.TheVariants.{Less}

@@ -1,4 +1,6 @@
-//! Which code is a script's code, and what ties the two meanings together. Nothing here runs.
+//! The main theorem, that every run of a script's code agrees with the script's meaning.
+//!
+//! This crate has no executable code. Its public functions have empty bodies and carry the theorems in their contracts.
 #![tactic(auto)]
 
 ghost use Rattle.headline.specs.Asserted.{Asserted};
@@ -38,14 +40,19 @@ ghost use Rattle.task_code.specs.Whole.{IsCode};
 ghost use Rattle.values.specs.declared.key.Key.{Key};
 ghost use Rattle.values.specs.declared.value.Scalar.{Scalar};
 
-/// Two scripts and their codes: a recursive function, and a function that fills its caller's array in a loop.
+pub mod bounded_runs;
+
+/// States that two example codes are the codes of their scripts, whole, exact and with each node once. One script has a
+/// recursive function, the other a function that fills an array of its caller in a loop.
 pub fn worked_codes()
     ensures fibonacci { IsCodeOf fibonacci fibonacci_code × IsCode fibonacci_code × NodesOnce fibonacci_code × IsExact fibonacci_code }
     ensures filled { IsCodeOf filled filled_code × IsCode filled_code × NodesOnce filled_code × IsExact filled_code }
 {}
 
-/// For the whole language: what the code writes by the script's answers the script knows, what the script knows the code writes where a
-/// live task may read it, one task writes an array's key, and lines agree, writer for writer.
+/// States for the whole language that code and script agree on writes and lines.
+///
+/// What the code writes by the script's answers is known of the script. What is known of the script is written by the
+/// code if a live task may read it. Each key of an array is written by one task, and lines agree for each writer.
 pub fn writes_agree()
     ensures to { (s : Core) (C : Code) → IsCodeOf s C → IsCode C → WellFormed s → Knows s (Meaning s) → Scoped s → TypedValues s (Meaning s)
         → WrittenTo s C (Meaning s) }
@@ -58,8 +65,10 @@ pub fn writes_agree()
     ensures prints_from { (s : Core) (C : Code) → IsCodeOf s C → IsCode C → WellFormed s → Knows s (Meaning s) → Scoped s → LinesFrom s C (Meaning s) }
 {}
 
-/// For the whole language: what is closed in the code, by the script's answers, is closed in the script; and where no right is idle, what is
-/// closed in the script is closed in the code, if a live task may read it.
+/// States for the whole language that code and script agree on closed arrays.
+///
+/// An array that is closed in the code, by the script's answers, is closed in the script. If the rights are exact, an
+/// array that is closed in the script is closed in the code, if a live task may read it.
 pub fn closed_agrees()
     ensures to { (s : Core) (C : Code) → IsCodeOf s C → IsCode C → WellFormed s → Knows s (Meaning s) → Scoped s → TypedValues s (Meaning s)
         → ClosedTo s C (Meaning s) }
@@ -67,7 +76,8 @@ pub fn closed_agrees()
         → IsExact C → SinglyAssigned s → ClosedFrom s C (Meaning s) }
 {}
 
-/// For the whole language: all that the code ever knows is what the script's answers yield, and no key has two writers.
+/// States for the whole language that every fact of the code is yielded by the script's answers, and that no key has
+/// two writers.
 pub fn code_within_script()
     ensures facts { (s : Core) (C : Code) → IsCodeOf s C → IsCode C → WellFormed s → Knows s (Meaning s) → Scoped s → TypedValues s (Meaning s) → NodesOnce C
         → IsExact C → SinglyAssigned s
@@ -76,23 +86,28 @@ pub fn code_within_script()
         → IsExact C → SinglyAssigned s → CleanCode C }
 {}
 
-/// For the whole language: of a script that writes no key twice, every state that a run of its code reaches agrees with the script. What is
-/// stored is the script's value at its place, an array that is closed by rights is closed in the script, the lines are some of its lines, no line
-/// taken twice, and a fault is one of its faults, at the statement and path of the item that met it.
+/// States for the whole language that every state of every run agrees with a script that writes no key twice.
+///
+/// A stored value is the script's value at its place. An array that is closed by rights is closed in the script. The
+/// printed lines are some of the script's lines, none used twice. A fault is one of the script's faults, at the
+/// statement and path of its item.
 pub fn runs_agree()
     ensures { (s : Core) (C : Code) → IsCodeOf s C → IsCode C → IsExact C → NodesOnce C → WellFormed s → SinglyAssigned s → Scoped s → TypedValues s (Meaning s)
         → Clean s → (events : List Event) (st : CodeState) → Run C events st → Agrees s C st }
 {}
 
-/// For the whole language: a fault that comes of what the code knows, by the script's answers, is one of the script's.
+/// States for the whole language that each fault of the code is one of the script's faults. The fault must follow from
+/// the facts of the code, by the script's answers.
 pub fn faults_agree()
     ensures { (s : Core) (C : Code) → IsCodeOf s C → IsCode C → IsExact C → NodesOnce C → WellFormed s → Knows s (Meaning s) → Scoped s
         → TypedValues s (Meaning s) → SinglyAssigned s → FaultsTo s C (Meaning s) }
 {}
 
-/// Rounds, without the premise that the script writes no key twice: half a round (what is known after n rounds, and the scalars that follow)
-/// is knowledge that the lemmas from the script to the code stand over as long as round n is clean; and if the code writes no key twice, the script
-/// writes none twice either, and all that half a round yields the code comes to, and so all that the script's answers yield.
+/// States that the rounds of the script agree with the code, without the premise that the script writes no key twice.
+///
+/// Half a round is what is known after n rounds, with the scalars that follow from it. It meets the premises of the
+/// lemmas from script to code as long as round n is clean. If the code writes no key twice, neither does the script.
+/// The code then has all facts that half a round yields, and so all facts that the script's answers yield.
 pub fn rounds_agree()
     ensures backs { (s : Core) → WellFormed s → SinglyAssigned s → (n : ℕ) → ((a : ScriptPlaces.Place) → OneWriter (Known s n) a) → Backs s (Half s n) }
     ensures clean { (s : Core) (C : Code) → IsCodeOf s C → WellFormed s → SinglyAssigned s → IsCode C → Scoped s → CleanCode C → IsExact C
@@ -103,9 +118,12 @@ pub fn rounds_agree()
         → (t : Task) (e : Effect Task Place Key Scalar) → Facts s C (Meaning s) t e → Ever (code_system C) t e }
 {}
 
-/// The headline, for the whole language, from the relation alone: every state that a run of a script's code reaches agrees with a script that writes no
-/// key twice; every state that is quiet without fault has all that the script means, whatever the script writes: the script has no fault, the lines are
-/// the script's, and the blocked statements are the script's. A script whose code comes to such a state writes no key twice (`clean`).
+/// States the headline for the whole language, from the relation between script and code alone.
+///
+/// Every state of every run agrees with a script that writes no key twice. Every quiet state without fault has all of
+/// the script's meaning, whatever the script writes. The script then has no fault, the lines are the script's lines,
+/// and the blocked statements are the script's blocked statements. A script whose code reaches such a state writes no
+/// key twice (`clean`).
 pub fn headline()
     ensures every_run { (s : Core) (C : Code) → IsCodeOf s C → IsCode C → IsExact C → NodesOnce C → WellFormed s → SinglyAssigned s → Scoped s
         → TypedValues s (Meaning s) → Asserted s → Headline s C }
@@ -114,13 +132,15 @@ pub fn headline()
         → (events : List Event) (st : CodeState) → Run C events st → Quiet C st → Clean s }
 {}
 
-/// The core of each tree, by any table of its names, applies in each assertion the operator that gives true or a fault.
+/// States that the core of each tree, with any table of its names, has an assertion operator in the cell of each
+/// assertion. That operator results in true or a fault.
 pub fn asserted_cores()
     ensures { (t : Table) (tree : Tree) → Asserted (core t tree) }
 {}
 
-/// For every placed tree that is well typed and singly assigned, as that of every accepted script is: what any code that stands for it, whole and with exact
-/// rights, owes to it, it keeps over every list of events. Nothing else is asked of it.
+/// States the headline for every placed tree that is well typed and singly assigned, as the tree of every accepted
+/// script is. It holds for any code of the tree that is whole, has exact rights and has each node once. There is no
+/// other premise.
 pub fn accepted_scripts()
     ensures { (t : Table) (tree : Tree) (C : Code) → IsPlaced tree → WellTyped tree t → SinglyAssigned (core t tree)
         → IsCodeOf (core t tree) C → IsCode C → IsExact C → NodesOnce C → Headline (core t tree) C }

@@ -1,4 +1,4 @@
--- What a program has asked of its machine, and what it was answered. The newest comes first.
+-- The calls of a program on its machine, with their results, the newest first.
 use Rattle.std.specs.Prelude.{◌≡◌, ℕ, Bool, true, false, ◌&&◌, List, [], ◌∷◌, ◌++◌, Option, Some, None, option_to_list, option_map, is_some, bytes_eq}
 use Rattle.host.specs.declared.identity.Identity.{Identity}
 use Rattle.host.specs.declared.host.Stream.{Stream}
@@ -6,51 +6,51 @@ use Rattle.host.specs.declared.host.Stream.TheVariants.{Out, Error}
 use Rattle.host.specs.Identities.{is_foreign}
 
 pub data Event : Type 0 where
-  -- the next word of the command line, none behind the last
+  -- the next word of the command line, or none after the last
   Argument : (word : Option (List ℕ)) → Event
-  -- the links of a name were followed; to this name they lead, none where there is no such file
+  -- the links of a name were resolved to this name, or none if there is no such file
   Followed : (name : List ℕ) → Event
   LedTo : (found : Option (List ℕ)) → Event
-  -- which file a name is, or a stream: none where it is not there
+  -- the identity of the file of a name or of a stream, or none if there is no such file
   Named : (name : List ℕ) (found : Option Identity) → Event
   Streamed : (stream : Stream) (found : Option Identity) → Event
-  -- a file was opened to be read, and this file it is; some of its bytes came, none at its end
+  -- a file was opened for reading; its identity; some of its bytes, or none at its end
   Opened : (name : List ℕ) → Event
   Known : (file : Identity) → Event
   Got : (bytes : List ℕ) → Event
-  -- it could not be opened; it could not be read further
+  -- a file could not be opened; it could not be read further
   Unopened : (name : List ℕ) → Event
   Broken : Event
-  -- a new file was made, or one that is there was emptied; bytes went to it; it was given the second name in place of the first; a name was removed
+  -- a new file was created, or an existing one truncated; bytes were written to it; it was renamed; a name was removed
   Began : (name : List ℕ) → Event
   Emptied : (name : List ℕ) → Event
   Put : (bytes : List ℕ) → Event
   Renamed : (before name : List ℕ) → Event
   Removed : (name : List ℕ) → Event
-  -- what was asked could not be done
+  -- a call failed
   Failed : Event
 
 abbrev is_nil : List ℕ → Bool
 is_nil [] = true
 is_nil (b ∷ bs) = false
 
--- a name that was opened, with the bytes that stand for it, none where it could not be read, and whether its end was met
+-- a name that was opened, its bytes, or none if it could not be read, and whether its end was reached
 pub record Read : Type 0 where
   pub name : List ℕ
   pub bytes : Option (List ℕ)
   pub ended : Bool
 
--- more bytes came of the last that was opened, and none at its end
+-- more bytes of the last opened file were read, none at its end
 abbrev pub grown : List ℕ → List Read → List Read
 grown bytes [] = []
 grown bytes (r ∷ rs) = record { name = r.name; bytes = option_map (λ before. before ++ bytes) r.bytes; ended = is_nil bytes } ∷ rs
 
--- no more can come of it
+-- the last opened file cannot be read further
 abbrev pub broken : List Read → List Read
 broken [] = []
 broken (r ∷ rs) = record { name = r.name; bytes = None; ended = false } ∷ rs
 
--- what was read, the last name first
+-- the files that were read, the last first
 abbrev pub reads : List Event → List Read
 reads [] = []
 reads (Opened name ∷ h) = record { name = name; bytes = Some []; ended = false } ∷ reads h
@@ -59,12 +59,12 @@ reads (Unopened name ∷ h) = record { name = name; bytes = None; ended = false 
 reads (Broken ∷ h) = broken (reads h)
 reads (e ∷ h) = reads h
 
--- the last of those is a file of this name, of which some bytes came
+-- the last file read has this name and could be read so far; the earlier ones are unchanged
 abbrev pub IsReading : List ℕ → (before now : List Read) → Type 0
 IsReading name before [] = ⊥
 IsReading name before (r ∷ rs) = (r.name ≡ name) × (is_some r.bytes ≡ true) × (rs ≡ before)
 
--- which files were opened to be read, in order
+-- the identities of the files opened for reading, in order
 abbrev pub inputs : List Event → List Identity
 inputs [] = []
 inputs (Known file ∷ h) = inputs h ++ (file ∷ [])
@@ -76,23 +76,23 @@ words [] = []
 words (Argument (Some word) ∷ h) = words h ++ (word ∷ [])
 words (e ∷ h) = words h
 
--- the same, once no further word is behind them
+-- the words of the command line, once all have been read
 abbrev pub asked : List Event → Option (List (List ℕ))
 asked [] = None
 asked (Argument None ∷ h) = Some (words h)
 asked (e ∷ h) = asked h
 
--- a name whose links were followed, and the name that they lead to
+-- a name whose links were resolved, and the result
 abbrev pub Link : Type 0
 Link = List ℕ × Option (List ℕ)
 
--- all of those, the last first
+-- all resolved names, the last first
 abbrev pub links : List Event → List Link
 links [] = []
 links (LedTo found ∷ Followed name ∷ h) = (name, found) ∷ links h
 links (e ∷ h) = links h
 
--- what the machine has told: all words, names behind links, and files
+-- the information received from the machine: all words, resolved names and files
 pub record Learnt : Type 0 where
   pub asked : Option (List (List ℕ))
   pub links : List Link
@@ -106,19 +106,19 @@ abbrev pub ends : List Event → Bool
 ends (Got bytes ∷ h) = is_nil bytes
 ends _ = false
 
--- the bytes that went to files that were made
+-- the bytes written to files
 abbrev pub given : List Event → List ℕ
 given [] = []
 given (Put bytes ∷ h) = given h ++ bytes
 given (e ∷ h) = given h
 
--- the names that files were given in place of their first ones
+-- the names that files received by renaming
 abbrev pub replaced : List Event → List (List ℕ)
 replaced [] = []
 replaced (Renamed before name ∷ h) = name ∷ replaced h
 replaced (e ∷ h) = replaced h
 
--- a file was made or emptied, named or removed, or written
+-- the events that create, truncate, write, rename or remove a file
 abbrev pub changes : List Event → List Event
 changes [] = []
 changes (Began name ∷ h) = Began name ∷ changes h
@@ -128,29 +128,31 @@ changes (Renamed before name ∷ h) = Renamed before name ∷ changes h
 changes (Removed name ∷ h) = Removed name ∷ changes h
 changes (e ∷ h) = changes h
 
--- SAFETY OF WHAT IS WRITTEN
+-- SAFETY OF WRITES
 
--- which file the name is was asked last, and before it which ones both streams are; it is none of those and none that was read
+-- the last event is the identity of the name, preceded by those of both streams; it is none of these and none of a file
+-- that was read
 abbrev pub is_clear : List ℕ → List Event → Bool
 is_clear name (Named asked found ∷ Streamed Error error ∷ Streamed Out out ∷ h) =
     bytes_eq asked name && is_foreign found (option_to_list out ++ (option_to_list error ++ inputs h))
 is_clear name _ = false
 
--- the same, and then a new file was made and written
+-- the name was clear, and then a new file was created and written
 abbrev pub was_clear : List ℕ → List Event → Bool
 was_clear name (Began beside ∷ h) = is_clear name h
 was_clear name (Put bytes ∷ h) = was_clear name h
 was_clear name (Failed ∷ h) = was_clear name h
 was_clear name _ = false
 
--- no file is emptied but one of this name, none is replaced but one of this name, and each time it was none that was read, and not that of standard output or standard error
+-- no file is truncated or replaced except one of this name, and each time it was neither a file that was read nor that
+-- of standard output or standard error
 abbrev pub is_safe : List ℕ → List Event → Bool
 is_safe name [] = true
 is_safe name (Emptied emptied ∷ h) = (bytes_eq emptied name && is_clear name h) && is_safe name h
 is_safe name (Renamed before replaced ∷ h) = (bytes_eq replaced name && was_clear name h) && is_safe name h
 is_safe name (e ∷ h) = is_safe name h
 
--- the file of this name has what was given: it was given the name, or emptied and then written
+-- the file of this name has the written bytes: it was renamed to the name, or truncated and then written
 abbrev pub is_kept : List ℕ → List Event → Bool
 is_kept name (Renamed before n ∷ h) = bytes_eq n name
 is_kept name (Emptied n ∷ h) = bytes_eq n name
@@ -158,7 +160,7 @@ is_kept name (Put bytes ∷ h) = is_kept name h
 is_kept name (Failed ∷ h) = is_kept name h
 is_kept name _ = false
 
--- nothing was learnt, given or made unsafe in between
+-- nothing was received, written or made unsafe between the histories
 pub record Keeps (name : List ℕ) (old new : List Event) : Type 0 where
   pub learnt_same : learnt new ≡ learnt old
   pub inputs_same : inputs new ≡ inputs old

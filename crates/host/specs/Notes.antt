@@ -1,17 +1,17 @@
--- What is noted of a call, by its number, what it found and its bytes.
+-- The event of a noted call, by its number, the file it found, and its bytes.
 use Rattle.std.specs.Prelude.{ℕ, ◌==◌, List, slice_index, Option, Some, None, if◌then◌else◌}
 use Rattle.host.specs.declared.identity.Identity.{Identity}
 use Rattle.host.specs.declared.host.Stream.TheVariants.{Out, Error}
 use Rattle.host.specs.Events.{Event, Argument, Followed, LedTo, Named, Streamed, Opened, Known, Got, Unopened, Broken, Began, Emptied, Put, Renamed, Removed, Failed}
 
--- the second number says whether there is one; then its device, its number, and whether it is a regular file
+-- the second number is 1 if there is a file; then follow its device, its number, and 1 if it is a regular file
 abbrev pub found_of : List ℕ → Option Identity
 found_of numbers =
     if slice_index numbers 1 == 1
     then Some (record { device = slice_index numbers 2; number = slice_index numbers 3; regular = slice_index numbers 4 == 1 })
     else None
 
--- which file is open to be read, where the machine could say
+-- the file that is open for reading, if the machine could identify it
 abbrev pub known_of : Option Identity → Event
 known_of (Some file) = Known file
 known_of None = Broken
@@ -38,10 +38,10 @@ event_at number found bytes =
     else (if number == 16 then LedTo (Some bytes)
     else LedTo None))))))))))))))))
 
--- a call by its numbers, of which the first says which it is
+-- a call by its numbers, of which the first identifies the call
 abbrev pub event_of : List ℕ → List ℕ → Event
 event_of numbers bytes = event_at (slice_index numbers 0) (found_of numbers) bytes
 
--- a file of the first name was given the second
+-- the file of the first name was renamed to the second
 abbrev pub two_names : List ℕ → List ℕ → Event
 two_names before name = Renamed before name

@@ -1,4 +1,4 @@
-//! What a program asks of the machine that it runs on.
+//! Calls that a program makes on the machine that it runs on.
 ghost use Rattle.std.specs.Prelude.{◌≡◌, ◌≤◌, ℕ, List, ◌∷◌, length, take, option_map, string_bytes, IfOk, OnOk, OnErr, MatchResult};
 ghost use Rattle.host.specs.Events.{Event, Argument, Followed, LedTo, Named, Streamed, Opened, Known, Got, Unopened, Broken};
 ghost use Rattle.host.specs.Events.{Began, Emptied, Put, Renamed, Removed, Failed};
@@ -7,98 +7,99 @@ use crate::identity::Identity;
 use std::alloc::AllocError;
 use thiserror::Error;
 
-/// A standard stream that takes bytes.
+/// A standard stream for output.
 #[derive(Clone, Copy, PartialEq, Eq, Debug, Drop)]
 pub enum Stream {
     Out,
     Error,
 }
 
-/// The machine did not do what it was asked for.
+/// Failure of the machine to perform a call.
 #[derive(Clone, Copy, PartialEq, Eq, Debug, Drop, Error)]
 #[error("the machine refused")]
-pub struct HostFault;
+pub struct HostError;
 
-/// No word of the command line was told.
+/// Failure to obtain a word of the command line.
 #[derive(Clone, Copy, PartialEq, Eq, Debug, Drop, Error)]
-pub enum ArgumentFault {
-    /// A word is no text in UTF-8, or there are none.
+pub enum CommandLineError {
+    /// A word is not valid UTF-8, or the words are not available.
     #[error("the words are no text")]
     NoText,
-    /// Memory that was asked for was refused.
+    /// An allocation failed.
     #[error("no memory")]
     Memory,
 }
 
-/// The machine, with one file that is open to be read and one that is open to be written. It remembers what it was asked and what it
-/// answered, which only contracts see. No call takes memory but `argument` and `real_name`.
+/// A machine with at most one file open for reading and at most one open for writing. It has a history of its calls and
+/// results, which is visible to contracts only. Only `argument` and `real_name` allocate.
 pub trait Host {
-    /// What was asked and answered, the newest first.
+    /// Calls and their results, the newest first.
     ghost history: { Self → List Event };
 
-    /// The next word of the command line, behind the program's own name. There is none behind the last.
-    fn argument(&mut self) -> Result<Option<String>, ArgumentFault>
+    /// Returns the next word of the command line after the program's own name, or `None` after the last word.
+    fn argument(&mut self) -> Result<Option<String>, CommandLineError>
         ensures ok { IfOk result (λ word. history self.new ≡ Argument (option_map string_bytes word) ∷ history self.old) }
         ensures err { OnErr result (history self.new ≡ Failed ∷ history self.old) };
 
-    /// The name that a name leads to through links. None where there is no such file, or where the machine cannot say.
+    /// Returns the name with links resolved. `None` if there is no such file, or if the machine cannot resolve the
+    /// name.
     ///
     /// # Errors
     ///
-    /// `AllocError` where memory that was asked for was refused.
+    /// Returns `AllocError` if an allocation fails.
     fn real_name(&mut self, name: &str) -> Result<Option<String>, AllocError>
         ensures ok { IfOk result (λ found. history self.new ≡ LedTo (option_map string_bytes found) ∷ Followed name.now ∷ history self.old) }
         ensures err { OnErr result (history self.new ≡ Failed ∷ history self.old) };
 
-    /// Which file has this name, through links, if any.
-    fn identity(&mut self, name: &str) -> Result<Option<Identity>, HostFault>
+    /// Returns the identity of the file of this name, with links resolved, or `None` if there is no such file.
+    fn identity(&mut self, name: &str) -> Result<Option<Identity>, HostError>
         ensures { MatchResult result (λ found. history self.new ≡ Named name.now found ∷ history self.old)
             (λ _. history self.new ≡ Failed ∷ history self.old) };
 
-    /// Which file a stream is, if any.
-    fn stream_identity(&mut self, stream: Stream) -> Result<Option<Identity>, HostFault>
+    /// Returns the identity of the file of a stream, or `None` if there is none.
+    fn stream_identity(&mut self, stream: Stream) -> Result<Option<Identity>, HostError>
         ensures { MatchResult result (λ found. history self.new ≡ Streamed stream found ∷ history self.old)
             (λ _. history self.new ≡ Failed ∷ history self.old) };
 
-    /// Opens a file to be read, in place of the one that was.
-    fn open(&mut self, name: &str) -> Result<(), HostFault>
+    /// Opens a file for reading, in place of the file that was open.
+    fn open(&mut self, name: &str) -> Result<(), HostError>
         ensures ok { OnOk result (history self.new ≡ Opened name.now ∷ history self.old) }
         ensures err { OnErr result (history self.new ≡ Unopened name.now ∷ history self.old) };
 
-    /// Which file it is that is open to be read.
-    fn input_identity(&mut self) -> Result<Identity, HostFault>
+    /// Returns the identity of the file that is open for reading.
+    fn input_identity(&mut self) -> Result<Identity, HostError>
         ensures { MatchResult result (λ file. history self.new ≡ Known file ∷ history self.old)
             (λ _. history self.new ≡ Broken ∷ history self.old) };
 
-    /// Reads some of its bytes. None come at its end.
-    fn read(&mut self, buffer: &mut [u8]) -> Result<usize, HostFault>
+    /// Reads some bytes of the file that is open for reading, and returns their number. It is 0 at the end of the file.
+    fn read(&mut self, buffer: &mut [u8]) -> Result<usize, HostError>
         ensures within { IfOk result (λ n. n ≤ length buffer.new) }
         ensures noted { MatchResult result (λ n. history self.new ≡ Got (take n buffer.new) ∷ history self.old)
             (λ _. history self.new ≡ Broken ∷ history self.old) };
 
-    /// Makes a new file, to be written. Where the name is taken that is a fault.
-    fn begin(&mut self, name: &str) -> Result<(), HostFault>
+    /// Creates a new file and opens it for writing. Fails if the name exists.
+    fn begin(&mut self, name: &str) -> Result<(), HostError>
         ensures ok { OnOk result (history self.new ≡ Began name.now ∷ history self.old) }
         ensures err { OnErr result (history self.new ≡ Failed ∷ history self.old) };
 
-    /// Empties the file that is there, to be written.
-    fn empty(&mut self, name: &str) -> Result<(), HostFault>
+    /// Truncates an existing file and opens it for writing.
+    fn empty(&mut self, name: &str) -> Result<(), HostError>
         ensures ok { OnOk result (history self.new ≡ Emptied name.now ∷ history self.old) }
         ensures err { OnErr result (history self.new ≡ Failed ∷ history self.old) };
 
-    /// Writes a beginning of the piece, and says how long it is.
-    fn put(&mut self, piece: &[u8]) -> Result<usize, HostFault>
+    /// Writes a prefix of the piece and returns its length.
+    fn put(&mut self, piece: &[u8]) -> Result<usize, HostError>
         ensures within { IfOk result (λ n. n ≤ length piece.now) }
         ensures noted { MatchResult result (λ n. history self.new ≡ Put (take n piece.now) ∷ history self.old)
             (λ _. history self.new ≡ Failed ∷ history self.old) };
 
-    /// Gives a file the second name, in place of the file that has it.
-    fn rename(&mut self, before: &str, name: &str) -> Result<(), HostFault>
+    /// Renames the file `before` to `name`, in place of a file of that name.
+    fn rename(&mut self, before: &str, name: &str) -> Result<(), HostError>
         ensures ok { OnOk result (history self.new ≡ Renamed before.now name.now ∷ history self.old) }
         ensures err { OnErr result (history self.new ≡ Failed ∷ history self.old) };
 
     /// Removes a name.
-    fn remove(&mut self, name: &str) -> Result<(), HostFault>
+    fn remove(&mut self, name: &str) -> Result<(), HostError>
         ensures ok { OnOk result (history self.new ≡ Removed name.now ∷ history self.old) }
         ensures err { OnErr result (history self.new ≡ Failed ∷ history self.old) };
 }

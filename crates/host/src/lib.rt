@@ -1,4 +1,5 @@
-//! What a program asks of the machine that it runs on, and what stands on that alone.
+//! Interface between a program and the machine that it runs on, with bounded reading of files and safe writing of
+//! traces.
 #![tactic(auto)]
 
 pub mod host;
@@ -8,4 +9,4 @@ pub mod reading;
 pub mod record;
 pub mod trace;
 
-pub use host::{ArgumentFault, Host, HostFault, Stream};
+pub use host::{CommandLineError, Host, HostError, Stream};

@@ -1,8 +1,8 @@
-//! A list of calls that only clauses read.
+//! A record of calls that exists in contracts only.
 //!
-//! A machine that is real keeps a `Record`, and notes each call that it made with what came of it. The list takes no memory and is not
-//! there when the program runs. The three functions that touch it are proved by hand over its owner, and nothing else may be: such a
-//! proof could set the list to anything.
+//! A real machine keeps a `Record`, and notes each call with its result. The record occupies no memory and does not
+//! exist at run time. The three functions that change it are proved by hand from its ownership. No other function may
+//! do so, since such a proof could set the record to anything.
 ghost use Rattle.std.specs.Prelude.{◌≡◌, List, [], ◌∷◌};
 ghost use Rattle.std.specs.Borrow.{ftrue};
 ghost use Rattle.host.specs.Events.{Event};
@@ -11,7 +11,7 @@ ghost use Rattle.host.specs.Notes.{event_at, event_of, two_names};
 use crate::identity::Identity;
 use std::marker::{Model, PhantomData};
 
-/// Which call a note is of: the numbers of `event_at`.
+/// Numbers of the calls, as in `event_at`.
 pub const NAMED: u64 = 0;
 
 pub const OUT: u64 = 1;
@@ -60,7 +60,7 @@ impl Model for Record {
 }
 
 impl Record {
-    /// Before the first call.
+    /// Creates an empty record.
     pub fn new() -> Record
         ensures { result.events ≡ [] }
     {
@@ -69,13 +69,13 @@ impl Record {
         }
     }
 
-    /// Notes a call. The first number says which it was; behind it stand 1, a file's device, its number, and 1 where it is a regular
-    /// one, or 0 where the call found no file.
+    /// Notes a call. The first number identifies the call. If the call found a file, the next numbers are 1, its
+    /// device, its number, and 1 if it is regular. Otherwise the second number is 0.
     pub fn note(&mut self, _numbers: &[u64], _bytes: &[u8])
         ensures { self.new.events ≡ event_of _numbers.now _bytes.now ∷ self.old.events }
     {}
 
-    /// Notes that a file was given the second name in place of the first.
+    /// Notes that the file `_before` was renamed to `_name`.
     pub fn note_two(&mut self, _before: &[u8], _name: &[u8])
         ensures { self.new.events ≡ two_names _before.now _name.now ∷ self.old.events }
     {}

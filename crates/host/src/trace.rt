@@ -1,36 +1,40 @@
-//! A trace on its way to its file.
+//! A sink that writes a trace to its file.
 ghost use Rattle.std.specs.Prelude.{◌≡◌, ◌≢◌, ◌<◌, [], List, ℕ, true, false, string_bytes, OnOk};
-ghost use Rattle.host.specs.declared.opening.State.TheVariants.{Unopened, Beside, InPlace};
+ghost use Rattle.host.specs.declared.opening.TraceState.TheVariants.{Unopened, Beside, InPlace};
 ghost use Rattle.host.specs.Events.{Learnt, given, inputs, is_kept, is_safe, learnt, replaced, was_clear};
 
 use crate::host::Host;
 use crate::identity::Identity;
-use crate::opening::{State, open_trace};
+use crate::opening::{TraceState, open_trace};
 use std::marker::{Brand, PhantomData};
 use values::sink::{Sink, SinkFault};
 
-/// What was learnt before the trace, and the name that it is to have. Only contracts see it.
-pub trait Past {
+/// Ghost parameters of a trace file: the information received from the machine before the trace, and the final name of
+/// the trace.
+pub trait TraceContext {
     ghost learnt: { Learnt };
 
     ghost place: { List ℕ };
 }
 
-impl Past for Brand {
+impl TraceContext for Brand {
     ghost learnt = { learnt [] };
 
     ghost place = { [] };
 }
 
-/// The file that a trace goes to. It is opened at the first write, beside its place where that is a regular file or nothing, and never
-/// over a file that was read or that a standard stream is.
+/// The file of a trace. It is opened at the first write, and never overwrites a regular file that was read or that a
+/// standard stream writes to.
+///
+/// If its name denotes a regular file or none, the trace is written to a temporary file first. An existing file that is
+/// not regular is written in place.
 #[derive(Drop)]
-pub struct TraceFile<H: Host, K: Past> {
+pub struct TraceFile<H: Host, K: TraceContext> {
     host: H,
     known: Vec<Identity>,
     place: String,
     beside: String,
-    state: State,
+    state: TraceState,
     failures: u64,
     of: PhantomData<K>,
     ghost past: { learnt (H.history host) ≡ K.learnt },
@@ -43,7 +47,7 @@ pub struct TraceFile<H: Host, K: Past> {
     ghost in_place: { state ≡ InPlace → is_kept K.place (H.history host) ≡ true },
 }
 
-impl<H: Host, K: Past> TraceFile<H, K> {
+impl<H: Host, K: TraceContext> TraceFile<H, K> {
     ghost use Rattle.host.specs.TraceFiles.{host_of, failures_of, state_of};
 
     pub fn new(host: H, known: Vec<Identity>, place: String, beside: String) -> TraceFile<H, K>
@@ -61,19 +65,19 @@ impl<H: Host, K: Past> TraceFile<H, K> {
             known,
             place,
             beside,
-            state: State::Unopened,
+            state: TraceState::Unopened,
             failures: 0,
             of: PhantomData,
         }
     }
 
-    /// Opens the file, where that was not done.
+    /// Opens the file unless it is already open.
     fn open(&mut self) -> Result<(), SinkFault>
-        ensures open { OnOk result (state_of self.new ≢ State.Unopened) }
+        ensures open { OnOk result (state_of self.new ≢ TraceState.Unopened) }
         ensures given { given (H.history (host_of self.new)) ≡ given (H.history (host_of self.old)) }
         ensures failures { failures_of self.new ≡ failures_of self.old }
     {
-        if self.state == State::Unopened {
+        if self.state == TraceState::Unopened {
             match open_trace(
                 &mut self.host,
                 self.known.as_slice(),
@@ -88,7 +92,7 @@ impl<H: Host, K: Past> TraceFile<H, K> {
     }
 }
 
-impl<H: Host, K: Past> Sink for TraceFile<H, K> {
+impl<H: Host, K: TraceContext> Sink for TraceFile<H, K> {
     ghost use Rattle.host.specs.TraceFiles.{host_of, failures_of};
 
     ghost taken = { λ trace. given (H.history (host_of trace)) };
@@ -117,11 +121,14 @@ impl<H: Host, K: Past> Sink for TraceFile<H, K> {
     }
 }
 
-impl<H: Host + Drop, K: Past> TraceFile<H, K> {
+impl<H: Host + Drop, K: TraceContext> TraceFile<H, K> {
     ghost use Rattle.host.specs.TraceFiles.{host_of, failures_of};
     ghost use Rattle.host.specs.Traces.{IsKept};
 
-    /// Gives what was written its name, where all of it was, and gives the machine back.
+    /// Moves the trace to its final name if every write succeeded, and returns the machine.
+    ///
+    /// The flag is false only if every write succeeded but the trace could not be renamed. A temporary file that is not
+    /// renamed is removed.
     pub fn finish(self) -> (bool, H)
         ensures past { learnt (H.history result.1) ≡ K.learnt }
         ensures known { inputs (H.history result.1) ≡ inputs (H.history (host_of self)) }
@@ -141,8 +148,8 @@ impl<H: Host + Drop, K: Past> TraceFile<H, K> {
             of: _,
         } = self;
         let is_kept = match state {
-            State::Unopened | State::InPlace => true,
-            State::Beside => {
+            TraceState::Unopened | TraceState::InPlace => true,
+            TraceState::Beside => {
                 if failures == 0 && host.rename(beside.as_str(), place.as_str()).is_ok() {
                     true
                 } else {

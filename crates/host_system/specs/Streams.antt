@@ -1,4 +1,4 @@
--- What a standard stream shows: the bytes that it took, and how many of its writes have failed.
+-- Contents of a standard stream: the bytes that it took, and the number of its failed writes.
 use Rattle.std.specs.Prelude.{ℕ, List}
 use Rattle.host.specs.Events.{given}
 use Rattle.host_system.specs.declared.stream.Standard.{Standard}

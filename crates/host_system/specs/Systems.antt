@@ -1,4 +1,4 @@
--- What the system was asked and answered, which only its record has.
+-- The history of the system, which is that of its record.
 use Rattle.std.specs.Prelude.{List}
 use Rattle.host.specs.Events.{Event}
 use Rattle.host_system.specs.declared.system.System.{System}

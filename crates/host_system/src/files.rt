@@ -1,8 +1,8 @@
-//! Single calls on files.
+//! Single system calls on files.
 ghost use Rattle.std.specs.Prelude.{◌≤◌, length, IfOk};
 
 use host::identity::Identity;
-use host::{ArgumentFault, HostFault};
+use host::{CommandLineError, HostError};
 use std::alloc::{AllocError, Global};
 use std::env::{self, Args};
 use std::fs::{self, File, Metadata, OpenOptions};
@@ -10,16 +10,16 @@ use std::io::{self, ErrorKind, Read, Write};
 use std::os::fd::AsRawFd;
 use std::os::unix::fs::MetadataExt;
 
-/// The name by which a command line calls standard input.
+/// Name of standard input on a command line.
 const INPUT_WORD: &str = "-";
 
-/// The name that the system has for it.
+/// Name of standard input in the file system.
 const INPUT_NAME: &str = "/dev/stdin";
 
-/// How often a call is tried that signals cut short.
+/// Maximum number of attempts of a call that signals interrupt.
 pub(crate) const TRIES: u8 = 64;
 
-/// What is open to be read.
+/// The input that is open for reading.
 #[derive(Drop)]
 pub(crate) enum Input {
     Closed,
@@ -27,11 +27,11 @@ pub(crate) enum Input {
     Named(File),
 }
 
-/// The next word of the command line behind the program's own name. All are read at the first call.
+/// Returns the next word of the command line after the program's own name. All words are read at the first call.
 pub(crate) fn next_word(
     rt: &HostRuntime,
     words: &mut Option<Args<Global>>,
-) -> Result<Option<String>, ArgumentFault> {
+) -> Result<Option<String>, CommandLineError> {
     if let Some(rest) = words {
         return Ok(rest.next());
     }
@@ -42,12 +42,12 @@ pub(crate) fn next_word(
             *words = Some(all);
             Ok(word)
         }
-        Err(error) if error.kind() == ErrorKind::OutOfMemory => Err(ArgumentFault::Memory),
-        Err(_) => Err(ArgumentFault::NoText),
+        Err(error) if error.kind() == ErrorKind::OutOfMemory => Err(CommandLineError::Memory),
+        Err(_) => Err(CommandLineError::NoText),
     }
 }
 
-/// The name that a name leads to through links, if any.
+/// Returns the name with links resolved, or `None` if it cannot be resolved.
 pub(crate) fn led_to(rt: &HostRuntime, name: &str) -> Result<Option<String>, AllocError> {
     match fs::canonicalize(rt, name) {
         Ok(found) => Ok(Some(found.into_string())),
@@ -56,7 +56,7 @@ pub(crate) fn led_to(rt: &HostRuntime, name: &str) -> Result<Option<String>, All
     }
 }
 
-/// Which file it is.
+/// Converts file metadata to an identity.
 fn identity_of(found: &Metadata) -> Identity {
     Identity {
         device: found.dev(),
@@ -65,17 +65,17 @@ fn identity_of(found: &Metadata) -> Identity {
     }
 }
 
-/// Which file has the name, through links, if any.
-pub(crate) fn find(rt: &HostRuntime, name: &str) -> Result<Option<Identity>, HostFault> {
+/// Returns the identity of the file of this name, with links resolved, or `None` if there is no such file.
+pub(crate) fn find(rt: &HostRuntime, name: &str) -> Result<Option<Identity>, HostError> {
     match fs::metadata(rt, name) {
         Ok(found) => Ok(Some(identity_of(&found))),
         Err(error) if error.kind() == ErrorKind::NotFound => Ok(None),
-        Err(_) => Err(HostFault),
+        Err(_) => Err(HostError),
     }
 }
 
-/// The same file, by a number that no standard stream has. Where a stream was closed its number is free, and what is meant for the stream
-/// must not land in a file.
+/// Returns the file with a descriptor above those of the standard streams. If a stream was closed, its descriptor is
+/// free, and output for the stream must not reach a file.
 fn raised(file: File) -> io::Result<File> {
     if file.as_raw_fd() <= 2 {
         return file.try_clone();
@@ -83,7 +83,7 @@ fn raised(file: File) -> io::Result<File> {
     Ok(file)
 }
 
-/// Opens a file to be read. The name `-` is standard input.
+/// Opens a file for reading. The name `-` is standard input.
 pub(crate) fn open_input(rt: &HostRuntime, name: &str) -> io::Result<Input> {
     if name == INPUT_WORD {
         return Ok(Input::Standard);
@@ -92,22 +92,22 @@ pub(crate) fn open_input(rt: &HostRuntime, name: &str) -> io::Result<Input> {
     Ok(Input::Named(file))
 }
 
-/// Which file it is that is open to be read.
-pub(crate) fn input_file(rt: &HostRuntime, input: &Input) -> Result<Identity, HostFault> {
+/// Returns the identity of the open input.
+pub(crate) fn input_file(rt: &HostRuntime, input: &Input) -> Result<Identity, HostError> {
     match input {
-        Input::Closed => Err(HostFault),
+        Input::Closed => Err(HostError),
         Input::Standard => match fs::metadata(rt, INPUT_NAME) {
             Ok(found) => Ok(identity_of(&found)),
-            Err(_) => Err(HostFault),
+            Err(_) => Err(HostError),
         },
         Input::Named(file) => match file.metadata() {
             Ok(found) => Ok(identity_of(&found)),
-            Err(_) => Err(HostFault),
+            Err(_) => Err(HostError),
         },
     }
 }
 
-/// Reads some bytes of what is open, in one call.
+/// Reads some bytes of the open input, in one call.
 fn read_once(rt: &HostRuntime, input: &mut Input, buffer: &mut [u8]) -> io::Result<usize>
     ensures { IfOk result (λ n. n ≤ length buffer.new) }
 {
@@ -121,7 +121,7 @@ fn read_once(rt: &HostRuntime, input: &mut Input, buffer: &mut [u8]) -> io::Resu
     }
 }
 
-/// Reads some bytes of what is open.
+/// Reads some bytes of the open input, and retries if a signal interrupts the call.
 pub(crate) fn read_some(rt: &HostRuntime, input: &mut Input, buffer: &mut [u8]) -> io::Result<usize>
     ensures { IfOk result (λ n. n ≤ length buffer.new) }
 {
@@ -134,7 +134,7 @@ pub(crate) fn read_some(rt: &HostRuntime, input: &mut Input, buffer: &mut [u8]) 
     Err(ErrorKind::Interrupted.into())
 }
 
-/// Makes a new file, to be written.
+/// Creates a new file and opens it for writing.
 pub(crate) fn begin_file(rt: &HostRuntime, name: &str) -> io::Result<File> {
     raised(
         OpenOptions::new()
@@ -144,7 +144,7 @@ pub(crate) fn begin_file(rt: &HostRuntime, name: &str) -> io::Result<File> {
     )
 }
 
-/// Empties the file that is there, to be written.
+/// Truncates an existing file and opens it for writing.
 pub(crate) fn empty_file(rt: &HostRuntime, name: &str) -> io::Result<File> {
     raised(
         OpenOptions::new()
@@ -154,7 +154,7 @@ pub(crate) fn empty_file(rt: &HostRuntime, name: &str) -> io::Result<File> {
     )
 }
 
-/// Writes a beginning of the piece into the file, in one call.
+/// Writes a prefix of the piece to the file, in one call, and returns its length.
 fn write_once(output: &mut Option<File>, piece: &[u8]) -> io::Result<usize>
     ensures { IfOk result (λ n. n ≤ length piece.now) }
 {
@@ -164,7 +164,7 @@ fn write_once(output: &mut Option<File>, piece: &[u8]) -> io::Result<usize>
     }
 }
 
-/// Writes a beginning of the piece into the file.
+/// Writes a prefix of the piece to the file and returns its length. Retries if a signal interrupts the call.
 pub(crate) fn write_some(output: &mut Option<File>, piece: &[u8]) -> io::Result<usize>
     ensures { IfOk result (λ n. n ≤ length piece.now) }
 {

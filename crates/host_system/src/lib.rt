@@ -1,4 +1,4 @@
-//! The system that a process runs on: its words and files, and its standard streams.
+//! Implementation of `host` for the operating system: command-line words, files and standard streams.
 #![tactic(auto)]
 
 pub mod files;

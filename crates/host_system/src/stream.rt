@@ -1,4 +1,4 @@
-//! A standard stream as a sink. It takes no memory.
+//! A standard stream as a sink, without allocation.
 ghost use Rattle.std.specs.Prelude.{◌≡◌, ◌≤◌, [], length, IfOk};
 
 use crate::files::TRIES;
@@ -33,7 +33,7 @@ impl<'r> Standard<'r> {
         }
     }
 
-    /// Why the last write that failed did, where one failed.
+    /// Returns the error of the last failed write, if any.
     pub fn reason(&self) -> Option<&Error> {
         self.reason.as_ref()
     }
@@ -48,7 +48,7 @@ fn write_once(rt: &HostRuntime, stream: Stream, piece: &[u8]) -> io::Result<usiz
     }
 }
 
-/// Writes a beginning of the piece.
+/// Writes a prefix of the piece and returns its length. Retries if a signal interrupts the call.
 fn write_some(rt: &HostRuntime, stream: Stream, piece: &[u8]) -> io::Result<usize>
     ensures { IfOk result (λ n. n ≤ length piece.now) }
 {

@@ -1,4 +1,4 @@
-//! The system as a host. Each method makes one call, and then notes it with its answer.
+//! The operating system as a host. Each method makes one call, then records it with its result.
 ghost use Rattle.std.specs.Prelude.{◌≡◌, []};
 
 use crate::files::{
@@ -10,13 +10,13 @@ use host::record::{
     ARGUMENT, BEGAN, BROKEN, EMPTIED, ERROR, FAILED, FOLLOWED, GOT, KNOWN, LAST_ARGUMENT,
     LED_NOWHERE, LED_TO, NAMED, OPENED, OUT, PUT, REMOVED, Record, UNOPENED, note_found,
 };
-use host::{ArgumentFault, Host, HostFault, Stream};
+use host::{CommandLineError, Host, HostError, Stream};
 use std::alloc::{AllocError, Global};
 use std::env::Args;
 use std::fs::{self, File};
 use std::io::Error;
 
-/// The system that the process runs on.
+/// The operating system that the process runs on.
 #[derive(Drop)]
 pub struct System<'r> {
     rt: &'r HostRuntime,
@@ -30,7 +30,7 @@ pub struct System<'r> {
 impl<'r> System<'r> {
     ghost use Rattle.host_system.specs.Systems.{events_of};
 
-    /// Before the first call.
+    /// Creates the system before its first call.
     pub fn new(rt: &'r HostRuntime) -> System<'r>
         ensures { events_of result ≡ [] }
     {
@@ -44,7 +44,7 @@ impl<'r> System<'r> {
         }
     }
 
-    /// Why the last call on a file failed that was to read, make, write or rename it, where one failed.
+    /// Returns the error of the last failed call that opened, read, created, wrote or renamed a file, if any.
     pub fn reason(&self) -> Option<&Error> {
         self.reason.as_ref()
     }
@@ -55,7 +55,7 @@ impl Host for System<'_> {
 
     ghost history = { λ system. events_of system };
 
-    fn argument(&mut self) -> Result<Option<String>, ArgumentFault> {
+    fn argument(&mut self) -> Result<Option<String>, CommandLineError> {
         match next_word(self.rt, &mut self.words) {
             Ok(Some(word)) => {
                 self.log.note(&[ARGUMENT], word.as_bytes());
@@ -91,16 +91,16 @@ impl Host for System<'_> {
         }
     }
 
-    fn identity(&mut self, name: &str) -> Result<Option<Identity>, HostFault> {
+    fn identity(&mut self, name: &str) -> Result<Option<Identity>, HostError> {
         let answer = find(self.rt, name);
         match answer {
             Ok(found) => note_found(&mut self.log, NAMED, found, name.as_bytes()),
-            Err(HostFault) => self.log.note(&[FAILED], &[]),
+            Err(HostError) => self.log.note(&[FAILED], &[]),
         }
         answer
     }
 
-    fn stream_identity(&mut self, stream: Stream) -> Result<Option<Identity>, HostFault> {
+    fn stream_identity(&mut self, stream: Stream) -> Result<Option<Identity>, HostError> {
         let answer = match stream {
             Stream::Out => find(self.rt, "/dev/stdout"),
             Stream::Error => find(self.rt, "/dev/stderr"),
@@ -110,12 +110,12 @@ impl Host for System<'_> {
                 Stream::Out => note_found(&mut self.log, OUT, found, &[]),
                 Stream::Error => note_found(&mut self.log, ERROR, found, &[]),
             },
-            Err(HostFault) => self.log.note(&[FAILED], &[]),
+            Err(HostError) => self.log.note(&[FAILED], &[]),
         }
         answer
     }
 
-    fn open(&mut self, name: &str) -> Result<(), HostFault> {
+    fn open(&mut self, name: &str) -> Result<(), HostError> {
         match open_input(self.rt, name) {
             Ok(input) => {
                 self.input = input;
@@ -125,21 +125,21 @@ impl Host for System<'_> {
             Err(error) => {
                 self.reason = Some(error);
                 self.log.note(&[UNOPENED], name.as_bytes());
-                Err(HostFault)
+                Err(HostError)
             }
         }
     }
 
-    fn input_identity(&mut self) -> Result<Identity, HostFault> {
+    fn input_identity(&mut self) -> Result<Identity, HostError> {
         let answer = input_file(self.rt, &self.input);
         match answer {
             Ok(file) => note_found(&mut self.log, KNOWN, Some(file), &[]),
-            Err(HostFault) => self.log.note(&[BROKEN], &[]),
+            Err(HostError) => self.log.note(&[BROKEN], &[]),
         }
         answer
     }
 
-    fn read(&mut self, buffer: &mut [u8]) -> Result<usize, HostFault> {
+    fn read(&mut self, buffer: &mut [u8]) -> Result<usize, HostError> {
         match read_some(self.rt, &mut self.input, buffer) {
             Ok(n) => {
                 self.log.note(&[GOT], &buffer[..n]);
@@ -148,12 +148,12 @@ impl Host for System<'_> {
             Err(error) => {
                 self.reason = Some(error);
                 self.log.note(&[BROKEN], &[]);
-                Err(HostFault)
+                Err(HostError)
             }
         }
     }
 
-    fn begin(&mut self, name: &str) -> Result<(), HostFault> {
+    fn begin(&mut self, name: &str) -> Result<(), HostError> {
         match begin_file(self.rt, name) {
             Ok(file) => {
                 self.output = Some(file);
@@ -163,12 +163,12 @@ impl Host for System<'_> {
             Err(error) => {
                 self.reason = Some(error);
                 self.log.note(&[FAILED], &[]);
-                Err(HostFault)
+                Err(HostError)
             }
         }
     }
 
-    fn empty(&mut self, name: &str) -> Result<(), HostFault> {
+    fn empty(&mut self, name: &str) -> Result<(), HostError> {
         match empty_file(self.rt, name) {
             Ok(file) => {
                 self.output = Some(file);
@@ -178,12 +178,12 @@ impl Host for System<'_> {
             Err(error) => {
                 self.reason = Some(error);
                 self.log.note(&[FAILED], &[]);
-                Err(HostFault)
+                Err(HostError)
             }
         }
     }
 
-    fn put(&mut self, piece: &[u8]) -> Result<usize, HostFault> {
+    fn put(&mut self, piece: &[u8]) -> Result<usize, HostError> {
         match write_some(&mut self.output, piece) {
             Ok(n) => {
                 self.log.note(&[PUT], &piece[..n]);
@@ -192,12 +192,12 @@ impl Host for System<'_> {
             Err(error) => {
                 self.reason = Some(error);
                 self.log.note(&[FAILED], &[]);
-                Err(HostFault)
+                Err(HostError)
             }
         }
     }
 
-    fn rename(&mut self, before: &str, name: &str) -> Result<(), HostFault> {
+    fn rename(&mut self, before: &str, name: &str) -> Result<(), HostError> {
         match fs::rename(self.rt, before, name) {
             Ok(()) => {
                 self.log.note_two(before.as_bytes(), name.as_bytes());
@@ -206,12 +206,12 @@ impl Host for System<'_> {
             Err(error) => {
                 self.reason = Some(error);
                 self.log.note(&[FAILED], &[]);
-                Err(HostFault)
+                Err(HostError)
             }
         }
     }
 
-    fn remove(&mut self, name: &str) -> Result<(), HostFault> {
+    fn remove(&mut self, name: &str) -> Result<(), HostError> {
         match fs::remove_file(self.rt, name) {
             Ok(()) => {
                 self.log.note(&[REMOVED], name.as_bytes());
@@ -219,7 +219,7 @@ impl Host for System<'_> {
             }
             Err(_) => {
                 self.log.note(&[FAILED], &[]);
-                Err(HostFault)
+                Err(HostError)
             }
         }
     }

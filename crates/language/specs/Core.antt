@@ -1,15 +1,16 @@
--- The core of a script: its tree with names resolved, and with the cells of each statement listed once, in reading order. States docs/LANGUAGE.md: Cells; Calls.
+-- The core of a script: its tree with names resolved, and with the cells of each statement listed once, in reading
+-- order. States docs/LANGUAGE.md: Cells; Calls.
 use Rattle.std.specs.Prelude.{ℕ, List, Option, ℤ}
 use Rattle.values.specs.declared.value.Scalar.{Scalar}
 use Rattle.values.specs.Operators.{Operation}
 
--- what a name is in the block instance that owns it: a variable or a cell, by its node, or the i-th input or output of
--- the function whose body it is
+-- the binding of a name in the block instance that owns it: a variable or a cell, by its node, or the i-th input or
+-- output of the function whose body it is
 pub data Owned : Type 0 where
   local : (node : ℕ) → Owned
   input output : (i : ℕ) → Owned
 
--- a name: how many steps of the path lie between its use and its owner, and what it is there
+-- a name: the number of path steps between its use and its owner, and its binding there
 pub record Name : Type 0 where
   pub up : ℕ
   pub what : Owned
@@ -18,8 +19,8 @@ pub record Name : Type 0 where
 abbrev pub here : ℕ → Name
 here n = record { up = 0; what = local n }
 
--- an expression whose inner cells and composite calls are taken out and named by their nodes; a whole array stands where
--- its elements are wanted
+-- an expression whose inner cells and composite calls are separated and named by their nodes; a whole array occurs
+-- where its elements are used
 mutual
   pub data Expr : Type 0 where
     literal : Scalar → Expr
@@ -31,44 +32,44 @@ mutual
     none : Exprs
     also : Expr → Exprs → Exprs
 
--- what a cell is: an expression, or the element of an array at the index that the cell of that node has
+-- the form of a cell: an expression, or the element of an array at the index that the cell of that node has
 pub data Form : Type 0 where
   compute : Expr → Form
   read : (array : Name) → (index : ℕ) → Form
 
--- a cell: its node, and what it is (docs/LANGUAGE.md, Cells)
+-- a cell: its node and its form (docs/LANGUAGE.md, Cells)
 pub record Cell : Type 0 where
   pub node : ℕ
   pub form : Form
 
--- a call of a composite function: the offset of the called name, which function it is, and what its inputs and outputs stand
--- for: an input for an argument's cell or for an array, an output for a variable (docs/LANGUAGE.md, Calls)
+-- a call of a composite function: the offset of the called name, the index of the function, and the names bound to its
+-- inputs and outputs: an input to an argument's cell or to an array, an output to a variable (docs/LANGUAGE.md, Calls)
 pub record Call : Type 0 where
   pub at : ℕ
   pub function : ℕ
   pub inputs : List Name
   pub outputs : List Name
 
--- what stands inside of an outermost cell or before a call: an inner cell or a call
+-- a part of an outermost cell or before a call: an inner cell or a call
 pub data Part : Type 0 where
   inner : Cell → Part
   calls : Call → Part
 
--- an outermost cell of a statement, one that lies in no other, with the parts inside it
+-- an outermost cell of a statement, which is nested in no other, with its nested parts
 pub record Outer : Type 0 where
   pub parts : List Part
   pub cell : Cell
 
--- what a `wait` waits for
+-- a scalar or an array for which a `wait` waits
 pub data Awaited : Type 0 where
   scalar array : Name → Awaited
 
 mutual
-  -- a statement: the offset of its first token, its node, and what it does
+  -- a statement: the offset of its first token, its node, and its action
   pub data Stmt : Type 0 where
     stmt : (at node : ℕ) → Action → Stmt
 
-  -- what a statement does, with its outermost cells; loop variables are named by their nodes
+  -- the action of a statement, with its outermost cells; loop variables are named by their nodes
   pub data Action : Type 0 where
     declare : (variable : ℕ) → Action
     call_alone : (priority : ℤ) → List Part → Call → Action
@@ -87,7 +88,7 @@ mutual
     no_stmts : Block
     stmts : Stmt → Block → Block
 
--- a function: how many inputs and outputs it has, and its body
+-- a function: the numbers of its inputs and outputs, and its body
 pub record Function : Type 0 where
   pub inputs : ℕ
   pub outputs : ℕ

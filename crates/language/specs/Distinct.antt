@@ -1,4 +1,4 @@
--- Lists of numbers in which none stands twice.
+-- Lists of numbers without duplicates.
 use Rattle.std.specs.Prelude.{ℕ, Bool, true, false, not, ◌&&◌, ◌||◌, List, [], ◌∷◌, nat_eq}
 
 -- the number stands in the list
@@ -6,7 +6,7 @@ abbrev pub has : ℕ → List ℕ → Bool
 has n [] = false
 has n (x ∷ xs) = nat_eq n x || has n xs
 
--- none stands twice
+-- no number occurs twice
 abbrev pub distinct : List ℕ → Bool
 distinct [] = true
 distinct (x ∷ xs) = not (has x xs) && distinct xs

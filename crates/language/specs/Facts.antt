@@ -1,4 +1,4 @@
--- What can be known of a script's run. States docs/LANGUAGE.md: Knowledge; Faults.
+-- Facts that can be known of a script's run. States docs/LANGUAGE.md: Knowledge; Faults.
 use Rattle.std.specs.Prelude.{◌≡◌, ℕ, ℤ, IsTrue, List, [], ◌∷◌}
 use Rattle.values.specs.declared.fault.OpFault.{OpFault}
 use Rattle.values.specs.declared.key.Key.{Key}
@@ -11,8 +11,8 @@ use Rattle.language.specs.Core.{Cell}
 use Rattle.language.specs.Members.{◌∈◌}
 use Rattle.language.specs.Places.{Path, Place}
 
--- what can be wrong at a place: what an operator, a conversion or a range meets, an element that is not there, a key that is
--- written twice, a path that would be too long (docs/LANGUAGE.md, Faults)
+-- a fault at a place: of an operator, a conversion or a range, a missing element, a key that is written twice, a path
+-- that would be too long (docs/LANGUAGE.md, Faults)
 pub data Fault : Type 0 where
   operation : OpFault → Fault
   no_element element_twice too_deep : Fault

@@ -1,4 +1,5 @@
--- The grammar of scripts: one case a production. A number of levels of nesting is left at each place. States docs/LANGUAGE.md: Grammar.
+-- The grammar of scripts: one case for each production. A number of nesting levels is left at each place. States
+-- docs/LANGUAGE.md: Grammar.
 use Rattle.std.specs.Prelude.{◌≡◌, ℕ, zero, suc, ◌≤◌, ℤ, pos, neg_ℤ, Bool, true, false, List, [], ◌∷◌, map, Option, Some, None, nat_eq, if◌then◌else◌}
 use Rattle.lexer.specs.declared.token.Span.{Span}
 use Rattle.lexer.specs.Items.{Lexeme}
@@ -16,7 +17,7 @@ use Rattle.lexer.specs.declared.token.TokenKind.TheVariants as Kind
 use Rattle.language.specs.Kinds.{operator_of, base_of, level_of, repeats}
 use Rattle.language.specs.Rules.{Place, Rule, The, ◌⋆◌, ◌▹◌, ◌◃◌, Never, Many, Maybe, AtMostOne, Perhaps, Made, Commas, Round, Square, Curly, Deeper}
 
--- the first token's place
+-- the place of the first token
 abbrev pub first_of : List Lexeme → Span
 first_of [] = record { from = 0; to = 0 }
 first_of (t ∷ ts) = t.span
@@ -37,18 +38,18 @@ does s c u = statement (node s u) c
 abbrev pub number_of : Lexeme → ℤ
 number_of t = pos (decimal t.text)
 
--- what a byte spells behind a `\`, or the byte itself
+-- the byte that is spelled by `\` and this byte, or the byte itself
 abbrev pub or_itself : ℕ → Option ℕ → ℕ
 or_itself c None = c
 or_itself c (Some d) = d
 
--- the bytes up to the quote, where a `\` and the byte behind it spell one; whether a `\` stands before
+-- the bytes up to the quote, where a `\` and the following byte spell one; escaped: whether a `\` precedes them
 abbrev pub spelled_from : Bool → List ℕ → List ℕ
 spelled_from escaped [] = []
 spelled_from true (c ∷ cs) = or_itself c (escaped_byte c) ∷ spelled_from false cs
 spelled_from false (c ∷ cs) = if nat_eq c 34 then [] else (if nat_eq c 92 then spelled_from true cs else c ∷ spelled_from false cs)
 
--- what is spelled behind the opening quote
+-- the bytes spelled after the opening quote
 abbrev pub behind_quote : List ℕ → List ℕ
 behind_quote [] = []
 behind_quote (c ∷ cs) = spelled_from false cs
@@ -76,7 +77,7 @@ abbrev pub chained : Place → Expression × List (Operator × Expression) → P
 chained s (x, []) u = x
 chained s (x, p ∷ ps) u = spans s (chain (p.0 ∷ map (λ q. q.0) ps) (expressions_of (x ∷ p.1 ∷ map (λ q. q.1) ps))) u
 
--- any number of them at a level that repeats, else at most one
+-- any number of values at a level that repeats, otherwise at most one
 abbrev pub Repeated : {A : Type 0} → Bool → Rule A → Rule (List A)
 Repeated true R = Many R
 Repeated false R = AtMostOne R
@@ -85,7 +86,7 @@ Repeated false R = AtMostOne R
 abbrev pub IsChain : Level → Rule Expression → Rule Expression
 IsChain l IsOperand = Made chained (IsOperand ⋆ Repeated (repeats l) (IsOperator l ⋆ IsOperand))
 
--- expr, and, eq, rel, add and mul, given what a unary is
+-- expr, and, eq, rel, add and mul, given the rule of unary expressions
 abbrev pub IsExprOver : Rule Expression → Rule Expression
 IsExprOver IsUnary = IsChain Level.Or (IsChain Level.And (IsChain Level.Equality (IsChain Level.Order (IsChain Level.Sum (IsChain Level.Product IsUnary)))))
 
@@ -93,7 +94,7 @@ IsExprOver IsUnary = IsChain Level.Or (IsChain Level.And (IsChain Level.Equality
 abbrev pub AreArguments : Rule Expression → Rule (List Expression)
 AreArguments IsExpr = Perhaps (Commas IsExpr)
 
--- unary and primary, given what stands behind a prefix operator, and in brackets
+-- unary and primary, given the rules after a prefix operator and in brackets
 pub data IsUnaryOver (IsUnary IsExpr : Rule Expression) (Arguments : Rule (List Expression)) (s : Place) (e : Expression) (u : Place) : Type 0 where
   a_not : (x : Expression) → (The Kind.Not ▹ IsUnary) s x u → e ≡ spans s (prefixed Prefix.Not x) u → IsUnaryOver IsUnary IsExpr Arguments s e u
   a_negative : (x : Expression) → (The Kind.Minus ▹ IsUnary) s x u → e ≡ spans s (prefixed Prefix.Negative x) u → IsUnaryOver IsUnary IsExpr Arguments s e u
@@ -106,12 +107,12 @@ pub data IsUnaryOver (IsUnary IsExpr : Rule Expression) (Arguments : Rule (List 
   a_call : (x : Word × List Expression) → (IsName ⋆ Round Arguments) s x u → e ≡ spans s (call x.0 (expressions_of x.1)) u → IsUnaryOver IsUnary IsExpr Arguments s e u
   a_parenthesis : Round IsExpr s e u → IsUnaryOver IsUnary IsExpr Arguments s e u
 
--- a unary where so many levels of nesting are left
+-- a unary expression where the given number of nesting levels is left
 unfoldable pub IsUnary : ℕ → Rule Expression
 IsUnary zero = IsUnaryOver Never Never Never
 IsUnary (suc depth) = IsUnaryOver (IsUnary depth) (IsExprOver (IsUnary depth)) (AreArguments (IsExprOver (IsUnary depth)))
 
--- an expression where so many levels of nesting are left
+-- an expression where the given number of nesting levels is left
 abbrev pub IsExpr : ℕ → Rule Expression
 IsExpr depth = IsExprOver (IsUnary depth)
 
@@ -164,7 +165,7 @@ IsPrio s t u = The Kind.Name s t u × (t.text ≡ 112 ∷ 114 ∷ 105 ∷ 111 �
 abbrev pub IsSmall : Rule ℕ
 IsSmall s n u = (t : Lexeme) × The Kind.Number s t u × (decimal t.text ≤ 1000000) × (n ≡ decimal t.text)
 
--- a number, or its negative behind a `-`
+-- a number, or its negative after a `-`
 abbrev pub signed : {A : Type 0} → Option A → ℕ → ℤ
 signed None n = pos n
 signed (Some x) n = neg_ℤ (pos n)
@@ -173,7 +174,7 @@ signed (Some x) n = neg_ℤ (pos n)
 abbrev pub IsPriority : Rule ℤ
 IsPriority = Made (λ s x u. signed x.0 x.1) (The Kind.At ▹ IsPrio ▹ The Kind.Assign ▹ Maybe (The Kind.Minus) ⋆ IsSmall)
 
--- no priority is priority 0
+-- a call without a priority has priority 0
 abbrev pub or_zero : Option ℤ → ℤ
 or_zero None = pos 0
 or_zero (Some p) = p
@@ -182,19 +183,19 @@ or_zero (Some p) = p
 abbrev pub IsRange : ℕ → Rule Over
 IsRange depth = Made (λ s x u. range x.0 x.1.0 x.1.1) (Square (Deeper (λ d. IsExpr d ⋆ ((The Kind.Colon ▹ IsExpr d) ⋆ Maybe (The Kind.Colon ▹ IsExpr d))) depth))
 
--- what a `foreach` goes over: an array by its name, or a range
+-- the source of a `foreach`: an array by its name, or a range
 pub data IsSource (depth : ℕ) (s : Place) (o : Over) (u : Place) : Type 0 where
   an_array : (w : Word) → IsName s w u → o ≡ array w → IsSource depth s o u
   a_range : IsRange depth s o u → IsSource depth s o u
 
 -- STATEMENTS
 
--- behind `else`, given what a block is, and a statement one level deeper
+-- the branch after `else`, given the rules of blocks and of statements one level deeper
 pub data IsElse (IsBlock : Rule Body) (IsStmt : Rule Statement) (s : Place) (b : Body) (u : Place) : Type 0 where
   a_block : IsBlock s b u → IsElse IsBlock IsStmt s b u
   an_if : (x : Statement) (t : Lexeme) (v : Place) → The Kind.If s t v → IsStmt s x u → b ≡ body (first_of s.rest).from (and_statement x no_statements) → IsElse IsBlock IsStmt s b u
 
--- a statement, given what a block is, and a statement one level deeper
+-- a statement, given the rules of blocks and of statements one level deeper
 pub data IsStmtOver (depth : ℕ) (IsBlock : Rule Body) (IsStmt : Rule Statement) (s : Place) (c : Statement) (u : Place) : Type 0 where
   a_declaration : (x : Declaration × Option RightSide) → (IsDecl depth ⋆ (Maybe (The Kind.Assign ▹ IsRight depth) ◃ The Kind.Semicolon)) s x u
       → c ≡ does s (declare x.0 x.1) u → IsStmtOver depth IsBlock IsStmt s c u
@@ -213,16 +214,16 @@ pub data IsStmtOver (depth : ℕ) (IsBlock : Rule Body) (IsStmt : Rule Statement
   a_wait : (x : List Word × Body) → (The Kind.Wait ▹ (AreNames depth ⋆ IsBlock)) s x u
       → c ≡ does s (waits x.0 x.1) u → IsStmtOver depth IsBlock IsStmt s c u
 
--- "{" { stmt } "}", given what a statement in it is
+-- "{" { stmt } "}", given the rule of statements in it
 abbrev pub IsBlockOver : Rule Statement → Rule Body
 IsBlockOver IsStmt = Made (λ s cs u. body (first_of s.rest).from (statements_of cs)) (Curly (Many IsStmt))
 
--- a statement where so many levels of nesting are left
+-- a statement where the given number of nesting levels is left
 unfoldable pub IsStmt : ℕ → Rule Statement
 IsStmt zero = IsStmtOver zero Never Never
 IsStmt (suc depth) = IsStmtOver (suc depth) (IsBlockOver (IsStmt depth)) (IsStmt depth)
 
--- a block where so many levels of nesting are left
+-- a block where the given number of nesting levels is left
 abbrev pub IsBlock : ℕ → Rule Body
 IsBlock = Deeper (λ d. IsBlockOver (IsStmt d))
 

@@ -1,4 +1,4 @@
--- What kinds of tokens are. States docs/LANGUAGE.md: Grammar.
+-- Classification of token kinds. States docs/LANGUAGE.md: Grammar.
 use Rattle.std.specs.Prelude.{Bool, true, false, Option, Some, None}
 use denote.Enum.Bare.{sameb}
 use Rattle.lexer.specs.declared.token.TokenKind.{TokenKind}
@@ -16,15 +16,15 @@ abbrev pub base_of_keys : Keys → Base
 base_of_keys Numbers = Base.Int
 base_of_keys Texts = Base.Text
 
--- whether two kinds of tokens are one
+-- whether two kinds of tokens are equal
 abbrev pub same : TokenKind → TokenKind → Bool
 same a b = sameb kinds.the_type a b
 
--- whether two levels are one
+-- whether two levels are equal
 abbrev pub same_level : Level → Level → Bool
 same_level a b = sameb levels.the_type a b
 
--- the operator that a kind is between two operands
+-- the binary operator of a kind
 abbrev pub operator_of : TokenKind → Option Operator
 operator_of Kind.Or = Some Operator.Or
 operator_of Kind.And = Some Operator.And

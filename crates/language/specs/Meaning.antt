@@ -1,4 +1,5 @@
--- What a script means: the facts that follow, round by round, from what is known. States docs/LANGUAGE.md: Knowledge; Blocks and paths; Closing; Elements; Loops.
+-- The meaning of a script: the facts that follow, round by round, from what is known. States docs/LANGUAGE.md:
+-- Knowledge; Blocks and paths; Closing; Elements; Loops.
 use Rattle.std.specs.Prelude.{◌≡◌, ◌≢◌, ◌⊎◌, ℕ, zero, suc, ◌<◌, ℤ, pos, List, [], ◌∷◌, length, Option, Some, Result, Ok, Err, slice_get}
 use Rattle.values.specs.declared.fault.OpFault.{OpFault}
 use Rattle.values.specs.declared.key.Key.{Key}
@@ -16,12 +17,13 @@ use Rattle.language.specs.Openings.{Bounds, bounds, Decides, Opens, InTurn, Bran
 use Rattle.language.specs.Parts.{stmt_at, stmt_node, outer_cells, cells, stmt_calls, block_list, function_body, targets}
 use Rattle.language.specs.Places.{Path, Place, place, most_steps}
 
--- a variable is a target in a statement or in a block inside it
+-- a variable is a target in a statement or in a block nested in it
 abbrev pub IsTarget : Owned → Stmt → Type 0
 IsTarget a st = a ∈ targets st
 
 mutual
-  -- a block is live at a path: the script's block; what a ready header opens; the content of a `wait`; the body of each call (docs/LANGUAGE.md, Blocks and paths)
+  -- a block is live at a path: the script's block; a block that a ready header opens; the content of a `wait`; the body
+  -- of each call (docs/LANGUAGE.md, Blocks and paths)
   pub data Live (s : Core) (K : Knowledge) : Path → Block → Type 0 where
     script : Live s K [] s.body
     opened : {path : Path} {b c : Block} {at n : ℕ} {header : Action} {vs : List Value} {k : Key}
@@ -33,7 +35,8 @@ mutual
         → Live s K path b → st ∈ block_list b → c ∈ stmt_calls st
         → slice_get s.functions c.function ≡ Some f → length path < most_steps → Live s K ((c.at, Key.Number (pos 0)) ∷ path) f.body
 
-  -- an array is closed: its block is live, each statement of that block is finished for it, and no key has two writers (docs/LANGUAGE.md, Closing)
+  -- an array is closed: its block is live, each statement of that block is finished for it, and no key has two writers
+  -- (docs/LANGUAGE.md, Closing)
   pub data Closed (s : Core) (K : Knowledge) : Place → Type 0 where
     closed : {path : Path} {n at m : ℕ} {b : Block}
         → Live s K path b → stmt at m (declare n) ∈ block_list b
@@ -75,12 +78,13 @@ mutual
         → ((x : Awaited) → x ∈ ns → Come s K path x)
         → Ready s K path (wait ns b) []
 
-  -- what a `wait` waits for is known (docs/LANGUAGE.md, Elements)
+  -- an awaited scalar or array is known (docs/LANGUAGE.md, Elements)
   pub data Come (s : Core) (K : Knowledge) : Path → Awaited → Type 0 where
     scalar_known : {path : Path} {x : Name} {v : Scalar} → HasValue s K (place s path x) v → Come s K path (scalar x)
     array_closed : {path : Path} {x : Name} → Closed s K (place s path x) → Come s K path (array x)
 
-  -- the scalar at a place: a known value, or what a loop's variable is in a turn that the loop opens (docs/LANGUAGE.md, Loops)
+  -- the scalar at a place: a known value, or the value of a loop's variable in a turn that the loop opens
+  -- (docs/LANGUAGE.md, Loops)
   pub data HasValue (s : Core) (K : Knowledge) : Place → Scalar → Type 0 where
     stored : {at : Place} {v : Scalar} → K (value at (One v)) → HasValue s K at v
     in_turn : {path : Path} {c : Block} {at n x : ℕ} {header : Action} {vs : List Value} {k : Key} {b : Block} {v : Scalar}
@@ -102,8 +106,8 @@ mutual
     operand : {e : Expr} {es : Exprs} {r : Result Value OpFault} {rs : List (Result Value OpFault)}
         → ValueUnder s K path e r → ValuesUnder s K path es rs → ValuesUnder s K path (also e es) (r ∷ rs)
 
--- the value or fault that a cell has under knowledge; an element read is of the key's one write, or there is none and the
--- array is closed (docs/LANGUAGE.md, Cells, Elements)
+-- the value or fault that a cell has under knowledge; a read element is of the key's one write, or there is none and
+-- the array is closed (docs/LANGUAGE.md, Cells, Elements)
 pub data Gives (s : Core) (K : Knowledge) (path : Path) : Form → Result Value Fault → Type 0 where
   computed : {e : Expr} {v : Value} → ValueUnder s K path e (Ok v) → Gives s K path (compute e) (Ok v)
   faulty : {e : Expr} {f : OpFault} → ValueUnder s K path e (Err f) → Gives s K path (compute e) (Err (operation f))
@@ -112,12 +116,12 @@ pub data Gives (s : Core) (K : Knowledge) (path : Path) : Form → Result Value 
   missing : {a : Name} {i : ℕ} {u : Value} {k : Key} → K (value (path, i) u) → IsKey u k → Closed s K (place s path a)
       → ((w : Place) (v : Scalar) → K (element (place s path a) k w v) → ⊥) → Gives s K path (read a i) (Err no_element)
 
--- the value that a cell has behind the round: it was known, or it comes now
+-- the value that a cell has after the round: it was known before, or becomes known in the round
 pub data Comes (s : Core) (K : Knowledge) (path : Path) : Cell → Value → Type 0 where
   before : {c : Cell} {v : Value} → K (value (path, c.node) v) → Comes s K path c v
   now : {c : Cell} {v : Value} → Gives s K path c.form (Ok v) → Comes s K path c v
 
--- the values that cells have behind the round
+-- the values that cells have after the round
 pub data ComeAll (s : Core) (K : Knowledge) (path : Path) : List Cell → List Value → Type 0 where
   none_comes : ComeAll s K path [] []
   next_comes : {c : Cell} {cs : List Cell} {v : Value} {vs : List Value} → Comes s K path c v → ComeAll s K path cs vs
@@ -127,8 +131,9 @@ pub data ComeAll (s : Core) (K : Knowledge) (path : Path) : List Cell → List V
 pub data LiveStmt (s : Core) (K : Knowledge) : Path → Stmt → Type 0 where
   in_block : {path : Path} {b : Block} {st : Stmt} → Live s K path b → st ∈ block_list b → LiveStmt s K path st
 
--- what a round adds: values and faults of cells; with the values of its outermost cells, what a statement assigns, writes or
--- prints; the fault of a range; a path that would be too long; two writes of one key (docs/LANGUAGE.md, Knowledge)
+-- the facts that a round adds: values and faults of cells; with the values of its outermost cells, what a statement
+-- assigns, writes or prints; the fault of a range; a path that would be too long; two writes of one key
+-- (docs/LANGUAGE.md, Knowledge)
 pub data New (s : Core) (K : Knowledge) : Fact → Type 0 where
   cell_value : {path : Path} {st : Stmt} {c : Cell} {v : Value}
       → LiveStmt s K path st → c ∈ cells st → Gives s K path c.form (Ok v)
@@ -163,16 +168,16 @@ pub data New (s : Core) (K : Knowledge) : Fact → Type 0 where
       → LiveStmt s K path st → K (element a k (path, stmt_node st) v) → K (element a k w u) → w ≢ (path, stmt_node st)
       → New s K (fault element_twice (stmt_at st) (path, stmt_node st))
 
--- one round: what was known, and what is new (docs/LANGUAGE.md, Knowledge)
+-- one round: the facts known before, and the new ones (docs/LANGUAGE.md, Knowledge)
 abbrev pub Round : Core → Knowledge → Knowledge
 Round s K f = K f ⊎ New s K f
 
--- what is known after so many rounds (docs/LANGUAGE.md, Knowledge)
+-- the facts known after n rounds (docs/LANGUAGE.md, Knowledge)
 abbrev pub Known : Core → ℕ → Knowledge
 Known s zero f = ⊥
 Known s (suc n) f = Round s (Known s n) f
 
--- the meaning: what is known after some round (docs/LANGUAGE.md, Knowledge)
+-- the meaning: the facts known after some round (docs/LANGUAGE.md, Knowledge)
 abbrev pub Meaning : Core → Knowledge
 Meaning s f = (n : ℕ) × Known s n f
 

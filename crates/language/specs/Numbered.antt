@@ -1,8 +1,9 @@
--- A tree with its numbers in reading order: each node before its parts, and each name. Blocks and imports have none. States docs/LANGUAGE.md: Grammar.
+-- A tree with its numbers in reading order: each node before its parts, and each name. Blocks and imports have none.
+-- States docs/LANGUAGE.md: Grammar.
 use Rattle.std.specs.Prelude.{ℕ, ◌+◌, List, [], ◌∷◌, Option, Some, None, option_map, sum_by}
 use Rattle.language.specs.Tree.{Word, Node, Expression, expression, Form, number, text, truth, variable, element, call, prefixed, chain, Expressions, no_expressions, and_expression, Declaration, RightSide, value, list, Calling, Over, array, range, Statement, statement, Statements, no_statements, and_statement, Command, declare, assign, write, assign_all, calls, choice, choice_else, loop, waits, Body, body, Composite, Part, import, function, single, Tree}
 
--- SIZES: how many numbers a thing takes
+-- SIZES: the count of numbers that a value takes
 
 -- an expression: its node, and its parts
 abbrev mutual
@@ -36,16 +37,16 @@ abbrev pub right_size : RightSide → ℕ
 right_size (value e) = expression_size e
 right_size (list node es) = 1 + sum_by expression_size es
 
--- a call that is no expression: its node, its name and its arguments
+-- a call outside expressions: its node, its name and its arguments
 abbrev pub calling_size : Calling → ℕ
 calling_size c = 1 + 1 + sum_by expression_size c.arguments
 
--- nothing has no number
+-- an absent value takes no number
 abbrev pub option_size : {X : Type 0} → (X → ℕ) → Option X → ℕ
 option_size size None = 0
 option_size size (Some x) = size x
 
--- what a loop goes over: a name, or a range's ends and its step
+-- the source of a loop: a name, or a range's ends and its step
 abbrev pub over_size : Over → ℕ
 over_size (array w) = 1
 over_size (range low high step) = expression_size low + expression_size high + option_size expression_size step
@@ -87,7 +88,7 @@ part_size (single s) = statement_size s
 abbrev pub tree_size : Tree → ℕ
 tree_size t = sum_by part_size t
 
--- NUMBERED: the same thing with its numbers in reading order from n on
+-- NUMBERED: the same value with its numbers in reading order from n on
 
 -- a name
 abbrev pub numbered_word : ℕ → Word → Word
@@ -97,7 +98,7 @@ numbered_word n w = record { number = n; span = w.span; text = w.text }
 abbrev pub numbered_node : ℕ → Node → Node
 numbered_node n node = record { number = n; first = node.first; to = node.to }
 
--- a list: each from the number behind those of the one before
+-- a list: each element from the next number after those of the previous one
 abbrev pub numbered_each : {X : Type 0} → (ℕ → X → X) → (X → ℕ) → ℕ → List X → List X
 numbered_each numbered size n [] = []
 numbered_each numbered size n (x ∷ xs) = numbered n x ∷ numbered_each numbered size (n + size x) xs
@@ -130,7 +131,7 @@ abbrev pub numbered_right : ℕ → RightSide → RightSide
 numbered_right n (value e) = value (numbered_expression n e)
 numbered_right n (list node es) = list (numbered_node n node) (numbered_each numbered_expression expression_size (n + 1) es)
 
--- a call that is no expression
+-- a call outside expressions
 abbrev pub numbered_calling : ℕ → Calling → Calling
 numbered_calling n c = record {
   node = numbered_node n c.node;
@@ -138,7 +139,7 @@ numbered_calling n c = record {
   arguments = numbered_each numbered_expression expression_size (n + 1 + 1) c.arguments;
 }
 
--- what a loop goes over
+-- the source of a loop
 abbrev pub numbered_over : ℕ → Over → Over
 numbered_over n (array w) = array (numbered_word n w)
 numbered_over n (range low high step) =

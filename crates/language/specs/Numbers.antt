@@ -1,4 +1,4 @@
--- All numbers of a thing, in reading order.
+-- All numbers of a value, in reading order.
 use Rattle.std.specs.Prelude.{ℕ, zero, suc, ◌+◌, List, [], ◌∷◌, ◌++◌, Option, Some, None}
 use Rattle.std.specs.List.{flat_map}
 use Rattle.language.specs.Tree.{Word, Expression, expression, Form, number, text, truth, variable, element, call, prefixed, chain, Expressions, no_expressions, and_expression, Declaration, RightSide, value, list, Calling, Over, array, range, Statement, statement, Statements, no_statements, and_statement, Command, declare, assign, write, assign_all, calls, choice, choice_else, loop, waits, Body, body, Composite, Part, import, function, single, Tree}
@@ -35,16 +35,16 @@ abbrev pub right_numbers : RightSide → List ℕ
 right_numbers (value e) = expression_numbers e
 right_numbers (list node es) = node.number ∷ flat_map expression_numbers es
 
--- a call that is no expression
+-- a call outside expressions
 abbrev pub calling_numbers : Calling → List ℕ
 calling_numbers c = c.node.number ∷ c.name.number ∷ flat_map expression_numbers c.arguments
 
--- nothing has none
+-- an absent value has none
 abbrev pub option_numbers : {X : Type 0} → (X → List ℕ) → Option X → List ℕ
 option_numbers numbers None = []
 option_numbers numbers (Some x) = numbers x
 
--- what a loop goes over
+-- the source of a loop
 abbrev pub over_numbers : Over → List ℕ
 over_numbers (array w) = w.number ∷ []
 over_numbers (range low high step) = expression_numbers low ++ expression_numbers high ++ option_numbers expression_numbers step
@@ -86,7 +86,7 @@ part_numbers (single s) = statement_numbers s
 abbrev pub numbers : Tree → List ℕ
 numbers t = flat_map part_numbers t
 
--- n, n + 1, n + 2 ..: so many numbers
+-- a count of numbers: n, n + 1, n + 2 ..
 abbrev pub numbers_from : ℕ → ℕ → List ℕ
 numbers_from n zero = []
 numbers_from n (suc many) = n ∷ numbers_from (n + 1) many

@@ -1,4 +1,5 @@
--- What a header opens, given the values of its cells or the elements of its array. States docs/LANGUAGE.md: Blocks and paths; Loops.
+-- The blocks that a header opens, given the values of its cells or the elements of its array. States docs/LANGUAGE.md:
+-- Blocks and paths; Loops.
 use Rattle.std.specs.Prelude.{◌≡◌, ℕ, ◌<◌, ℤ, pos, true, false, List, [], ◌∷◌, Option, Some, None, Bool, Ok}
 use Rattle.values.specs.declared.key.Key.{Key}
 use Rattle.values.specs.declared.map.Element.{Element}
@@ -42,7 +43,7 @@ pub data Opens : Action → List Value → Key → Block → Type 0 where
   item : {a : Name} {x : ℕ} {t : Option ℕ} {b : Block} {es : List Element} {k : Key} {v : Scalar} → entry k v ∈ es
       → Opens (each a x t b) (Many es ∷ []) k b
 
--- what a loop's variable is in the turn under a key (docs/LANGUAGE.md, Loops)
+-- the value of a loop's variable in the turn under a key (docs/LANGUAGE.md, Loops)
 pub data InTurn : Action → List Value → Key → (variable : ℕ) → Scalar → Type 0 where
   range_value : {lo hi : Outer} {st : Option Outer} {x : ℕ} {t : Option ℕ} {b : Block} {vs : List Value} {r : Bounds} {i : ℕ} {v : Scalar}
       → bounds vs ≡ Some r → v ≡ Number (value_in r.low r.step i) → InTurn (range lo hi st x t b) vs (Key.Number (pos i)) x v

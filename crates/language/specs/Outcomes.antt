@@ -1,4 +1,5 @@
--- What is read off the meaning of a script: its lines, its faults, what is blocked, and whether it writes no key twice. States docs/LANGUAGE.md: Blocked statements; Faults; Printing.
+-- Outcomes of the meaning of a script: its lines, its faults, its blocked statements, and whether it writes no key
+-- twice. States docs/LANGUAGE.md: Blocked statements; Faults; Printing.
 use Rattle.std.specs.Prelude.{ℕ, true, List, [], ◌∷◌, map, IsPermutation}
 use Rattle.values.specs.declared.key.Key.{Key}
 use Rattle.values.specs.declared.value.Scalar.{Scalar}
@@ -31,7 +32,7 @@ OwnFact s K path n (range lo hi st x t b) = IsReady s K path (range lo hi st x t
 OwnFact s K path n (each a x t b) = IsReady s K path (each a x t b)
 OwnFact s K path n (wait ns b) = IsReady s K path (wait ns b)
 
--- a statement that can be blocked: no declaration and no call alone (docs/LANGUAGE.md, Blocked statements)
+-- a statement that can be blocked: all but declarations and calls alone (docs/LANGUAGE.md, Blocked statements)
 abbrev pub Counts : Action → Type 0
 Counts (declare v) = ⊥
 Counts (call_alone p ps c) = ⊥
@@ -60,12 +61,12 @@ Written = Place × List ℕ
 abbrev pub texts : List Written → List (List ℕ)
 texts ls = map (λ l. l.1) ls
 
--- no writer stands twice
+-- no writer occurs twice
 abbrev pub OnceEach : List Written → Type 0
 OnceEach [] = Unit {0}
 OnceEach (l ∷ ls) = ((bytes : List ℕ) → ¬ (◌∈◌ {X = Written} (l.0, bytes) ls)) × OnceEach ls
 
--- these are the lines that are known, in some order (docs/LANGUAGE.md, Printing)
+-- these are the known lines, in some order (docs/LANGUAGE.md, Printing)
 pub record Lines (K : Knowledge) (lines : List (List ℕ)) : Type 0 where
   pub listing : List Written
   pub once : OnceEach listing

@@ -1,4 +1,4 @@
--- What is read off the core: cells, calls, blocks, statements, targets. States docs/LANGUAGE.md: Cells; Calls.
+-- Functions of the core: its cells, calls, blocks, statements and targets. States docs/LANGUAGE.md: Cells; Calls.
 use Rattle.std.specs.Prelude.{ℕ, zero, suc, List, [], ◌∷◌, ◌++◌, map, Option, Some, None, nat_eq, find, slice_get, option_to_list}
 use Rattle.language.specs.Core.{Owned, Name, here, Cell, Call, Part, inner, calls, Outer, Stmt, stmt, Action, declare, call_alone, assign, fill, insert, print, assert, when, choose, range, each, wait, Block, no_stmts, stmts, Function, Core}
 
@@ -31,7 +31,7 @@ outers (wait ns b) = []
 abbrev pub outer_cells : Action → List Cell
 outer_cells a = map (λ o. o.cell) (outers a)
 
--- each outermost cell behind the parts inside it
+-- each outermost cell after its nested parts
 abbrev pub outer_parts : List Outer → List Part
 outer_parts [] = []
 outer_parts (o ∷ os) = o.parts ++ inner o.cell ∷ outer_parts os
@@ -65,7 +65,7 @@ abbrev pub block_list : Block → List Stmt
 block_list no_stmts = []
 block_list (stmts s b) = s ∷ block_list b
 
--- the blocks inside a block, and those inside a statement
+-- the blocks nested in a block, and those nested in a statement
 abbrev mutual
   pub blocks_below : Block → List Block
   blocks_below no_stmts = []
@@ -88,7 +88,7 @@ abbrev mutual
   blocks_inside (each a v k b) = b ∷ blocks_below b
   blocks_inside (wait ns b) = b ∷ blocks_below b
 
--- a block and those inside it
+-- a block and its nested blocks
 abbrev pub blocks_of : Block → List Block
 blocks_of b = b ∷ blocks_below b
 
@@ -104,7 +104,7 @@ abbrev pub stmts_among : List Block → List Stmt
 stmts_among [] = []
 stmts_among (b ∷ bs) = block_list b ++ stmts_among bs
 
--- the statements of a block and of the blocks inside it
+-- the statements of a block and of its nested blocks
 abbrev pub stmts_within : Block → List Stmt
 stmts_within b = stmts_among (blocks_of b)
 
@@ -127,7 +127,7 @@ name_at [] i = here 0
 name_at (x ∷ xs) zero = x
 name_at (x ∷ xs) (suc i) = name_at xs i
 
--- what the i-th input or output of the called body stands for, seen from the calling block
+-- the name bound to the i-th input or output of the called body, as seen from the calling block
 abbrev pub input_name : Option Call → ℕ → Name
 input_name None i = here 0
 input_name (Some c) i = name_at c.inputs i
@@ -149,19 +149,19 @@ function_body s f = stmts_of (slice_get s.functions f)
 abbrev pub owners : List Name → List Owned
 owners xs = map (λ x. x.what) xs
 
--- what a statement assigns by name, in no block inside it
+-- the names that a statement itself assigns, outside its nested blocks
 abbrev pub by_name : Action → List Name
 by_name (call_alone p ps c) = c.outputs
 by_name (assign y e) = y ∷ []
 by_name (fill a e) = a ∷ []
 by_name _ = []
 
--- what a statement writes an element of, in no block inside it
+-- the arrays of which a statement itself writes an element, outside its nested blocks
 abbrev pub by_element : Action → List Name
 by_element (insert a i e) = a ∷ []
 by_element _ = []
 
--- the targets of a statement and of the blocks inside it
+-- the targets of a statement and of its nested blocks
 abbrev mutual
   pub targets : Stmt → List Owned
   targets (stmt at n a) = targets_of a

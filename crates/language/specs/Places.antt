@@ -1,11 +1,12 @@
--- Paths and places: which block instance is meant, and where the datum of a name lies. States docs/LANGUAGE.md: Blocks and paths; Calls.
+-- Paths and places: paths identify block instances, and places the data of names. States docs/LANGUAGE.md: Blocks and
+-- paths; Calls.
 use Rattle.std.specs.Prelude.{ℕ, zero, suc, List, [], ◌∷◌}
 use Rattle.values.specs.declared.key.Key.{Key}
 pub use Rattle.values.specs.Limits.{most_steps}
 use Rattle.language.specs.Core.{Core, Name, Owned, local, input, output}
 use Rattle.language.specs.Parts.{call_at, input_name, output_name}
 
--- a step: the offset of what opens a block, and the key under which it opens it
+-- a step: the offset of the statement or call that opens a block, and the key under which it opens it
 abbrev pub Step : Type 0
 Step = ℕ × Key
 
@@ -17,8 +18,8 @@ Path = List Step
 abbrev pub Place : Type 0
 Place = Path × ℕ
 
--- out of as many block instances as the name says, and there the owner's node; for an input or output of a function, the
--- place of what the calling block gave for it (docs/LANGUAGE.md, Calls)
+-- the owner's node, as many block instances outwards as the name has steps; for an input or output of a function, the
+-- place of what the calling block passes for it (docs/LANGUAGE.md, Calls)
 abbrev pub place_of : Core → Path → ℕ → Owned → Place
 place_of s [] up (local n) = ([], n)
 place_of s [] up (input i) = ([], 0)

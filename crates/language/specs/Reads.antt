@@ -1,4 +1,4 @@
--- What it means that a text is read as a tree. States docs/LANGUAGE.md: Grammar.
+-- When a text is read as a tree. States docs/LANGUAGE.md: Grammar.
 use Rattle.std.specs.Prelude.{◌≡◌, ℕ, ◌≤◌, List, map, length, Ok}
 use Rattle.lexer.specs.Items.{Lexeme}
 use Rattle.lexer.specs.Tokens.{Tokens}
@@ -7,9 +7,9 @@ use Rattle.language.specs.Grammar.{IsScript}
 use Rattle.language.specs.Numbered.{numbered}
 
 pub record Reads (bytes : List ℕ) (tree : Tree) : Type 0 where
-  -- it has at most so many bytes (docs/LANGUAGE.md, Grammar)
+  -- it has at most 1,048,576 bytes (docs/LANGUAGE.md, Grammar)
   pub short : length bytes ≤ 1048576
-  -- it is tokens up to its end, without a fault
+  -- it consists of tokens up to its end, without a fault
   pub tokens : List Lexeme
   pub lexed : Tokens bytes (map Ok tokens)
   -- the tokens are a script, nested at most 64 deep

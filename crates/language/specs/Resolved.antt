@@ -1,10 +1,10 @@
--- From a script's tree and the table of its names to its core. States docs/LANGUAGE.md: Cells; Calls.
+-- The core of a script, from its tree and the table of its names. States docs/LANGUAGE.md: Cells; Calls.
 use Rattle.std.specs.Prelude.{ℕ, ℤ, pos, false, List, [], ◌∷◌, ◌++◌, map, length, Option, Some, None, option_map}
 use Rattle.values.specs.declared.op.Sign.{Sign}
 use Rattle.values.specs.declared.op.Factor.{Factor}
 use Rattle.values.specs.declared.op.Order.TheVariants as Order
 use Rattle.values.specs.declared.value.Scalar.TheVariants as Scalar
-use Rattle.values.specs.declared.format.Piece.{Piece}
+use Rattle.values.specs.declared.format.FormatPiece.{FormatPiece}
 use Rattle.values.specs.Formats.{pieces}
 use Rattle.values.specs.Operators as op
 use Rattle.values.specs.Operators.{Operation}
@@ -55,12 +55,12 @@ abbrev pub prefix_operation : Prefix → Operation
 prefix_operation Prefix.Not = op.not_true
 prefix_operation Prefix.Negative = op.negate
 
-abbrev pub pieces_or_none : Option (List Piece) → List Piece
+abbrev pub pieces_or_none : Option (List FormatPiece) → List FormatPiece
 pieces_or_none None = []
 pieces_or_none (Some ps) = ps
 
 -- the pieces of the format that is the first argument
-abbrev pub format_of : Expressions → List Piece
+abbrev pub format_of : Expressions → List FormatPiece
 format_of (and_expression (expression nd (text bytes)) es) = pieces_or_none (pieces false bytes)
 format_of _ = []
 
@@ -74,15 +74,15 @@ builtin_operation table.assert es = op.assert
 
 -- EXPRESSIONS
 
--- what a cell of an expression is, with the parts that stand before it
+-- the form of an expression's cell, with the preceding parts
 abbrev pub Formed : Type 0
 Formed = List Part × Form
 
--- operands, with the parts that stand before them
+-- operands, with the preceding parts
 abbrev pub Operands : Type 0
 Operands = List Part × Exprs
 
--- what the inputs of a call stand for, with the parts that stand before it
+-- the names bound to the inputs of a call, with the preceding parts
 abbrev pub Arguments : Type 0
 Arguments = List Part × List Name
 
@@ -90,7 +90,7 @@ Arguments = List Part × List Name
 abbrev pub as_cell : ℕ → Formed → List Part
 as_cell n f = f.0 ++ inner (record { node = n; form = f.1 }) ∷ []
 
--- an operand: an element read is a cell of its own, an expression stands where it is
+-- an operand: a read element becomes a cell of its own, an expression stays in place
 abbrev pub as_operand : ℕ → Formed → List Part × Expr
 as_operand n (ps, compute e) = (ps, e)
 as_operand n (ps, read a i) = (as_cell n (ps, read a i), name (here n))
@@ -105,7 +105,7 @@ abbrev pub variable_or_cell : Shape → Table → Word → ℕ → Formed → Li
 variable_or_cell (Shape.Array κ) t w n f = ([], refers t w)
 variable_or_cell Shape.Scalar t w n f = (as_cell n f, here n)
 
--- an argument of a composite call: an array's name, else a cell
+-- an argument of a composite call: an array's name, otherwise a cell
 abbrev pub as_argument : Table → Expression → Formed → List Part × Name
 as_argument t (expression nd (variable w)) f = variable_or_cell (t.shape_of w.number) t w nd.number f
 as_argument t (expression nd form) f = (as_cell nd.number f, here nd.number)
@@ -116,12 +116,12 @@ with_argument (ps, x) (qs, xs) = (ps ++ qs, x ∷ xs)
 abbrev pub computes : Operation → Operands → Formed
 computes o (ps, es) = (ps, compute (operator o es))
 
--- the array whose size is asked for
+-- the array whose size is computed
 abbrev pub sized : Table → Expressions → Exprs
 sized t (and_expression (expression nd (variable w)) es) = also (whole (refers t w)) none
 sized t _ = none
 
--- a composite call with what its outputs stand for
+-- a composite call with the names bound to its inputs and outputs
 abbrev pub call_to : Word → ℕ → List Name → List Name → Call
 call_to w i xs os = record { at = w.span.from; function = i; inputs = xs; outputs = os }
 
@@ -170,12 +170,12 @@ after_first (and_expression e es) = es
 abbrev pub composite_call : ℤ → Word → ℕ → Arguments → List Name → Action
 composite_call p w i (ps, xs) os = call_alone p ps (call_to w i xs os)
 
--- a scalar gets a value, an array the elements of another
+-- a scalar is assigned a value, an array the elements of another
 abbrev pub plain_right : Table → Name → Shape → Expression → Action
 plain_right t x (Shape.Array κ) (expression nd (variable w)) = fill x (outer_of nd.number ([], compute (whole (refers t w))))
 plain_right t x a e = assign x (outer t e)
 
--- a composite call as a right side is a call alone
+-- a composite call as a right side becomes a call alone
 abbrev pub call_right : Table → Name → Expression → Word → Expressions → Callee → Action
 call_right t x e w es (composite i) = composite_call (pos 0) w i (arguments_of t es) (x ∷ [])
 call_right t x e w es (built_in b) = assign x (outer t e)
@@ -195,7 +195,7 @@ abbrev pub first_name : List Name → Name
 first_name [] = here 0
 first_name (x ∷ xs) = x
 
--- several names get the outputs of a call, or one name what a built-in function gives
+-- several names are assigned the outputs of a call, or one name the result of a built-in function
 abbrev pub several : Table → ℕ → Word → Expressions → List Name → Callee → Action
 several t n w es xs (composite i) = composite_call (pos 0) w i (arguments_of t es) xs
 several t n w es xs (built_in b) = assign (first_name xs) (outer_of n (call_form t w (built_in b) es ([], []) (operands_of t es)))
@@ -214,7 +214,7 @@ loop_action t v k (T.range low high step) b = range (outer t low) (outer t high)
 abbrev pub stmt_of : Node → Action → Stmt
 stmt_of nd a = stmt nd.first.from nd.number a
 
--- a declaration with a right side is a declaration and an assignment
+-- a declaration with a right side becomes a declaration and an assignment
 abbrev mutual
   pub block_of : Table → Body → Block
   block_of t (body from ss) = block_in t ss

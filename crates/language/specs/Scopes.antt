@@ -1,4 +1,4 @@
--- Types of variables and functions, and which of them are visible where. States docs/LANGUAGE.md: Types.
+-- Types of variables and functions, and their visibility. States docs/LANGUAGE.md: Types.
 use Rattle.std.specs.Prelude.{◌≡◌, ℕ, suc, List, [], ◌∷◌, map, Some, slice_get}
 use Rattle.language.specs.declared.tree.Base.{Base}
 use Rattle.language.specs.declared.tree.Keys.{Keys}
@@ -23,7 +23,7 @@ many_of κ b = record { base = b; shape = Array κ }
 abbrev pub declared_type : Declaration → Typ
 declared_type d = record { base = d.base; shape = d.shape }
 
--- a visible variable: its text, what it refers to from here, and its type
+-- a visible variable: its text, its name as seen from here, and its type
 pub record Visible : Type 0 where
   pub text : List ℕ
   pub refers_to : Name
@@ -62,7 +62,7 @@ signatures (import sp ∷ ps) = signatures ps
 signatures (function f ∷ ps) = signature_of f ∷ signatures ps
 signatures (single s ∷ ps) = signatures ps
 
--- a name refers to a visible variable of this type, and the table says so
+-- a name refers to a visible variable of this type, as the table records
 pub record Refers (g : Scope) (t : Table) (w : Word) (τ : Typ) : Type 0 where
   pub variable : Visible
   pub visible : variable ∈ g
@@ -71,14 +71,14 @@ pub record Refers (g : Scope) (t : Table) (w : Word) (τ : Typ) : Type 0 where
   pub named : t.name_of w.number ≡ variable.refers_to
   pub shaped : t.shape_of w.number ≡ τ.shape
 
--- a called name is a function of the script, and the table says which
+-- a called name is a function of the script, as the table records
 pub record Calls (fs : List Signature) (t : Table) (w : Word) (f : Signature) : Type 0 where
   pub place : ℕ
   pub there : slice_get fs place ≡ Some f
   pub same : f.text ≡ w.text
   pub named : t.callee_of w.number ≡ composite place
 
--- a called name is a built-in function, and the table says which
+-- a called name is a built-in function, as the table records
 pub record CallsBuiltin (t : Table) (w : Word) (b : Builtin) : Type 0 where
   pub same : w.text ≡ builtin_text b
   pub named : t.callee_of w.number ≡ built_in b

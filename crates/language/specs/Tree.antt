@@ -1,4 +1,4 @@
--- The syntax tree of a script, apart from where it lies in memory. States docs/LANGUAGE.md: Grammar.
+-- The syntax tree of a script, independent of memory. States docs/LANGUAGE.md: Grammar.
 use Rattle.std.specs.Prelude.{ℕ, ℤ, Bool, List, [], ◌∷◌, Option, None, Some}
 use Rattle.lexer.specs.declared.token.Span.{Span}
 use Rattle.language.specs.declared.tree.Operator.{Operator}
@@ -12,13 +12,13 @@ pub record Word : Type 0 where
   pub span : Span
   pub text : List ℕ
 
--- a node: its number, its first token, and where it ends
+-- a node: its number, its first token, and its end
 pub record Node : Type 0 where
   pub number : ℕ
   pub first : Span
   pub to : ℕ
 
--- an expression: a node with a form; operators stand between a chain's operands
+-- an expression: a node with a form; a chain has operators between its operands
 mutual
   pub data Expression : Type 0 where
     expression : Node → Form → Expression
@@ -37,29 +37,29 @@ mutual
     no_expressions : Expressions
     and_expression : Expression → Expressions → Expressions
 
--- a list of expressions as it stands in a form
+-- a list of expressions as part of a form
 abbrev pub expressions_of : List Expression → Expressions
 expressions_of [] = no_expressions
 expressions_of (e ∷ es) = and_expression e (expressions_of es)
 
--- a variable that is declared
+-- a declared variable
 pub record Declaration : Type 0 where
   pub base : Base
   pub name : Word
   pub shape : Shape
 
--- what stands behind the `=` of a variable: a value, or an array literal
+-- the right side of a declaration or an assignment: a value, or an array literal
 pub data RightSide : Type 0 where
   value : Expression → RightSide
   list : Node → List Expression → RightSide
 
--- a call that is no expression
+-- a call outside expressions
 pub record Calling : Type 0 where
   pub node : Node
   pub name : Word
   pub arguments : List Expression
 
--- what a loop goes over
+-- the source of a loop
 pub data Over : Type 0 where
   array : Word → Over
   range : (low high : Expression) → (step : Option Expression) → Over
@@ -80,7 +80,7 @@ mutual
     loop : Word → Option Word → Over → Body → Command
     waits : List Word → Body → Command
 
-  -- statements, and where their brace opens
+  -- statements, with the offset of their opening brace
   pub data Body : Type 0 where
     body : ℕ → Statements → Body
 
@@ -88,7 +88,7 @@ mutual
     no_statements : Statements
     and_statement : Statement → Statements → Statements
 
--- a list of statements as it stands in a body
+-- a list of statements as part of a body
 abbrev pub statements_of : List Statement → Statements
 statements_of [] = no_statements
 statements_of (s ∷ ss) = and_statement s (statements_of ss)

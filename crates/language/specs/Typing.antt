@@ -1,6 +1,6 @@
--- The typing judgement, which also settles the table of names. States docs/LANGUAGE.md: Types.
+-- The typing judgement, which also determines the table of names. States docs/LANGUAGE.md: Types.
 use Rattle.std.specs.Prelude.{◌≡◌, ℕ, suc, ℤ, false, Bool, List, [], ◌∷◌, Option, Some, None}
-use Rattle.values.specs.declared.format.Piece.{Piece}
+use Rattle.values.specs.declared.format.FormatPiece.{FormatPiece}
 use Rattle.values.specs.Formats.{pieces}
 use Rattle.lexer.specs.declared.token.Span.{Span}
 use Rattle.language.specs.declared.tree.Base.{Base}
@@ -18,7 +18,7 @@ use Rattle.language.specs.Scopes.{Typ, one_of, many_of, declared_type, Scope, de
 
 -- EXPRESSIONS
 
--- an operator between operands of one type, and the type that it gives
+-- a binary operator, the type of its operands, and the type of its result
 pub data Operates : Operator → Base → Base → Type 0 where
   sum_of_numbers : Operates Operator.Plus Int Int
   sum_of_texts : Operates Operator.Plus Text Text
@@ -35,7 +35,7 @@ pub data Operates : Operator → Base → Base → Type 0 where
   conjunction : Operates Operator.And Boolean Boolean
   disjunction : Operates Operator.Or Boolean Boolean
 
--- an operator before an operand of a type
+-- a prefix operator and the type of its operand
 pub data Prefixes : Prefix → Base → Type 0 where
   negative : Prefixes Prefix.Negative Int
   inverted : Prefixes Prefix.Not Boolean
@@ -58,7 +58,7 @@ mutual
     of_builtin : {nd : Node} {w : Word} {es : Expressions} {f : Builtin} {b : Base} → CallsBuiltin t w f → BuiltinType fs t g f es b
         → HasType fs t g (expression nd (call w es)) b
 
-  -- the operators and further operands of a chain: all operands have one type, and each operator gives the other
+  -- the operators and further operands of a chain: all operands have one type, and each operator results in the other
   pub data RestType (fs : List Signature) (t : Table) (g : Scope) : List Operator → Expressions → Base → Base → Type 0 where
     last_operand : {o : Operator} {e : Expression} {b c : Base} → Operates o b c → HasType fs t g e b
         → RestType fs t g (o ∷ []) (and_expression e no_expressions) b c
@@ -82,18 +82,18 @@ mutual
     of_size : {nd : Node} {w : Word} {κ : Keys} {b : Base} → Refers g t w (many_of κ b)
         → BuiltinType fs t g size (and_expression (expression nd (variable w)) no_expressions) Int
 
-  -- all have one type
+  -- all expressions have one type
   pub data AllHaveType (fs : List Signature) (t : Table) (g : Scope) : Expressions → Base → Type 0 where
     none_left : {b : Base} → AllHaveType fs t g no_expressions b
     one_more : {e : Expression} {es : Expressions} {b : Base} → HasType fs t g e b → AllHaveType fs t g es b
         → AllHaveType fs t g (and_expression e es) b
 
--- the types that the conversions of a format ask for
-abbrev pub wanted : List Piece → List Typ
+-- the types that the conversions of a format require
+abbrev pub wanted : List FormatPiece → List Typ
 wanted [] = []
-wanted (Piece.Byte c ∷ ps) = wanted ps
-wanted (Piece.Number ∷ ps) = one_of Int ∷ wanted ps
-wanted (Piece.Text ∷ ps) = one_of Text ∷ wanted ps
+wanted (FormatPiece.Byte c ∷ ps) = wanted ps
+wanted (FormatPiece.Number ∷ ps) = one_of Int ∷ wanted ps
+wanted (FormatPiece.Text ∷ ps) = one_of Text ∷ wanted ps
 
 -- STATEMENTS
 
@@ -114,7 +114,7 @@ pub data ReferAll (t : Table) (g : Scope) : List Word → List Typ → Type 0 wh
 pub data Declares : Scope → Word → Typ → Scope → Type 0 where
   fresh : {g : Scope} {w : Word} {τ : Typ} → ¬ IsVisible g w.text → Declares g w τ (own w τ ∷ g)
 
--- the scope of a loop's body: its value, and its key where it has one, of these types
+-- the scope of a loop's body: its value, and its key if it has one, of these types
 pub data LoopScope : Scope → Word → Base → Option Word → Base → Scope → Type 0 where
   value_only : {g h : Scope} {v : Word} {b c : Base} → Declares (deeper g) v (one_of b) h → LoopScope g v b None c h
   with_key : {g h i : Scope} {v k : Word} {b c : Base} → Declares (deeper g) v (one_of b) h → Declares h k (one_of c) i → LoopScope g v b (Some k) c i
@@ -124,7 +124,7 @@ pub data StepType (fs : List Signature) (t : Table) (g : Scope) : Option Express
   no_step : StepType fs t g None
   a_step : {e : Expression} → HasType fs t g e Int → StepType fs t g (Some e)
 
--- what a loop goes over gives values of a type, under keys of a type
+-- the source of a loop has values of a type, under keys of a type
 pub data SourceType (fs : List Signature) (t : Table) (g : Scope) : Over → Base → Base → Type 0 where
   of_elements : {w : Word} {κ : Keys} {b : Base} → Refers g t w (many_of κ b) → SourceType fs t g (array w) b (base_of_keys κ)
   of_range : {low high : Expression} {step : Option Expression} → HasType fs t g low Int → HasType fs t g high Int → StepType fs t g step
@@ -134,14 +134,14 @@ pub data SourceType (fs : List Signature) (t : Table) (g : Scope) : Over → Bas
 pub data CallTyped (fs : List Signature) (t : Table) (g : Scope) : Word → List Expression → Type 0 where
   function_called : {w : Word} {es : List Expression} {f : Signature} → Calls fs t w f → f.outputs ≡ []
       → ArgumentTypes fs t g (expressions_of es) f.inputs → CallTyped fs t g w es
-  printf_called : {w : Word} {nd : Node} {bytes : List ℕ} {es : List Expression} {ps : List Piece} → CallsBuiltin t w printf
+  printf_called : {w : Word} {nd : Node} {bytes : List ℕ} {es : List Expression} {ps : List FormatPiece} → CallsBuiltin t w printf
       → pieces false bytes ≡ Some ps → ArgumentTypes fs t g (expressions_of es) (wanted ps)
       → CallTyped fs t g w (expression nd (text bytes) ∷ es)
   assert_called : {w : Word} {c m : Expression} → CallsBuiltin t w assert → HasType fs t g c Boolean → HasType fs t g m Text
       → CallTyped fs t g w (c ∷ m ∷ [])
 
 mutual
-  -- a statement is well typed, and leaves a scope to those behind it (docs/LANGUAGE.md, Types)
+  -- a statement is well typed, and determines the scope of the following statements (docs/LANGUAGE.md, Types)
   pub data StatementTyped (fs : List Signature) (t : Table) : Scope → Statement → Scope → Type 0 where
     declaration : {g h : Scope} {nd : Node} {d : Declaration} → Declares g d.name (declared_type d) h
         → StatementTyped fs t g (statement nd (declare d None)) h
@@ -176,14 +176,15 @@ mutual
 
 -- SCRIPTS
 
--- the scope with outputs or inputs of a function, each by its place among them
+-- the scope with the outputs or inputs of a function, each by its index
 pub data Parameters (owned : ℕ → Owned) : Scope → ℕ → List Declaration → Scope → Type 0 where
   no_more : {g : Scope} {i : ℕ} → Parameters owned g i [] g
   one_parameter : {g h : Scope} {i : ℕ} {d : Declaration} {ds : List Declaration} → ¬ IsVisible g d.name.text
       → Parameters owned (record { text = d.name.text; refers_to = record { up = 0; what = owned i }; type = declared_type d } ∷ g) (suc i) ds h
       → Parameters owned g i (d ∷ ds) h
 
--- a function's name is not that of one above it or of a built-in one; its body sees its outputs and inputs
+-- a function's name differs from those of the functions above it and of the built-in ones; its outputs and inputs are
+-- visible in its body
 pub data FunctionTyped (fs : List Signature) (t : Table) (names : List (List ℕ)) (f : Composite) : Type 0 where
   function_typed : {g h : Scope} → ¬ (f.name.text ∈ names) → ¬ IsBuiltinName f.name.text
       → Parameters output [] 0 f.outputs g → Parameters input g 0 f.inputs h → BodyTyped fs t h f.body → FunctionTyped fs t names f
@@ -197,6 +198,6 @@ pub data PartsTyped (fs : List Signature) (t : Table) : List (List ℕ) → Scop
   a_statement : {names : List (List ℕ)} {g h : Scope} {s : Statement} {ps : Tree} → StatementTyped fs t g s h → PartsTyped fs t names h ps
       → PartsTyped fs t names g (single s ∷ ps)
 
--- a script is well typed, and the table says what its names refer to (docs/LANGUAGE.md, Types)
+-- a script is well typed, and the table records the references of its names (docs/LANGUAGE.md, Types)
 abbrev pub WellTyped : Tree → Table → Type 0
 WellTyped tree t = PartsTyped (signatures tree) t [] [] tree

@@ -1,4 +1,5 @@
-//! The language: its grammar, its typing, single assignment and its meaning. The definitions stand in `specs/`.
+//! The language as definitions in `specs/`: its grammar, typing, single assignment and meaning, with the few types that
+//! programs share with them.
 #![tactic(auto)]
 
 pub mod tree;

@@ -1,6 +1,6 @@
-//! What the words of the grammar are.
+//! Types shared by the grammar and the syntax trees: operators, levels, prefixes, base types and shapes.
 
-/// An operator between two operands (Swift/T Guide, on operators).
+/// A binary operator (Swift/T Guide, on operators).
 #[derive(Clone, Copy, Debug, PartialEq, Eq)]
 pub enum Operator {
     /// `||`
@@ -19,7 +19,7 @@ pub enum Operator {
     Greater,
     /// `>=`
     AtLeast,
-    /// `+`, also of strings
+    /// `+`, for numbers and strings
     Plus,
     /// `-`
     Minus,
@@ -35,7 +35,7 @@ impl Operator {
     ghost use Rattle.std.specs.Prelude.{◌≡◌};
     ghost use Rattle.language.specs.Kinds.{level_of};
 
-    /// How tightly it binds.
+    /// Returns the level of the operator, which determines how tightly it binds.
     pub fn level(self) -> Level
         ensures { result ≡ level_of self }
     {
@@ -51,7 +51,7 @@ impl Operator {
     }
 }
 
-/// The levels of the operators between operands, loosest first.
+/// Precedence levels of the binary operators, from the loosest to the tightest.
 #[derive(Clone, Copy, Debug, PartialEq, Eq)]
 pub enum Level {
     Or,
@@ -62,7 +62,7 @@ pub enum Level {
     Product,
 }
 
-/// An operator before its operand.
+/// A prefix operator.
 #[derive(Clone, Copy, Debug, PartialEq, Eq)]
 pub enum Prefix {
     /// `!`
@@ -71,7 +71,7 @@ pub enum Prefix {
     Negative,
 }
 
-/// The type of a scalar, or of an array's elements (Swift/T Guide, on types).
+/// The type of a scalar or of an array's elements (Swift/T Guide, on types).
 #[derive(Clone, Copy, Debug, PartialEq, Eq)]
 pub enum Base {
     /// `int`
@@ -82,7 +82,7 @@ pub enum Base {
     Boolean,
 }
 
-/// What the elements of an array stand under.
+/// The type of the keys of an array.
 #[derive(Clone, Copy, Debug, PartialEq, Eq)]
 pub enum Keys {
     /// `int x[]`
@@ -95,7 +95,7 @@ impl Keys {
     ghost use Rattle.std.specs.Prelude.{◌≡◌};
     ghost use Rattle.language.specs.Kinds.{base_of_keys};
 
-    /// The type of an index.
+    /// Returns the type of an index.
     pub fn base(self) -> Base
         ensures { result ≡ base_of_keys self }
     {
@@ -106,7 +106,7 @@ impl Keys {
     }
 }
 
-/// Whether a variable is a scalar or an array.
+/// The shape of a variable: scalar or array.
 #[derive(Clone, Copy, Debug, PartialEq, Eq)]
 pub enum Shape {
     Scalar,

@@ -1,7 +1,7 @@
 -- Typed statements and bodies have types in the core.
 use Rattle.std.specs.Prelude.{◌≡◌, ℕ, suc, ℤ, pos, List, [], ◌∷◌, ◌++◌, map, Option, Some, None, option_map, option_to_list, refl}
 use Rattle.std.proofs.Common.{inl, inr, sym, ap, ◌∙◌, subst}
-use Rattle.values.specs.declared.format.Piece.{Piece}
+use Rattle.values.specs.declared.format.FormatPiece.{FormatPiece}
 use Rattle.values.specs.Operators as op
 use Rattle.language.specs.declared.tree.Base.{Base}
 use Rattle.language.specs.declared.tree.Base.TheVariants.{Int, Text, Boolean}
@@ -137,11 +137,11 @@ module _ (fs : List Signature) (t : Table) (f : Signature) (depth : ℕ) (g : Sc
       by b Shape.Scalar h = types.awaits_one b h
       by b (Shape.Array κ) h = types.awaits_many κ b h
 
-  wanted_one : (ps : List Piece) (τ : Typ) → τ ∈ wanted ps → τ.shape ≡ Shape.Scalar
+  wanted_one : (ps : List FormatPiece) (τ : Typ) → τ ∈ wanted ps → τ.shape ≡ Shape.Scalar
   wanted_one [] τ m = elim m [ ]
-  wanted_one (Piece.Byte c ∷ ps) τ m = wanted_one ps τ m
-  wanted_one (Piece.Number ∷ ps) τ m = elim (split_in m) [ inl e ↦ ap (λ (z : Typ). z.shape) e | inr i ↦ wanted_one ps τ i ]
-  wanted_one (Piece.Text ∷ ps) τ m = elim (split_in m) [ inl e ↦ ap (λ (z : Typ). z.shape) e | inr i ↦ wanted_one ps τ i ]
+  wanted_one (FormatPiece.Byte c ∷ ps) τ m = wanted_one ps τ m
+  wanted_one (FormatPiece.Number ∷ ps) τ m = elim (split_in m) [ inl e ↦ ap (λ (z : Typ). z.shape) e | inr i ↦ wanted_one ps τ i ]
+  wanted_one (FormatPiece.Text ∷ ps) τ m = elim (split_in m) [ inl e ↦ ap (λ (z : Typ). z.shape) e | inr i ↦ wanted_one ps τ i ]
 
   call_typed : (p : ℤ) (n : ℕ) {w : Word} {es : List Expression} → CallTyped fs t g w es
       → NodesTyped (n ∷ w.number ∷ expressions_numbers (expressions_of es)) (λ type_of. Sees type_of → StmtHas fs type_of f depth (call_action t p n w (expressions_of es) (t.callee_of w.number)))

@@ -1,4 +1,4 @@
--- What the core of each well typed script keeps, singly assigned or not.
+-- Properties of the core of each well typed script, singly assigned or not.
 use Rattle.std.specs.Prelude.{◌≡◌, ◌⊎◌, ℕ, Bool, length, Some, slice_get}
 use Rattle.language.specs.Core.{Owned, output, Name, Cell, Call, Outer, Stmt, stmt, fill, Block, Function, Core}
 use Rattle.language.specs.Members.{◌∈◌}

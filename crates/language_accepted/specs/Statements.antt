@@ -1,4 +1,5 @@
--- What the numbers of statements keep in the core of each script: each tells a statement from cells and from other statements.
+-- Distinctness of statement numbers in the core of each script: they differ from those of cells and of other
+-- statements.
 use Rattle.std.specs.Prelude.{◌≡◌, ◌≢◌, ◌⊎◌}
 use Rattle.language.specs.Core.{Cell, Stmt, Action, declare, Core}
 use Rattle.language.specs.Members.{◌∈◌}

@@ -1,10 +1,11 @@
--- Types in a core: each node has one, and every name, cell, call and statement agrees with those of the nodes and of the functions. States docs/LANGUAGE.md: Types.
+-- Types in a core: each node has one, and every name, cell, call and statement agrees with the types of the nodes and
+-- of the functions. States docs/LANGUAGE.md: Types.
 use Rattle.std.specs.Prelude.{◌≡◌, ℕ, suc, ℤ, Bool, List, [], ◌∷◌, ◌++◌, length, Option, Some, slice_get}
 use Rattle.values.specs.declared.map.Element.{Element}
 use Rattle.values.specs.declared.op.Factor.{Factor}
 use Rattle.values.specs.declared.op.Order.{Order}
 use Rattle.values.specs.declared.op.Sign.{Sign}
-use Rattle.values.specs.declared.format.Piece.{Piece}
+use Rattle.values.specs.declared.format.FormatPiece.{FormatPiece}
 use Rattle.values.specs.declared.value.Scalar.{Scalar}
 use Rattle.values.specs.declared.value.Value.{Value}
 use Rattle.values.specs.declared.value.Value.TheVariants.{One, Many}
@@ -48,10 +49,10 @@ pub data OfType : Value → Typ → Type 0 where
 abbrev pub no_signature : Signature
 no_signature = record { text = []; inputs = []; outputs = [] }
 
--- the functions, and the types of what has a node: variables, loop variables, cells, and outputs of calls in expressions; the function whose body is meant, and how
--- many headers stand between its body and the block that is meant
+-- the functions; the types of nodes: variables, loop variables, cells, and outputs of calls in expressions; the
+-- function whose body is considered; and below, how many headers lie between its body and the considered block
 module _ (fs : List Signature) (type_of : ℕ → Typ) (f : Signature) where
-  -- a name has a type; inputs and outputs are named from their function's body
+  -- a name has a type; inputs and outputs are used from their function's body
   abbrev pub OwnedHas : ℕ → ℕ → Owned → Typ → Type 0
   OwnedHas depth up (local n) τ = type_of n ≡ τ
   OwnedHas depth up (input i) τ = (up ≡ depth) × (slice_get f.inputs i ≡ Some τ)
@@ -65,7 +66,7 @@ module _ (fs : List Signature) (type_of : ℕ → Typ) (f : Signature) where
     one_name : {x : Name} {xs : List Name} {τ : Typ} {τs : List Typ} → NameHas depth x τ → NamesHave depth xs τs → NamesHave depth (x ∷ xs) (τ ∷ τs)
 
   mutual
-    -- an expression gives a scalar of a type
+    -- an expression evaluates to a scalar of a type
     pub data ExprHas (depth : ℕ) : Expr → Base → Type 0 where
       literal_has : {v : Scalar} {b : Base} → OfBase v b → ExprHas depth (literal v) b
       name_has : {x : Name} {b : Base} → NameHas depth x (one_of b) → ExprHas depth (name x) b
@@ -86,34 +87,34 @@ module _ (fs : List Signature) (type_of : ℕ → Typ) (f : Signature) where
       from_int_has : {es : Exprs} → AllHave depth es Int → OperatorHas depth op.from_int es Text
       to_int_has : {es : Exprs} → AllHave depth es Text → OperatorHas depth op.to_int es Int
       size_has : {a : Name} (κ : Keys) (b : Base) → NameHas depth a (many_of κ b) → OperatorHas depth op.size (also (whole a) none) Int
-      printf_has : {ps : List Piece} {es : Exprs} → EachHas depth es → OperatorHas depth (op.printf ps) es Text
+      printf_has : {ps : List FormatPiece} {es : Exprs} → EachHas depth es → OperatorHas depth (op.printf ps) es Text
       assert_has : {c m : Expr} → ExprHas depth c Boolean → ExprHas depth m Text → OperatorHas depth op.assert (also c (also m none)) Boolean
 
-    -- all of one type
+    -- all expressions have one type
     pub data AllHave (depth : ℕ) : Exprs → Base → Type 0 where
       none_left : {b : Base} → AllHave depth none b
       one_more : {e : Expr} {es : Exprs} {b : Base} → ExprHas depth e b → AllHave depth es b → AllHave depth (also e es) b
 
-    -- each of some type
+    -- each expression has some type
     pub data EachHas (depth : ℕ) : Exprs → Type 0 where
       no_other : EachHas depth none
       another : {e : Expr} {es : Exprs} {b : Base} → ExprHas depth e b → EachHas depth es → EachHas depth (also e es)
 
-  -- what a cell is gives a value of a type
+  -- the form of a cell evaluates to a value of a type
   pub data FormHas (depth : ℕ) : Form → Typ → Type 0 where
     computes : {e : Expr} {b : Base} → ExprHas depth e b → FormHas depth (compute e) (one_of b)
     copies : {a : Name} {κ : Keys} {b : Base} → NameHas depth a (many_of κ b) → FormHas depth (compute (whole a)) (many_of κ b)
     lists : {es : Exprs} {b : Base} → AllHave depth es b → FormHas depth (compute (operator op.literal es)) (many_of Numbers b)
     reads : {a : Name} {i : ℕ} (κ : Keys) {b : Base} → NameHas depth a (many_of κ b) → type_of i ≡ one_of (base_of_keys κ) → FormHas depth (read a i) (one_of b)
 
-  -- a call hands over what the called function's inputs and outputs are
+  -- the arguments and outputs of a call match the inputs and outputs of the called function
   pub record CallHas (depth : ℕ) (c : Call) : Type 0 where
     pub signature : Signature
     pub there : slice_get fs c.function ≡ Some signature
     pub inputs : NamesHave depth c.inputs signature.inputs
     pub outputs : NamesHave depth c.outputs signature.outputs
 
-  -- a cell that stands before another one, or before a call, gives a scalar
+  -- a cell before another one, or before a call, has a scalar
   abbrev pub PartHas : ℕ → Part → Type 0
   PartHas depth (inner c) = (b : Base) × (type_of c.node ≡ one_of b) × FormHas depth c.form (one_of b)
   PartHas depth (calls c) = CallHas depth c
@@ -141,7 +142,7 @@ module _ (fs : List Signature) (type_of : ℕ → Typ) (f : Signature) where
       no_statement : {depth : ℕ} → BlockHas depth no_stmts
       a_statement : {depth at n : ℕ} {a : Action} {b : Block} → OutersHave depth a → ActionHas depth a → BlockHas depth b → BlockHas depth (stmts (stmt at n a) b)
 
-    -- what a statement does agrees with the types of its outermost cells
+    -- the action of a statement agrees with the types of its outermost cells
     pub data ActionHas : ℕ → Action → Type 0 where
       of_declare : {depth v : ℕ} → ActionHas depth (declare v)
       of_call : {depth : ℕ} {p : ℤ} {ps : List Part} {c : Call} → PartsHave depth ps → CallHas depth c → ActionHas depth (call_alone p ps c)
@@ -171,19 +172,19 @@ pub record FunctionHas (fs : List Signature) (type_of : ℕ → Typ) (i : ℕ) (
 pub data OfElement : Key → Scalar → Typ → Type 0 where
   of_array : {k : Key} {v : Scalar} {κ : Keys} {b : Base} → OfKeys k κ → OfBase v b → OfElement k v (many_of κ b)
 
--- what is known of a node has its type
+-- a fact about a node has the node's type
 abbrev pub FactHas : (ℕ → Typ) → Fact → Type 0
 FactHas type_of (value p v) = OfType v (type_of p.1)
 FactHas type_of (element a k w v) = OfElement k v (type_of a.1)
 FactHas type_of (line w bytes) = Unit {0}
 FactHas type_of (fault f at p) = Unit {0}
 
--- all of a core agrees
+-- all parts of a core agree with the types
 pub record HasTypes (fs : List Signature) (type_of : ℕ → Typ) (s : Core) : Type 0 where
   pub script : BlockHas fs type_of no_signature 0 s.body
   pub functions : (i : ℕ) (f : Function) → slice_get s.functions i ≡ Some f → FunctionHas fs type_of i f
 
--- a block at a path agrees, and each of its names stands for a place whose node has the name's type
+-- a block at a path agrees with the types, and each of its names stands for a place whose node has the name's type
 pub record TypedAt (fs : List Signature) (type_of : ℕ → Typ) (s : Core) (path : Path) (b : Block) : Type 0 where
   pub signature : Signature
   pub depth : ℕ
@@ -214,20 +215,20 @@ abbrev mutual
   statements_declarations no_statements = []
   statements_declarations (and_statement s ss) = statement_declarations s ++ statements_declarations ss
 
--- by statements, in the script's block and in the functions' bodies
+-- the variables declared by statements, in the script's block and in the functions' bodies
 abbrev pub tree_declarations : Tree → List Declaration
 tree_declarations [] = []
 tree_declarations (import sp ∷ ps) = tree_declarations ps
 tree_declarations (function f ∷ ps) = body_declarations f.body ++ tree_declarations ps
 tree_declarations (single s ∷ ps) = statement_declarations s ++ tree_declarations ps
 
--- each has the type that it is declared with
+-- each variable has its declared type
 abbrev pub DeclaredAs : (ℕ → Typ) → List Declaration → Type 0
 DeclaredAs type_of ds = (d : Declaration) → d ∈ ds → type_of d.name.number ≡ declared_type d
 
 -- OF A SCRIPT
 
--- types of a script's core, and that what is ever known and live agrees with them
+-- types of a script's core, with which everything that is ever known and live agrees
 pub record Types (t : Table) (tree : Tree) : Type 0 where
   pub type_of : ℕ → Typ
   pub has : HasTypes (signatures tree) type_of (core t tree)

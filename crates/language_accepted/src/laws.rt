@@ -1,5 +1,5 @@
-//! The laws of the meaning, of every accepted script. Each function does nothing; its contract is the law of that name in `meaning_laws`, without the
-//! premise that the core is well formed.
+//! The laws of the meaning, for every accepted script. The functions are empty; each contract is the law of that name
+//! in `language_laws`, without the premise that the core is well formed.
 
 ghost use Rattle.std.specs.Prelude.{◌≡◌, ◌↔◌, ◌≤◌, ℕ, Bool, IsTrue, List, Result};
 ghost use Rattle.values.specs.declared.key.Key.{Key};
@@ -20,13 +20,15 @@ ghost use Rattle.language.specs.Table.{Table};
 ghost use Rattle.language.specs.Tree.{Tree};
 ghost use Rattle.language.specs.Typing.{WellTyped};
 
-/// A cell and a variable have one value, whenever they come to have it. Variables are futures that are assigned once, as in the Swift/T Guide.
+/// Proves that a cell or variable has at most one value, whenever it becomes known. Variables are futures that are
+/// assigned once, as in the Swift/T Guide.
 pub fn one_value()
     ensures { (bytes : List ℕ) (t : Table) (tree : Tree) → Reads bytes tree → WellTyped tree t → SinglyAssigned (core t tree)
         → (p : Place) (v u : Value) → Meaning (core t tree) (value p v) → Meaning (core t tree) (value p u) → v ≡ u }
 {}
 
-/// A name has one scalar wherever it is read, the loop variables among them, by all that is ever known and after each round.
+/// Proves that a name has at most one scalar wherever it is read, loop variables included. This holds in the meaning
+/// and after each round.
 pub fn one_scalar()
     ensures meaning { (bytes : List ℕ) (t : Table) (tree : Tree) → Reads bytes tree → WellTyped tree t → SinglyAssigned (core t tree)
         → (p : Place) (v u : Scalar) → HasValue (core t tree) (Meaning (core t tree)) p v → HasValue (core t tree) (Meaning (core t tree)) p u → v ≡ u }
@@ -34,26 +36,27 @@ pub fn one_scalar()
         → (n : ℕ) (p : Place) (v u : Scalar) → HasValue (core t tree) (Known (core t tree) n) p v → HasValue (core t tree) (Known (core t tree) n) p u → v ≡ u }
 {}
 
-/// A scalar that a name has comes to be known in some round.
+/// Proves that each scalar of a name becomes known in some round.
 pub fn a_scalar_comes_in_a_round()
     ensures { (bytes : List ℕ) (t : Table) (tree : Tree) → Reads bytes tree → WellTyped tree t → SinglyAssigned (core t tree)
         → (p : Place) (v : Scalar) → HasValue (core t tree) (Meaning (core t tree)) p v → (n : ℕ) × HasValue (core t tree) (Known (core t tree) n) p v }
 {}
 
-/// A scalar is only where a block is live: a variable of a loop that never opens has none.
+/// Proves that a name has a scalar only at a path where a block is live. A variable of a loop that never opens has
+/// none.
 pub fn a_scalar_is_at_a_live_block()
     ensures { (bytes : List ℕ) (t : Table) (tree : Tree) → Reads bytes tree → WellTyped tree t → SinglyAssigned (core t tree)
         → (p : Place) (v : Scalar) → HasValue (core t tree) (Meaning (core t tree)) p v → (b : Block) × Live (core t tree) (Meaning (core t tree)) p.0 b }
 {}
 
-/// What a cell comes to have, in whichever rounds, is one value or one fault.
+/// Proves that a cell evaluates to at most one value or fault, in whichever rounds.
 pub fn a_cell_has_one_value_or_fault()
     ensures { (bytes : List ℕ) (t : Table) (tree : Tree) → Reads bytes tree → WellTyped tree t → SinglyAssigned (core t tree)
         → (n m : ℕ) (path : Path) (f : Form) (r q : Result Value Fault)
         → Gives (core t tree) (Known (core t tree) n) path f r → Gives (core t tree) (Known (core t tree) m) path f q → r ≡ q }
 {}
 
-/// So of a cell not both a value and a fault are known, nor two faults.
+/// Proves that a cell has at most one fact: not both a value and a fault, and not two faults.
 pub fn a_cell_has_no_two_facts()
     ensures not_both { (bytes : List ℕ) (t : Table) (tree : Tree) → Reads bytes tree → WellTyped tree t → SinglyAssigned (core t tree)
         → (st : Stmt) (c : Cell) → st ∈ script_stmts (core t tree) → c ∈ cells st
@@ -65,20 +68,20 @@ pub fn a_cell_has_no_two_facts()
         → Meaning (core t tree) (fault g to (path, c.node)) → (f ≡ g) × (at ≡ to) }
 {}
 
-/// One statement writes one value under a key.
+/// Proves that a statement writes at most one value under a key.
 pub fn one_element()
     ensures { (bytes : List ℕ) (t : Table) (tree : Tree) → Reads bytes tree → WellTyped tree t → SinglyAssigned (core t tree)
         → (a : Place) (k : Key) (w : Place) (v u : Scalar) → Meaning (core t tree) (element a k w v) → Meaning (core t tree) (element a k w u) → v ≡ u }
 {}
 
-/// An array that is closed after some round has by then all elements that it ever has.
+/// Proves that an array that is closed after some round already has all elements that it ever has.
 pub fn closed_array_is_full()
     ensures { (bytes : List ℕ) (t : Table) (tree : Tree) → Reads bytes tree → WellTyped tree t → SinglyAssigned (core t tree)
         → (n : ℕ) (a : Place) → Closed (core t tree) (Known (core t tree) n) a
         → (k : Key) (w : Place) (v : Scalar) → Meaning (core t tree) (element a k w v) → Known (core t tree) n (element a k w v) }
 {}
 
-/// A closed array has finitely many elements, by all that is ever known and after each round.
+/// Proves that a closed array has finitely many elements, in the meaning and after each round.
 pub fn a_closed_array_is_a_list()
     ensures meaning { (bytes : List ℕ) (t : Table) (tree : Tree) → Reads bytes tree → WellTyped tree t → SinglyAssigned (core t tree)
         → (a : Place) → Closed (core t tree) (Meaning (core t tree)) a → (es : List Element) × Elements (Meaning (core t tree)) a es }
@@ -86,37 +89,38 @@ pub fn a_closed_array_is_a_list()
         → (n : ℕ) (a : Place) → Closed (core t tree) (Known (core t tree) n) a → (es : List Element) × Elements (Known (core t tree) n) a es }
 {}
 
-/// Where in no round a key has two writers, it has one by all that is ever known.
+/// Proves that each key has at most one writer in the meaning, if no key has two writers in any round.
 pub fn one_writer()
     ensures { (bytes : List ℕ) (t : Table) (tree : Tree) → Reads bytes tree → WellTyped tree t → SinglyAssigned (core t tree)
         → Clean (core t tree) → (a : Place) → OneWriter (Meaning (core t tree)) a }
 {}
 
-/// What is closed stays closed.
+/// Proves that a closed array stays closed.
 pub fn closed_stays()
     ensures { (bytes : List ℕ) (t : Table) (tree : Tree) → Reads bytes tree → WellTyped tree t → SinglyAssigned (core t tree)
         → (n m : ℕ) (a : Place) → n ≤ m → Closed (core t tree) (Known (core t tree) n) a → Closed (core t tree) (Known (core t tree) m) a }
 {}
 
-/// What is live stays live.
+/// Proves that a live block stays live.
 pub fn live_stays()
     ensures { (bytes : List ℕ) (t : Table) (tree : Tree) → Reads bytes tree → WellTyped tree t → SinglyAssigned (core t tree)
         → (n m : ℕ) (path : Path) (b : Block) → n ≤ m → Live (core t tree) (Known (core t tree) n) path b → Live (core t tree) (Known (core t tree) m) path b }
 {}
 
-/// What follows from all that is ever known is known after some round.
+/// Proves that each fact that follows from the meaning is in the meaning, so it is known after some round.
 pub fn meaning_is_closed()
     ensures { (bytes : List ℕ) (t : Table) (tree : Tree) → Reads bytes tree → WellTyped tree t → SinglyAssigned (core t tree)
         → (f : Fact) → New (core t tree) (Meaning (core t tree)) f → Meaning (core t tree) f }
 {}
 
-/// Where no key is written twice, the meaning is just what follows from it.
+/// Proves that the meaning consists of exactly the facts that follow from it, if no key is written twice.
 pub fn meaning_follows_from_itself()
     ensures { (bytes : List ℕ) (t : Table) (tree : Tree) → Reads bytes tree → WellTyped tree t → SinglyAssigned (core t tree)
         → Clean (core t tree) → (f : Fact) → Meaning (core t tree) f ↔ New (core t tree) (Meaning (core t tree)) f }
 {}
 
-/// And it is the least such set of facts that has one value at a place and one writer of a key. A set is given by a test.
+/// Proves that the meaning is contained in every set of facts that consists of exactly what follows from it. The set
+/// has at most one value at a place and one writer of a key, and is given as a test.
 pub fn meaning_is_least()
     ensures { (bytes : List ℕ) (t : Table) (tree : Tree) → Reads bytes tree → WellTyped tree t → SinglyAssigned (core t tree) → (test : Fact → Bool)
         → ((f : Fact) → New (core t tree) (λ f. IsTrue (test f)) f → IsTrue (test f))

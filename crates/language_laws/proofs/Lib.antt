@@ -44,3 +44,4 @@ pub mod TreeEach
 pub mod TreeCalls
 pub mod TreeOffsets
 pub mod Each
+mod PassingCores

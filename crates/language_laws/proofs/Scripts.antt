@@ -4,7 +4,7 @@ use Rattle.std.specs.Fmt.{digits}
 use Rattle.std.proofs.Common.{inl, inr, ap, arith}
 use Rattle.values.specs.declared.fault.OpFault.TheVariants.{Overflow, DivideByZero}
 use Rattle.values.specs.declared.key.Key.{Key}
-use Rattle.values.specs.declared.format.Piece.TheVariants as Piece
+use Rattle.values.specs.declared.format.FormatPiece.TheVariants as Piece
 use Rattle.values.specs.declared.op.Sign.TheVariants as Sign
 use Rattle.values.specs.Operators as op
 use Rattle.values.specs.declared.value.Scalar.TheVariants.{Number}

@@ -1,6 +1,6 @@
--- Cores of small scripts with arrays. The text of each stands above it; nodes are numbered in reading order.
+-- Cores of small scripts with arrays. The text of each precedes it; nodes are numbered in reading order.
 use Rattle.std.specs.Prelude.{ℕ, pos, [], ◌∷◌}
-use Rattle.values.specs.declared.format.Piece.{Piece}
+use Rattle.values.specs.declared.format.FormatPiece.{FormatPiece}
 use Rattle.values.specs.Operators.{size, printf, literal}
 use Rattle.language.specs.Core.{here, Expr, whole, operator, compute, read, inner, array, stmt, declare, fill, insert, print, wait, Core}
 use Rattle.language_laws.specs.Examples.{plain, num, one, two, variable, print_number, block_of, script_of}
@@ -30,7 +30,7 @@ array_literal = script_of (
     ∷ stmt 0 1 (fill (here 2) (plain 3 (operator literal (two (num 4) (num 5)))))
     ∷ stmt 18 6 (print (pos 0) (record {
       parts = inner (record { node = 16; form = compute (num 1) }) ∷ inner (record { node = 14; form = read (here 2) 16 }) ∷ [];
-      cell = record { node = 7; form = compute (operator (printf (Piece.Number ∷ Piece.Byte 32 ∷ Piece.Number ∷ [])) (two (size_of 2) (variable 14))) };
+      cell = record { node = 7; form = compute (operator (printf (FormatPiece.Number ∷ FormatPiece.Byte 32 ∷ FormatPiece.Number ∷ [])) (two (size_of 2) (variable 14))) };
     }))
     ∷ [])
 
@@ -45,7 +45,7 @@ whole_copies = script_of (
     ∷ stmt 40 12 (fill (here 11) (plain 14 (whole (here 7))))
     ∷ stmt 47 16 (print (pos 0) (record {
       parts = inner (record { node = 26; form = compute (num 1) }) ∷ inner (record { node = 24; form = read (here 11) 26 }) ∷ [];
-      cell = record { node = 17; form = compute (operator (printf (Piece.Number ∷ Piece.Byte 32 ∷ Piece.Number ∷ [])) (two (size_of 11) (variable 24))) };
+      cell = record { node = 17; form = compute (operator (printf (FormatPiece.Number ∷ FormatPiece.Byte 32 ∷ FormatPiece.Number ∷ [])) (two (size_of 11) (variable 24))) };
     }))
     ∷ [])
 

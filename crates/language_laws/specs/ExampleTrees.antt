@@ -8,11 +8,11 @@ use Rattle.language.specs.Core.{Name, local, input, output, here}
 use Rattle.language.specs.Table.{Table, Callee, composite, built_in, size, printf}
 use Rattle.language.specs.Tree.{Word, Node, expression, number, text, truth, variable, element, call, chain, expressions_of, value, range, statement, declare, assign, write, assign_all, calls, choice_else, loop, waits, body, statements_of, function, single, Tree}
 
--- a name with its number and where it begins
+-- a name with its number and its offset
 abbrev pub word : ℕ → ℕ → List ℕ → Word
 word n from bytes = record { number = n; span = record { from = from; to = from + length bytes }; text = bytes }
 
--- a node with its number, its first token, and where it ends
+-- a node with its number, its first token, and its end
 abbrev pub at : ℕ → ℕ → ℕ → ℕ → Node
 at n from to end = record { number = n; first = record { from = from; to = to }; to = end }
 
@@ -24,7 +24,7 @@ abbrev pub array_at : List ℕ → ℕ → Shape
 array_at [] n = Shape.Scalar
 array_at (m ∷ ms) n = if nat_eq m n then Shape.Array Keys.Numbers else array_at ms n
 
--- a table by what it has at each number: what names refer to, which of them are arrays, what is called
+-- a table by its entries at each number: references of names, which names are arrays, callees
 abbrev pub table_of : List (ℕ × Name) → List ℕ → List (ℕ × Callee) → Table
 table_of names arrays callees = record { name_of = looked_up (here 0) names; shape_of = array_at arrays; callee_of = looked_up (composite 0) callees }
 

@@ -1,13 +1,13 @@
--- Cores of small scripts. The text of each stands above it; nodes are numbered in reading order.
+-- Cores of small scripts. The text of each precedes it; nodes are numbered in reading order.
 use Rattle.std.specs.Prelude.{ℕ, pos, false, List, [], ◌∷◌, None}
-use Rattle.values.specs.declared.format.Piece.{Piece}
+use Rattle.values.specs.declared.format.FormatPiece.{FormatPiece}
 use Rattle.values.specs.declared.op.Factor.TheVariants as Factor
 use Rattle.values.specs.declared.op.Sign.TheVariants as Sign
 use Rattle.values.specs.declared.value.Scalar.TheVariants.{Number, Truth}
 use Rattle.values.specs.Operators.{sum_of, product_of, equal, all_true, printf}
 use Rattle.language.specs.Core.{local, input, output, here, Expr, literal, name, operator, Exprs, none, also, compute, read, inner, calls, Outer, scalar, Stmt, stmt, declare, call_alone, assign, insert, print, range, wait, Block, no_stmts, stmts, Core}
 
--- a cell that is an expression, with nothing inside it
+-- a cell that is an expression, without nested cells
 abbrev pub plain : ℕ → Expr → Outer
 plain n e = record { parts = []; cell = record { node = n; form = compute e } }
 
@@ -25,7 +25,7 @@ variable n = name (here n)
 
 -- printf of a format with "%i" alone
 abbrev pub print_number : Expr → Expr
-print_number e = operator (printf (Piece.Number ∷ [])) (one e)
+print_number e = operator (printf (FormatPiece.Number ∷ [])) (one e)
 
 abbrev pub block_of : List Stmt → Block
 block_of [] = no_stmts
@@ -137,7 +137,7 @@ outputs_are_the_callers = record {
       stmt 52 18 (declare 19)
       ∷ stmt 59 20 (declare 21)
       ∷ stmt 66 22 (call_alone (pos 0) (inner (record { node = 27; form = compute (num 3) }) ∷ []) (record { at = 75; function = 0; inputs = here 27 ∷ []; outputs = here 19 ∷ here 21 ∷ [] }))
-      ∷ stmt 83 28 (print (pos 0) (plain 29 (operator (printf (Piece.Number ∷ Piece.Byte 32 ∷ Piece.Number ∷ [])) (two (variable 19) (variable 21)))))
+      ∷ stmt 83 28 (print (pos 0) (plain 29 (operator (printf (FormatPiece.Number ∷ FormatPiece.Byte 32 ∷ FormatPiece.Number ∷ [])) (two (variable 19) (variable 21)))))
       ∷ []);
   functions = record {
     inputs = 1;
@@ -177,5 +177,5 @@ nested_waits = script_of (
     ∷ stmt 32 12 (assign (here 7) (plain 14 (variable 5)))
     ∷ stmt 39 16 (wait (scalar (here 2) ∷ []) (block_of (
     stmt 50 18 (wait (scalar (here 5) ∷ []) (block_of (
-    stmt 61 20 (print (pos 0) (plain 21 (operator (printf (Piece.Byte 113 ∷ [])) none))) ∷ []))) ∷ [])))
+    stmt 61 20 (print (pos 0) (plain 21 (operator (printf (FormatPiece.Byte 113 ∷ [])) none))) ∷ []))) ∷ [])))
     ∷ [])

@@ -1,6 +1,6 @@
--- Cores of small scripts with loops and conditions. The text of each stands above it; nodes are numbered in reading order.
+-- Cores of small scripts with loops and conditions. The text of each precedes it; nodes are numbered in reading order.
 use Rattle.std.specs.Prelude.{ℕ, zero, suc, pos, true, false, [], ◌∷◌, Some, None}
-use Rattle.values.specs.declared.format.Piece.{Piece}
+use Rattle.values.specs.declared.format.FormatPiece.{FormatPiece}
 use Rattle.values.specs.declared.key.Key.{Key}
 use Rattle.values.specs.declared.op.Factor.TheVariants as Factor
 use Rattle.values.specs.declared.op.Sign.TheVariants as Sign
@@ -37,7 +37,7 @@ headers_without_end = record {
   } ∷ [];
 }
 
--- the path of a call at one offset and d calls at another behind it
+-- the path of a call at one offset followed by d calls at another
 abbrev pub nested_calls : ℕ → ℕ → ℕ → Path
 nested_calls outer inward zero = (outer, Key.Number (pos 0)) ∷ []
 nested_calls outer inward (suc d) = (inward, Key.Number (pos 0)) ∷ nested_calls outer inward d
@@ -67,7 +67,7 @@ loop_over_array = script_of (
     ∷ stmt 27 8 (each (here 2) 9 (Some 10) copying_body)
     ∷ stmt 59 18 (print (pos 0) (record {
       parts = inner (record { node = 28; form = compute (num 1) }) ∷ inner (record { node = 26; form = read (here 7) 28 }) ∷ [];
-      cell = record { node = 19; form = compute (operator (printf (Piece.Number ∷ Piece.Byte 32 ∷ Piece.Number ∷ [])) (two (size_of 7) (variable 26))) };
+      cell = record { node = 19; form = compute (operator (printf (FormatPiece.Number ∷ FormatPiece.Byte 32 ∷ FormatPiece.Number ∷ [])) (two (size_of 7) (variable 26))) };
     }))
     ∷ [])
 
@@ -89,7 +89,7 @@ filled_in_a_call = record {
       ∷ stmt 69 23 (call_alone (pos 0) (inner (record { node = 27; form = compute (num 4) }) ∷ []) (record { at = 73; function = 0; inputs = here 27 ∷ []; outputs = here 22 ∷ [] }))
       ∷ stmt 79 28 (print (pos 0) (record {
         parts = inner (record { node = 38; form = compute (num 3) }) ∷ inner (record { node = 36; form = read (here 22) 38 }) ∷ [];
-        cell = record { node = 29; form = compute (operator (printf (Piece.Number ∷ Piece.Byte 32 ∷ Piece.Number ∷ [])) (two (size_of 22) (variable 36))) };
+        cell = record { node = 29; form = compute (operator (printf (FormatPiece.Number ∷ FormatPiece.Byte 32 ∷ FormatPiece.Number ∷ [])) (two (size_of 22) (variable 36))) };
       }))
       ∷ []);
   functions = record { inputs = 1; outputs = 1; body = squaring_body } ∷ [];

@@ -5,3 +5,4 @@ pub mod TypedValues
 pub mod ArrayExamples
 pub mod HeaderExamples
 pub mod Offsets
+pub mod Trees

@@ -1,14 +1,14 @@
--- Where the called names and the headers of a tree stand.
+-- The offsets of the called names and the headers of a tree.
 use Rattle.std.specs.Prelude.{ℕ, List, [], ◌∷◌, ◌++◌, Option, Some, None}
 use Rattle.language.specs.Tree as T
 use Rattle.language.specs.Tree.{Word, Node, Declaration, Expression, expression, number, text, truth, variable, element, call, prefixed, chain, Expressions, no_expressions, and_expression, expressions_of, RightSide, value, list, Calling, Over, Statement, statement, Command, choice, choice_else, loop, waits, Body, body, Statements, no_statements, and_statement, Tree, import, function, single}
 
--- those of what may be left out
+-- the numbers of an optional part
 abbrev pub maybe_numbers : {X : Type 0} → (X → List ℕ) → Option X → List ℕ
 maybe_numbers f None = []
 maybe_numbers f (Some x) = f x
 
--- of called names, in reading order
+-- the offsets of called names, in reading order
 abbrev mutual
   pub expression_offsets : Expression → List ℕ
   expression_offsets (expression nd f) = form_offsets f
@@ -38,7 +38,7 @@ abbrev pub over_offsets : Over → List ℕ
 over_offsets (T.array w) = []
 over_offsets (T.range low high step) = expression_offsets low ++ (expression_offsets high ++ maybe_numbers expression_offsets step)
 
--- where an `if` or a `foreach` begins
+-- the offset of an `if` or a `foreach`
 abbrev pub header_offsets : ℕ → Command → List ℕ
 header_offsets at (choice e b) = at ∷ []
 header_offsets at (choice_else e b other) = at ∷ []

@@ -1,4 +1,7 @@
-//! What small scripts mean. Each function does nothing; its contract says of one script of `specs/Examples` what it prints, where it is at fault or what is blocked.
+//! Worked examples: the meaning of small scripts, from scalars to nested waits.
+//!
+//! The functions are empty. Each contract states what one script of `specs/Examples` prints, where it is at fault, or
+//! which statements are blocked.
 
 ghost use Rattle.std.specs.Prelude.{◌≡◌, [], ◌∷◌, codes};
 ghost use Rattle.values.specs.declared.fault.OpFault.TheVariants.{DivideByZero, Overflow};
@@ -12,7 +15,7 @@ ghost use Rattle.language.specs.Resolved.{core};
 ghost use Rattle.language.specs.Single.{SinglyAssigned};
 ghost use Rattle.language.specs.WellFormed.{WellFormed};
 
-/// Each of these cores is that of its tree, with the table of its names.
+/// Proves that each of these cores is the core of its tree, with the table of its names.
 pub fn the_cores_are_those_of_the_trees()
     ensures read_before_assignment { core table_of_read_before_assignment tree_of_read_before_assignment ≡ read_before_assignment }
     ensures loop_reads_what_it_writes { core table_of_loop_reads_what_it_writes tree_of_loop_reads_what_it_writes ≡ loop_reads_what_it_writes }
@@ -29,7 +32,8 @@ pub fn the_cores_are_those_of_the_trees()
     ensures filled_in_a_call { core table_of_filled_in_a_call tree_of_filled_in_a_call ≡ filled_in_a_call }
 {}
 
-/// These scripts keep the premises of the laws, one that fills an array in a called function and one that calls itself among them.
+/// Proves that these scripts satisfy the premises of the laws. Among them are a script that fills an array in a called
+/// function and one that calls itself.
 pub fn the_examples_keep_the_premises()
     ensures read_before_assignment { WellFormed (core table_of_read_before_assignment tree_of_read_before_assignment)
         × SinglyAssigned (core table_of_read_before_assignment tree_of_read_before_assignment) }
@@ -56,57 +60,63 @@ pub fn the_examples_keep_the_premises()
     ensures fibonacci { WellFormed (core table_of_fibonacci tree_of_fibonacci) × SinglyAssigned (core table_of_fibonacci tree_of_fibonacci) }
 {}
 
-/// `int x; int y; x = y + 1; y = 2; printf("%i", x);` prints 3 and nothing else: statements wait for data, not for one another.
+/// Proves that `int x; int y; x = y + 1; y = 2; printf("%i", x);` prints 3 and nothing else. Statements wait for data,
+/// not for one another.
 pub fn a_cell_is_read_before_its_assignment()
     ensures { Lines (Meaning read_before_assignment) (codes "3" ∷ []) }
 {}
 
-/// `int A[]; A[0] = 1; foreach i in [1:2] { A[i] = A[i-1] * 2; } printf("%i", A[2]);` prints 4 and nothing else: each turn reads what the one before wrote.
+/// Proves that `int A[]; A[0] = 1; foreach i in [1:2] { A[i] = A[i-1] * 2; } printf("%i", A[2]);` prints 4 and nothing
+/// else. Each turn reads what the previous one wrote.
 pub fn a_loop_reads_what_it_writes()
     ensures { Lines (Meaning loop_reads_what_it_writes) (codes "4" ∷ []) }
 {}
 
-/// `int A[]; A[0] = 1; A[0] = 2;`: both statements are at fault, the one at 9 and the one at 19.
+/// Proves that in `int A[]; A[0] = 1; A[0] = 2;` both writes are at fault, the one at offset 9 and the one at offset
+/// 19.
 pub fn each_of_two_writers_is_at_fault()
     ensures { Faults (Meaning key_written_twice) element_twice 9 [] × Faults (Meaning key_written_twice) element_twice 19 [] }
 {}
 
-/// `int A[]; A[0] = 1; printf("%i", A[3]);`: once the array is closed, the element is missing.
+/// Proves that `int A[]; A[0] = 1; printf("%i", A[3]);` is at fault: once the array is closed, the element is missing.
 pub fn an_element_that_nothing_writes_is_missing()
     ensures { Faults (Meaning missing_element) no_element 19 [] }
 {}
 
-/// `int x; int y; x = y; y = x; printf("%i", x);`: nothing is ever known, and all three statements are blocked.
+/// Proves that in `int x; int y; x = y; y = x; printf("%i", x);` nothing ever becomes known, and all three statements
+/// after the declarations are blocked.
 pub fn a_circle_is_blocked()
     ensures { Blocked circle (Meaning circle) 14 [] × Blocked circle (Meaning circle) 21 [] × Blocked circle (Meaning circle) 28 [] }
 {}
 
-/// `int y; int z; y = z; z = y; printf("%i", 1 %/ 0 + y);`: the line waits for y, and the division is no fault; the line is blocked.
+/// Proves that nothing ever becomes known of `int y; int z; y = z; z = y; printf("%i", 1 %/ 0 + y);`. The line waits
+/// for `y` and is blocked; the division beside `y` is not a fault.
 pub fn a_fault_beside_an_unknown_part_is_none()
     ensures { ((f : Fact) → Meaning fault_beside_unknown f → ⊥) × Blocked fault_beside_unknown (Meaning fault_beside_unknown) 28 [] }
 {}
 
-/// `.. A[1 %/ 0] + y` with y unknown: the index is a cell of its own, and is at fault.
+/// Proves that `.. A[1 %/ 0] + y` is at fault although `y` is unknown. The index is a cell of its own.
 pub fn a_fault_in_an_index_is_one()
     ensures { Faults (Meaning fault_in_index) (operation DivideByZero) 47 [] }
 {}
 
-/// `boolean b = false && 1 %/ 0 == 1;` divides by zero.
+/// Proves that `boolean b = false && 1 %/ 0 == 1;` divides by zero.
 pub fn every_operator_is_strict()
     ensures { Faults (Meaning strict_and) (operation DivideByZero) 0 [] }
 {}
 
-/// `int x = 9223372036854775807 + 1;` overflows.
+/// Proves that `int x = 9223372036854775807 + 1;` overflows.
 pub fn a_sum_can_be_too_large()
     ensures { Faults (Meaning too_large) (operation Overflow) 0 [] }
 {}
 
-/// `(p, q) = two(3); printf("%i %i", p, q);` prints 4 8 and nothing else.
+/// Proves that `(p, q) = two(3); printf("%i %i", p, q);` prints 4 8 and nothing else.
 pub fn the_outputs_of_a_call_are_the_callers_variables()
     ensures { Lines (Meaning outputs_are_the_callers) (codes "4 8" ∷ []) }
 {}
 
-/// `int x = 1; .. wait (x) { wait (y) { printf("q"); } }` with y unknown: the inner wait is live and blocked.
+/// Proves that in `int x = 1; .. wait (x) { wait (y) { printf("q"); } }`, with `y` unknown, the inner wait is live and
+/// blocked.
 pub fn a_wait_in_a_wait_is_blocked_alone()
     ensures { Blocked nested_waits (Meaning nested_waits) 50 [] }
 {}

@@ -1,7 +1,9 @@
-//! Laws of the meaning of scripts, and what small scripts mean. Nothing here runs: each function has an empty body, and its contract is a law of the
-//! definitions in `syntax_trees`.
+//! Laws of the meaning of scripts, and the proved meaning of small example scripts.
+//!
+//! Nothing here runs: each function has an empty body, and its contract is a law of the definitions in `language`.
 #![tactic(auto)]
 
+pub mod array_cores;
 pub mod arrays;
 pub mod examples;
 pub mod headers;

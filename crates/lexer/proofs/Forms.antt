@@ -4,8 +4,8 @@ use Rattle.std.specs.Prelude.{Option, Some, None, IsTrue, not, ◌&&◌, codes, 
 use Rattle.std.proofs.lemmas.Bool.Decides.{nat_tests}
 use Rattle.lexer.specs.declared.token.TokenKind.{TokenKind}
 use Rattle.lexer.specs.declared.token.TokenKind.TheVariants.{Number, Text, Name, Int, String, Boolean, If, Else, Foreach, In, Wait, Import, True, False, OpenRound, CloseRound, OpenCurly, CloseCurly, OpenSquare, CloseSquare, Comma, Semicolon, Colon, Assign, Equal, NotEqual, Less, AtMost, Greater, AtLeast, Plus, Minus, Times, Quotient, Remainder, Not, And, Or, At, End}
-use Rattle.lexer.specs.declared.scan.Piece.{Piece}
-use Rattle.lexer.specs.declared.scan.Piece.TheVariants.{Gap, Token, Fault}
+use Rattle.lexer.specs.declared.scan.ScanResult.{ScanResult}
+use Rattle.lexer.specs.declared.scan.ScanResult.TheVariants.{Gap, Token, Fault}
 use Rattle.lexer.specs.Bytes.{is_number, escaped_byte}
 use Rattle.lexer.specs.Kinds.{kind_of_word, symbol_of_one, symbol_of_two}
 use Rattle.lexer.specs.Tokens.{Spells, ended, plain, escape, Quotes, IsString, HasForm, Stands, a_blank, a_line_comment, a_block_comment, a_word, a_number, a_string, a_symbol, a_pair, bad_byte, bad_byte_in_string, bad_byte_in_line, bad_byte_in_block, bad_number, open_string, open_escape, open_comment, bad_escape}
@@ -79,15 +79,15 @@ string_form : (w : List ℕ) → IsString w → HasForm Text w
 string_form w is = record { number = λ e. cc; string = λ e. is; no_end = λ e. cc }
 
 -- the token of a piece
-abbrev FormOf : List ℕ → Piece → Type 0
+abbrev FormOf : List ℕ → ScanResult → Type 0
 FormOf bs (Gap n) = Unit {0}
 FormOf bs (Token k n) = HasForm k (take n bs)
 FormOf bs (Fault f) = Unit {0}
 
-form_at : {bs : List ℕ} {p q : Piece} (cs : List ℕ) → bs ≡ cs → p ≡ q → FormOf cs q → FormOf bs p
+form_at : {bs : List ℕ} {p q : ScanResult} (cs : List ℕ) → bs ≡ cs → p ≡ q → FormOf cs q → FormOf bs p
 form_at {bs} {p} {q} cs eq is h = subst (FormOf bs) (sym is) (subst (λ v. FormOf v q) (sym eq) h)
 
-stands_form : (at : ℕ) (bs : List ℕ) (p : Piece) → Stands at bs p → FormOf bs p
+stands_form : (at : ℕ) (bs : List ℕ) (p : ScanResult) → Stands at bs p → FormOf bs p
 stands_form at bs p (a_blank c rest eq blank is) = subst (FormOf bs) (sym is) tt
 stands_form at bs p (a_line_comment body rest eq all ends is) = subst (FormOf bs) (sym is) tt
 stands_form at bs p (a_block_comment body rest eq all none is) = subst (FormOf bs) (sym is) tt

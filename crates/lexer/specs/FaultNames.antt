@@ -1,4 +1,4 @@
--- The number and the name of each refusal of a text that is no list of tokens.
+-- The number and the name of each lexical fault.
 use Rattle.std.specs.Prelude.{ℕ, List, codes}
 use Rattle.lexer.specs.declared.fault.LexFault.{LexFault}
 use Rattle.lexer.specs.declared.fault.LexFault.TheVariants as Lex

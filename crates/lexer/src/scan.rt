@@ -1,4 +1,4 @@
-//! What stands at the front of a text.
+//! Scanner for the piece at the front of a text: a separator, a token or a fault.
 
 ghost use Rattle.std.specs.Prelude.{◌≡◌, ◌+◌, ◌^◌, ◌<◌, ◌≤◌, length, drop, Some, None, false, slice_index, if◌then◌else◌};
 ghost use Rattle.std.specs.Str.{bytes_eq};
@@ -10,22 +10,22 @@ use crate::fault::LexFault;
 use crate::token::{Span, TokenKind};
 use crate::value::number_value;
 
-/// A separator or a token with its number of bytes, or the fault.
+/// The piece at the front of a text: a separator or a token with its number of bytes, or a fault.
 #[derive(Clone, Copy, Debug, PartialEq, Eq)]
-pub enum Piece {
+pub enum ScanResult {
     Gap(usize),
     Token(TokenKind, usize),
     Fault(LexFault),
 }
 
-/// One kind if a word is this keyword, another if it is not.
+/// Returns `kind` if the word is this keyword, otherwise `other`.
 fn either(word: &[u8], keyword: &[u8], kind: TokenKind, other: TokenKind) -> TokenKind
     ensures { result ≡ (if bytes_eq word.now keyword.now then kind else other) }
 {
     if word == keyword { kind } else { other }
 }
 
-/// The keyword that a word spells, or a name. It is compared with those of its length alone.
+/// Returns the keyword that a word spells, or `Name`. The word is compared only with the keywords of its length.
 #[tactic(auto, using(crate::proofs::Words::of_three, crate::proofs::Words::of_five, crate::proofs::Words::no_keyword))]
 fn kind_of_word(word: &[u8]) -> TokenKind
     ensures { result ≡ kind_of_word word.now }
@@ -105,8 +105,8 @@ fn symbol_of_two(first: u8, second: u8) -> Option<TokenKind>
     }
 }
 
-/// The comment from `//` to the next line feed or the end.
-fn line_comment(at: usize, bytes: &[u8]) -> Piece
+/// Scans the comment from `//` to the next line feed, which is not part of it, or to the end of the text.
+fn line_comment(at: usize, bytes: &[u8]) -> ScanResult
     requires room { at + length bytes.now < 2 ^ 64 }
     requires begun { 2 ≤ length bytes.now }
     ensures { result ≡ line_piece at 2 (drop 2 bytes.now) }
@@ -114,18 +114,18 @@ fn line_comment(at: usize, bytes: &[u8]) -> Piece
     let mut n = 2;
     while n < bytes.len() {
         if bytes[n] == b'\n' {
-            return Piece::Gap(n);
+            return ScanResult::Gap(n);
         }
         if !is_allowed(bytes[n]) {
-            return Piece::Fault(LexFault::BadByte(Span::at(at + n, 1)));
+            return ScanResult::Fault(LexFault::BadByte(Span::at(at + n, 1)));
         }
         n += 1;
     }
-    Piece::Gap(n)
+    ScanResult::Gap(n)
 }
 
-/// The comment from `/*` to the next `*/`.
-fn block_comment(at: usize, bytes: &[u8]) -> Piece
+/// Scans the comment from `/*` to the next `*/`.
+fn block_comment(at: usize, bytes: &[u8]) -> ScanResult
     requires room { at + length bytes.now < 2 ^ 64 }
     requires begun { 2 ≤ length bytes.now }
     ensures { result ≡ block_piece at 2 false (drop 2 bytes.now) }
@@ -135,19 +135,19 @@ fn block_comment(at: usize, bytes: &[u8]) -> Piece
     while n < bytes.len() {
         let byte = bytes[n];
         if star && byte == b'/' {
-            return Piece::Gap(n + 1);
+            return ScanResult::Gap(n + 1);
         }
         if !is_allowed(byte) {
-            return Piece::Fault(LexFault::BadByte(Span::at(at + n, 1)));
+            return ScanResult::Fault(LexFault::BadByte(Span::at(at + n, 1)));
         }
         star = byte == b'*';
         n += 1;
     }
-    Piece::Fault(LexFault::OpenComment(Span::at(at, n)))
+    ScanResult::Fault(LexFault::OpenComment(Span::at(at, n)))
 }
 
-/// The string from its opening quote to its closing one.
-fn string(at: usize, bytes: &[u8]) -> Piece
+/// Scans the string from its opening quote to its closing quote.
+fn string(at: usize, bytes: &[u8]) -> ScanResult
     requires room { at + length bytes.now < 2 ^ 64 }
     requires begun { 1 ≤ length bytes.now }
     ensures { result ≡ string_piece at 1 false (drop 1 bytes.now) }
@@ -157,28 +157,28 @@ fn string(at: usize, bytes: &[u8]) -> Piece
     while n < bytes.len() {
         let byte = bytes[n];
         if is_break(byte) {
-            return Piece::Fault(LexFault::OpenString(Span::at(at, n)));
+            return ScanResult::Fault(LexFault::OpenString(Span::at(at, n)));
         }
         if escaped {
             if escaped_byte(byte).is_none() {
-                return Piece::Fault(LexFault::BadEscape(Span::at(at + n - 1, 2)));
+                return ScanResult::Fault(LexFault::BadEscape(Span::at(at + n - 1, 2)));
             }
             escaped = false;
         } else {
             if byte == b'"' {
-                return Piece::Token(TokenKind::Text, n + 1);
+                return ScanResult::Token(TokenKind::Text, n + 1);
             }
             if !is_allowed(byte) {
-                return Piece::Fault(LexFault::BadByte(Span::at(at + n, 1)));
+                return ScanResult::Fault(LexFault::BadByte(Span::at(at + n, 1)));
             }
             escaped = byte == b'\\';
         }
         n += 1;
     }
-    Piece::Fault(LexFault::OpenString(Span::at(at, n)))
+    ScanResult::Fault(LexFault::OpenString(Span::at(at, n)))
 }
 
-/// The run of letters, digits and `_` at the front.
+/// Returns the longest prefix of letters, digits and `_`.
 fn word(bytes: &[u8]) -> &[u8]
     ensures run { result.now ≡ word_of bytes.now }
     ensures within { length result.now ≤ length bytes.now }
@@ -190,24 +190,24 @@ fn word(bytes: &[u8]) -> &[u8]
     &bytes[..n]
 }
 
-/// The keyword, name or number, or the word that begins as a number and is none.
-fn name_or_number(at: usize, bytes: &[u8]) -> Piece
+/// Scans a keyword, name or number. A word that begins with a digit and is not a number is a fault.
+fn name_or_number(at: usize, bytes: &[u8]) -> ScanResult
     requires room { at + length bytes.now < 2 ^ 64 }
     requires begun { 1 ≤ length bytes.now }
     ensures { result ≡ word_piece at (slice_index bytes.now 0) (word_of bytes.now) }
 {
     let word = word(bytes);
     if !bytes[0].is_ascii_digit() {
-        return Piece::Token(kind_of_word(word), word.len());
+        return ScanResult::Token(kind_of_word(word), word.len());
     }
     match number_value(word) {
-        Some(_) => Piece::Token(TokenKind::Number, word.len()),
-        None => Piece::Fault(LexFault::BadNumber(Span::at(at, word.len()))),
+        Some(_) => ScanResult::Token(TokenKind::Number, word.len()),
+        None => ScanResult::Fault(LexFault::BadNumber(Span::at(at, word.len()))),
     }
 }
 
-/// The longest symbol, or the byte that begins none.
-fn symbol(at: usize, bytes: &[u8]) -> Piece
+/// Scans the longest symbol. A byte that begins no symbol is a fault.
+fn symbol(at: usize, bytes: &[u8]) -> ScanResult
     requires room { at + length bytes.now < 2 ^ 64 }
     requires begun { 1 ≤ length bytes.now }
     ensures { result ≡ symbol_piece at (slice_index bytes.now 0) (drop 1 bytes.now) }
@@ -215,16 +215,16 @@ fn symbol(at: usize, bytes: &[u8]) -> Piece
     if bytes.len() > 1
         && let Some(kind) = symbol_of_two(bytes[0], bytes[1])
     {
-        return Piece::Token(kind, 2);
+        return ScanResult::Token(kind, 2);
     }
     match symbol_of_one(bytes[0]) {
-        Some(kind) => Piece::Token(kind, 1),
-        None => Piece::Fault(LexFault::BadByte(Span::at(at, 1))),
+        Some(kind) => ScanResult::Token(kind, 1),
+        None => ScanResult::Fault(LexFault::BadByte(Span::at(at, 1))),
     }
 }
 
-/// The comment that a `/` begins, or the `/` that begins none.
-fn comment(at: usize, bytes: &[u8]) -> Piece
+/// Scans the comment that a `/` begins. A `/` that begins no comment is a fault.
+fn comment(at: usize, bytes: &[u8]) -> ScanResult
     requires room { at + length bytes.now < 2 ^ 64 }
     requires begun { 1 ≤ length bytes.now }
     ensures { result ≡ slash_piece at (drop 1 bytes.now) }
@@ -235,17 +235,17 @@ fn comment(at: usize, bytes: &[u8]) -> Piece
     if bytes.len() > 1 && bytes[1] == b'*' {
         return block_comment(at, bytes);
     }
-    Piece::Fault(LexFault::BadByte(Span::at(at, 1)))
+    ScanResult::Fault(LexFault::BadByte(Span::at(at, 1)))
 }
 
-/// What stands at the front of a text that stands at an offset.
-pub fn first_piece(at: usize, bytes: &[u8]) -> Piece
+/// Scans the piece at the front of a text that starts at offset `at`.
+pub fn first_piece(at: usize, bytes: &[u8]) -> ScanResult
     requires room { at + length bytes.now < 2 ^ 64 }
     requires begun { 1 ≤ length bytes.now }
     ensures { result ≡ piece at bytes.now }
 {
     match bytes[0] {
-        byte if is_blank(byte) => Piece::Gap(1),
+        byte if is_blank(byte) => ScanResult::Gap(1),
         byte if is_word_byte(byte) => name_or_number(at, bytes),
         b'"' => string(at, bytes),
         b'/' => comment(at, bytes),

@@ -2,7 +2,7 @@
 
 ghost use Rattle.std.specs.Prelude.{◌≡◌, ◌+◌, ◌^◌, ◌<◌};
 
-/// A place in a text, in bytes: from its first byte to the one after its last.
+/// A place in a text, in bytes: from its first byte to the byte after its last.
 #[derive(Clone, Copy, Debug, PartialEq, Eq)]
 pub struct Span {
     pub from: usize,
@@ -12,7 +12,7 @@ pub struct Span {
 impl Span {
     ghost use Rattle.lexer.specs.Items.{span};
 
-    /// The place of so many bytes from an offset on.
+    /// Creates the place of `len` bytes that starts at offset `from`.
     pub fn at(from: usize, len: usize) -> Span
         requires { from + len < 2 ^ 64 }
         ensures { result ≡ span from len }
@@ -24,14 +24,14 @@ impl Span {
     }
 }
 
-/// What a token is: a name, a number, a string, a keyword or a symbol.
+/// The kind of a token: a name, a number, a string, a keyword or a symbol.
 #[derive(Clone, Copy, Debug, PartialEq, Eq)]
 pub enum TokenKind {
-    /// A letter or `_`, then letters, digits and `_`, and no keyword.
+    /// A letter or `_`, followed by letters, digits and `_`, that is not a keyword.
     Name,
     /// A whole number from 0 to 9223372036854775807.
     Number,
-    /// A string with its quotes: bytes 32 to 126 and the escapes `\n`, `\t`, `\\` and `\"`.
+    /// A string with its quotes. It consists of bytes 32 to 126 and the escapes `\n`, `\t`, `\\` and `\"`.
     Text,
     Int,
     String,
@@ -82,9 +82,9 @@ pub enum TokenKind {
     Minus,
     /// `*`
     Times,
-    /// `%/`, the division of whole numbers
+    /// `%/`, integer division
     Quotient,
-    /// `%%`, its remainder
+    /// `%%`, the remainder of integer division
     Remainder,
     /// `!`
     Not,
@@ -94,7 +94,7 @@ pub enum TokenKind {
     Or,
     /// `@`
     At,
-    /// What stands behind the last token, for a parser's look-ahead. No token has this kind.
+    /// The kind after the last token, for a parser's look-ahead. No token has this kind.
     End,
 }
 

@@ -7,14 +7,14 @@ use Rattle.language.specs.Table.{Table, composite}
 use Rattle.language.specs.Core as core
 use Rattle.language.specs.Core.{Name}
 use Rattle.language.specs.Resolved.{Formed, Arguments, outer_of, composite_call, call_to, call_right, right_of, arguments_of}
-use Rattle.flow.specs.declared.cell.Part.{Part}
+use Rattle.flow.specs.declared.cell.CellPart.{CellPart}
 use Rattle.flow.specs.declared.cell.Call.{Call as Found}
-use Rattle.flow.specs.declared.cell.Form.{Form as FoundForm}
+use Rattle.flow.specs.declared.cell.CellForm.{CellForm as FoundForm}
 use Rattle.flow.specs.declared.statement.Action.{Call, the_lemmas}
 use Rattle.flow.specs.View.{action_view, parts_view, call_view, form_view}
 use Rattle.lowering.specs.View.{Leaves, calling}
 
-pub view_call_alone : {A : Type 0} → (p : ℤ) (ps : Vec (Part A) A) (c : Box (Found A) A) → action_view (Call p ps c) ≡ core.call_alone p (parts_view ps.items) (call_view c.value)
+pub view_call_alone : {A : Type 0} → (p : ℤ) (ps : Vec (CellPart A) A) (c : Box (Found A) A) → action_view (Call p ps c) ≡ core.call_alone p (parts_view ps.items) (call_view c.value)
 view_call_alone p ps c = search (rules, the_lemmas)
 
 abbrev made : ℕ → List core.Part → core.Form → core.Outer
@@ -24,7 +24,7 @@ outer_is : (n : ℕ) (w : Formed) → outer_of n w ≡ made n w.0 w.1
 outer_is n (ps, f) = refl
 
 -- an outermost cell, with the parts that were found
-pub found_outer : {A : Type 0} → (n : ℕ) (before now : List (Part A)) (f : FoundForm A) (w : Formed) → before ≡ [] → Leaves before now (form_view f) w
+pub found_outer : {A : Type 0} → (n : ℕ) (before now : List (CellPart A)) (f : FoundForm A) (w : Formed) → before ≡ [] → Leaves before now (form_view f) w
     → record { parts = parts_view now; cell = record { node = n; form = form_view f } } ≡ outer_of n w
 found_outer n before now f w empty leaves = ap₂ (made n) (leaves.0 ∙ ap (λ b. parts_view b ++ w.0) empty) leaves.1 ∙ sym (outer_is n w)
 
@@ -38,7 +38,7 @@ calling_call : (a : Arguments) (w : Word) (i : ℕ) (os : List Name) → (callin
 calling_call (ps, xs) w i os = refl
 
 -- a call alone, with the parts that were found
-pub found_call : {A : Type 0} → (p : ℤ) (w : Word) (i : ℕ) (a : Arguments) (os : List Name) (before now : List (Part A)) (c : Found A) → before ≡ []
+pub found_call : {A : Type 0} → (p : ℤ) (w : Word) (i : ℕ) (a : Arguments) (os : List Name) (before now : List (CellPart A)) (c : Found A) → before ≡ []
     → Leaves before now (call_view c) (calling a w i os) → core.call_alone p (parts_view now) (call_view c) ≡ composite_call p w i a os
 found_call p w i a os before now c empty leaves =
     ap₂ (core.call_alone p) (leaves.0 ∙ ap (λ b. parts_view b ++ (calling a w i os).0) empty ∙ calling_parts a w i os) (leaves.1 ∙ calling_call a w i os)

@@ -9,26 +9,26 @@ use Rattle.syntax_trees.specs.View.{expression_view, form_view}
 use Rattle.language.specs.Tree.{Expression, Command, Statement, statements_of, Body, body, Part as Part', import, function, single, Tree}
 use Rattle.flow.specs.declared.cell.Call.{Call}
 use Rattle.flow.specs.declared.cell.Cell.{Cell}
-use Rattle.flow.specs.declared.cell.Part.{Part}
-use Rattle.flow.specs.declared.cell.Part.TheVariants as Stands
+use Rattle.flow.specs.declared.cell.CellPart.{CellPart}
+use Rattle.flow.specs.declared.cell.CellPart.TheVariants as Stands
 use Rattle.flow.specs.declared.statement.Action.{Action}
 use Rattle.flow.specs.declared.statement.Statement.{Statement as Found}
-use Rattle.flow_listed.specs.Cells.{Anchor, AreAmong, AnchorsGrow, action_anchors, anchor_of, part_anchors, parts_anchors, statement_anchors}
-use Rattle.flow_listed.proofs.Growing.{among_left, among_right, among_then, among_both, grows_among, grows_as, grows_by, grows_none, grows_same}
+use Rattle.flow.specs.Cells.{Anchor, AreAmong, AnchorsGrow, action_anchors, anchor_of, part_anchors, parts_anchors, statement_anchors}
+use Rattle.flow.proofs.Growing.{among_left, among_right, among_then, among_both, grows_among, grows_as, grows_by, grows_none, grows_same}
 use Rattle.lowering.specs.Nodes.{PartsStand, StatementsStand, all_nodes, body_nodes, command_nodes, expression_nodes, form_nodes, function_nodes, nodes_among, own_nodes, statement_nodes}
 use Rattle.lowering.proofs.Views.{view_expr}
 
 -- PARTS
 
-pub stays : {A : Type 0} (ps : List (Part A)) (nodes : List Anchor) → PartsStand ps ps nodes
+pub stays : {A : Type 0} (ps : List (CellPart A)) (nodes : List Anchor) → PartsStand ps ps nodes
 stays ps nodes = grows_none (parts_anchors ps) nodes
 
 -- one more cell
-pub cell_stands : {A : Type 0} (old new : List (Part A)) (c : Cell A) → new ≡ old ++ Stands.Inner c ∷ [] → PartsStand old new (anchor_of c ∷ [])
+pub cell_stands : {A : Type 0} (old new : List (CellPart A)) (c : Cell A) → new ≡ old ++ Stands.Inner c ∷ [] → PartsStand old new (anchor_of c ∷ [])
 cell_stands old new c is = grows_by (parts_anchors old) (parts_anchors new) (anchor_of c ∷ []) (ap parts_anchors is ∙ flat_map-append part_anchors old (Stands.Inner c ∷ []))
 
 -- a call has no cell of its own
-pub call_stands : {A : Type 0} (old new : List (Part A)) (c : Call A) → new ≡ old ++ Stands.Calls c ∷ [] → PartsStand old new []
+pub call_stands : {A : Type 0} (old new : List (CellPart A)) (c : Call A) → new ≡ old ++ Stands.Calls c ∷ [] → PartsStand old new []
 call_stands old new c is = grows_same (parts_anchors old) (parts_anchors new) [] (ap parts_anchors is ∙ flat_map-append part_anchors old (Stands.Calls c ∷ []) ∙ append-nil (parts_anchors old))
 
 -- NODES
@@ -53,10 +53,10 @@ nodes_at view (y ∷ ys) zero x below is =
 nodes_at view (y ∷ ys) (suc i) x below is = among_then (nodes_at view ys i x (omega (arith, below)) is) (among_right (expression_nodes (view y)) (all_nodes (map view ys)))
 
 -- an outermost cell, behind the parts that were found for it
-pub outer_stands : {A : Type 0} (before now : List (Part A)) (own : Anchor) (nodes : List Anchor) → before ≡ [] → PartsStand before now nodes → AreAmong (own ∷ []) nodes
+pub outer_stands : {A : Type 0} (before now : List (CellPart A)) (own : Anchor) (nodes : List Anchor) → before ≡ [] → PartsStand before now nodes → AreAmong (own ∷ []) nodes
     → AreAmong (parts_anchors now ++ own ∷ []) nodes
 outer_stands {A} before now own nodes empty found one =
-    among_both (parts_anchors now) (own ∷ []) (subst (λ (ps : List (Part A)). AnchorsGrow (parts_anchors ps) (parts_anchors now) nodes) empty found).each one
+    among_both (parts_anchors now) (own ∷ []) (subst (λ (ps : List (CellPart A)). AnchorsGrow (parts_anchors ps) (parts_anchors now) nodes) empty found).each one
 
 -- STATEMENTS
 

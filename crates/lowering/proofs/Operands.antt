@@ -6,7 +6,7 @@ use Rattle.language.specs.Table.{Table}
 use Rattle.language.specs.Core as core
 use Rattle.language.specs.Core.{none, also}
 use Rattle.language.specs.Resolved.{Operands, Arguments, form_of, operands_of, arguments_of, with_operand, with_argument, as_operand, as_argument, number_of}
-use Rattle.flow.specs.declared.cell.Part.{Part}
+use Rattle.flow.specs.declared.cell.CellPart.{CellPart}
 use Rattle.flow.specs.declared.expression.Expr.{Expr}
 use Rattle.flow.specs.declared.name.Name.{Name}
 use Rattle.flow.specs.View.{parts_view, expr_view, exprs_view, name_view, names_view, operands}
@@ -26,7 +26,7 @@ before_none [] = refl
 before_none (x ∷ xs) = ap (also x) (before_none xs)
 
 -- what is done, with what is left, is the whole
-abbrev pub SoFar : {A R : Type 0} → List (Part A) → List (Part A) → (R → R) → List core.Part × R → List core.Part × R → Type 0
+abbrev pub SoFar : {A R : Type 0} → List (CellPart A) → List (CellPart A) → (R → R) → List core.Part × R → List core.Part × R → Type 0
 SoFar start now join whole rest = (parts_view now ++ rest.0 ≡ parts_view start ++ whole.0) × (join rest.1 ≡ whole.1)
 
 operand_parts : (o : List core.Part × core.Expr) (r : Operands) → (with_operand o r).0 ≡ o.0 ++ r.0
@@ -42,14 +42,14 @@ argument_rest : (o : List core.Part × core.Name) (r : Arguments) → (with_argu
 argument_rest (ps, e) (qs, es) = refl
 
 -- more parts behind those that are there
-shifted : {A : Type 0} (now after : List (Part A)) (ps qs all : List core.Part) → parts_view after ≡ parts_view now ++ ps → parts_view now ++ (ps ++ qs) ≡ all → parts_view after ++ qs ≡ all
+shifted : {A : Type 0} (now after : List (CellPart A)) (ps qs all : List core.Part) → parts_view after ≡ parts_view now ++ ps → parts_view now ++ (ps ++ qs) ≡ all → parts_view after ++ qs ≡ all
 shifted now after ps qs all more is = ap (λ xs. xs ++ qs) more ∙ append_assoc (parts_view now) ps qs ∙ is
 
 -- the expressions from a place on
 abbrev pub from_on : {X : Type 0} → (X → Expression) → List X → ℕ → Expressions
 from_on view xs i = expressions_of (map view (drop i xs))
 
-module _ {A X : Type 0} (view : X → Expression) (t : Table) (xs : List X) (i : ℕ) (x : X) (start now after : List (Part A)) (below : i < length xs) (is : x ≡ get_or xs i x) where
+module _ {A X : Type 0} (view : X → Expression) (t : Table) (xs : List X) (i : ℕ) (x : X) (start now after : List (CellPart A)) (below : i < length xs) (is : x ≡ get_or xs i x) where
   opened : from_on view xs i ≡ and_expression (view x) (from_on view xs (i + 1))
   opened = ap (λ ys. expressions_of (map view ys)) (drop_more xs i x below ∙ ap (λ y. y ∷ drop (i + 1) xs) (sym is))
 
@@ -81,7 +81,7 @@ module _ {A X : Type 0} (view : X → Expression) (t : Table) (xs : List X) (i :
             ∙ ap (λ ys. names_view found ++ ys) (sym (ap (λ es. (arguments_of t es).1) opened ∙ argument_rest o rest)) ∙ so_far.1,
       )
 
-module _ {A X : Type 0} (view : X → Expression) (t : Table) (xs : List X) (i : ℕ) (start now : List (Part A)) (done : length xs ≤ i) where
+module _ {A X : Type 0} (view : X → Expression) (t : Table) (xs : List X) (i : ℕ) (start now : List (CellPart A)) (done : length xs ≤ i) where
   ended : from_on view xs i ≡ no_expressions
   ended = ap (λ ys. expressions_of (map view ys)) (drop_all i xs done)
 

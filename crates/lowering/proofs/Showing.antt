@@ -9,7 +9,7 @@ use Rattle.flow.specs.declared.statement.Range.{Range}
 use Rattle.flow.specs.declared.statement.Variable.{Variable}
 use Rattle.flow.specs.declared.name.Name.{Name}
 use Rattle.flow.specs.declared.statement.Action.{Action, Declare, Each, Range as RangeOf, the_lemmas}
-use Rattle.flow_listed.specs.Listed.{Declared, declared, declares, Shown, Listed, other, looping, function_of, action_listed, block_listed}
+use Rattle.flow.specs.Listed.{Declared, declared, declares, Shown, Listed, other, looping, function_of, action_listed, block_listed}
 use Rattle.lowering.specs.View.{variable_of}
 use Rattle.lowering.specs.Listed.{listed, command_listed, all_listed, own_listed, composite_shown, composites_shown}
 

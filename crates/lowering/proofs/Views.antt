@@ -13,7 +13,7 @@ use Rattle.language.specs.Core.{none, also}
 use Rattle.language.specs.Resolved.{as_operand, computes, one_operand, form_in, form_of, number_of, prefix_operation, sized}
 use Rattle.values.specs.Operators as op
 use Rattle.flow.specs.declared.name.Name.{Name as Resolved}
-use Rattle.flow.specs.declared.cell.Part.{Part}
+use Rattle.flow.specs.declared.cell.CellPart.{CellPart}
 use Rattle.flow.specs.declared.expression.Operation.{Operation as Operator'}
 use Rattle.flow.specs.declared.expression.Expr.{Expr as Found, Whole, Operation, the_lemmas as flow_lemmas}
 use Rattle.flow.specs.View.{name_view, expr_view, exprs_view, operation_view, parts_view}
@@ -62,7 +62,7 @@ prefixed_parts o (ps, e) = refl
 prefixed_form : (o : op.Operation) (a : List core.Part × core.Expr) → (computes o (one_operand a)).1 ≡ core.compute (core.operator o (also a.1 none))
 prefixed_form o (ps, e) = refl
 
-pub prefixed_found : {A : Type 0} → (t : Table) (p : Prefix) (k : T.Form) (e : Expression) (now after : List (Part A)) (one : Found A) (x : core.Expr)
+pub prefixed_found : {A : Type 0} → (t : Table) (p : Prefix) (k : T.Form) (e : Expression) (now after : List (CellPart A)) (one : Found A) (x : core.Expr)
     → k ≡ T.prefixed p e → Leaves now after (expr_view one) (as_operand (number_of e) (form_of t e))
     → x ≡ core.operator (prefix_operation p) (also (expr_view one) none)
     → (parts_view after ≡ parts_view now ++ (form_in t k).0) × (core.compute x ≡ (form_in t k).1)

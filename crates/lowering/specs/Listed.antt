@@ -1,13 +1,13 @@
--- What a listing shows of a script beside its core, read off its tree: as `flow_listed/specs/Listed` says it of a flow.
+-- What a listing shows of a script beside its core, computed from its tree, in the terms of `flow_listed/specs/Listed`.
 use Rattle.std.specs.Prelude.{List, [], ◌∷◌, ◌++◌, map, Option, None, Some, option_map}
 use Rattle.language.specs.declared.tree.Shape.{Shape}
 use Rattle.language.specs.Tree as T
 use Rattle.language.specs.Tree.{RightSide, Statement, statement, statements_of, Command, Body, body, Statements, no_statements, and_statement, Composite, Tree, import, function, single}
 use Rattle.flow.specs.declared.statement.Statement.{Statement as Found}
-use Rattle.flow_listed.specs.Listed.{Shown, declares, Listed, other, block_of, whole, waiting, looping, function_of, statement_listed}
+use Rattle.flow.specs.Listed.{Shown, declares, Listed, other, block_of, whole, waiting, looping, function_of, statement_listed}
 use Rattle.lowering.specs.View.{as_declared, variable_of}
 
--- what is shown of statements of a flow
+-- what a listing shows of statements of a flow
 abbrev pub listed_by : {A : Type 0} → List (Found A) → List Listed
 listed_by ss = map statement_listed ss
 
@@ -38,18 +38,18 @@ abbrev mutual
   statements_listed no_statements = []
   statements_listed (and_statement s ss) = listed s ++ statements_listed ss
 
--- those of a tree, one after another
+-- the statements of a tree, one after another
 abbrev pub all_listed : List Statement → List Listed
 all_listed ss = statements_listed (statements_of ss)
 
--- the statements of a script that stand in no function
+-- the statements of a script outside functions
 abbrev pub own_listed : Tree → List Listed
 own_listed [] = []
 own_listed (import sp ∷ ps) = own_listed ps
 own_listed (function f ∷ ps) = own_listed ps
 own_listed (single s ∷ ps) = listed s ++ own_listed ps
 
--- its functions
+-- the functions of a script
 abbrev pub composite_shown : Composite → List Shown
 composite_shown f = function_of f.name.span.from f.name.text (map variable_of f.inputs) (map variable_of f.outputs) (body_listed f.body)
 
@@ -59,6 +59,6 @@ composites_shown (import sp ∷ ps) = composites_shown ps
 composites_shown (function f ∷ ps) = composite_shown f ++ composites_shown ps
 composites_shown (single s ∷ ps) = composites_shown ps
 
--- what a listing shows of a script: its own block stands at the beginning of the text
+-- what a listing shows of a script; its own block is at offset 0
 abbrev pub shown : Tree → List Shown
 shown ps = whole (block_of 0 (own_listed ps)) ++ composites_shown ps

@@ -1,17 +1,17 @@
--- Where the nodes of a tree stand that cells can be of: its expressions, its array literals, and its calls that are no expressions, each by its number with the
--- offset of its first token, in reading order.
+-- The nodes of a tree that can be those of cells: its expressions, its array literals, and its calls outside
+-- expressions, each by its number with the offset of its first token, in reading order.
 use Rattle.std.specs.Prelude.{List, [], ◌∷◌, ◌++◌, Option, None, Some}
 use Rattle.std.specs.List.{flat_map}
 use Rattle.language.specs.Tree as T
 use Rattle.language.specs.Tree.{Node, Expression, expression, number, text, truth, variable, element, call, prefixed, chain, Expressions, no_expressions, and_expression, expressions_of, RightSide, value, list, Calling, Over, Statement, statement, statements_of, Command, choice, choice_else, loop, waits, Body, body, Statements, no_statements, and_statement, Composite, Tree, import, function, single}
-use Rattle.flow.specs.declared.cell.Part.{Part}
+use Rattle.flow.specs.declared.cell.CellPart.{CellPart}
 use Rattle.flow.specs.declared.statement.Statement.{Statement as Found}
-use Rattle.flow_listed.specs.Cells.{Anchor, AnchorsGrow, parts_anchors, statement_anchors}
+use Rattle.flow.specs.Cells.{Anchor, AnchorsGrow, parts_anchors, statement_anchors}
 
 abbrev pub node_anchor : Node → Anchor
 node_anchor nd = record { node = nd.number; at = nd.first.from }
 
--- an expression, and those inside it
+-- an expression and its nested expressions
 abbrev mutual
   pub expression_nodes : Expression → List Anchor
   expression_nodes (expression nd f) = node_anchor nd ∷ form_nodes f
@@ -37,7 +37,7 @@ abbrev pub right_nodes : RightSide → List Anchor
 right_nodes (value e) = expression_nodes e
 right_nodes (list nd es) = node_anchor nd ∷ all_nodes es
 
--- those of what may be left out
+-- the nodes of an optional part
 abbrev pub maybe_nodes : {X : Type 0} → (X → List Anchor) → Option X → List Anchor
 maybe_nodes f None = []
 maybe_nodes f (Some x) = f x
@@ -49,7 +49,7 @@ abbrev pub over_nodes : Over → List Anchor
 over_nodes (T.array w) = []
 over_nodes (T.range low high step) = expression_nodes low ++ expression_nodes high ++ maybe_nodes expression_nodes step
 
--- those of a statement, and of the blocks inside it
+-- the nodes of a statement and of its nested blocks
 abbrev mutual
   pub statement_nodes : Statement → List Anchor
   statement_nodes (statement nd c) = command_nodes c
@@ -72,11 +72,11 @@ abbrev mutual
   statements_nodes no_statements = []
   statements_nodes (and_statement s ss) = statement_nodes s ++ statements_nodes ss
 
--- those of statements of a tree, one after another
+-- the nodes of statements of a tree, one after another
 abbrev pub nodes_among : List Statement → List Anchor
 nodes_among ss = statements_nodes (statements_of ss)
 
--- the nodes of a script that stand in no function, and those of its functions
+-- the nodes of a script outside functions, and those of its functions
 abbrev pub own_nodes : Tree → List Anchor
 own_nodes [] = []
 own_nodes (import sp ∷ ps) = own_nodes ps
@@ -92,12 +92,12 @@ function_nodes (single s ∷ ps) = function_nodes ps
 abbrev pub nodes_of : Tree → List Anchor
 nodes_of ps = own_nodes ps ++ function_nodes ps
 
--- WHAT IS FOUND
+-- RESULTS OF LOWERING
 
--- the cells among the parts that are added stand where these nodes do
-abbrev pub PartsStand : {A : Type 0} → List (Part A) → List (Part A) → List Anchor → Type 0
+-- the cells among the appended parts have these nodes and offsets
+abbrev pub PartsStand : {A : Type 0} → List (CellPart A) → List (CellPart A) → List Anchor → Type 0
 PartsStand old new nodes = AnchorsGrow (parts_anchors old) (parts_anchors new) nodes
 
--- so do those of the statements that are added
+-- the cells of the appended statements have these nodes and offsets
 abbrev pub StatementsStand : {A : Type 0} → List (Found A) → List (Found A) → List Anchor → Type 0
 StatementsStand old new nodes = AnchorsGrow (flat_map statement_anchors old) (flat_map statement_anchors new) nodes

@@ -10,15 +10,15 @@ use Rattle.flow.specs.Shapes.{Declared, is_array, together, statement_declared}
 abbrev pub flagged : List Declaration → Declared
 flagged ds = map (λ d. (d.name.number, is_array d.shape)) ds
 
--- what statements of a flow declare
+-- the declarations of statements of a flow
 abbrev pub declared_by : {A : Type 0} → List (Found A) → Declared
 declared_by ss = together (map statement_declared ss)
 
--- what statements of a tree declare
+-- the declarations of statements of a tree
 abbrev pub among : List Statement → List Declaration
 among ss = statements_declarations (statements_of ss)
 
--- the declarations of a script that stand in no function, and those of its functions
+-- the declarations of a script outside functions, and those of its functions
 abbrev pub own_declarations : Tree → List Declaration
 own_declarations [] = []
 own_declarations (import sp ∷ ps) = own_declarations ps

@@ -1,4 +1,4 @@
-//! Expressions: their cells and calls behind those before, and what is left of them.
+//! Lowering of expressions: appends nested cells and calls to `parts` and returns the remaining expression.
 ghost use Rattle.std.specs.Prelude.{◌≡◌, ◌++◌, ◌∷◌, [], IfOk, OnOk, map, drop, option_map};
 ghost use Rattle.language.specs.Core as core;
 ghost use Rattle.language.specs.Tree as pure;
@@ -14,21 +14,21 @@ ghost use Rattle.lowering.specs.View.{Leaves, calling, array_named, variable_nam
 
 use crate::names::{here, refer};
 use crate::operators::{of_builtin, of_chain, of_prefix};
-use flow::cell::{Call, Cell, Form, Part};
+use flow::cell::{Call, Cell, CellForm, CellPart};
 use flow::expression::{Expr, Operation};
 use flow::name::Name;
 use std::alloc::{AllocError, Allocator};
 use syntax_trees::tree::{self, ExprKind, Shape};
 use types::typed::{Builtin, Callee, Typed};
 
-/// What the cell of an expression is.
+/// Returns the form of the cell of an expression. Appends its nested cells and calls to `parts`.
 #[cycle(expression)]
 pub fn form<A: Allocator + Clone>(
     alloc: &A,
     typed: &Typed,
-    parts: &mut Vec<Part<A>, A>,
+    parts: &mut Vec<CellPart<A>, A>,
     expr: &tree::Expr<A>,
-) -> Result<Form<A>, AllocError>
+) -> Result<CellForm<A>, AllocError>
     ensures leaves { IfOk result (λ f. Leaves parts.old.items parts.new.items (seen.form_view f) (rules.form_of (table_of typed.now) (expression_view expr.now))) }
     ensures cells { OnOk result (PartsStand parts.old.items parts.new.items (expression_nodes (expression_view expr.now))) }
 {
@@ -40,23 +40,23 @@ pub fn form<A: Allocator + Clone>(
 fn kind_form<A: Allocator + Clone>(
     alloc: &A,
     typed: &Typed,
-    parts: &mut Vec<Part<A>, A>,
+    parts: &mut Vec<CellPart<A>, A>,
     kind: &ExprKind<A>,
-) -> Result<Form<A>, AllocError>
+) -> Result<CellForm<A>, AllocError>
     ensures leaves { IfOk result (λ f. Leaves parts.old.items parts.new.items (seen.form_view f) (rules.form_in (table_of typed.now) (form_view kind.now))) }
     ensures cells { OnOk result (PartsStand parts.old.items parts.new.items (form_nodes (form_view kind.now))) }
 {
     match kind {
-        ExprKind::Number(n) => Ok(Form::Compute(Expr::Number(*n))),
-        ExprKind::Text(bytes) => Ok(Form::Compute(Expr::Text(Vec::from_slice(
+        ExprKind::Number(n) => Ok(CellForm::Compute(Expr::Number(*n))),
+        ExprKind::Text(bytes) => Ok(CellForm::Compute(Expr::Text(Vec::from_slice(
             alloc.clone()?,
             bytes.as_slice(),
         )?))),
-        ExprKind::Truth(b) => Ok(Form::Compute(Expr::Truth(*b))),
-        ExprKind::Variable(name) => Ok(Form::Compute(Expr::Name(refer(typed, name)))),
+        ExprKind::Truth(b) => Ok(CellForm::Compute(Expr::Truth(*b))),
+        ExprKind::Variable(name) => Ok(CellForm::Compute(Expr::Name(refer(typed, name)))),
         ExprKind::Element(name, index) => {
             inner_cell(alloc, typed, parts, index)?;
-            Ok(Form::Read {
+            Ok(CellForm::Read {
                 array: refer(typed, name),
                 index: index.number,
             })
@@ -65,7 +65,7 @@ fn kind_form<A: Allocator + Clone>(
         ExprKind::Prefixed(prefix, expr) => {
             let one = operand(alloc, typed, parts, expr)?;
             let operands = single(alloc, one)?;
-            Ok(Form::Compute(Expr::Operation(of_prefix(*prefix), operands)))
+            Ok(CellForm::Compute(Expr::Operation(of_prefix(*prefix), operands)))
         }
         ExprKind::Chain(operators, exprs) => {
             let operation = of_chain(alloc, operators.as_slice())?;
@@ -74,12 +74,12 @@ fn kind_form<A: Allocator + Clone>(
     }
 }
 
-/// Adds the cell of an expression.
+/// Appends the cell of an expression, after its nested cells and calls.
 #[cycle(expression)]
 fn inner_cell<A: Allocator + Clone>(
     alloc: &A,
     typed: &Typed,
-    parts: &mut Vec<Part<A>, A>,
+    parts: &mut Vec<CellPart<A>, A>,
     expr: &tree::Expr<A>,
 ) -> Result<(), AllocError>
     ensures leaves { OnOk result (let e = expression_view expr.now in parts_view parts.new.items
@@ -90,26 +90,26 @@ fn inner_cell<A: Allocator + Clone>(
     add_cell(parts, expr.number, expr.first.from, found)
 }
 
-/// Adds a cell.
+/// Appends a cell.
 fn add_cell<A: Allocator>(
-    parts: &mut Vec<Part<A>, A>,
+    parts: &mut Vec<CellPart<A>, A>,
     node: u32,
     at: usize,
-    form: Form<A>,
+    form: CellForm<A>,
 ) -> Result<(), AllocError>
     ensures part { OnOk result (parts_view parts.new.items ≡ parts_view parts.old.items ++ core.inner (record { node = node; form = seen.form_view form }) ∷ []) }
     ensures cells { OnOk result (PartsStand parts.old.items parts.new.items (record { node = node; at = at } ∷ [])) }
 {
-    parts.push(Part::Inner(Cell { node, at, form }))?;
+    parts.push(CellPart::Inner(Cell { node, at, form }))?;
     Ok(())
 }
 
-/// An operand.
+/// Returns an expression as an operand. An array element becomes a cell of its own, to which the operand refers.
 #[cycle(expression)]
 fn operand<A: Allocator + Clone>(
     alloc: &A,
     typed: &Typed,
-    parts: &mut Vec<Part<A>, A>,
+    parts: &mut Vec<CellPart<A>, A>,
     expr: &tree::Expr<A>,
 ) -> Result<Expr<A>, AllocError>
     ensures leaves { IfOk result (λ one. let e = expression_view expr.now in Leaves parts.old.items parts.new.items (seen.expr_view one)
@@ -118,41 +118,41 @@ fn operand<A: Allocator + Clone>(
 {
     let found = form(alloc, typed, parts, expr)?;
     match found {
-        Form::Compute(one) => Ok(one),
-        Form::Read { array, index } => {
-            let read = Form::Read { array, index };
+        CellForm::Compute(one) => Ok(one),
+        CellForm::Read { array, index } => {
+            let read = CellForm::Read { array, index };
             add_cell(parts, expr.number, expr.first.from, read)?;
             Ok(Expr::Name(here(expr.number)))
         }
     }
 }
 
-/// An operation on the expressions from a place on.
+/// Returns the form that applies an operation to the expressions from index `from` on.
 #[cycle(expression)]
 pub fn operation_on<A: Allocator + Clone>(
     alloc: &A,
     typed: &Typed,
-    parts: &mut Vec<Part<A>, A>,
+    parts: &mut Vec<CellPart<A>, A>,
     operation: Operation<A>,
     exprs: &Vec<tree::Expr<A>, A>,
     from: usize,
-) -> Result<Form<A>, AllocError>
+) -> Result<CellForm<A>, AllocError>
     ensures leaves { IfOk result (λ f. Leaves parts.old.items parts.new.items (seen.form_view f)
         (rules.computes (seen.operation_view operation)
         (rules.operands_of (table_of typed.now) (expressions_of (map expression_view (drop from exprs.now.items)))))) }
     ensures cells { OnOk result (PartsStand parts.old.items parts.new.items (all_nodes (map expression_view exprs.now.items))) }
 {
     let found = operands(alloc, typed, parts, exprs, from)?;
-    Ok(Form::Compute(Expr::Operation(operation, found)))
+    Ok(CellForm::Compute(Expr::Operation(operation, found)))
 }
 
-/// The operands that the expressions from a place on are.
+/// Returns the expressions from index `from` on as operands.
 #[cycle(expression)]
 #[tactic(auto, using(crate::proofs::Anchors::stays))]
 fn operands<A: Allocator + Clone>(
     alloc: &A,
     typed: &Typed,
-    parts: &mut Vec<Part<A>, A>,
+    parts: &mut Vec<CellPart<A>, A>,
     exprs: &Vec<tree::Expr<A>, A>,
     from: usize,
 ) -> Result<Vec<Expr<A>, A>, AllocError>
@@ -169,15 +169,16 @@ fn operands<A: Allocator + Clone>(
 
 // CALLS
 
-/// A call in an expression.
+/// Returns the form of a call in an expression. A composite call is appended to `parts`, and the form refers to its
+/// output.
 #[cycle(expression)]
 fn called<A: Allocator + Clone>(
     alloc: &A,
     typed: &Typed,
-    parts: &mut Vec<Part<A>, A>,
+    parts: &mut Vec<CellPart<A>, A>,
     name: &tree::Name<A>,
     arguments: &Vec<tree::Expr<A>, A>,
-) -> Result<Form<A>, AllocError>
+) -> Result<CellForm<A>, AllocError>
     ensures leaves { IfOk result (λ f. let t = table_of typed.now in let es = expressions_of (map expression_view arguments.now.items) in
         Leaves parts.old.items parts.new.items (seen.form_view f)
         (rules.call_form t (word_of name.now) (t.callee_of name.now.number) es (rules.arguments_of t es) (rules.operands_of t es))) }
@@ -187,23 +188,23 @@ fn called<A: Allocator + Clone>(
         Callee::Function(function) => {
             let outputs = single(alloc, here(name.number))?;
             let call = call_of(alloc, typed, parts, name, function, arguments, outputs)?;
-            parts.push(Part::Calls(call))?;
-            Ok(Form::Compute(Expr::Name(here(name.number))))
+            parts.push(CellPart::Calls(call))?;
+            Ok(CellForm::Compute(Expr::Name(here(name.number))))
         }
         Callee::BuiltIn(builtin) => built_in(alloc, typed, parts, builtin, arguments),
     }
 }
 
-/// A call of a built-in function.
+/// Returns the form of a call of a built-in function.
 #[cycle(expression)]
 #[tactic(auto, using(crate::proofs::Anchors::stays))]
 pub fn built_in<A: Allocator + Clone>(
     alloc: &A,
     typed: &Typed,
-    parts: &mut Vec<Part<A>, A>,
+    parts: &mut Vec<CellPart<A>, A>,
     builtin: Builtin,
     arguments: &Vec<tree::Expr<A>, A>,
-) -> Result<Form<A>, AllocError>
+) -> Result<CellForm<A>, AllocError>
     ensures leaves { IfOk result (λ f. (w : pure.Word) (passed : rules.Arguments)
         → let t = table_of typed.now in let es = expressions_of (map expression_view arguments.now.items) in
         Leaves parts.old.items parts.new.items (seen.form_view f) (rules.call_form t w (built_in (builtin_name builtin)) es passed (rules.operands_of t es))) }
@@ -212,7 +213,7 @@ pub fn built_in<A: Allocator + Clone>(
     match builtin {
         Builtin::Size => {
             let array = sized(alloc, typed, arguments)?;
-            Ok(Form::Compute(Expr::Operation(Operation::Size, array)))
+            Ok(CellForm::Compute(Expr::Operation(Operation::Size, array)))
         }
         _ => {
             let operation = of_builtin(alloc, builtin, arguments)?;
@@ -221,7 +222,7 @@ pub fn built_in<A: Allocator + Clone>(
     }
 }
 
-/// The array whose size is asked for.
+/// Returns the array argument of `size`, or no operand if the first argument is not a variable.
 fn sized<A: Allocator + Clone>(
     alloc: &A,
     typed: &Typed,
@@ -238,12 +239,12 @@ fn sized<A: Allocator + Clone>(
     }
 }
 
-/// A call of a composite function, whose outputs stand for these names.
+/// Returns a call of a composite function with its outputs bound to these names.
 #[cycle(expression)]
 pub fn call_of<A: Allocator + Clone>(
     alloc: &A,
     typed: &Typed,
-    parts: &mut Vec<Part<A>, A>,
+    parts: &mut Vec<CellPart<A>, A>,
     name: &tree::Name<A>,
     function: usize,
     arguments: &Vec<tree::Expr<A>, A>,
@@ -262,13 +263,13 @@ pub fn call_of<A: Allocator + Clone>(
     })
 }
 
-/// What the inputs of a call stand for.
+/// Returns the names to which the inputs of a call are bound.
 #[cycle(expression)]
 #[tactic(auto, using(crate::proofs::Anchors::stays))]
 fn inputs<A: Allocator + Clone>(
     alloc: &A,
     typed: &Typed,
-    parts: &mut Vec<Part<A>, A>,
+    parts: &mut Vec<CellPart<A>, A>,
     exprs: &Vec<tree::Expr<A>, A>,
 ) -> Result<Vec<Name, A>, AllocError>
     ensures leaves { IfOk result (λ v. Leaves parts.old.items parts.new.items (names_view v.items)
@@ -282,13 +283,13 @@ fn inputs<A: Allocator + Clone>(
     Ok(found)
 }
 
-/// An argument of a composite call.
+/// Returns the name of an argument of a composite call: an array, or a new cell of the expression.
 #[cycle(expression)]
 #[tactic(auto, using(crate::proofs::Anchors::stays))]
 fn argument<A: Allocator + Clone>(
     alloc: &A,
     typed: &Typed,
-    parts: &mut Vec<Part<A>, A>,
+    parts: &mut Vec<CellPart<A>, A>,
     expr: &tree::Expr<A>,
 ) -> Result<Name, AllocError>
     ensures leaves { IfOk result (λ x. let t = table_of typed.now
@@ -304,7 +305,7 @@ fn argument<A: Allocator + Clone>(
     }
 }
 
-/// The array that an expression is the name of.
+/// Returns the array that an expression names, or `None` if the expression is not the name of an array.
 pub fn array_named<A: Allocator>(typed: &Typed, kind: &ExprKind<A>) -> Option<Name>
     ensures { option_map seen.name_view result ≡ array_named (table_of typed.now) (form_view kind.now) }
 {
@@ -317,7 +318,7 @@ pub fn array_named<A: Allocator>(typed: &Typed, kind: &ExprKind<A>) -> Option<Na
     }
 }
 
-/// The variable that an expression is the name of.
+/// Returns the variable that an expression names, or `None` if the expression is not a variable.
 pub fn variable_named<A: Allocator>(typed: &Typed, kind: &ExprKind<A>) -> Option<Name>
     ensures { option_map seen.name_view result ≡ variable_named (table_of typed.now) (form_view kind.now) }
 {
@@ -327,7 +328,7 @@ pub fn variable_named<A: Allocator>(typed: &Typed, kind: &ExprKind<A>) -> Option
     }
 }
 
-/// One element.
+/// Creates a vector of one element.
 pub fn single<T: Drop, A: Allocator + Clone>(alloc: &A, one: T) -> Result<Vec<T, A>, AllocError>
     ensures { IfOk result (λ v. v.items ≡ one ∷ []) }
 {

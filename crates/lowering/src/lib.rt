@@ -1,4 +1,4 @@
-//! From a script's tree to its flow, with names resolved and cells taken out.
+//! Lowering: converts a script's syntax tree to its flow, resolving names and separating cells and calls.
 #![tactic(auto)]
 
 pub mod expression;

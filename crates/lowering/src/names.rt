@@ -1,4 +1,4 @@
-//! What the check of the types says of names.
+//! Names and declared variables of a flow, resolved by the result of the type check.
 ghost use Rattle.std.specs.Prelude.{◌≡◌, IfOk, map, option_map};
 ghost use Rattle.language.specs.Core as core;
 ghost use Rattle.language.specs.Resolved as rules;
@@ -7,34 +7,34 @@ ghost use Rattle.types.specs.Typed.{table_of};
 ghost use Rattle.flow.specs.View.{name_view, names_view, awaited_view};
 ghost use Rattle.lowering.specs.View.{declared, as_declared, variable_of};
 
-use flow::name::{Name, Owned};
+use flow::name::{Name, NameBinding};
 use flow::statement::Variable;
 use std::alloc::{AllocError, Allocator};
 use syntax_trees::tree::{self, Decl, Shape};
 use types::typed::{self, Typed};
 
-/// The variable or cell of this block that has a node, as a scalar.
+/// Creates the name of the variable or cell of this node in the current block, as a scalar.
 pub fn here(node: u32) -> Name
     ensures name { name_view result ≡ core.here node }
     ensures shape { result.shape ≡ Shape.Scalar }
 {
     Name {
         up: 0,
-        what: Owned::Local(node),
+        what: NameBinding::Local(node),
         shape: Shape::Scalar,
     }
 }
 
-/// What a name refers to.
+/// Returns the resolved name for a name of the tree.
 pub fn refer<A: Allocator>(typed: &Typed, name: &tree::Name<A>) -> Name
     ensures name { name_view result ≡ rules.refers (table_of typed.now) (word_of name.now) }
     ensures shape { result.shape ≡ (table_of typed.now).shape_of name.now.number }
 {
     let reference = typed.name(name.number);
     let what = match reference.what {
-        typed::Owned::Local(node) => Owned::Local(node),
-        typed::Owned::Input(i) => Owned::Input(i),
-        typed::Owned::Output(i) => Owned::Output(i),
+        typed::Binding::Local(node) => NameBinding::Local(node),
+        typed::Binding::Input(i) => NameBinding::Input(i),
+        typed::Binding::Output(i) => NameBinding::Output(i),
     };
     Name {
         up: reference.up,
@@ -43,7 +43,7 @@ pub fn refer<A: Allocator>(typed: &Typed, name: &tree::Name<A>) -> Name
     }
 }
 
-/// What names refer to.
+/// Returns the resolved names for names of the tree, in their order.
 pub fn all<A: Allocator + Clone>(
     alloc: &A,
     typed: &Typed,
@@ -59,7 +59,7 @@ pub fn all<A: Allocator + Clone>(
     Ok(found)
 }
 
-/// A variable where it is declared.
+/// Creates a declared variable from its name and its shape.
 pub fn variable<A: Allocator + Clone>(
     alloc: &A,
     name: &tree::Name<A>,
@@ -75,7 +75,7 @@ pub fn variable<A: Allocator + Clone>(
     })
 }
 
-/// The variable under an optional name, a scalar.
+/// Creates a scalar variable from an optional name.
 pub fn optional<A: Allocator + Clone>(
     alloc: &A,
     name: &Option<tree::Name<A>>,
@@ -89,7 +89,7 @@ pub fn optional<A: Allocator + Clone>(
     }
 }
 
-/// Variables that are declared, inputs or outputs.
+/// Creates the variables of declarations, such as inputs or outputs.
 pub fn variables<A: Allocator + Clone>(
     alloc: &A,
     decls: &Vec<Decl<A>, A>,

@@ -1,4 +1,4 @@
-//! The operation of a chain of operators, of a prefix and of a built-in function.
+//! The operations of operator chains, prefixes and built-in functions.
 ghost use Rattle.std.specs.Prelude.{◌≡◌, IfOk, map};
 ghost use Rattle.language.specs.Resolved as rules;
 ghost use Rattle.language.specs.Tree.{expressions_of};
@@ -13,7 +13,7 @@ use syntax_trees::tree::{Expr, ExprKind, Operator, Prefix};
 use types::typed::Builtin;
 use values::op::{Factor, Order, Sign};
 
-/// The operation of a prefix.
+/// Returns the operation of a prefix.
 pub fn of_prefix<A: Allocator>(prefix: Prefix) -> Operation<A>
     ensures { operation_view result ≡ rules.prefix_operation prefix }
 {
@@ -23,8 +23,8 @@ pub fn of_prefix<A: Allocator>(prefix: Prefix) -> Operation<A>
     }
 }
 
-/// The operation of a chain, whose operators are of one level: that of its first operator. A chain of no operators is a sum
-/// of one operand.
+/// Returns the operation of a chain, whose operators are all of the level of the first. A chain without operators is a
+/// sum of one operand.
 pub fn of_chain<A: Allocator + Clone>(
     alloc: &A,
     operators: &[Operator],
@@ -50,7 +50,7 @@ pub fn of_chain<A: Allocator + Clone>(
     }
 }
 
-/// The sign that an operator of a sum is.
+/// Converts an operator of a sum into its sign.
 fn sign_of(operator: Operator) -> Sign
     ensures { result ≡ sign_of operator }
 {
@@ -60,7 +60,7 @@ fn sign_of(operator: Operator) -> Sign
     }
 }
 
-/// The factor that an operator of a product is.
+/// Converts an operator of a product into its factor.
 fn factor_of(operator: Operator) -> Factor
     ensures { result ≡ factor_of operator }
 {
@@ -71,7 +71,7 @@ fn factor_of(operator: Operator) -> Factor
     }
 }
 
-/// The signs of the operators of a sum.
+/// Converts the operators of a sum into signs.
 fn signs<A: Allocator + Clone>(
     alloc: &A,
     operators: &[Operator],
@@ -85,7 +85,7 @@ fn signs<A: Allocator + Clone>(
     Ok(found)
 }
 
-/// The factors of the operators of a product.
+/// Converts the operators of a product into factors.
 fn factors<A: Allocator + Clone>(
     alloc: &A,
     operators: &[Operator],
@@ -99,7 +99,7 @@ fn factors<A: Allocator + Clone>(
     Ok(found)
 }
 
-/// What a built-in function does with its arguments.
+/// Returns the operation of a built-in function. The arguments supply the format of a `printf`.
 pub fn of_builtin<A: Allocator + Clone>(
     alloc: &A,
     builtin: Builtin,
@@ -118,7 +118,7 @@ pub fn of_builtin<A: Allocator + Clone>(
     }
 }
 
-/// The bytes of the text that the first argument is, else none.
+/// Returns the bytes of the first argument if it is a text literal, otherwise no bytes.
 pub fn format_bytes<A: Allocator + Clone>(
     alloc: &A,
     arguments: &Vec<Expr<A>, A>,

@@ -1,4 +1,4 @@
-//! Right sides and calls that are statements.
+//! Lowering of right sides and of calls that are statements.
 ghost use Rattle.std.specs.Prelude.{◌≡◌, ◌∷◌, [], IfOk, map, drop, pos};
 ghost use Rattle.language.specs.Core as core;
 ghost use Rattle.language.specs.Table as table;
@@ -7,8 +7,8 @@ ghost use Rattle.lowering.specs.Nodes.{all_nodes, calling_nodes, expression_node
 ghost use Rattle.language.specs.Resolved as rules;
 ghost use Rattle.syntax_trees.specs.View.{word_of, words_view, expression_view, right_of, calling_of};
 ghost use Rattle.types.specs.Typed.{table_of, builtin_name};
-ghost use Rattle.flow_listed.specs.Cells.{AreAmong, action_anchors, outer_anchors};
-ghost use Rattle.flow_listed.specs.Listed.{action_listed, other};
+ghost use Rattle.flow.specs.Cells.{AreAmong, action_anchors, outer_anchors};
+ghost use Rattle.flow.specs.Listed.{action_listed, other};
 ghost use Rattle.flow.specs.Shapes.{action_declared};
 ghost use Rattle.flow.specs.View as seen;
 ghost use Rattle.flow.specs.View.{action_view, outer_view, name_view, names_view, operation_view};
@@ -16,7 +16,7 @@ ghost use Rattle.flow.specs.View.{action_view, outer_view, name_view, names_view
 use crate::expression::{built_in, call_of, form, operation_on, single};
 use crate::names::{all, here, refer};
 use crate::operators::format_bytes;
-use flow::cell::{Cell, Form, Outer};
+use flow::cell::{Cell, CellForm, OuterCell};
 use flow::expression::{Expr, Operation};
 use flow::name::Name;
 use flow::statement::Action;
@@ -24,12 +24,12 @@ use std::alloc::{AllocError, Allocator};
 use syntax_trees::tree::{self, Call, ExprKind, Right, Shape};
 use types::typed::{Builtin, Callee, Typed};
 
-/// An expression as an outermost cell.
+/// Converts an expression into an outermost cell.
 pub fn outer<A: Allocator + Clone>(
     alloc: &A,
     typed: &Typed,
     expr: &tree::Expr<A>,
-) -> Result<Outer<A>, AllocError>
+) -> Result<OuterCell<A>, AllocError>
     ensures outer { IfOk result (λ o. outer_view o ≡ rules.outer (table_of typed.now) (expression_view expr.now)) }
     ensures cells { IfOk result (λ o. AreAmong (outer_anchors o) (expression_nodes (expression_view expr.now))) }
 {
@@ -40,15 +40,15 @@ pub fn outer<A: Allocator + Clone>(
         at: expr.first.from,
         form,
     };
-    Ok(Outer { parts, cell })
+    Ok(OuterCell { parts, cell })
 }
 
-/// An expression as an outermost cell, in a box.
+/// Converts an expression into a boxed outermost cell.
 pub fn boxed_outer<A: Allocator + Clone>(
     alloc: &A,
     typed: &Typed,
     expr: &tree::Expr<A>,
-) -> Result<Box<Outer<A>, A>, AllocError>
+) -> Result<Box<OuterCell<A>, A>, AllocError>
     ensures outer { IfOk result (λ o. outer_view o.value ≡ rules.outer (table_of typed.now) (expression_view expr.now)) }
     ensures cells { IfOk result (λ o. AreAmong (outer_anchors o.value) (expression_nodes (expression_view expr.now))) }
 {
@@ -62,7 +62,7 @@ pub struct Anchor {
     pub at: usize,
 }
 
-/// An operation on the expressions from a place on, as an outermost cell.
+/// Creates an outermost cell that applies an operation to the expressions from index `from` on.
 fn outer_operation<A: Allocator + Clone>(
     alloc: &A,
     typed: &Typed,
@@ -70,7 +70,7 @@ fn outer_operation<A: Allocator + Clone>(
     operation: Operation<A>,
     exprs: &Vec<tree::Expr<A>, A>,
     from: usize,
-) -> Result<Box<Outer<A>, A>, AllocError>
+) -> Result<Box<OuterCell<A>, A>, AllocError>
     ensures outer { IfOk result (λ o. outer_view o.value ≡ rules.outer_of place.node
         (rules.computes (operation_view operation) (rules.operands_of (table_of typed.now)
         (expressions_of (map expression_view (drop from exprs.now.items)))))) }
@@ -84,12 +84,12 @@ fn outer_operation<A: Allocator + Clone>(
         at: place.at,
         form,
     };
-    Ok(Box::new(alloc.clone()?, Outer { parts, cell })?)
+    Ok(Box::new(alloc.clone()?, OuterCell { parts, cell })?)
 }
 
 // RIGHT SIDES
 
-/// A variable gets a right side.
+/// Returns the action that assigns a right side to a variable.
 pub fn assignment<A: Allocator + Clone>(
     alloc: &A,
     typed: &Typed,
@@ -116,7 +116,8 @@ pub fn assignment<A: Allocator + Clone>(
     }
 }
 
-/// A variable gets a value.
+/// Returns the action that assigns an expression to a variable. A composite call becomes a call action with the
+/// variable as its output.
 fn of_value<A: Allocator + Clone>(
     alloc: &A,
     typed: &Typed,
@@ -150,7 +151,7 @@ fn of_value<A: Allocator + Clone>(
     }
 }
 
-/// A scalar gets the value of an expression.
+/// Returns the action that assigns the value of an expression to a scalar.
 fn assign<A: Allocator + Clone>(
     alloc: &A,
     typed: &Typed,
@@ -168,7 +169,7 @@ fn assign<A: Allocator + Clone>(
     })
 }
 
-/// An array gets the elements of another.
+/// Returns the action that assigns the elements of another array to an array.
 fn filled<A: Allocator + Clone>(
     alloc: &A,
     array: Name,
@@ -185,28 +186,28 @@ fn filled<A: Allocator + Clone>(
     Ok(Action::Fill { array, right })
 }
 
-/// A whole array as an outermost cell.
+/// Creates an outermost cell of a whole array.
 fn boxed_whole<A: Allocator + Clone>(
     alloc: &A,
     node: u32,
     at: usize,
     elements: Name,
-) -> Result<Box<Outer<A>, A>, AllocError>
+) -> Result<Box<OuterCell<A>, A>, AllocError>
     ensures outer { IfOk result (λ o. outer_view o.value ≡ rules.outer_of node ([], core.compute (core.whole (name_view elements)))) }
     ensures cells { IfOk result (λ o. outer_anchors o.value ≡ record { node = node; at = at } ∷ []) }
 {
     let cell = Cell {
         node,
         at,
-        form: Form::Compute(Expr::Whole(elements)),
+        form: CellForm::Compute(Expr::Whole(elements)),
     };
     let parts = Vec::new(alloc.clone()?);
-    Ok(Box::new(alloc.clone()?, Outer { parts, cell })?)
+    Ok(Box::new(alloc.clone()?, OuterCell { parts, cell })?)
 }
 
 // CALLS THAT ARE STATEMENTS
 
-/// A call of a composite function, whose outputs stand for these names.
+/// Returns the action that calls a composite function with its outputs bound to these names.
 fn call_alone<A: Allocator + Clone>(
     alloc: &A,
     typed: &Typed,
@@ -231,7 +232,7 @@ fn call_alone<A: Allocator + Clone>(
     })
 }
 
-/// A call that is a statement: of a function without outputs, of `printf` or of `assert`.
+/// Returns the action of a call statement: a composite function without outputs, `printf` or `assert`.
 pub fn statement_call<A: Allocator + Clone>(
     alloc: &A,
     typed: &Typed,
@@ -274,7 +275,8 @@ pub fn statement_call<A: Allocator + Clone>(
     }
 }
 
-/// Several names get the outputs of a call, or one name what a built-in function gives.
+/// Returns the action that assigns the outputs of a call to several names. The result of a built-in function is
+/// assigned to the first name.
 pub fn several<A: Allocator + Clone>(
     alloc: &A,
     typed: &Typed,
@@ -308,7 +310,7 @@ pub fn several<A: Allocator + Clone>(
     }
 }
 
-/// What the first name refers to.
+/// Returns the resolved first name, or a name of node 0 if there is none.
 fn first<A: Allocator>(typed: &Typed, names: &Vec<tree::Name<A>, A>) -> Name
     ensures { name_view result ≡ rules.first_name (map (rules.refers (table_of typed.now)) (words_view names.now)) }
 {
@@ -318,7 +320,7 @@ fn first<A: Allocator>(typed: &Typed, names: &Vec<tree::Name<A>, A>) -> Name
     refer(typed, &names[0])
 }
 
-/// A name gets what a built-in function gives.
+/// Returns the action that assigns the result of a built-in function to a name.
 fn built_in_assigned<A: Allocator + Clone>(
     alloc: &A,
     typed: &Typed,
@@ -337,13 +339,13 @@ fn built_in_assigned<A: Allocator + Clone>(
     Ok(Action::Assign { target, right })
 }
 
-/// A call of a built-in function as an outermost cell.
+/// Creates an outermost cell of a call of a built-in function.
 fn boxed_built_in<A: Allocator + Clone>(
     alloc: &A,
     typed: &Typed,
     builtin: Builtin,
     call: &Call<A>,
-) -> Result<Box<Outer<A>, A>, AllocError>
+) -> Result<Box<OuterCell<A>, A>, AllocError>
     ensures outer { IfOk result (λ o. let t = table_of typed.now in let c = calling_of call.now in let es = expressions_of c.arguments in
         outer_view o.value ≡ rules.outer_of c.node.number
         (rules.call_form t c.name (table.built_in (builtin_name builtin)) es ([], []) (rules.operands_of t es))) }
@@ -356,5 +358,5 @@ fn boxed_built_in<A: Allocator + Clone>(
         at: call.first.from,
         form,
     };
-    Ok(Box::new(alloc.clone()?, Outer { parts, cell })?)
+    Ok(Box::new(alloc.clone()?, OuterCell { parts, cell })?)
 }

@@ -1,4 +1,4 @@
-//! Whole scripts.
+//! Lowering of whole scripts and their functions.
 ghost use Rattle.std.specs.Prelude.{◌≡◌, ◌++◌, ◌∷◌, [], IfOk, OnOk, map, length};
 ghost use Rattle.language.specs.Core as core;
 ghost use Rattle.language.specs.Resolved as rules;
@@ -10,9 +10,9 @@ ghost use Rattle.flow.specs.Shapes.{block_declared, declared_of, functions_decla
 ghost use Rattle.language.specs.Scopes.{signature_of, signatures};
 ghost use Rattle.language_accepted.specs.Types.{body_declarations};
 ghost use Rattle.std.specs.List.{flat_map};
-ghost use Rattle.flow_listed.specs.Cells.{AreAmong, AnchorsGrow, block_anchors, anchors_of, function_anchors};
-ghost use Rattle.flow_listed.specs.Listed as shows;
-ghost use Rattle.flow_listed.specs.Listed.{block_listed, function_shown, functions_shown, shown_of};
+ghost use Rattle.flow.specs.Cells.{AreAmong, AnchorsGrow, block_anchors, anchors_of, function_anchors};
+ghost use Rattle.flow.specs.Listed as shows;
+ghost use Rattle.flow.specs.Listed.{block_listed, function_shown, functions_shown, shown_of};
 ghost use Rattle.lowering.specs.Listed.{composite_shown, composites_shown, listed_by, own_listed, shown};
 ghost use Rattle.lowering.specs.Nodes.{StatementsStand, body_nodes, function_nodes, nodes_of, own_nodes};
 ghost use Rattle.lowering.specs.Shapes.{declared_by, flagged, function_declarations, kinds_of_signature, own_declarations};
@@ -25,11 +25,11 @@ use std::alloc::{AllocError, Allocator};
 use syntax_trees::tree::{self, Item, Script};
 use types::typed::Typed;
 
-/// The flow of a script, with what the check of its types found out of its names, in memory of this allocator.
+/// Converts a script to its flow, in memory of `alloc`, with the names resolved by the type check.
 ///
 /// # Errors
 ///
-/// Want of memory alone.
+/// Returns `AllocError` if an allocation fails.
 pub fn lower<A: Allocator + Clone>(
     alloc: A,
     script: &Script<A>,
@@ -48,7 +48,7 @@ pub fn lower<A: Allocator + Clone>(
     Ok(Flow { body, functions })
 }
 
-/// The script's own block.
+/// Creates the script's own block.
 fn own_block<A: Allocator + Clone>(
     alloc: &A,
     typed: &Typed,
@@ -64,7 +64,7 @@ fn own_block<A: Allocator + Clone>(
     Ok(block_at(0, statements))
 }
 
-/// Adds the statements that stand in no function.
+/// Appends the statements outside functions.
 fn add_statements<A: Allocator + Clone>(
     alloc: &A,
     typed: &Typed,
@@ -83,7 +83,7 @@ fn add_statements<A: Allocator + Clone>(
     Ok(())
 }
 
-/// Adds a part that is a statement.
+/// Appends the statement of a part, if the part is a statement.
 fn add_statement<A: Allocator + Clone>(
     alloc: &A,
     typed: &Typed,
@@ -104,7 +104,7 @@ fn add_statement<A: Allocator + Clone>(
 
 // FUNCTIONS
 
-/// Adds the functions, in the order of the text.
+/// Appends the functions, in the order of the text.
 fn add_functions<A: Allocator + Clone>(
     alloc: &A,
     typed: &Typed,
@@ -127,7 +127,7 @@ fn add_functions<A: Allocator + Clone>(
     Ok(())
 }
 
-/// Adds a part that is a function.
+/// Appends the function of a part, if the part is a function.
 fn add_function<A: Allocator + Clone>(
     alloc: &A,
     typed: &Typed,
@@ -153,7 +153,7 @@ fn add_function<A: Allocator + Clone>(
     }
 }
 
-/// A composite function.
+/// Converts a composite function.
 fn function<A: Allocator + Clone>(
     alloc: &A,
     typed: &Typed,

@@ -1,4 +1,4 @@
-//! Statements and the blocks inside them: what each does, behind the statements before it.
+//! Lowering of statements and nested blocks. Each statement is appended after those before it.
 ghost use Rattle.std.specs.Prelude.{◌≡◌, ℕ, ◌++◌, ◌∷◌, [], IfOk, IsOkAnd, OnOk, map, option_map};
 ghost use Rattle.std.specs.List.{flat_map};
 ghost use Rattle.language.specs.Core as core;
@@ -12,24 +12,24 @@ ghost use Rattle.lowering.specs.View.{statement_alone, command_alone, statements
 ghost use Rattle.flow.specs.Shapes.{action_declared, block_declared, is_array};
 ghost use Rattle.language_accepted.specs.Types.{statement_declarations, command_declarations, body_declarations};
 ghost use Rattle.lowering.specs.Shapes.{among, declared_by, flagged};
-ghost use Rattle.flow_listed.specs.Cells.{AreAmong, action_anchors, block_anchors, range_anchors, statement_anchors, step_anchors};
-ghost use Rattle.flow_listed.specs.Listed as shows;
-ghost use Rattle.flow_listed.specs.Listed.{action_listed, block_listed, declares, other, whole};
+ghost use Rattle.flow.specs.Cells.{AreAmong, action_anchors, block_anchors, range_anchors, statement_anchors, step_anchors};
+ghost use Rattle.flow.specs.Listed as shows;
+ghost use Rattle.flow.specs.Listed.{action_listed, block_listed, declares, other, whole};
 ghost use Rattle.lowering.specs.View.{as_declared, variable_of};
 ghost use Rattle.lowering.specs.Listed.{all_listed, body_listed, command_listed, listed, listed_by};
 ghost use Rattle.lowering.specs.Nodes.{StatementsStand, body_nodes, command_nodes, expression_nodes, maybe_nodes, nodes_among, over_nodes, statement_nodes};
 
 use crate::names::{all, optional, refer, variable};
 use crate::right::{assignment, boxed_outer, outer, several, statement_call};
-use flow::cell::Outer;
-use flow::name::{Name, Owned};
+use flow::cell::OuterCell;
+use flow::name::{Name, NameBinding};
 use flow::statement::{Action, Block, Range, Statement};
 use lexer::token::Span;
 use std::alloc::{AllocError, Allocator};
 use syntax_trees::tree::{self, Decl, Expr, Header, Right, Shape, Source, Stmt, StmtKind};
 use types::typed::Typed;
 
-/// Adds a statement.
+/// Appends a statement.
 fn add<A: Allocator>(
     found: &mut Vec<Statement<A>, A>,
     node: u32,
@@ -45,7 +45,7 @@ fn add<A: Allocator>(
     Ok(())
 }
 
-/// Adds a statement, where what it does was made.
+/// Appends a statement if its action was created, otherwise returns the error.
 fn add_made<A: Allocator>(
     found: &mut Vec<Statement<A>, A>,
     node: u32,
@@ -66,19 +66,19 @@ fn add_made<A: Allocator>(
 
 // DECLARATIONS
 
-/// The name of a variable in the block that declares it.
+/// Creates the name of a variable in the block that declares it.
 fn own_name<A: Allocator>(decl: &Decl<A>) -> Name
     ensures name { name_view result ≡ core.here decl.now.name.number }
     ensures shape { result.shape ≡ decl.now.shape }
 {
     Name {
         up: 0,
-        what: Owned::Local(decl.name.number),
+        what: NameBinding::Local(decl.name.number),
         shape: decl.shape,
     }
 }
 
-/// Adds a declaration; one with a right side is two statements.
+/// Appends a declaration. A declaration with a right side becomes two statements.
 fn declaration<A: Allocator + Clone>(
     alloc: &A,
     typed: &Typed,
@@ -110,7 +110,7 @@ fn declaration<A: Allocator + Clone>(
 
 // ELEMENTS AND RANGES
 
-/// An array gets an element.
+/// Returns the action that assigns an element of an array.
 fn insert<A: Allocator + Clone>(
     alloc: &A,
     typed: &Typed,
@@ -133,12 +133,12 @@ fn insert<A: Allocator + Clone>(
     })
 }
 
-/// The step of a range, where it has one.
+/// Converts the step of a range, if there is one.
 fn step<A: Allocator + Clone>(
     alloc: &A,
     typed: &Typed,
     step: &Option<Expr<A>>,
-) -> Result<Option<Outer<A>>, AllocError>
+) -> Result<Option<OuterCell<A>>, AllocError>
     ensures outer { IfOk result (λ o. option_map outer_view o ≡ option_map (rules.outer (table_of typed.now)) (option_map expression_view step.now)) }
     ensures cells { IfOk result (λ o. AreAmong (step_anchors o) (maybe_nodes expression_nodes (option_map expression_view step.now))) }
 {
@@ -148,7 +148,7 @@ fn step<A: Allocator + Clone>(
     }
 }
 
-/// A range.
+/// Converts a range.
 fn range<A: Allocator + Clone>(
     alloc: &A,
     typed: &Typed,
@@ -165,7 +165,7 @@ fn range<A: Allocator + Clone>(
     Ok(Range { low, high, step })
 }
 
-/// A range in a box.
+/// Converts a range into a boxed range.
 fn boxed_range<A: Allocator + Clone>(
     alloc: &A,
     typed: &Typed,
@@ -180,9 +180,9 @@ fn boxed_range<A: Allocator + Clone>(
     Ok(Box::new(alloc.clone()?, range(alloc, typed, over)?)?)
 }
 
-// WHAT STATEMENTS WITH BLOCKS DO
+// ACTIONS OF STATEMENTS WITH BLOCKS
 
-/// An `if` without `else`, with its block.
+/// Returns the action of an `if` without `else`, with its block.
 fn choice<A: Allocator + Clone>(
     alloc: &A,
     typed: &Typed,
@@ -198,7 +198,7 @@ fn choice<A: Allocator + Clone>(
     Ok(Action::When { condition, then })
 }
 
-/// An `if` with `else`, with its blocks.
+/// Returns the action of an `if` with `else`, with its blocks.
 fn choice_else<A: Allocator + Clone>(
     alloc: &A,
     typed: &Typed,
@@ -221,7 +221,7 @@ fn choice_else<A: Allocator + Clone>(
     })
 }
 
-/// A `foreach`, with its block.
+/// Returns the action of a `foreach`, with its block.
 fn repeated<A: Allocator + Clone>(
     alloc: &A,
     typed: &Typed,
@@ -257,7 +257,7 @@ fn repeated<A: Allocator + Clone>(
     }
 }
 
-/// A `wait`, with its content. Those right inside of it stay statements of its block.
+/// Returns the action of a `wait`, with its content. A directly nested `wait` stays a statement of the content.
 fn waiting<A: Allocator + Clone>(
     alloc: &A,
     typed: &Typed,
@@ -279,7 +279,7 @@ fn waiting<A: Allocator + Clone>(
 
 // STATEMENTS AND BLOCKS
 
-/// Adds a statement of the script.
+/// Converts a statement of the script and appends the result.
 #[cycle(statement)]
 pub fn statement<A: Allocator + Clone>(
     alloc: &A,
@@ -296,7 +296,8 @@ pub fn statement<A: Allocator + Clone>(
     command(alloc, typed, stmt.number, stmt.first, &stmt.kind, found)
 }
 
-/// Adds a form of statement, of a number and with its first token at a place.
+/// Converts a form of statement and appends the result. `number` and `first`: its number and the place of its first
+/// token.
 #[cycle(statement)]
 fn command<A: Allocator + Clone>(
     alloc: &A,
@@ -353,7 +354,7 @@ fn command<A: Allocator + Clone>(
     }
 }
 
-/// A block in a box.
+/// Converts a block into a boxed block.
 #[cycle(statement)]
 fn boxed_block<A: Allocator + Clone>(
     alloc: &A,
@@ -370,7 +371,7 @@ fn boxed_block<A: Allocator + Clone>(
     boxed_at(alloc, body.from, statements)
 }
 
-/// Adds statements, one after another.
+/// Converts statements and appends the results in order.
 #[cycle(statement)]
 fn each<A: Allocator + Clone>(
     alloc: &A,
@@ -390,7 +391,7 @@ fn each<A: Allocator + Clone>(
     Ok(())
 }
 
-/// A block.
+/// Converts a block.
 pub fn block<A: Allocator + Clone>(
     alloc: &A,
     typed: &Typed,
@@ -406,7 +407,7 @@ pub fn block<A: Allocator + Clone>(
     Ok(block_at(body.from, statements))
 }
 
-/// A block with statements in a box.
+/// Creates a boxed block of statements.
 fn boxed_at<A: Allocator + Clone>(
     alloc: &A,
     from: usize,
@@ -420,7 +421,7 @@ fn boxed_at<A: Allocator + Clone>(
     Ok(Box::new(alloc.clone()?, block_at(from, statements))?)
 }
 
-/// A block with statements, whose brace, or whose inner `if`, stands at an offset.
+/// Creates a block of statements. `from`: the offset of its brace, or of the `if` of an `else if`.
 pub fn block_at<A: Allocator>(from: usize, statements: Vec<Statement<A>, A>) -> Block<A>
     ensures core { block_view result ≡ seen.block_of (statements_view statements.items) }
     ensures declared { block_declared result ≡ declared_by statements.items }

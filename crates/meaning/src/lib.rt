@@ -1,4 +1,4 @@
-//! The rounds of a whole script: each adds what follows from what was known before.
+//! The reference evaluation of a whole script by rounds, where each round adds the facts that follow from those before.
 #![tactic(auto)]
 
 ghost use Rattle.std.specs.Prelude.{◌≡◌, ◌≤◌, ℕ, List, false, IfErr, IfOk};
@@ -9,26 +9,27 @@ ghost use Rattle.language.specs.Single.{SinglyAssigned};
 ghost use Rattle.language.specs.Table.{Table};
 ghost use Rattle.language.specs.Tree.{Tree};
 ghost use Rattle.language.specs.Typing.{WellTyped};
-ghost use Rattle.meaning_openings.specs.declared.fault.MeaningFault.TheVariants.{TooLarge};
+ghost use Rattle.meaning_openings.specs.declared.fault.MeaningError.TheVariants.{TooLarge};
 ghost use Rattle.meaning_openings.specs.Larger.{IsLarger};
 ghost use Rattle.meaning_outcomes.specs.Known.{IsKnowledgeOf};
 
-pub mod watch;
+pub mod observer;
 
-use crate::watch::{Rounds, Unwatched, Watch};
+use crate::observer::{NoObserver, RoundObserver, RoundProgress};
 use flow::script::Flow;
-use meaning_openings::fault::MeaningFault;
-use meaning_openings::room::Room;
+use meaning_openings::fault::MeaningError;
+use meaning_openings::live_limits::LiveLimits;
+use meaning_outcomes::fixpoint::compute_fixpoint;
 use meaning_outcomes::knowledge::Knowledge;
-use meaning_outcomes::settle::settle;
-use meaning_round::state::State;
+use meaning_round::state::RoundState;
 use std::alloc::{AllocError, Allocator, Global};
 
-/// What is known of a script after so many rounds as add something, or after `limit` rounds.
+/// Evaluates a script until a round adds nothing, but for at most `limit` rounds. Returns what is known then. The
+/// number of rounds counts those that add a fact.
 ///
 /// # Errors
 ///
-/// `AllocError` where memory that was asked for was refused.
+/// Returns `AllocError` if an allocation fails.
 pub fn rounds<A: Allocator>(
     alloc: Global,
     flow: &Flow<A>,
@@ -38,29 +39,30 @@ pub fn rounds<A: Allocator>(
         → core_of flow.now ≡ core t tree → IsKnowledgeOf (core t tree) k) }
     ensures within { IfOk result (λ k. (k.rounds ≤ limit) × (k.finished ≡ false → k.rounds ≡ limit)) }
 {
-    let room = Room {
+    let room = LiveLimits {
         alloc,
         most: usize::MAX,
     };
-    match rounds_within(room, &Unwatched, flow, limit) {
+    match rounds_within(room, &NoObserver, flow, limit) {
         Ok(known) => Ok(known),
-        // No list is longer than that, so memory was refused.
+        // The limit exceeds the length of any list, so the error is an allocation failure.
         Err(_) => Err(AllocError),
     }
 }
 
-/// The same, watched, and where at no time more turns of loops are live than there is room for, and no more statements.
+/// Evaluates a script like `rounds`, but reports progress before each round and limits what is live. The limit
+/// `room.most` holds for turns of loops and for statements. An excess is not always detected at once.
 ///
 /// # Errors
 ///
-/// `MeaningFault::TooLarge` where after one of these rounds more turns or more statements are live, and `MeaningFault::Memory` where
-/// memory that was asked for was refused.
-pub fn rounds_within<A: Allocator, W: Watch>(
-    room: Room,
+/// Returns `MeaningError::TooLarge` only if more turns or more statements are live after one of these rounds. Returns
+/// `MeaningError::Memory` if an allocation fails.
+pub fn rounds_within<A: Allocator, W: RoundObserver>(
+    room: LiveLimits,
     watch: &W,
     flow: &Flow<A>,
     limit: u32,
-) -> Result<Knowledge, MeaningFault>
+) -> Result<Knowledge, MeaningError>
     ensures known { IfOk result (λ k. (bytes : List ℕ) (t : Table) (tree : Tree) → Reads bytes tree → WellTyped tree t → SinglyAssigned (core t tree)
         → core_of flow.now ≡ core t tree → IsKnowledgeOf (core t tree) k) }
     ensures within { IfOk result (λ k. (k.rounds ≤ limit) × (k.finished ≡ false → k.rounds ≡ limit)) }
@@ -68,13 +70,13 @@ pub fn rounds_within<A: Allocator, W: Watch>(
         → SinglyAssigned (core t tree) → core_of flow.now ≡ core t tree → (n : ℕ) × ((n ≤ limit) × IsLarger (core t tree) n room.most)) }
 {
     let alloc = room.alloc;
-    let mut state = State::new(alloc, flow)?;
+    let mut state = RoundState::new(alloc, flow)?;
     for round in 0..limit {
-        watch.learn(Rounds {
+        watch.learn(RoundProgress {
             done: round,
             live: state.tasks.len(),
         });
-        settle(&mut state, room)?;
+        compute_fixpoint(&mut state, room)?;
         let news = state.news(alloc)?;
         if news.is_empty() {
             let known = Knowledge::of(alloc, state, round, true)?;
@@ -82,7 +84,7 @@ pub fn rounds_within<A: Allocator, W: Watch>(
         }
         state.learn(alloc, news)?;
     }
-    settle(&mut state, room)?;
+    compute_fixpoint(&mut state, room)?;
     let last = state.news(alloc)?;
     let finished = last.is_empty();
     let knowledge = Knowledge::of(alloc, state, limit, finished)?;

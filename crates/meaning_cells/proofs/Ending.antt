@@ -17,8 +17,8 @@ use Rattle.flow.specs.declared.statement.Statement.{Statement, out-Statement}
 use Rattle.flow.specs.View.{awaited_view, block_view, function_view, name_view, names_view, waits_around, action_view, block_of, statement_view, statements_view}
 use Rattle.meaning_cells.specs.Chosen.{Chosen, have_come_in, key_in}
 use Rattle.meaning_cells.specs.Ending.{Goal, Goals, action_goals, goals_of, task_goal, behind, body_goals, both, child_goals, function_goals, goals_in, IsDone, done, output_goals, statement_goals, turn_goals, where_aimed, where_so}
-use Rattle.meaning_cells.specs.declared.finished.Task.{Task}
-use Rattle.meaning_facts.specs.declared.learned.Learned.{Learned}
+use Rattle.meaning_cells.specs.declared.finished.PendingBlock.{PendingBlock}
+use Rattle.meaning_facts.specs.declared.fact_base.FactBase.{FactBase}
 use Rattle.meaning_facts.specs.Paths.{child_at, path_of}
 use Rattle.meaning_facts.specs.Sighted.{sight_of}
 use Rattle.meaning_cells.specs.Targeted.{aims_of, aims_in, same_owned}
@@ -47,7 +47,7 @@ both_none whole gs e = sym (e ∙ ap (λ (z : List Goal). Some z) (append-nil gs
 
 -- TURNS
 
-pub turn_step : (l : Learned) (i : ℕ) (a : Owned) (at : ℕ) (b : Block) (c : Chosen) (k n : ℕ) → k < n
+pub turn_step : (l : FactBase) (i : ℕ) (a : Owned) (at : ℕ) (b : Block) (c : Chosen) (k n : ℕ) → k < n
     → turn_goals l i a at b c k (n - k) ≡ both (child_goals (child_at l.instances i at (key_in c k)) a b) (turn_goals l i a at b c (k + 1) (n - (k + 1)))
 turn_step l i a at b c k n below =
     let left : n - k ≡ suc (n - (k + 1)) = omega arith in
@@ -55,12 +55,12 @@ turn_step l i a at b c k n below =
     ap (λ (z : ℕ). turn_goals l i a at b c k z) left
     ∙ ap (λ (z : ℕ). both (child_goals (child_at l.instances i at (key_in c k)) a b) (turn_goals l i a at b c z (n - (k + 1)))) next
 
-pub turns_left : (l : Learned) (i : ℕ) (a : Owned) (at : ℕ) (b : Block) (c : Chosen) (k n : ℕ) → n ≡ k → turn_goals l i a at b c k (n - k) ≡ Some []
+pub turns_left : (l : FactBase) (i : ℕ) (a : Owned) (at : ℕ) (b : Block) (c : Chosen) (k n : ℕ) → n ≡ k → turn_goals l i a at b c k (n - k) ≡ Some []
 turns_left l i a at b c k n e =
     let left : n - k ≡ 0 = omega arith in
     ap (λ (z : ℕ). turn_goals l i a at b c k z) left
 
-pub turns_start : (l : Learned) (i : ℕ) (a : Owned) (at : ℕ) (b : Block) (c : Chosen) (n : ℕ) → turn_goals l i a at b c 0 n ≡ turn_goals l i a at b c 0 (n - 0)
+pub turns_start : (l : FactBase) (i : ℕ) (a : Owned) (at : ℕ) (b : Block) (c : Chosen) (n : ℕ) → turn_goals l i a at b c 0 n ≡ turn_goals l i a at b c 0 (n - 0)
 turns_start l i a at b c n = let left : n ≡ n - 0 = omega arith in ap (λ (z : ℕ). turn_goals l i a at b c 0 z) left
 
 -- OUTPUTS
@@ -86,18 +86,18 @@ output_more j a b whole gs hs xs k x below item e f =
 
 -- STATEMENTS
 
-pub view_goals : {A : Type 0} (s : Core) (l : Learned) (i : ℕ) (a : Owned) (st : Statement A) → statement_goals s l i a (statement_view st)
+pub view_goals : {A : Type 0} (s : Core) (l : FactBase) (i : ℕ) (a : Owned) (st : Statement A) → statement_goals s l i a (statement_view st)
     ≡ where_aimed (aims_of a (action_view (out-Statement A st).action)) (action_goals s l i a (out-Statement A st).at (out-Statement A st).node (action_view (out-Statement A st).action))
 view_goals {A} s l i a st = ap (λ (z : Stmt). statement_goals s l i a z) (view_statement A st)
 
-pub statement_step : {A : Type 0} (s : Core) (l : Learned) (i : ℕ) (a : Owned) (ss : List (Statement A)) (k : ℕ) (d : Statement A) → k < length ss → get_or ss k d ≡ d
+pub statement_step : {A : Type 0} (s : Core) (l : FactBase) (i : ℕ) (a : Owned) (ss : List (Statement A)) (k : ℕ) (d : Statement A) → k < length ss → get_or ss k d ≡ d
     → goals_in s l i a (block_of (statements_view (drop k ss))) ≡ both (statement_goals s l i a (statement_view d)) (goals_in s l i a (block_of (statements_view (drop (k + 1) ss))))
 statement_step {A} s l i a ss k d below item =
     ap (λ (z : List (Statement A)). goals_in s l i a (block_of (statements_view z))) (drop_more ss k d below)
     ∙ ap (λ (z : Statement A). both (statement_goals s l i a (statement_view z)) (goals_in s l i a (block_of (statements_view (drop (k + 1) ss))))) item
 
 -- a `wait` with nothing beside it
-pub wait_goals : {A : Type 0} (s : Core) (l : Learned) (i : ℕ) (a : Owned) (h : Header A) (hs : List (Header A)) (b : Block)
+pub wait_goals : {A : Type 0} (s : Core) (l : FactBase) (i : ℕ) (a : Owned) (h : Header A) (hs : List (Header A)) (b : Block)
     → goals_in s l i a (waits_around (h ∷ hs) b)
     ≡ where_aimed (aims_in a b) (where_so (have_come_in (sight_of l i) (map awaited_view h.names.items)) (record { instance = i; what = a; block = waits_around hs b } ∷ []))
 wait_goals {A} s l i a h hs b =
@@ -105,7 +105,7 @@ wait_goals {A} s l i a h hs b =
     ∙ ap (λ (z : Bool). where_aimed z (where_so (have_come_in (sight_of l i) (map awaited_view h.names.items)) (record { instance = i; what = a; block = waits_around hs b } ∷ []))) (waits_aim a hs b)
 
 -- the content of a `wait`, inside of others
-pub view_content : {A : Type 0} (s : Core) (l : Learned) (i : ℕ) (a : Owned) (at n : ℕ) (ns : Vec FlowName A) (hs : Vec (Header A) A) (b : Box (FlowBlock A) A) (act : Action A) → act ≡ Wait ns hs b
+pub view_content : {A : Type 0} (s : Core) (l : FactBase) (i : ℕ) (a : Owned) (at n : ℕ) (ns : Vec FlowName A) (hs : Vec (Header A) A) (b : Box (FlowBlock A) A) (act : Action A) → act ≡ Wait ns hs b
     → (names : List FlowName) → names ≡ ns.items → (inner : List (Header A)) → inner ≡ hs.items → (block : FlowBlock A) → block ≡ b.value
     → where_so (have_come_in (sight_of l i) (map awaited_view names)) (record { instance = i; what = a; block = waits_around inner (block_view block) } ∷ []) ≡ action_goals s l i a at n (action_view act)
 view_content {A} s l i a at n ns hs b act e names f inner g block h =
@@ -129,7 +129,7 @@ get_past f (y ∷ xs) zero e = absurd (cc (e))
 get_past f (y ∷ xs) (suc k) e = get_past f xs k e
 
 -- no function is called
-pub called_none : {A : Type 0} (l : Learned) (i : ℕ) (a : Owned) (c : core.Call) (fs : List (Function A)) (gs : List Goal) (deep : Bool) → slice_get fs c.function ≡ None
+pub called_none : {A : Type 0} (l : FactBase) (i : ℕ) (a : Owned) (c : core.Call) (fs : List (Function A)) (gs : List Goal) (deep : Bool) → slice_get fs c.function ≡ None
     → deep ≡ nat_le most_steps (length (path_of l.instances.all.items i)) → where_so (not deep) gs ≡ behind gs (function_goals l i a c (slice_get (map function_view fs) c.function))
 called_none {A} l i a c fs gs deep e d = by (not deep) refl
   where
@@ -141,14 +141,14 @@ called_none {A} l i a c fs gs deep e d = by (not deep) refl
     by false p = ap (λ (z : Bool). where_so z gs) p ∙ sym (ap (behind gs) (is ∙ ap (λ (z : Bool). where_so z []) p))
 
 -- its body is not live
-pub called_lost : {A : Type 0} (l : Learned) (i : ℕ) (a : Owned) (c : core.Call) (fs : List (Function A)) (f : Function A) (gs : List Goal) → slice_get fs c.function ≡ Some f
+pub called_lost : {A : Type 0} (l : FactBase) (i : ℕ) (a : Owned) (c : core.Call) (fs : List (Function A)) (f : Function A) (gs : List Goal) → slice_get fs c.function ≡ Some f
     → child_at l.instances i c.at (Key.Number (pos 0)) ≡ None → where_so false gs ≡ behind gs (function_goals l i a c (slice_get (map function_view fs) c.function))
 called_lost {A} l i a c fs f gs e lost =
     sym (ap (λ (z : Option core.Function). behind gs (function_goals l i a c z)) (get_mapped (function_view {A = A}) fs c.function f e)
     ∙ ap (λ (z : Option ℕ). behind gs (body_goals z a (block_view f.body) c.outputs)) lost)
 
 -- its body is live
-pub called_found : {A : Type 0} (l : Learned) (i : ℕ) (a : Owned) (c : core.Call) (fs : List (Function A)) (f : Function A) (j : ℕ) (gs hs : List Goal) → slice_get fs c.function ≡ Some f
+pub called_found : {A : Type 0} (l : FactBase) (i : ℕ) (a : Owned) (c : core.Call) (fs : List (Function A)) (f : Function A) (j : ℕ) (gs hs : List Goal) → slice_get fs c.function ≡ Some f
     → child_at l.instances i c.at (Key.Number (pos 0)) ≡ Some j → hs ≡ gs ++ output_goals j a (block_view f.body) 0 c.outputs → where_so true hs ≡ behind gs (function_goals l i a c (slice_get (map function_view fs) c.function))
 called_found {A} l i a c fs f j gs hs e found more =
     ap (λ (z : List Goal). Some z) more
@@ -158,32 +158,32 @@ called_found {A} l i a c fs f j gs hs e found more =
 -- BLOCKS
 
 -- a block is finished just where all those that are left are
-pub record IsLeft (s : Core) (l : Learned) (g : Goal) (gs : List Goal) : Type 0 where
+pub record IsLeft (s : Core) (l : FactBase) (g : Goal) (gs : List Goal) : Type 0 where
   pub so : ((h : Goal) → h ∈ gs → IsDone s l h) → IsDone s l g
   pub all : IsDone s l g → (h : Goal) → h ∈ gs → IsDone s l h
 
-only_one : {s : Core} {l : Learned} (g h : Goal) → IsDone s l g → h ∈ (g ∷ []) → IsDone s l h
+only_one : {s : Core} {l : FactBase} (g h : Goal) → IsDone s l g → h ∈ (g ∷ []) → IsDone s l h
 only_one g h d first = d
 only_one g h d (later m) = elim m [ ]
 
-pub left_first : (s : Core) (l : Learned) (g : Goal) → IsLeft s l g (g ∷ [])
+pub left_first : (s : Core) (l : FactBase) (g : Goal) → IsLeft s l g (g ∷ [])
 left_first s l g = record { so = λ f. f g first; all = λ d h m. only_one g h d m }
 
-pub left_none : (s : Core) (l : Learned) (g : Goal) → IsLeft s l g [] → IsDone s l g
+pub left_none : (s : Core) (l : FactBase) (g : Goal) → IsLeft s l g [] → IsDone s l g
 left_none s l g left = left.so (λ h m. elim m [ ])
 
 -- what is to be finished with a block that is finished is so
-with_it : {s : Core} {l : Learned} {g : Goal} (gs : List Goal) → goals_in s l g.instance g.what g.block ≡ Some gs → IsDone s l g → (h : Goal) → h ∈ gs → IsDone s l h
+with_it : {s : Core} {l : FactBase} {g : Goal} (gs : List Goal) → goals_in s l g.instance g.what g.block ≡ Some gs → IsDone s l g → (h : Goal) → h ∈ gs → IsDone s l h
 with_it {s} {l} gs e (done {gs = hs} f all) h m = let same : hs ≡ gs = cc (e, f) in all h (subst (λ (z : List Goal). h ∈ z) (sym same) m)
 
-never_it : {s : Core} {l : Learned} {g : Goal} → goals_in s l g.instance g.what g.block ≡ None → IsDone s l g → ⊥
+never_it : {s : Core} {l : FactBase} {g : Goal} → goals_in s l g.instance g.what g.block ≡ None → IsDone s l g → ⊥
 never_it e (done f all) = absurd (cc (e, f))
 
 in_last : (rest : List Goal) (h : Goal) → h ∈ (rest ++ h ∷ [])
 in_last rest h = to_right rest (h ∷ []) first
 
 -- a block is taken from those that are left, and those come that are to be finished with it
-pub left_more : (s : Core) (l : Learned) (g h : Goal) (gs rest hs : List Goal) → IsLeft s l g gs → gs ≡ rest ++ h ∷ []
+pub left_more : (s : Core) (l : FactBase) (g h : Goal) (gs rest hs : List Goal) → IsLeft s l g gs → gs ≡ rest ++ h ∷ []
     → where_so true hs ≡ behind rest (goals_in s l h.instance h.what h.block) → IsLeft s l g hs
 left_more s l g h gs rest hs left e f = by (goals_in s l h.instance h.what h.block) refl
   where
@@ -206,7 +206,7 @@ left_more s l g h gs rest hs left e f = by (goals_in s l h.instance h.what h.blo
     by (Some ks) p = let is : Some hs ≡ Some (rest ++ ks) = f ∙ ap (behind rest) p in some ks p (cc (is))
 
 -- and where it cannot be finished, the first cannot
-pub left_fails : (s : Core) (l : Learned) (g h : Goal) (gs rest hs : List Goal) → IsLeft s l g gs → gs ≡ rest ++ h ∷ []
+pub left_fails : (s : Core) (l : FactBase) (g h : Goal) (gs rest hs : List Goal) → IsLeft s l g gs → gs ≡ rest ++ h ∷ []
     → where_so false hs ≡ behind rest (goals_in s l h.instance h.what h.block) → IsDone s l g → ⊥
 left_fails s l g h gs rest hs left e f d = by (goals_in s l h.instance h.what h.block) refl
   where
@@ -214,16 +214,16 @@ left_fails s l g h gs rest hs left e f d = by (goals_in s l h.instance h.what h.
     by None p = never_it p (left.all d h (subst (λ (z : List Goal). h ∈ z) (sym e) (in_last rest h)))
     by (Some ks) p = let never : None ≡ Some (rest ++ ks) = f ∙ ap (behind rest) p in absurd (cc (never))
 
-goals_append : {A : Type 0} (ts us : List (Task A)) → goals_of (ts ++ us) ≡ goals_of ts ++ goals_of us
+goals_append : {A : Type 0} (ts us : List (PendingBlock A)) → goals_of (ts ++ us) ≡ goals_of ts ++ goals_of us
 goals_append [] us = refl
 goals_append (t ∷ ts) us = ap (λ (z : List Goal). task_goal t ∷ z) (goals_append ts us)
 
 -- the same of what the list of a program stands for
-pub task_more : {A : Type 0} (s : Core) (l : Learned) (g : Goal) (ts rest us : List (Task A)) (t : Task A) → ts ≡ rest ++ t ∷ [] → IsLeft s l g (goals_of ts)
+pub task_more : {A : Type 0} (s : Core) (l : FactBase) (g : Goal) (ts rest us : List (PendingBlock A)) (t : PendingBlock A) → ts ≡ rest ++ t ∷ [] → IsLeft s l g (goals_of ts)
     → where_so true (goals_of us) ≡ behind (goals_of rest) (goals_in s l (task_goal t).instance (task_goal t).what (task_goal t).block) → IsLeft s l g (goals_of us)
 task_more s l g ts rest us t e left f = left_more s l g (task_goal t) (goals_of ts) (goals_of rest) (goals_of us) left (ap goals_of e ∙ goals_append rest (t ∷ [])) f
 
-pub task_fails : {A : Type 0} (s : Core) (l : Learned) (g : Goal) (ts rest us : List (Task A)) (t : Task A) → ts ≡ rest ++ t ∷ [] → IsLeft s l g (goals_of ts)
+pub task_fails : {A : Type 0} (s : Core) (l : FactBase) (g : Goal) (ts rest us : List (PendingBlock A)) (t : PendingBlock A) → ts ≡ rest ++ t ∷ [] → IsLeft s l g (goals_of ts)
     → where_so false (goals_of us) ≡ behind (goals_of rest) (goals_in s l (task_goal t).instance (task_goal t).what (task_goal t).block) → IsDone s l g → ⊥
 task_fails s l g ts rest us t e left f = left_fails s l g (task_goal t) (goals_of ts) (goals_of rest) (goals_of us) left (ap goals_of e ∙ goals_append rest (t ∷ [])) f
 

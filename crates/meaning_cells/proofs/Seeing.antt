@@ -5,7 +5,7 @@ use Rattle.std.proofs.Common.{sym, ap, ◌∙◌, get_or}
 use Rattle.std.proofs.lemmas.List.{append_assoc, append-nil, drop_more}
 use Rattle.values.specs.declared.value.Value.{Value}
 use Rattle.language.specs.Core as core
-use Rattle.flow.specs.declared.cell.Outer.{Outer}
+use Rattle.flow.specs.declared.cell.OuterCell.{OuterCell}
 use Rattle.meaning_steps.specs.Environment.{Sight}
 use Rattle.meaning_steps.specs.News.{with_value}
 use Rattle.meaning_cells.specs.Chosen.{all_seen}
@@ -16,7 +16,7 @@ abbrev pub before : List Value → Option (List Value) → Option (List Value)
 before vs (Some us) = Some (vs ++ us)
 before vs None = None
 
-abbrev pub cells_listed : {A : Type 0} → List (Bor (Outer A)) → List core.Cell
+abbrev pub cells_listed : {A : Type 0} → List (Bor (OuterCell A)) → List core.Cell
 cells_listed os = map (λ o. o.cell) (outers_listed os)
 
 pub before_all : (vs : List Value) → before vs (Some []) ≡ Some vs
@@ -26,10 +26,10 @@ before_more : (vs : List Value) (v : Value) (o : Option (List Value)) → before
 before_more vs v (Some us) = ap Some (sym (append_assoc vs (v ∷ []) us))
 before_more vs v None = refl
 
-module _ {A : Type 0} (g : Sight) (whole : Option (List Value)) (vs : List Value) (os : List (Bor (Outer A))) (i : ℕ) (o : Bor (Outer A)) (l : i < length os) (at : get_or os i o ≡ o)
+module _ {A : Type 0} (g : Sight) (whole : Option (List Value)) (vs : List Value) (os : List (Bor (OuterCell A))) (i : ℕ) (o : Bor (OuterCell A)) (l : i < length os) (at : get_or os i o ≡ o)
     (e : whole ≡ before vs (all_seen g (cells_listed (drop i os)))) where
   here : whole ≡ before vs (with_value (g.cell o.now.cell.node) (all_seen g (cells_listed (drop (i + 1) os))))
-  here = e ∙ ap (λ (z : List (Bor (Outer A))). before vs (all_seen g (cells_listed z))) (drop_more os i o l ∙ ap (λ (z : Bor (Outer A)). z ∷ drop (i + 1) os) at)
+  here = e ∙ ap (λ (z : List (Bor (OuterCell A))). before vs (all_seen g (cells_listed z))) (drop_more os i o l ∙ ap (λ (z : Bor (OuterCell A)). z ∷ drop (i + 1) os) at)
 
   pub seen_more : (v : Value) → g.cell o.now.cell.node ≡ Some v → whole ≡ before (vs ++ v ∷ []) (all_seen g (cells_listed (drop (i + 1) os)))
   seen_more v h =

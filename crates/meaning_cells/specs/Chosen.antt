@@ -1,10 +1,11 @@
--- What a header has chosen by what an instance sees: which blocks it opens, under which keys, and what its variables are there.
+-- The choice of a header in the environment of an instance: the blocks that it opens, their keys, and their loop
+-- variables.
 use Rattle.std.specs.Prelude.{◌≡◌, ◌<◌, ℕ, ℤ, pos, Bool, true, false, ◌&&◌, List, [], ◌∷◌, length, is_some, Option, Some, None, Result, Ok, Err, slice_get, if◌then◌else◌}
 use Rattle.std.specs.Ordering.{int_eq}
 use Rattle.values.specs.declared.fault.OpFault.{OpFault}
 use Rattle.values.specs.declared.key.Key.{Key}
 use Rattle.values.specs.declared.map.Element.{Element}
-use Rattle.values.specs.declared.range.Range.{Range}
+use Rattle.values.specs.declared.range.IntRange.{IntRange}
 use Rattle.values.specs.declared.value.Scalar.{Scalar}
 use Rattle.values.specs.declared.value.Scalar.TheVariants.{Number, Truth}
 use Rattle.values.specs.declared.value.Value.{Value}
@@ -18,13 +19,13 @@ use Rattle.meaning_steps.specs.News.{with_value}
 use Rattle.meaning_cells.specs.declared.choices.Choice.{Choice}
 use Rattle.meaning_cells.specs.declared.choices.Choice.TheVariants as Is
 
--- how many values a range has
-abbrev pub range_counted : Option (Result Range OpFault) → Option (Result ℕ OpFault)
+-- number of values of a range
+abbrev pub range_counted : Option (Result IntRange OpFault) → Option (Result ℕ OpFault)
 range_counted (Some (Ok r)) = Some (Ok r.count)
 range_counted (Some (Err f)) = Some (Err f)
 range_counted None = None
 
--- WHAT A WAIT WAITS FOR
+-- INPUTS OF A WAIT
 
 abbrev pub has_come_in : Sight → Awaited → Bool
 has_come_in g (scalar x) = is_some (g.scalar x)
@@ -36,7 +37,7 @@ have_come_in g (x ∷ xs) = has_come_in g x && have_come_in g xs
 
 -- CHOICES
 
--- no block; a branch; the turns of a range; the elements of an array
+-- a choice: no block, a branch, the turns of a range, or the elements of an array
 pub data Chosen : Type 0 where
   nothing : Chosen
   branch : ℤ → Chosen
@@ -53,12 +54,12 @@ abbrev pub choice_seen : Option Choice → Option Chosen
 choice_seen (Some c) = Some (choice_view c)
 choice_seen None = None
 
-abbrev pub turns_seen : Option (Result Range OpFault) → Option Chosen
+abbrev pub turns_seen : Option (Result IntRange OpFault) → Option Chosen
 turns_seen (Some (Ok r)) = Some (turns r.low r.step r.count)
 turns_seen (Some (Err f)) = None
 turns_seen None = None
 
--- how many blocks are opened
+-- number of blocks that the choice opens
 abbrev pub count_in : Chosen → ℕ
 count_in nothing = 0
 count_in (branch k) = 1
@@ -73,14 +74,14 @@ abbrev pub item_value : Option Element → Scalar
 item_value (Some e) = e.value
 item_value None = Number (pos 0)
 
--- the key of the block behind so many others
+-- the key of the block at an index
 abbrev pub key_in : Chosen → ℕ → Key
 key_in nothing i = Key.Number (pos 0)
 key_in (branch k) i = Key.Number k
 key_in (turns low step n) i = Key.Number (pos i)
 key_in (items es) i = item_key (slice_get es i)
 
--- the value of a loop behind so many turns
+-- the value of the loop variable in the turn at an index
 abbrev pub value_at_turn : Chosen → ℕ → Scalar
 value_at_turn nothing i = Number (pos 0)
 value_at_turn (branch k) i = Number (pos 0)
@@ -93,7 +94,7 @@ is_other (branch k) = int_eq k (pos 1)
 is_other (turns low step n) = false
 is_other (items es) = false
 
--- the block that is opened
+-- the block that the choice opens
 abbrev pub block_in : Action → Chosen → Option Block
 block_in (when c b) o = Some b
 block_in (choose c b d) o = if is_other o then Some d else Some b
@@ -101,7 +102,7 @@ block_in (range lo hi st x t b) o = Some b
 block_in (each a x t b) o = Some b
 block_in _ o = None
 
--- WHAT IS CHOSEN
+-- THE CHOICE FOR GIVEN VALUES
 
 abbrev pub turns_by : Bounds → Result ℕ OpFault → Option Chosen
 turns_by r (Ok n) = Some (turns r.low r.step n)
@@ -111,7 +112,7 @@ abbrev pub turns_of : Option Bounds → Option Chosen
 turns_of (Some r) = turns_by r (range_count r.low r.high r.step)
 turns_of None = None
 
--- the truth that values are
+-- the truth value, if the values are exactly one
 abbrev pub truth_in : List Value → Option Bool
 truth_in (One (Truth t) ∷ []) = Some t
 truth_in _ = None
@@ -126,14 +127,14 @@ choose_by (Some true) = Some (branch (pos 0))
 choose_by (Some false) = Some (branch (pos 1))
 choose_by None = None
 
--- what a condition or the bounds of a range choose by their values
+-- the choice of a condition or a range for the values of its cells
 abbrev pub chosen_by : Action → List Value → Option Chosen
 chosen_by (when c b) vs = when_by (truth_in vs)
 chosen_by (choose c b d) vs = choose_by (truth_in vs)
 chosen_by (range lo hi st x t b) vs = turns_of (bounds vs)
 chosen_by _ vs = None
 
--- the values of cells, where all are known
+-- the values of cells, if all are known
 abbrev pub all_seen : Sight → List Cell → Option (List Value)
 all_seen g [] = Some []
 all_seen g (c ∷ cs) = with_value (g.cell c.node) (all_seen g cs)
@@ -146,7 +147,7 @@ abbrev pub items_seen : Bool → List Element → Option Chosen
 items_seen true es = Some (items es)
 items_seen false es = None
 
--- what a header chooses, where its choice is known
+-- the choice of a header, if it is known
 abbrev pub chosen_in : Sight → Action → Option Chosen
 chosen_in g (when c b) = chosen_from (when c b) (all_seen g (outer_cells (when c b)))
 chosen_in g (choose c b d) = chosen_from (choose c b d) (all_seen g (outer_cells (choose c b d)))
@@ -154,7 +155,7 @@ chosen_in g (range lo hi st x t b) = chosen_from (range lo hi st x t b) (all_see
 chosen_in g (each a x t b) = items_seen (g.closed a) (g.elements a)
 chosen_in g _ = None
 
--- a block is one of those that a header has chosen, under its key
+-- a block is one of those that the choice opens, at its key
 pub record OpensAt (a : Action) (c : Chosen) (k : Key) (b : Block) : Type 0 where
   pub index : ℕ
   pub below : index < count_in c

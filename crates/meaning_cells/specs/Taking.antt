@@ -1,4 +1,4 @@
--- What an instance sees is what is known and taken at its path; and what a header has chosen is ready there.
+-- Environments of instances that see what is known and taken at their path, and choices of ready headers.
 use Rattle.std.specs.Prelude.{◌≡◌, ℕ, ◌<◌, true, List, Some}
 use Rattle.values.specs.declared.key.Key.{Key}
 use Rattle.values.specs.declared.map.Element.{Element}
@@ -11,7 +11,7 @@ use Rattle.meaning_steps.specs.Environment.{Sight}
 use Rattle.meaning_steps.specs.Taken.{Taken}
 use Rattle.meaning_cells.specs.Chosen.{Chosen, OpensAt, block_in, count_in, key_in}
 
--- what is seen of cells and arrays at a path is what is known there and taken to be closed
+-- the cells and arrays seen at a path are those known there and taken to be closed
 pub record SeesBy (s : Core) (K : Knowledge) (T : Taken) (path : Path) (g : Sight) : Type 0 where
   pub cell_so : (n : ℕ) (v : Value) → g.cell n ≡ Some v → K (value (path, n) v)
   pub cell_all : (n : ℕ) (v : Value) → K (value (path, n) v) → g.cell n ≡ Some v
@@ -20,7 +20,7 @@ pub record SeesBy (s : Core) (K : Knowledge) (T : Taken) (path : Path) (g : Sigh
   pub elements_so : (a : Name) → T.closed (place s path a) → Elements K (place s path a) (g.elements a)
   pub elements_all : (a : Name) (es : List Element) → T.closed (place s path a) → Elements K (place s path a) es → es ≡ g.elements a
 
--- a header opens just the blocks of a choice, under their keys
+-- a header opens exactly the blocks of a choice, at their keys
 pub record OpensBy (a : Action) (vs : List Value) (c : Chosen) : Type 0 where
   pub all : (k : Key) (b : Block) → Opens a vs k b → OpensAt a c k b
   pub so : (i : ℕ) (b : Block) → i < count_in c → block_in a c ≡ Some b → Opens a vs (key_in c i) b

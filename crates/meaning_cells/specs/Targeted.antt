@@ -1,4 +1,5 @@
--- Whether a variable is a target in a statement, and whether it is assigned there as a scalar, as tests. States docs/LANGUAGE.md: Closing.
+-- Tests whether a variable is a target in a statement, and whether it is assigned there as a scalar. States
+-- docs/LANGUAGE.md: Closing.
 use Rattle.std.specs.Prelude.{Bool, false, ◌||◌, List, nat_eq}
 use Rattle.std.specs.List.{list_any}
 use Rattle.language.specs.Core.{Owned, local, input, output, Name, Stmt, stmt, Action, declare, call_alone, assign, fill, insert, print, assert, when, choose, range, each, wait, Block, no_stmts, stmts}
@@ -35,7 +36,7 @@ abbrev mutual
   aims_in x no_stmts = false
   aims_in x (stmts s b) = aims x s || aims_in x b
 
--- the variable is the target of an assignment of a scalar
+-- the variable is the target of a scalar assignment
 abbrev mutual
   pub assigns : Owned → Stmt → Bool
   assigns x (stmt at n a) = assigns_of x a

@@ -1,5 +1,5 @@
-//! What headers choose by what is known: which blocks they open, and whether what a `wait` waits for is there (Swift/T Guide,
-//! on conditionals and loops).
+//! Choices of headers over the known facts: which blocks they open, and whether a `wait` is ready (Swift/T Guide, on
+//! conditionals and loops).
 ghost use Rattle.std.specs.Prelude.{◌≡◌, ◌<◌, ◌^◌, pos, map, option_map, IfOk};
 ghost use Rattle.language.specs.Openings.{bounds};
 ghost use Rattle.language.specs.Parts.{outer_cells};
@@ -10,33 +10,33 @@ ghost use Rattle.meaning_cells.specs.Listed.{outers_listed};
 ghost use Rattle.meaning_facts.specs.Sighted.{sight_of};
 
 use crate::parts::outers_of;
-use flow::cell::Outer;
+use flow::cell::OuterCell;
 use flow::name::Name;
 use flow::statement::{Action, Block};
 use language::tree::Shape;
+use meaning_facts::fact_base::FactBase;
 use meaning_facts::facts::Place;
-use meaning_facts::learned::Learned;
 use std::alloc::{AllocError, Allocator, Global};
 use values::fault::OpFault;
 use values::key::Key;
 use values::map::Map;
-use values::range::Range;
+use values::range::IntRange;
 use values::value::{Scalar, Value};
 
-/// Under which keys a header opens blocks, once its choice is known.
+/// The choice of a header: the keys under which it opens blocks.
 #[derive(Drop)]
 pub enum Choice {
     Nothing,
-    /// A branch.
+    /// A branch, by its key.
     Branch(i64),
     /// The turns of a range.
-    Turns(Range),
-    /// The elements of an array.
+    Turns(IntRange),
+    /// The elements of an array, one turn each.
     Items(Map),
 }
 
 impl Choice {
-    /// How many blocks are opened.
+    /// Returns the number of blocks that the choice opens.
     pub fn count(&self) -> u64
         ensures { result ≡ count_in (choice_view self.now) }
     {
@@ -48,7 +48,7 @@ impl Choice {
         }
     }
 
-    /// Whether it is the second branch.
+    /// Returns true if the choice is the second branch.
     fn is_other(&self) -> bool
         ensures { result ≡ is_other (choice_view self.now) }
     {
@@ -60,7 +60,7 @@ impl Choice {
         }
     }
 
-    /// The key of the block that is opened behind so many others.
+    /// Returns the key of the block at index `i`.
     pub fn key(&self, i: u64) -> Result<Key, AllocError>
         ensures { IfOk result (λ key. i < count_in (choice_view self.now) → i < 2 ^ 63 → key ≡ key_in (choice_view self.now) i) }
     {
@@ -75,7 +75,7 @@ impl Choice {
         }
     }
 
-    /// What the value of a loop is behind so many turns.
+    /// Returns the value of the loop variable in the turn at index `i`.
     pub fn value(&self, i: u64) -> Result<Scalar, AllocError>
         ensures { IfOk result (λ value. i < count_in (choice_view self.now) → value ≡ value_at_turn (choice_view self.now) i) }
     {
@@ -90,7 +90,7 @@ impl Choice {
     }
 }
 
-/// The block that a header opens by its choice.
+/// Returns the block that a header opens for a choice.
 pub fn block_of<'a, A: Allocator>(action: &'a Action<A>, choice: &Choice) -> Option<&'a Block<A>>
     ensures { option_map (λ block. block_view block.now) result ≡ block_in (action_view action.now) (choice_view choice.now) }
 {
@@ -114,7 +114,7 @@ pub fn block_of<'a, A: Allocator>(action: &'a Action<A>, choice: &Choice) -> Opt
     }
 }
 
-/// The key of a turn of a range.
+/// Returns the key of the turn of a range at index `i`.
 fn turn_key(i: u64) -> Key
     ensures { i < 2 ^ 63 → result ≡ Key.Number (pos i) }
 {
@@ -124,7 +124,7 @@ fn turn_key(i: u64) -> Key
     }
 }
 
-/// The truth that values are.
+/// Returns the truth value, if the values are exactly one truth value.
 fn truth_of(values: &[Value]) -> Option<bool>
     ensures { result ≡ truth_in values.now }
 {
@@ -134,8 +134,9 @@ fn truth_of(values: &[Value]) -> Option<bool>
     }
 }
 
-/// The range that a header has by the values of its bounds; a missing step is 1. `None` where these are no numbers.
-pub fn range_of(values: &[Value]) -> Option<Result<Range, OpFault>>
+/// Returns the range with these bounds, or its fault. A missing step is 1. Returns `None` unless the values are two or
+/// three numbers.
+pub fn range_of(values: &[Value]) -> Option<Result<IntRange, OpFault>>
     ensures counted { range_counted result ≡ count_of (bounds values.now) }
     ensures turns { turns_seen result ≡ turns_of (bounds values.now) }
 {
@@ -143,17 +144,17 @@ pub fn range_of(values: &[Value]) -> Option<Result<Range, OpFault>>
         [
             Value::One(Scalar::Number(low)),
             Value::One(Scalar::Number(high)),
-        ] => Some(Range::new(*low, *high, 1)),
+        ] => Some(IntRange::new(*low, *high, 1)),
         [
             Value::One(Scalar::Number(low)),
             Value::One(Scalar::Number(high)),
             Value::One(Scalar::Number(step)),
-        ] => Some(Range::new(*low, *high, *step)),
+        ] => Some(IntRange::new(*low, *high, *step)),
         _ => None,
     }
 }
 
-/// What a condition or the bounds of a range choose by their values.
+/// Returns the choice of a condition or a range for the values of its cells, or `None` if they determine none.
 pub fn chosen<A: Allocator>(action: &Action<A>, values: &[Value]) -> Option<Choice>
     ensures { choice_seen result ≡ chosen_by (action_view action.now) values.now }
 {
@@ -185,20 +186,20 @@ pub fn chosen<A: Allocator>(action: &Action<A>, values: &[Value]) -> Option<Choi
     }
 }
 
-/// What a header opens, where its choice is known.
+/// Returns the choice of a header, or `None` if it is not known.
 pub fn choice_of<A: Allocator>(
-    learned: &Learned,
+    fact_base: &FactBase,
     alloc: Global,
     instance: usize,
     action: &Action<A>,
 ) -> Result<Option<Choice>, AllocError>
-    ensures { IfOk result (λ choice. choice_seen choice ≡ chosen_in (sight_of learned.now instance) (action_view action.now)) }
+    ensures { IfOk result (λ choice. choice_seen choice ≡ chosen_in (sight_of fact_base.now instance) (action_view action.now)) }
 {
     match action {
-        Action::Each { array, .. } => items_of(learned, alloc, instance, *array),
-        Action::When { .. } => known_choice(learned, alloc, instance, action),
-        Action::Choose { .. } => known_choice(learned, alloc, instance, action),
-        Action::Range { .. } => known_choice(learned, alloc, instance, action),
+        Action::Each { array, .. } => items_of(fact_base, alloc, instance, *array),
+        Action::When { .. } => known_choice(fact_base, alloc, instance, action),
+        Action::Choose { .. } => known_choice(fact_base, alloc, instance, action),
+        Action::Range { .. } => known_choice(fact_base, alloc, instance, action),
         Action::Declare(_) => Ok(None),
         Action::Call { .. } => Ok(None),
         Action::Assign { .. } => Ok(None),
@@ -210,50 +211,50 @@ pub fn choice_of<A: Allocator>(
     }
 }
 
-/// The elements of an array, where it is closed.
+/// Returns the choice of a loop over an array: all its elements, or `None` if the array is not closed.
 fn items_of(
-    learned: &Learned,
+    fact_base: &FactBase,
     alloc: Global,
     instance: usize,
     array: Name,
 ) -> Result<Option<Choice>, AllocError>
     ensures { IfOk result (λ choice. choice_seen choice
-        ≡ items_seen ((sight_of learned.now instance).closed (name_view array)) ((sight_of learned.now instance).elements (name_view array))) }
+        ≡ items_seen ((sight_of fact_base.now instance).closed (name_view array)) ((sight_of fact_base.now instance).elements (name_view array))) }
 {
-    let place = learned.instances.place(instance, array);
-    if !learned.is_closed(place) {
+    let place = fact_base.instances.place(instance, array);
+    if !fact_base.is_closed(place) {
         return Ok(None);
     }
-    let map = learned.facts.elements(alloc, place)?;
+    let map = fact_base.facts.elements(alloc, place)?;
     Ok(Some(Choice::Items(map)))
 }
 
-/// What a header chooses by the values of its outermost cells, where all are known.
+/// Returns the choice of a header for the values of its outermost cells, or `None` unless all are known.
 fn known_choice<A: Allocator>(
-    learned: &Learned,
+    fact_base: &FactBase,
     alloc: Global,
     instance: usize,
     action: &Action<A>,
 ) -> Result<Option<Choice>, AllocError>
     ensures { IfOk result (λ choice. choice_seen choice
-        ≡ chosen_from (action_view action.now) (all_seen (sight_of learned.now instance) (outer_cells (action_view action.now)))) }
+        ≡ chosen_from (action_view action.now) (all_seen (sight_of fact_base.now instance) (outer_cells (action_view action.now)))) }
 {
     let outers = outers_of(alloc, action)?;
-    match known_values(learned, alloc, instance, outers.as_slice())? {
+    match known_values(fact_base, alloc, instance, outers.as_slice())? {
         Some(values) => Ok(chosen(action, values.as_slice())),
         None => Ok(None),
     }
 }
 
-/// The values of outermost cells, where all are known.
+/// Returns the values of outermost cells, or `None` unless all are known.
 fn known_values<A: Allocator>(
-    learned: &Learned,
+    fact_base: &FactBase,
     alloc: Global,
     instance: usize,
-    outers: &[&Outer<A>],
+    outers: &[&OuterCell<A>],
 ) -> Result<Option<Vec<Value>>, AllocError>
     ensures { IfOk result (λ values. option_map (λ v. v.items) values
-        ≡ all_seen (sight_of learned.now instance) (map (λ o. o.cell) (outers_listed outers.now))) }
+        ≡ all_seen (sight_of fact_base.now instance) (map (λ o. o.cell) (outers_listed outers.now))) }
 {
     let mut values = Vec::new(alloc);
     for outer in outers {
@@ -261,7 +262,7 @@ fn known_values<A: Allocator>(
             instance,
             node: outer.cell.node,
         };
-        match learned.facts.value(place) {
+        match fact_base.facts.value(place) {
             Some(value) => values.push(value.share()?)?,
             None => return Ok(None),
         }
@@ -269,23 +270,23 @@ fn known_values<A: Allocator>(
     Ok(Some(values))
 }
 
-/// Whether all that a `wait` waits for is known.
-pub fn have_come(learned: &Learned, instance: usize, names: &[Name]) -> bool
-    ensures { result ≡ have_come_in (sight_of learned.now instance) (map awaited_view names.now) }
+/// Returns true if all inputs of a `wait` are known: scalars have values and arrays are closed.
+pub fn have_come(fact_base: &FactBase, instance: usize, names: &[Name]) -> bool
+    ensures { result ≡ have_come_in (sight_of fact_base.now instance) (map awaited_view names.now) }
 {
     for name in names {
-        if !has_come(learned, instance, *name) {
+        if !has_come(fact_base, instance, *name) {
             return false;
         }
     }
     true
 }
 
-fn has_come(learned: &Learned, instance: usize, name: Name) -> bool
-    ensures { result ≡ has_come_in (sight_of learned.now instance) (awaited_view name) }
+fn has_come(fact_base: &FactBase, instance: usize, name: Name) -> bool
+    ensures { result ≡ has_come_in (sight_of fact_base.now instance) (awaited_view name) }
 {
     match name.shape {
-        Shape::Array(_) => learned.is_closed(learned.instances.place(instance, name)),
-        Shape::Scalar => learned.scalar(instance, name).is_some(),
+        Shape::Array(_) => fact_base.is_closed(fact_base.instances.place(instance, name)),
+        Shape::Scalar => fact_base.scalar(instance, name).is_some(),
     }
 }

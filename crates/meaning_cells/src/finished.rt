@@ -1,4 +1,6 @@
-//! Whether statements are finished for an array: whether they have nothing left to write in it.
+//! Test whether the statements of a block are finished for an array, that is, can write it no more.
+//!
+//! A depth-first traversal visits the blocks that the given block opens and calls. Pending blocks are on a stack.
 ghost use Rattle.std.specs.Prelude.{◌≡◌, ◌<◌, ◌++◌, ◌∷◌, [], is_some, map, slice_get, IfOk, IsTrue, OnOk, ◌↔◌};
 ghost use Rattle.flow.specs.View.{action_view, awaited_view, block_view, call_view, core_of, name_view, names_view, owned_view, statement_view, waits_around};
 ghost use Rattle.meaning_cells.specs.Chosen.{choice_view, count_in, have_come_in, key_in};
@@ -11,43 +13,43 @@ ghost use Rattle.meaning_cells.specs.Targeted.{aims_in};
 use crate::choices::{Choice, block_of, choice_of, have_come};
 use crate::targets::{is_same, is_target, is_target_in};
 use flow::cell::Call;
-use flow::name::{Name, Owned};
+use flow::name::{Name, NameBinding};
 use flow::script::Flow;
 use flow::statement::{Action, Block, Header, Statement};
+use meaning_facts::fact_base::FactBase;
 use meaning_facts::facts::Place;
-use meaning_facts::learned::Learned;
 use std::alloc::{AllocError, Allocator, Global};
 use values::key::{Key, KeyRef};
 
-/// A block in an instance, whose statements are to be finished for a variable.
+/// A block in an instance, and the variable for which its statements have to be finished.
 #[derive(Drop)]
-pub struct Body<'b, A: Allocator> {
+pub struct BlockToFinish<'b, A: Allocator> {
     pub instance: usize,
-    pub what: Owned,
+    pub what: NameBinding,
     pub block: &'b Block<A>,
 }
 
-/// A block that is yet to be looked at, inside of waits.
+/// A pending block of the traversal, nested in waits.
 #[derive(Drop)]
-pub struct Task<'b, A: Allocator> {
+pub struct PendingBlock<'b, A: Allocator> {
     pub instance: usize,
-    pub what: Owned,
+    pub what: NameBinding,
     pub inner: &'b [Header<A>],
     pub block: &'b Block<A>,
 }
 
-/// Whether each statement of a block, and of the blocks that it opens and calls, is finished for a variable.
+/// Returns true if each statement of a block, and of the blocks that it opens and calls, is finished for a variable.
 pub fn is_finished<'b, A: Allocator>(
-    learned: &Learned,
+    fact_base: &FactBase,
     alloc: Global,
     flow: &'b Flow<A>,
-    body: Body<'b, A>,
+    body: BlockToFinish<'b, A>,
 ) -> Result<bool, AllocError>
-    ensures { IfOk result (λ yes. IsTrue yes ↔ IsDone (core_of flow.now) learned.now
+    ensures { IfOk result (λ yes. IsTrue yes ↔ IsDone (core_of flow.now) fact_base.now
         (record { instance = body.entry.instance; what = owned_view body.entry.what; block = block_view body.entry.block.now })) }
 {
     let mut tasks = Vec::new(alloc);
-    tasks.push(Task {
+    tasks.push(PendingBlock {
         instance: body.instance,
         what: body.what,
         inner: &[],
@@ -57,28 +59,28 @@ pub fn is_finished<'b, A: Allocator>(
         let Some(task) = tasks.pop() else {
             return Ok(true);
         };
-        if !add_task(learned, alloc, flow, task, &mut tasks)? {
+        if !add_task(fact_base, alloc, flow, task, &mut tasks)? {
             return Ok(false);
         }
     }
     Err(AllocError)
 }
 
-/// Adds the blocks that are to be finished for one to be so. Whether its statements are finished with them.
+/// Pushes the blocks that have to be finished before this one is. Returns false if a statement of it is not finished.
 fn add_task<'b, A: Allocator>(
-    learned: &Learned,
+    fact_base: &FactBase,
     alloc: Global,
     flow: &'b Flow<A>,
-    task: Task<'b, A>,
-    tasks: &mut Vec<Task<'b, A>>,
+    task: PendingBlock<'b, A>,
+    tasks: &mut Vec<PendingBlock<'b, A>>,
 ) -> Result<bool, AllocError>
     ensures { IfOk result (λ yes. where_so yes (goals_of tasks.new.items)
-        ≡ behind (goals_of tasks.old.items) (goals_in (core_of flow.now) learned.now (task_goal task.entry).instance (task_goal task.entry).what
+        ≡ behind (goals_of tasks.old.items) (goals_in (core_of flow.now) fact_base.now (task_goal task.entry).instance (task_goal task.entry).what
         (task_goal task.entry).block)) }
 {
     match task.inner.split_first() {
         Some((header, inner)) => add_waiting(
-            learned,
+            fact_base,
             task.instance,
             task.what,
             header,
@@ -87,7 +89,7 @@ fn add_task<'b, A: Allocator>(
             tasks,
         ),
         None => add_unfinished(
-            learned,
+            fact_base,
             alloc,
             flow,
             task.instance,
@@ -98,40 +100,42 @@ fn add_task<'b, A: Allocator>(
     }
 }
 
-/// Adds the blocks that are to be finished for the statements of a block to be so.
+/// Pushes the blocks that have to be finished before the statements of a block are. Returns false if one of the
+/// statements is not finished.
 fn add_unfinished<'b, A: Allocator>(
-    learned: &Learned,
+    fact_base: &FactBase,
     alloc: Global,
     flow: &'b Flow<A>,
     instance: usize,
-    what: Owned,
+    what: NameBinding,
     block: &'b Block<A>,
-    tasks: &mut Vec<Task<'b, A>>,
+    tasks: &mut Vec<PendingBlock<'b, A>>,
 ) -> Result<bool, AllocError>
     ensures { IfOk result (λ yes. where_so yes (goals_of tasks.new.items)
-        ≡ behind (goals_of tasks.old.items) (goals_in (core_of flow.now) learned.now instance (owned_view what) (block_view block.now))) }
+        ≡ behind (goals_of tasks.old.items) (goals_in (core_of flow.now) fact_base.now instance (owned_view what) (block_view block.now))) }
 {
     for statement in &block.statements {
-        if !add_statement(learned, alloc, flow, instance, what, statement, tasks)? {
+        if !add_statement(fact_base, alloc, flow, instance, what, statement, tasks)? {
             return Ok(false);
         }
     }
     Ok(true)
 }
 
-/// Adds the blocks that are to be finished for a statement to be so.
+/// Pushes the blocks that have to be finished before a statement is. Returns false if the statement itself is not
+/// finished.
 #[tactic(auto, using(crate::proofs::Ending::view_goals))]
 fn add_statement<'b, A: Allocator>(
-    learned: &Learned,
+    fact_base: &FactBase,
     alloc: Global,
     flow: &'b Flow<A>,
     instance: usize,
-    what: Owned,
+    what: NameBinding,
     statement: &'b Statement<A>,
-    tasks: &mut Vec<Task<'b, A>>,
+    tasks: &mut Vec<PendingBlock<'b, A>>,
 ) -> Result<bool, AllocError>
     ensures { IfOk result (λ yes. where_so yes (goals_of tasks.new.items)
-        ≡ behind (goals_of tasks.old.items) (statement_goals (core_of flow.now) learned.now instance (owned_view what) (statement_view statement.now))) }
+        ≡ behind (goals_of tasks.old.items) (statement_goals (core_of flow.now) fact_base.now instance (owned_view what) (statement_view statement.now))) }
 {
     if !is_target(what, &statement.action) {
         return Ok(true);
@@ -141,7 +145,7 @@ fn add_statement<'b, A: Allocator>(
         node: statement.node,
     };
     add_target(
-        learned,
+        fact_base,
         alloc,
         flow,
         writer,
@@ -152,41 +156,42 @@ fn add_statement<'b, A: Allocator>(
     )
 }
 
-/// The same of a statement in which the variable is a target, with the statement's place and its offset.
+/// Pushes the blocks that have to be finished before a statement with the variable as a target is. `writer` is the
+/// place of the statement, `at` its offset. Returns false if the statement itself is not finished.
 fn add_target<'b, A: Allocator>(
-    learned: &Learned,
+    fact_base: &FactBase,
     alloc: Global,
     flow: &'b Flow<A>,
     writer: Place,
     at: usize,
-    what: Owned,
+    what: NameBinding,
     action: &'b Action<A>,
-    tasks: &mut Vec<Task<'b, A>>,
+    tasks: &mut Vec<PendingBlock<'b, A>>,
 ) -> Result<bool, AllocError>
     ensures { IfOk result (λ yes. where_so yes (goals_of tasks.new.items)
-        ≡ behind (goals_of tasks.old.items) (action_goals (core_of flow.now) learned.now writer.instance (owned_view what) at writer.node
+        ≡ behind (goals_of tasks.old.items) (action_goals (core_of flow.now) fact_base.now writer.instance (owned_view what) at writer.node
         (action_view action.now))) }
 {
     let instance = writer.instance;
     match action {
-        Action::Fill { right, .. } => Ok(is_known(learned, instance, right.cell.node)),
+        Action::Fill { right, .. } => Ok(is_known(fact_base, instance, right.cell.node)),
         Action::Insert { array, index, .. } => Ok(is_inserted(
-            learned,
+            fact_base,
             *array,
             index.cell.node,
             writer,
         )),
-        Action::Call { call, .. } => add_called(learned, flow, instance, what, call, tasks),
-        Action::When { .. } => add_chosen(learned, alloc, instance, at, what, action, tasks),
-        Action::Choose { .. } => add_chosen(learned, alloc, instance, at, what, action, tasks),
-        Action::Range { .. } => add_chosen(learned, alloc, instance, at, what, action, tasks),
-        Action::Each { .. } => add_chosen(learned, alloc, instance, at, what, action, tasks),
+        Action::Call { call, .. } => add_called(fact_base, flow, instance, what, call, tasks),
+        Action::When { .. } => add_chosen(fact_base, alloc, instance, at, what, action, tasks),
+        Action::Choose { .. } => add_chosen(fact_base, alloc, instance, at, what, action, tasks),
+        Action::Range { .. } => add_chosen(fact_base, alloc, instance, at, what, action, tasks),
+        Action::Each { .. } => add_chosen(fact_base, alloc, instance, at, what, action, tasks),
         Action::Wait {
             names,
             inner,
             content,
         } => add_content(
-            learned,
+            fact_base,
             instance,
             what,
             names.as_slice(),
@@ -201,46 +206,47 @@ fn add_target<'b, A: Allocator>(
     }
 }
 
-/// Adds what is inside of a `wait`, where the variable is a target there.
+/// Pushes the content of a nested `wait`, if the variable is a target there. Returns false if an input of that `wait`
+/// is not known.
 fn add_waiting<'b, A: Allocator>(
-    learned: &Learned,
+    fact_base: &FactBase,
     instance: usize,
-    what: Owned,
+    what: NameBinding,
     header: &Header<A>,
     inner: &'b [Header<A>],
     block: &'b Block<A>,
-    tasks: &mut Vec<Task<'b, A>>,
+    tasks: &mut Vec<PendingBlock<'b, A>>,
 ) -> Result<bool, AllocError>
     ensures { IfOk result (λ yes. where_so yes (goals_of tasks.new.items)
         ≡ behind (goals_of tasks.old.items) (where_aimed (aims_in (owned_view what) (block_view block.now))
-        (where_so (have_come_in (sight_of learned.now instance) (map awaited_view header.now.names.items))
+        (where_so (have_come_in (sight_of fact_base.now instance) (map awaited_view header.now.names.items))
         (record { instance = instance; what = owned_view what; block = waits_around inner.now (block_view block.now) } ∷ [])))) }
 {
     if !is_target_in(what, block) {
         return Ok(true);
     }
     let names = header.names.as_slice();
-    add_content(learned, instance, what, names, inner, block, tasks)
+    add_content(fact_base, instance, what, names, inner, block, tasks)
 }
 
-/// Adds the content of a `wait`. Whether all that it waits for is known.
+/// Pushes the content of a `wait`. Returns false if one of its inputs is not known.
 fn add_content<'b, A: Allocator>(
-    learned: &Learned,
+    fact_base: &FactBase,
     instance: usize,
-    what: Owned,
+    what: NameBinding,
     names: &[Name],
     inner: &'b [Header<A>],
     block: &'b Block<A>,
-    tasks: &mut Vec<Task<'b, A>>,
+    tasks: &mut Vec<PendingBlock<'b, A>>,
 ) -> Result<bool, AllocError>
     ensures { IfOk result (λ yes. where_so yes (goals_of tasks.new.items)
-        ≡ behind (goals_of tasks.old.items) (where_so (have_come_in (sight_of learned.now instance) (map awaited_view names.now))
+        ≡ behind (goals_of tasks.old.items) (where_so (have_come_in (sight_of fact_base.now instance) (map awaited_view names.now))
         (record { instance = instance; what = owned_view what; block = waits_around inner.now (block_view block.now) } ∷ []))) }
 {
-    if !have_come(learned, instance, names) {
+    if !have_come(fact_base, instance, names) {
         return Ok(false);
     }
-    tasks.push(Task {
+    tasks.push(PendingBlock {
         instance,
         what,
         inner,
@@ -249,51 +255,51 @@ fn add_content<'b, A: Allocator>(
     Ok(true)
 }
 
-/// Adds the blocks that a header opens, where its choice is known. Whether they are live.
+/// Pushes the blocks that a header opens. Returns false if its choice is not known or one of the blocks is not live.
 fn add_chosen<'b, A: Allocator>(
-    learned: &Learned,
+    fact_base: &FactBase,
     alloc: Global,
     instance: usize,
     at: usize,
-    what: Owned,
+    what: NameBinding,
     action: &'b Action<A>,
-    tasks: &mut Vec<Task<'b, A>>,
+    tasks: &mut Vec<PendingBlock<'b, A>>,
 ) -> Result<bool, AllocError>
     ensures { IfOk result (λ yes. where_so yes (goals_of tasks.new.items)
-        ≡ behind (goals_of tasks.old.items) (header_goals learned.now instance (owned_view what) at (action_view action.now))) }
+        ≡ behind (goals_of tasks.old.items) (header_goals fact_base.now instance (owned_view what) at (action_view action.now))) }
 {
-    let Some(choice) = choice_of(learned, alloc, instance, action)? else {
+    let Some(choice) = choice_of(fact_base, alloc, instance, action)? else {
         return Ok(false);
     };
     let Some(block) = block_of(action, &choice) else {
         return Ok(false);
     };
-    add_opened(learned, instance, at, what, block, &choice, tasks)
+    add_opened(fact_base, instance, at, what, block, &choice, tasks)
 }
 
-/// Adds a block under each key of a choice.
+/// Pushes the block of each key of a choice. Returns false if one of them is not live.
 fn add_opened<'b, A: Allocator>(
-    learned: &Learned,
+    fact_base: &FactBase,
     instance: usize,
     at: usize,
-    what: Owned,
+    what: NameBinding,
     block: &'b Block<A>,
     choice: &Choice,
-    tasks: &mut Vec<Task<'b, A>>,
+    tasks: &mut Vec<PendingBlock<'b, A>>,
 ) -> Result<bool, AllocError>
     ensures { IfOk result (λ yes. where_so yes (goals_of tasks.new.items) ≡ behind (goals_of tasks.old.items)
-        (turn_goals learned.now instance (owned_view what) at (block_view block.now) (choice_view choice.now) 0 (count_in (choice_view choice.now)))) }
+        (turn_goals fact_base.now instance (owned_view what) at (block_view block.now) (choice_view choice.now) 0 (count_in (choice_view choice.now)))) }
 {
     for i in 0..choice.count() {
         let key = key_at(choice, i)?;
-        if !add_child(learned, instance, at, what, &key, block, tasks)? {
+        if !add_child(fact_base, instance, at, what, &key, block, tasks)? {
             return Ok(false);
         }
     }
     Ok(true)
 }
 
-/// The key of a turn. One that no number says counts as want of memory.
+/// Returns the key of a turn. An index of 2^63 or more counts as an allocation failure.
 fn key_at(choice: &Choice, i: u64) -> Result<Key, AllocError>
     ensures { IfOk result (λ key. i < count_in (choice_view choice.now) → key ≡ key_in (choice_view choice.now) i) }
 {
@@ -303,23 +309,23 @@ fn key_at(choice: &Choice, i: u64) -> Result<Key, AllocError>
     }
 }
 
-/// Adds the block that is opened under a step. Whether it is live.
+/// Pushes the block that is opened at a step. Returns false if it is not live.
 fn add_child<'b, A: Allocator>(
-    learned: &Learned,
+    fact_base: &FactBase,
     instance: usize,
     at: usize,
-    what: Owned,
+    what: NameBinding,
     key: &Key,
     block: &'b Block<A>,
-    tasks: &mut Vec<Task<'b, A>>,
+    tasks: &mut Vec<PendingBlock<'b, A>>,
 ) -> Result<bool, AllocError>
     ensures { IfOk result (λ yes. where_so yes (goals_of tasks.new.items)
-        ≡ behind (goals_of tasks.old.items) (child_goals (child_at learned.now.instances instance at key.now) (owned_view what) (block_view block.now))) }
+        ≡ behind (goals_of tasks.old.items) (child_goals (child_at fact_base.now.instances instance at key.now) (owned_view what) (block_view block.now))) }
 {
-    let Some(child) = learned.instances.child(instance, at, key) else {
+    let Some(child) = fact_base.instances.child(instance, at, key) else {
         return Ok(false);
     };
-    tasks.push(Task {
+    tasks.push(PendingBlock {
         instance: child,
         what,
         inner: &[],
@@ -328,22 +334,26 @@ fn add_child<'b, A: Allocator>(
     Ok(true)
 }
 
-/// Adds the body of a call, for each output that stands for the variable. Whether it is live.
+/// Pushes the body of a call, once for each output that is bound to the variable. Returns false if the body is not
+/// live.
 fn add_called<'b, A: Allocator>(
-    learned: &Learned,
+    fact_base: &FactBase,
     flow: &'b Flow<A>,
     instance: usize,
-    what: Owned,
+    what: NameBinding,
     call: &Call<A>,
-    tasks: &mut Vec<Task<'b, A>>,
+    tasks: &mut Vec<PendingBlock<'b, A>>,
 ) -> Result<bool, AllocError>
     ensures { IfOk result (λ yes. where_so yes (goals_of tasks.new.items) ≡ behind (goals_of tasks.old.items)
-        (function_goals learned.now instance (owned_view what) (call_view call.now) (slice_get (core_of flow.now).functions call.now.function))) }
+        (function_goals fact_base.now instance (owned_view what) (call_view call.now) (slice_get (core_of flow.now).functions call.now.function))) }
 {
     let Some(function) = flow.functions.get(call.function) else {
-        return Ok(!learned.instances.is_deep(instance));
+        return Ok(!fact_base.instances.is_deep(instance));
     };
-    let Some(child) = learned.instances.child(instance, call.at, &Key::Number(0)) else {
+    let Some(child) = fact_base
+        .instances
+        .child(instance, call.at, &Key::Number(0))
+    else {
         return Ok(false);
     };
     add_body(child, what, call.outputs.as_slice(), &function.body, tasks)?;
@@ -352,10 +362,10 @@ fn add_called<'b, A: Allocator>(
 
 fn add_body<'b, A: Allocator>(
     child: usize,
-    what: Owned,
+    what: NameBinding,
     outputs: &[Name],
     block: &'b Block<A>,
-    tasks: &mut Vec<Task<'b, A>>,
+    tasks: &mut Vec<PendingBlock<'b, A>>,
 ) -> Result<(), AllocError>
     ensures { OnOk result (goals_of tasks.new.items ≡ goals_of tasks.old.items
         ++ output_goals child (owned_view what) (block_view block.now) 0 (names_view outputs.now)) }
@@ -367,22 +377,22 @@ fn add_body<'b, A: Allocator>(
     Ok(())
 }
 
-/// Adds the body of a call for an output, where it stands for the variable.
+/// Pushes the body of a call for one output, if the output is bound to the variable.
 fn add_output<'b, A: Allocator>(
     child: usize,
-    what: Owned,
+    what: NameBinding,
     output: Name,
     i: usize,
     block: &'b Block<A>,
-    tasks: &mut Vec<Task<'b, A>>,
+    tasks: &mut Vec<PendingBlock<'b, A>>,
 ) -> Result<(), AllocError>
     ensures { OnOk result (goals_of tasks.new.items ≡ goals_of tasks.old.items
         ++ output_goals child (owned_view what) (block_view block.now) i (name_view output ∷ [])) }
 {
     if is_same(output.what, what) {
-        tasks.push(Task {
+        tasks.push(PendingBlock {
             instance: child,
-            what: Owned::Output(i),
+            what: NameBinding::Output(i),
             inner: &[],
             block,
         })?;
@@ -390,27 +400,27 @@ fn add_output<'b, A: Allocator>(
     Ok(())
 }
 
-/// Whether a cell has its value.
-pub fn is_known(learned: &Learned, instance: usize, node: u32) -> bool
-    ensures { result ≡ is_some (value_at learned.now.facts (record { instance = instance; node = node })) }
+/// Returns true if the value of a cell is known.
+pub fn is_known(fact_base: &FactBase, instance: usize, node: u32) -> bool
+    ensures { result ≡ is_some (value_at fact_base.now.facts (record { instance = instance; node = node })) }
 {
-    learned.facts.value(Place { instance, node }).is_some()
+    fact_base.facts.value(Place { instance, node }).is_some()
 }
 
-/// Whether a statement has written its element.
-pub fn is_inserted(learned: &Learned, array: Name, index: u32, writer: Place) -> bool
-    ensures { result ≡ is_inserted_in learned.now writer.instance (name_view array) index writer.node }
+/// Returns true if a statement has written its element.
+pub fn is_inserted(fact_base: &FactBase, array: Name, index: u32, writer: Place) -> bool
+    ensures { result ≡ is_inserted_in fact_base.now writer.instance (name_view array) index writer.node }
 {
-    let place = learned.instances.place(writer.instance, array);
+    let place = fact_base.instances.place(writer.instance, array);
     let cell = Place {
         instance: writer.instance,
         node: index,
     };
-    let Some(value) = learned.facts.value(cell) else {
+    let Some(value) = fact_base.facts.value(cell) else {
         return false;
     };
     match KeyRef::of_value(value) {
-        Some(key) => learned.facts.is_written_by(place, key, writer),
+        Some(key) => fact_base.facts.is_written_by(place, key, writer),
         None => false,
     }
 }

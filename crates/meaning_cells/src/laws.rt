@@ -1,4 +1,4 @@
-//! Laws of what headers choose. Each function does nothing; its contract is the law.
+//! Laws of the choices of headers. The functions have empty bodies; their contracts are the laws.
 ghost use Rattle.std.specs.Prelude.{◌≡◌, ◌<◌, ◌∷◌, [], ℕ, List, Option, Some, length};
 ghost use Rattle.values.specs.declared.key.Key.{Key};
 ghost use Rattle.values.specs.declared.map.Element.{Element};
@@ -14,8 +14,8 @@ ghost use Rattle.meaning_steps.specs.Environment.{Sight};
 ghost use Rattle.meaning_steps.specs.Taken.{Knows, ReadyBy, taken};
 ghost use Rattle.meaning_cells.specs.Taking.{OpensBy, SeesBy};
 
-/// Of a condition or a range the values of its cells decide a choice just where something is chosen by them, and the blocks that
-/// it opens are those that it has chosen, under their keys.
+/// States that the values of a condition or a range decide a choice exactly if `chosen_by` returns one. The blocks that
+/// the header opens are then those of the choice, at their keys.
 pub fn what_is_chosen()
     ensures decided { (a : Action) (vs : List Value) → Decides a vs → (c : Chosen) × (chosen_by a vs ≡ Some c) }
     ensures decides { (a : Action) (vs : List Value) (c : Chosen) → chosen_by a vs ≡ Some c → Decides a vs }
@@ -24,8 +24,8 @@ pub fn what_is_chosen()
         → Opens a vs (key_in c i) b }
 {}
 
-/// Of a loop over an array the blocks that it opens are those of its elements, under their keys; and in each turn of a loop its
-/// variable is what the choice has there.
+/// States that a loop over an array opens one block for each element, at its key. In each turn of a loop, the loop
+/// variable has the value that the choice has there.
 pub fn what_a_loop_opens()
     ensures opens { (a : Name) (x : ℕ) (t : Option ℕ) (b : Block) (es : List Element) (k : Key) (d : Block) → Opens (each a x t b) (Many es ∷ []) k d
         → OpensAt (each a x t b) (items es) k d }
@@ -38,8 +38,9 @@ pub fn what_a_loop_opens()
         → InTurn (range lo hi st x t b) vs (key_in c i) x (value_at_turn c i) }
 {}
 
-/// Where an instance sees what is known and taken at a path, a header whose choice is seen is ready there, and opens just the
-/// blocks that it has chosen; and of one that is ready and opens blocks under keys the choice is seen.
+/// States when a header is ready at a path, for an instance that sees what is known and taken there. A header with a
+/// visible choice is ready, and opens exactly the blocks of the choice. The choice of a ready header with keyed blocks
+/// is visible.
 pub fn what_is_ready()
     ensures ready { (s : Core) (fs : List script.Fact) (ls : List (Path × Stmt)) (cs : List Place) (us : List (Place × Scalar)) (path : Path) (g : Sight)
         → SeesBy s (Knows fs) (taken ls cs us) path g

@@ -1,5 +1,5 @@
-//! What statements, headers and blocks come to by what is known of a script: their outermost cells and calls, which blocks
-//! headers choose, which variables are targets in a block, and which blocks are finished.
+//! Queries on the fact base about statements, headers and blocks: their cells and calls, choices of headers, targets,
+//! and finished blocks.
 #![tactic(auto)]
 
 pub mod choices;

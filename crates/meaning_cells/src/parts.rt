@@ -1,19 +1,19 @@
-//! The cells and calls of a statement, in reading order.
+//! Outermost cells and composite calls of a statement, in reading order.
 ghost use Rattle.std.specs.Prelude.{◌≡◌, ◌++◌, ◌∷◌, [], option_map, option_to_list, IfOk, OnOk};
 ghost use Rattle.language.specs.Core.{calls};
 ghost use Rattle.language.specs.Parts.{outers, outer_parts, part_calls, parts};
 ghost use Rattle.flow.specs.View.{action_view, call_view, outer_view, part_view, parts_view};
 ghost use Rattle.meaning_cells.specs.Listed.{outers_listed, calls_listed};
 
-use flow::cell::{Call, Outer, Part};
+use flow::cell::{Call, CellPart, OuterCell};
 use flow::statement::{Action, Range};
 use std::alloc::{AllocError, Allocator, Global};
 
-/// The outermost cells of a statement, those that lie in no other.
+/// Returns the outermost cells of a statement: those that are part of no other cell.
 pub fn outers_of<'a, A: Allocator>(
     alloc: Global,
     action: &'a Action<A>,
-) -> Result<Vec<&'a Outer<A>>, AllocError>
+) -> Result<Vec<&'a OuterCell<A>>, AllocError>
     ensures { IfOk result (λ os. outers_listed os.items ≡ outers (action_view action.now)) }
 {
     match action {
@@ -34,8 +34,8 @@ pub fn outers_of<'a, A: Allocator>(
 
 fn one<'a, A: Allocator>(
     alloc: Global,
-    outer: &'a Outer<A>,
-) -> Result<Vec<&'a Outer<A>>, AllocError>
+    outer: &'a OuterCell<A>,
+) -> Result<Vec<&'a OuterCell<A>>, AllocError>
     ensures { IfOk result (λ os. outers_listed os.items ≡ outer_view outer.now ∷ []) }
 {
     let mut outers = Vec::new(alloc);
@@ -45,9 +45,9 @@ fn one<'a, A: Allocator>(
 
 fn two<'a, A: Allocator>(
     alloc: Global,
-    first: &'a Outer<A>,
-    second: &'a Outer<A>,
-) -> Result<Vec<&'a Outer<A>>, AllocError>
+    first: &'a OuterCell<A>,
+    second: &'a OuterCell<A>,
+) -> Result<Vec<&'a OuterCell<A>>, AllocError>
     ensures { IfOk result (λ os. outers_listed os.items ≡ outer_view first.now ∷ outer_view second.now ∷ []) }
 {
     let mut outers = Vec::new(alloc);
@@ -56,11 +56,11 @@ fn two<'a, A: Allocator>(
     Ok(outers)
 }
 
-/// The bounds of a range, and its step where it has one.
+/// Returns the bounds of a range, and its step if it has one.
 fn bounds_of<'a, A: Allocator>(
     alloc: Global,
     range: &'a Range<A>,
-) -> Result<Vec<&'a Outer<A>>, AllocError>
+) -> Result<Vec<&'a OuterCell<A>>, AllocError>
     ensures { IfOk result (λ os. outers_listed os.items
         ≡ outer_view range.now.low ∷ outer_view range.now.high ∷ option_to_list (option_map outer_view range.now.step)) }
 {
@@ -74,7 +74,7 @@ fn bounds_of<'a, A: Allocator>(
     }
 }
 
-/// The composite calls of a statement.
+/// Returns the composite calls of a statement.
 pub fn calls_of<'a, A: Allocator>(
     alloc: Global,
     action: &'a Action<A>,
@@ -97,11 +97,11 @@ pub fn calls_of<'a, A: Allocator>(
     }
 }
 
-/// The composite calls of a call that stands alone, those of its parts first.
+/// Returns the composite calls of a call statement: those of its parts, then the call itself.
 #[tactic(auto, using(crate::proofs::Parting::call_behind))]
 fn called<'a, A: Allocator>(
     alloc: Global,
-    parts: &'a [Part<A>],
+    parts: &'a [CellPart<A>],
     call: &'a Call<A>,
 ) -> Result<Vec<&'a Call<A>>, AllocError>
     ensures { IfOk result (λ cs. calls_listed cs.items ≡ part_calls (parts_view parts.now ++ calls (call_view call.now) ∷ [])) }
@@ -112,7 +112,7 @@ fn called<'a, A: Allocator>(
     Ok(called)
 }
 
-/// The composite calls inside the outermost cells of a statement.
+/// Returns the composite calls within the outermost cells of a statement.
 fn inner_calls<'a, A: Allocator>(
     alloc: Global,
     action: &'a Action<A>,
@@ -124,10 +124,10 @@ fn inner_calls<'a, A: Allocator>(
     Ok(calls)
 }
 
-/// Adds the calls inside outermost cells.
+/// Appends the calls within outermost cells.
 fn add_outer_calls<'a, A: Allocator>(
     calls: &mut Vec<&'a Call<A>>,
-    outers: &[&'a Outer<A>],
+    outers: &[&'a OuterCell<A>],
 ) -> Result<(), AllocError>
     ensures { OnOk result (calls_listed calls.new.items ≡ calls_listed calls.old.items ++ part_calls (outer_parts (outers_listed outers.now))) }
 {
@@ -139,7 +139,7 @@ fn add_outer_calls<'a, A: Allocator>(
 
 fn add_calls<'a, A: Allocator>(
     calls: &mut Vec<&'a Call<A>>,
-    parts: &'a [Part<A>],
+    parts: &'a [CellPart<A>],
 ) -> Result<(), AllocError>
     ensures { OnOk result (calls_listed calls.new.items ≡ calls_listed calls.old.items ++ part_calls (parts_view parts.now)) }
 {
@@ -149,18 +149,18 @@ fn add_calls<'a, A: Allocator>(
     Ok(())
 }
 
-/// Adds the call that a part is.
+/// Appends the part if it is a call.
 fn add_call<'a, A: Allocator>(
     calls: &mut Vec<&'a Call<A>>,
-    part: &'a Part<A>,
+    part: &'a CellPart<A>,
 ) -> Result<(), AllocError>
     ensures { OnOk result (calls_listed calls.new.items ≡ calls_listed calls.old.items ++ part_calls (part_view part.now ∷ [])) }
 {
     match part {
-        Part::Calls(call) => {
+        CellPart::Calls(call) => {
             calls.push(call)?;
             Ok(())
         }
-        Part::Inner(_) => Ok(()),
+        CellPart::Inner(_) => Ok(()),
     }
 }

@@ -1,15 +1,15 @@
-//! Whether a variable is a target in a statement or in a block inside it.
+//! Static tests whether a variable is a target of a statement or of a block within it.
 ghost use Rattle.std.specs.Prelude.{◌≡◌};
 ghost use Rattle.flow.specs.View.{owned_view, names_view, action_view, block_view};
 ghost use Rattle.meaning_cells.specs.Targeted.{aims_of, aims_in, assigns_of, assigns_in, names_owned, same_owned};
 
-use flow::name::{Name, Owned};
+use flow::name::{Name, NameBinding};
 use flow::statement::{Action, Block};
 use std::alloc::Allocator;
 
-/// Whether a variable is a target in what a statement does.
+/// Returns true if a variable is a target of a statement.
 #[cycle(target)]
-pub fn is_target<A: Allocator>(what: Owned, action: &Action<A>) -> bool
+pub fn is_target<A: Allocator>(what: NameBinding, action: &Action<A>) -> bool
     ensures { result ≡ aims_of (owned_view what) (action_view action.now) }
 {
     match action {
@@ -28,9 +28,9 @@ pub fn is_target<A: Allocator>(what: Owned, action: &Action<A>) -> bool
     }
 }
 
-/// Whether a variable is a target in a block.
+/// Returns true if a variable is a target in a block.
 #[cycle(target)]
-pub fn is_target_in<A: Allocator>(what: Owned, block: &Block<A>) -> bool
+pub fn is_target_in<A: Allocator>(what: NameBinding, block: &Block<A>) -> bool
     ensures { result ≡ aims_in (owned_view what) (block_view block.now) }
 {
     for statement in &block.statements {
@@ -41,9 +41,9 @@ pub fn is_target_in<A: Allocator>(what: Owned, block: &Block<A>) -> bool
     false
 }
 
-/// Whether a variable is assigned as a scalar in what a statement does.
+/// Returns true if a statement assigns a variable as a scalar.
 #[cycle(assigned)]
-pub fn is_assigned<A: Allocator>(what: Owned, action: &Action<A>) -> bool
+pub fn is_assigned<A: Allocator>(what: NameBinding, action: &Action<A>) -> bool
     ensures { result ≡ assigns_of (owned_view what) (action_view action.now) }
 {
     match action {
@@ -58,9 +58,9 @@ pub fn is_assigned<A: Allocator>(what: Owned, action: &Action<A>) -> bool
     }
 }
 
-/// Whether a variable is assigned as a scalar in a block.
+/// Returns true if a block assigns a variable as a scalar.
 #[cycle(assigned)]
-pub fn is_assigned_in<A: Allocator>(what: Owned, block: &Block<A>) -> bool
+pub fn is_assigned_in<A: Allocator>(what: NameBinding, block: &Block<A>) -> bool
     ensures { result ≡ assigns_in (owned_view what) (block_view block.now) }
 {
     for statement in &block.statements {
@@ -71,8 +71,8 @@ pub fn is_assigned_in<A: Allocator>(what: Owned, block: &Block<A>) -> bool
     false
 }
 
-/// Whether one of these names is the variable.
-fn is_among(what: Owned, names: &[Name]) -> bool
+/// Returns true if one of these names is the variable.
+fn is_among(what: NameBinding, names: &[Name]) -> bool
     ensures { result ≡ names_owned (owned_view what) (names_view names.now) }
 {
     for name in names {
@@ -83,14 +83,14 @@ fn is_among(what: Owned, names: &[Name]) -> bool
     false
 }
 
-/// Whether two variables of a block are one.
-pub fn is_same(one: Owned, other: Owned) -> bool
+/// Returns true if two bindings denote the same variable of a block.
+pub fn is_same(one: NameBinding, other: NameBinding) -> bool
     ensures { result ≡ same_owned (owned_view one) (owned_view other) }
 {
     match (one, other) {
-        (Owned::Local(one), Owned::Local(other)) => one == other,
-        (Owned::Input(one), Owned::Input(other)) => one == other,
-        (Owned::Output(one), Owned::Output(other)) => one == other,
+        (NameBinding::Local(one), NameBinding::Local(other)) => one == other,
+        (NameBinding::Input(one), NameBinding::Input(other)) => one == other,
+        (NameBinding::Output(one), NameBinding::Output(other)) => one == other,
         _ => false,
     }
 }

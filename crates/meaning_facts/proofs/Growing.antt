@@ -29,7 +29,7 @@ use Rattle.meaning_facts.specs.declared.facts.Place.{Place as Spot}
 use Rattle.meaning_facts.specs.declared.facts.Write.{Write}
 use Rattle.meaning_facts.specs.declared.instances.Instance.{Instance}
 use Rattle.meaning_facts.specs.declared.instances.Instances.{Instances}
-use Rattle.meaning_facts.specs.declared.learned.Learned.{Learned}
+use Rattle.meaning_facts.specs.declared.fact_base.FactBase.{FactBase}
 use Rattle.meaning_facts.specs.Added.{first_of, with_write, IsAdded}
 use Rattle.meaning_facts.specs.Growing.{fact_view, IsWithin, With, IsAgreed, KeepsFacts, with_facts}
 use Rattle.meaning_facts.specs.Keeping.{by_place, in_instance, fault_at, has_kind, kept_of, kind_of, place_view, write_view, same_fault}
@@ -266,7 +266,7 @@ same_by t x f g e q = in_same x f g e (at_path t q.0) q.1
 pub false_true : false ≡ true → ⊥
 false_true e = absurd (cc (e))
 
-module _ (l : Learned) (k : Facts) where
+module _ (l : FactBase) (k : Facts) where
   pub same_value : ((p : Spot) → value_at k p ≡ value_at l.facts p) → (q : Place) → (kept_of (with_facts l k)).value q ≡ (kept_of l).value q
   same_value e q = same_by l.instances None (value_at k) (value_at l.facts) e q
 
@@ -290,7 +290,7 @@ module _ (l : Learned) (k : Facts) where
 
 -- ONE FACT MORE
 
-module _ (K : Knowledge) (l : Learned) (k : Facts) (h : IsTree l.instances) (c : KeepsFacts K l) where
+module _ (K : Knowledge) (l : FactBase) (k : Facts) (h : IsTree l.instances) (c : KeepsFacts K l) where
   pub value_more : (p : Spot) (v : Value) → p.instance < length l.instances.all.items → IsAdded l.facts (Is.Value p v) k
       → IsAgreed (With K (script.value (place_view l.instances.all.items p) v)) → KeepsFacts (With K (script.value (place_view l.instances.all.items p) v)) (with_facts l k)
   value_more p v b a g = record {

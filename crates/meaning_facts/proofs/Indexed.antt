@@ -11,21 +11,21 @@ use Rattle.values.specs.Keys.{same_key}
 use Rattle.values.proofs.Keys.{same_key-eq}
 use Rattle.meaning_facts.specs.declared.facts.Place.{Place}
 use Rattle.meaning_facts.specs.declared.facts.Write.{Write}
-use Rattle.meaning_facts.specs.declared.firsts.First.{First}
-use Rattle.meaning_facts.specs.declared.firsts.Firsts.{Firsts}
+use Rattle.meaning_facts.specs.declared.first_writes.FirstWrite.{FirstWrite}
+use Rattle.meaning_facts.specs.declared.first_writes.FirstWrites.{FirstWrites}
 use Rattle.meaning_facts.specs.Indexed.{again, first_at, first_in, has_key_in, one_further, one_writer_in, IsIndexed}
 use Rattle.meaning_facts.specs.Store.{is_written_in, same_place, writes_under}
 
 -- the first of all, where another one comes, or none
-abbrev alone : Bool → First
+abbrev alone : Bool → FirstWrite
 alone b = record { at = 0; is_several = b }
 
-abbrev behind : First → First
+abbrev behind : FirstWrite → FirstWrite
 behind f = record { at = suc f.at; is_several = f.is_several }
 
 -- BEFORE THE FIRST
 
-further_none : (o : Option First) → one_further o ≡ None → o ≡ None
+further_none : (o : Option FirstWrite) → one_further o ≡ None → o ≡ None
 further_none (Some f) e = absurd (cc (e))
 further_none None e = refl
 
@@ -38,15 +38,15 @@ first_none (w ∷ ws) k e = by (same_key w.key k) (first_none ws k) e
     by true r h = absurd (cc (h))
     by false r h = r (further_none (first_in ws k) h)
 
-first_some : (ws : List Write) (k : Key) (f : First) → first_in ws k ≡ Some f → has_key_in ws k ≡ true
+first_some : (ws : List Write) (k : Key) (f : FirstWrite) → first_in ws k ≡ Some f → has_key_in ws k ≡ true
 first_some [] k f e = absurd (cc (e))
 first_some (w ∷ ws) k f e = by (same_key w.key k) (first_some ws k) e
   where
-    further : (o : Option First) → ((g : First) → o ≡ Some g → has_key_in ws k ≡ true) → one_further o ≡ Some f → has_key_in ws k ≡ true
+    further : (o : Option FirstWrite) → ((g : FirstWrite) → o ≡ Some g → has_key_in ws k ≡ true) → one_further o ≡ Some f → has_key_in ws k ≡ true
     further (Some g) r h = r g refl
     further None r h = absurd (cc (h))
 
-    by : (b : Bool) → ((g : First) → first_in ws k ≡ Some g → has_key_in ws k ≡ true) → (if b then Some (alone (has_key_in ws k)) else one_further (first_in ws k)) ≡ Some f
+    by : (b : Bool) → ((g : FirstWrite) → first_in ws k ≡ Some g → has_key_in ws k ≡ true) → (if b then Some (alone (has_key_in ws k)) else one_further (first_in ws k)) ≡ Some f
         → b || has_key_in ws k ≡ true
     by true r h = refl
     by false r h = further (first_in ws k) r h
@@ -79,7 +79,7 @@ some_under (w ∷ ws) k h = by (same_key w.key k) (some_under ws k) h
 -- THE FIRST
 
 -- what the first write of a key says of all
-pub record IsFirst (ws : List Write) (k : Key) (f : First) : Type 0 where
+pub record IsFirst (ws : List Write) (k : Key) (f : FirstWrite) : Type 0 where
   pub within : f.at < length ws
   pub several : f.is_several ≡ has_key_in (drop (suc f.at) ws) k
   pub under : (d : Write) → writes_under ws k ≡ (get_or ws f.at d).value ∷ writes_under (drop (suc f.at) ws) k
@@ -93,7 +93,7 @@ first_here w ws k e = record {
   written = λ p d. ap (λ (b : Bool). (b && same_place w.writer p) || is_written_in ws k p) e;
 }
 
-first_behind : (w : Write) (ws : List Write) (k : Key) (f : First) → same_key w.key k ≡ false → IsFirst ws k f → IsFirst (w ∷ ws) k (behind f)
+first_behind : (w : Write) (ws : List Write) (k : Key) (f : FirstWrite) → same_key w.key k ≡ false → IsFirst ws k f → IsFirst (w ∷ ws) k (behind f)
 first_behind w ws k f e h = record {
   within = let l = h.within in omega (arith, l);
   several = h.several;
@@ -101,25 +101,25 @@ first_behind w ws k f e h = record {
   written = λ p d. ap (λ (b : Bool). (b && same_place w.writer p) || is_written_in ws k p) e ∙ h.written p d;
 }
 
-pub first_is : (ws : List Write) (k : Key) (f : First) → first_in ws k ≡ Some f → IsFirst ws k f
+pub first_is : (ws : List Write) (k : Key) (f : FirstWrite) → first_in ws k ≡ Some f → IsFirst ws k f
 first_is [] k f e = absurd (cc (e))
 first_is (w ∷ ws) k f e = by (same_key w.key k) refl (first_is ws k) e
   where
-    further : (o : Option First) → ((g : First) → o ≡ Some g → IsFirst ws k g) → same_key w.key k ≡ false → one_further o ≡ Some f → IsFirst (w ∷ ws) k f
-    further (Some g) r q h = let e : behind g ≡ f = cc (h) in subst (λ (z : First). IsFirst (w ∷ ws) k z) e (first_behind w ws k g q (r g refl))
+    further : (o : Option FirstWrite) → ((g : FirstWrite) → o ≡ Some g → IsFirst ws k g) → same_key w.key k ≡ false → one_further o ≡ Some f → IsFirst (w ∷ ws) k f
+    further (Some g) r q h = let e : behind g ≡ f = cc (h) in subst (λ (z : FirstWrite). IsFirst (w ∷ ws) k z) e (first_behind w ws k g q (r g refl))
     further None r q h = absurd (cc (h))
 
-    by : (b : Bool) → same_key w.key k ≡ b → ((g : First) → first_in ws k ≡ Some g → IsFirst ws k g)
+    by : (b : Bool) → same_key w.key k ≡ b → ((g : FirstWrite) → first_in ws k ≡ Some g → IsFirst ws k g)
         → (if b then Some (alone (has_key_in ws k)) else one_further (first_in ws k)) ≡ Some f → IsFirst (w ∷ ws) k f
-    by true q r h = let e : alone (has_key_in ws k) ≡ f = cc (h) in subst (λ (z : First). IsFirst (w ∷ ws) k z) e (first_here w ws k q)
+    by true q r h = let e : alone (has_key_in ws k) ≡ f = cc (h) in subst (λ (z : FirstWrite). IsFirst (w ∷ ws) k z) e (first_here w ws k q)
     by false q r h = further (first_in ws k) r q h
 
-pub one_under : (ws : List Write) (k : Key) (f : First) (d : Write) → first_in ws k ≡ Some f → f.is_several ≡ false → writes_under ws k ≡ (get_or ws f.at d).value ∷ []
+pub one_under : (ws : List Write) (k : Key) (f : FirstWrite) (d : Write) → first_in ws k ≡ Some f → f.is_several ≡ false → writes_under ws k ≡ (get_or ws f.at d).value ∷ []
 one_under ws k f d e n =
     let h = first_is ws k f e in
     h.under d ∙ ap (λ (z : List Scalar). (get_or ws f.at d).value ∷ z) (none_under (drop (suc f.at) ws) k (sym h.several ∙ n))
 
-pub two_under : (ws : List Write) (k : Key) (f : First) → first_in ws k ≡ Some f → f.is_several ≡ true → (u : Scalar) × (v : Scalar) × (vs : List Scalar) × (writes_under ws k ≡ u ∷ v ∷ vs)
+pub two_under : (ws : List Write) (k : Key) (f : FirstWrite) → first_in ws k ≡ Some f → f.is_several ≡ true → (u : Scalar) × (v : Scalar) × (vs : List Scalar) × (writes_under ws k ≡ u ∷ v ∷ vs)
 two_under ws k f e n =
     let h = first_is ws k f e in
     let r = some_under (drop (suc f.at) ws) k (sym h.several ∙ n) in
@@ -130,7 +130,7 @@ two_under ws k f e n =
     by [] l g v vs q = absurd (omega (arith, l))
     by (d ∷ zs) l g v vs q = ((get_or ws f.at d).value, v, vs, g d ∙ ap (λ (z : List Scalar). (get_or ws f.at d).value ∷ z) q)
 
-pub one_written : (ws : List Write) (k : Key) (f : First) (d : Write) (p : Place) → first_in ws k ≡ Some f → f.is_several ≡ false → is_written_in ws k p ≡ same_place (get_or ws f.at d).writer p
+pub one_written : (ws : List Write) (k : Key) (f : FirstWrite) (d : Write) (p : Place) → first_in ws k ≡ Some f → f.is_several ≡ false → is_written_in ws k p ≡ same_place (get_or ws f.at d).writer p
 one_written ws k f d p e n =
     let h = first_is ws k f e in
     h.written p d ∙ ap (λ (b : Bool). same_place (get_or ws f.at d).writer p || b) (none_written (drop (suc f.at) ws) k p (sym h.several ∙ n)) ∙ or_false (same_place (get_or ws f.at d).writer p)
@@ -157,7 +157,7 @@ has_more (x ∷ ws) w k = ap (λ (b : Bool). same_key x.key k || b) (has_more ws
     turned false true c = refl
     turned false false c = refl
 
-further_again : (n : ℕ) (o : Option First) → one_further (Some (again n o)) ≡ Some (again (suc n) (one_further o))
+further_again : (n : ℕ) (o : Option FirstWrite) → one_further (Some (again n o)) ≡ Some (again (suc n) (one_further o))
 further_again n (Some f) = refl
 further_again n None = refl
 
@@ -205,15 +205,15 @@ apart_more (x ∷ ws) w =
 again_several : (ws : List Write) (k : Key) (n : ℕ) → (again n (first_in ws k)).is_several ≡ has_key_in ws k
 again_several ws k n = by (first_in ws k) refl
   where
-    by : (o : Option First) → first_in ws k ≡ o → (again n o).is_several ≡ has_key_in ws k
+    by : (o : Option FirstWrite) → first_in ws k ≡ o → (again n o).is_several ≡ has_key_in ws k
     by (Some f) e = sym (first_some ws k f e)
     by None e = sym (first_none ws k e)
 
-pub indexed_more : (ws : List Write) (w : Write) (fs gs : Firsts) (b : Bool) (f : First) → IsIndexed ws fs b → f ≡ again (length ws) (first_at fs w.key)
+pub indexed_more : (ws : List Write) (w : Write) (fs gs : FirstWrites) (b : Bool) (f : FirstWrite) → IsIndexed ws fs b → f ≡ again (length ws) (first_at fs w.key)
     → ((k : Key) → first_at gs k ≡ (if same_key w.key k then Some f else first_at fs k)) → IsIndexed (ws ++ w ∷ []) gs (b && not f.is_several)
 indexed_more ws w fs gs b f h e put =
     let is : f ≡ again (length ws) (first_in ws w.key) = e ∙ ap (again (length ws)) (h.firsts w.key) in record {
-      firsts = λ k. put k ∙ ap (λ (z : First). if same_key w.key k then Some z else first_at fs k) is
-          ∙ ap (λ (z : Option First). if same_key w.key k then Some (again (length ws) (first_in ws w.key)) else z) (h.firsts k) ∙ sym (first_more ws w k);
-      apart = ap (λ (z : First). b && not z.is_several) is ∙ ap (λ (z : Bool). b && not z) (again_several ws w.key (length ws)) ∙ ap (λ (z : Bool). z && not (has_key_in ws w.key)) h.apart ∙ sym (apart_more ws w);
+      firsts = λ k. put k ∙ ap (λ (z : FirstWrite). if same_key w.key k then Some z else first_at fs k) is
+          ∙ ap (λ (z : Option FirstWrite). if same_key w.key k then Some (again (length ws) (first_in ws w.key)) else z) (h.firsts k) ∙ sym (first_more ws w k);
+      apart = ap (λ (z : FirstWrite). b && not z.is_several) is ∙ ap (λ (z : Bool). b && not z) (again_several ws w.key (length ws)) ∙ ap (λ (z : Bool). z && not (has_key_in ws w.key)) h.apart ∙ sym (apart_more ws w);
     }

@@ -21,7 +21,7 @@ use Rattle.meaning_facts.specs.declared.facts.Place.{Place as Spot}
 use Rattle.meaning_facts.specs.declared.facts.Write.{Write}
 use Rattle.meaning_facts.specs.declared.instances.Instance.{Instance}
 use Rattle.meaning_facts.specs.declared.instances.Instances.{Instances}
-use Rattle.meaning_facts.specs.declared.learned.Learned.{Learned}
+use Rattle.meaning_facts.specs.declared.fact_base.FactBase.{FactBase}
 use Rattle.meaning_facts.specs.Keeping.{by_place, fault_at, in_instance, kept_of, past_of, turn_at, write_view, IsLocated, IsPlaced}
 use Rattle.meaning_facts.specs.Paths.{path_of, child_behind, at_path, IsTree}
 use Rattle.meaning_facts.specs.Sighted.{closed_at, sight_of}
@@ -139,7 +139,7 @@ past_is a b p q r u v w = λ i. record { valued = p i; written = q i; twice = r 
 pub deep_same : (n : ℕ) → n ≤ most_steps → nat_le most_steps n ≡ nat_eq n most_steps
 deep_same n l = grind (arith, nat_tests)
 
-module _ (s : Core) (l : Learned) (h : IsPlaced s l.instances) (i : ℕ) (within : i < length l.instances.all.items) where
+module _ (s : Core) (l : FactBase) (h : IsPlaced s l.instances) (i : ℕ) (within : i < length l.instances.all.items) where
   -- where a name lies
   pub name_located : (x : Name) → IsLocated l.instances.all.items (spot l.instances.all.items i x) (place s (path_of l.instances.all.items i) x)
   name_located x = located l.instances h.tree s i (path_of l.instances.all.items i) (h.stands i within) within refl x.up x.what

@@ -6,7 +6,7 @@ use Rattle.language.specs.Core.{Owned, local, input, output, Name, Core}
 use Rattle.language.specs.Parts.{call_at, input_name, output_name}
 use Rattle.language.specs.Places.{Path, most_steps}
 use Rattle.meaning_facts.specs.declared.facts.Place.{Place as Spot}
-use Rattle.meaning_facts.specs.declared.instances.Given.{Given}
+use Rattle.meaning_facts.specs.declared.instances.InstanceBindings.{InstanceBindings}
 use Rattle.paths.specs.declared.steps.Step.{Step}
 use Rattle.meaning_facts.specs.declared.instances.Instances.{Instances}
 use Rattle.meaning_facts.specs.Keeping.{IsPlaced}
@@ -22,7 +22,7 @@ parent_within t h (suc i) l =
     let c = h.opens (parent_of t.all.items (suc i)) o.at o.key (suc i) o.opened in
     omega (arith, c.behind)
 
-module _ (s : Core) (t u : Instances) (p : ℕ) (x : Step) (g : Given) (o : IsOpen t p x g u) (h : IsTree t) where
+module _ (s : Core) (t u : Instances) (p : ℕ) (x : Step) (g : InstanceBindings) (o : IsOpen t p x g u) (h : IsTree t) where
   -- where names lie stays
   pub owner_stays : (i : ℕ) → i < length t.all.items → (what : Owned) → owner_spot u.all.items i what ≡ owner_spot t.all.items i what
   owner_stays i l (local n) = refl
@@ -53,10 +53,10 @@ module _ (s : Core) (t u : Instances) (p : ℕ) (x : Step) (g : Given) (o : IsOp
       (xs : (j : ℕ) → given_at g.inputs.items j p ≡ spot t.all.items p (input_name (call_at s x.offset) j))
       (ys : (j : ℕ) → given_at g.outputs.items j p ≡ spot t.all.items p (output_name (call_at s x.offset) j)) where
     inputs_come : inputs_of u.all.items (length t.all.items) ≡ g.inputs.items
-    inputs_come = ap inputs_in (comes t u p x g o) ∙ ap (λ (z : Given). z.inputs.items) o.given_is
+    inputs_come = ap inputs_in (comes t u p x g o) ∙ ap (λ (z : InstanceBindings). z.inputs.items) o.given_is
 
     outputs_come : outputs_of u.all.items (length t.all.items) ≡ g.outputs.items
-    outputs_come = ap outputs_in (comes t u p x g o) ∙ ap (λ (z : Given). z.outputs.items) o.given_is
+    outputs_come = ap outputs_in (comes t u p x g o) ∙ ap (λ (z : InstanceBindings). z.outputs.items) o.given_is
 
     stands_new : Stands s u.all.items (length t.all.items) ((x.offset, x.key) ∷ path_of t.all.items p)
     stands_new =

@@ -11,7 +11,7 @@ use Rattle.values.specs.declared.key.Key.TheVariants.{Number, Text}
 use Rattle.values.specs.Keys.{same_key}
 use Rattle.values.proofs.Keys.{same_key-eq, same_key-refl}
 use Rattle.language.specs.Places.{Path, most_steps}
-use Rattle.meaning_facts.specs.declared.instances.Given.{Given}
+use Rattle.meaning_facts.specs.declared.instances.InstanceBindings.{InstanceBindings}
 use Rattle.paths.specs.declared.steps.Step.{Step}
 use Rattle.meaning_facts.specs.declared.instances.Instance.{Instance}
 use Rattle.meaning_facts.specs.declared.instances.Instances.{Instances}
@@ -101,7 +101,7 @@ module _ (t u : Instances) (p at number : ℕ) where
       ap (λ m. named_in (get same_pair m (i, a)) bytes) n
       ∙ ap (λ (b : Bool). if b then Some number else child_at t i a (Text bytes)) (sym (and_false (nat_eq p i && nat_eq at a)))
 
-module _ (t u : Instances) (p : ℕ) (s : Step) (g : Given) (o : IsOpen t p s g u) where
+module _ (t u : Instances) (p : ℕ) (s : Step) (g : InstanceBindings) (o : IsOpen t p s g u) where
   pub count : length u.all.items ≡ length t.all.items + 1
   count = ap length o.all ∙ length-append t.all.items (o.made ∷ [])
 

@@ -1,4 +1,4 @@
--- What a fact changes in what is known: at its own place what was not there, and nothing elsewhere.
+-- The effect of adding a fact: it takes its own place if that is empty, and nothing else changes.
 use Rattle.std.specs.Prelude.{◌≡◌, ℕ, Bool, true, false, not, List, [], ◌∷◌, ◌++◌, Option, Some, None, is_some, if◌then◌else◌}
 use Rattle.std.specs.HashSet.{contains}
 use Rattle.values.specs.declared.value.Value.{Value}
@@ -11,12 +11,12 @@ use Rattle.meaning_facts.specs.declared.facts.Facts.{Facts}
 use Rattle.meaning_facts.specs.Keeping.{same_fault}
 use Rattle.meaning_facts.specs.Store.{same_place, value_at, line_at, writes_at, is_written_in}
 
--- what was there, or else what comes
+-- the present value, or otherwise the new one
 abbrev pub first_of : {X : Type 0} → Option X → X → Option X
 first_of (Some x) y = Some x
 first_of None y = Some y
 
--- a write behind the others, unless its writer has written the key
+-- appends a write, unless its writer has already written the key
 abbrev pub with_write : List Write → Write → List Write
 with_write ws w = if is_written_in ws w.key w.writer then ws else ws ++ w ∷ []
 
@@ -44,28 +44,28 @@ fault_after k (Is.Element p w) g = contains same_fault k.faults g
 fault_after k (Is.Line p t) g = contains same_fault k.faults g
 fault_after k (Is.Fault f) g = if same_fault f g then true else contains same_fault k.faults g
 
--- a fact was not known
+-- a fact that was not known
 abbrev pub is_new : Facts → Fact → Bool
 is_new k (Is.Value p v) = not (is_some (value_at k p))
 is_new k (Is.Element p w) = not (is_written_in (writes_at k p) w.key w.writer)
 is_new k (Is.Line p t) = not (is_some (line_at k p))
 is_new k (Is.Fault f) = not (contains same_fault k.faults f)
 
--- what is known with one fact more
+-- the facts with one more
 pub record IsAdded (k : Facts) (f : Fact) (l : Facts) : Type 0 where
   pub values : (q : Place) → value_at l q ≡ value_after k f q
   pub lines : (q : Place) → line_at l q ≡ line_after k f q
   pub writes : (q : Place) → writes_at l q ≡ writes_after k f q
   pub faults : (g : FaultFact) → contains same_fault l.faults g ≡ fault_after k f g
 
--- nothing is known
+-- no fact is known
 pub record IsNothing (k : Facts) : Type 0 where
   pub values : (q : Place) → value_at k q ≡ None
   pub lines : (q : Place) → line_at k q ≡ None
   pub writes : (q : Place) → writes_at k q ≡ []
   pub faults : (g : FaultFact) → contains same_fault k.faults g ≡ false
 
--- the same is known
+-- the same facts are known
 pub record HasSame (k l : Facts) : Type 0 where
   pub values : (q : Place) → value_at l q ≡ value_at k q
   pub lines : (q : Place) → line_at l q ≡ line_at k q

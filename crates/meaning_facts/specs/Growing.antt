@@ -1,4 +1,4 @@
--- What was learned keeps the facts that are known, with one fact more.
+-- The fact base keeps the known facts when one fact is added.
 use Rattle.std.specs.Prelude.{◌≡◌, ◌⊎◌, ℕ, ◌<◌, true, List, length, Some}
 use Rattle.values.specs.declared.key.Key.{Key}
 use Rattle.values.specs.declared.value.Scalar.{Scalar}
@@ -15,12 +15,12 @@ use Rattle.meaning_facts.specs.declared.facts.Facts.{Facts}
 use Rattle.meaning_facts.specs.declared.facts.Place.{Place as Spot}
 use Rattle.meaning_facts.specs.declared.facts.Write.{Write}
 use Rattle.meaning_facts.specs.declared.instances.Instance.{Instance}
-use Rattle.meaning_facts.specs.declared.learned.Learned.{Learned}
+use Rattle.meaning_facts.specs.declared.fact_base.FactBase.{FactBase}
 use Rattle.meaning_facts.specs.Keeping.{kept_of, place_view}
 use Rattle.meaning_facts.specs.Kinds.{kind_view}
 use Rattle.meaning_facts.specs.Store.{writes_at}
 
--- a fact of a program, as one of the script
+-- a fact of a program, as a fact of the script
 abbrev pub fact_view : List Instance → Fact → script.Fact
 fact_view ns (Is.Value p v) = script.value (place_view ns p) v
 fact_view ns (Is.Element a w) = script.element (place_view ns a) w.key (place_view ns w.writer) w.value
@@ -34,17 +34,17 @@ IsWithin ns (Is.Element a w) = (a.instance < length ns) × (w.writer.instance < 
 IsWithin ns (Is.Line w bytes) = w.instance < length ns
 IsWithin ns (Is.Fault f) = f.place.instance < length ns
 
--- what is known, with one fact more
+-- knowledge with one more fact
 abbrev pub With : Knowledge → script.Fact → Knowledge
 With K f g = K g ⊎ (g ≡ f)
 
--- a place has one value, and a writer writes one scalar under a key
+-- a place has one value, and a writer writes one scalar at a key
 pub record IsAgreed (K : Knowledge) : Type 0 where
   pub values : (p : Place) (v u : Value) → K (script.value p v) → K (script.value p u) → v ≡ u
   pub writes : (a : Place) (key : Key) (w : Place) (v u : Scalar) → K (script.element a key w v) → K (script.element a key w u) → v ≡ u
 
--- the facts that were learned are those that are known, and each writer is an instance
-pub record KeepsFacts (K : Knowledge) (l : Learned) : Type 0 where
+-- the fact base holds exactly the known facts, and each writer is in an instance
+pub record KeepsFacts (K : Knowledge) (l : FactBase) : Type 0 where
   pub value_so : (p : Place) (v : Value) → (kept_of l).value p ≡ Some v → K (script.value p v)
   pub value_all : (p : Place) (v : Value) → K (script.value p v) → (kept_of l).value p ≡ Some v
   pub write_so : (a : Place) (w : KeptWrite) → w ∈ (kept_of l).writes a → K (script.element a w.key w.writer w.value)
@@ -56,6 +56,6 @@ pub record KeepsFacts (K : Knowledge) (l : Learned) : Type 0 where
   pub faulted_so : (f : Fault) (at : ℕ) (p : Place) → (kept_of l).faulted f at p ≡ true → K (script.fault f at p)
   pub writers : (a : Spot) (w : Write) → w ∈ writes_at l.facts a → w.writer.instance < length l.instances.all.items
 
--- the same with other facts
-abbrev pub with_facts : Learned → Facts → Learned
+-- the fact base with other facts
+abbrev pub with_facts : FactBase → Facts → FactBase
 with_facts l k = record { facts = k; instances = l.instances; closed = l.closed }

@@ -1,4 +1,4 @@
--- What was learned, as what is kept of what is known: found by paths through the one instance at each.
+-- The fact base as kept knowledge, indexed by the paths of its instances.
 use Rattle.std.specs.Prelude.{◌≡◌, ℕ, ◌<◌, Bool, false, ◌&&◌, ◌||◌, List, [], ◌∷◌, length, map, nat_eq, nat_le, is_some, Option, Some, None}
 use Rattle.std.specs.HashSet.{contains}
 use denote.Enum.Bare.{sameb}
@@ -19,7 +19,7 @@ use Rattle.meaning_facts.specs.declared.facts.Place.{Place as Spot}
 use Rattle.meaning_facts.specs.declared.facts.Write.{Write}
 use Rattle.meaning_facts.specs.declared.instances.Instance.{Instance}
 use Rattle.meaning_facts.specs.declared.instances.Instances.{Instances}
-use Rattle.meaning_facts.specs.declared.learned.Learned.{Learned}
+use Rattle.meaning_facts.specs.declared.fact_base.FactBase.{FactBase}
 use Rattle.meaning_facts.specs.Paths.{path_of, at_path, IsTree}
 use Rattle.meaning_facts.specs.Sighted.{closed_at}
 use Rattle.meaning_facts.specs.Stands.{Stands}
@@ -30,7 +30,7 @@ use Rattle.meaning_facts.specs.Store.{value_at, line_at, writes_at, writes_under
 abbrev pub same_fault : FaultFact → FaultFact → Bool
 same_fault f g = sameb kinds.the_type f.kind g.kind && (nat_eq f.at g.at && same_place f.place g.place)
 
--- the kind of a fault; want of memory is none
+-- the kind of a fault; an allocation failure has none
 abbrev pub kind_of : Fault → Option FaultKind
 kind_of (operation Op.Overflow) = Some Kind.Overflow
 kind_of (operation Op.DivideByZero) = Some Kind.DivideByZero
@@ -60,29 +60,29 @@ has_some k (kind ∷ kinds) at p = has_kind k (Some kind) at p || has_some k kin
 abbrev pub some_fault_at : Facts → (at : ℕ) → Spot → Bool
 some_fault_at k at p = has_some k all_kinds at p
 
--- WHAT IS KEPT
+-- KEPT KNOWLEDGE
 
--- a place of a program, as one of the script
+-- a place of a program, as a place of the script
 abbrev pub place_view : List Instance → Spot → Place
 place_view ns p = (path_of ns p.instance, p.node)
 
 abbrev pub write_view : List Instance → Write → KeptWrite
 write_view ns w = record { key = w.key; writer = place_view ns w.writer; value = w.value }
 
--- what a loop's variable is
-abbrev pub turn_at : Learned → Spot → Option Scalar
+-- the value of a loop variable
+abbrev pub turn_at : FactBase → Spot → Option Scalar
 turn_at l p = variable_in (variables_of l.instances.all.items p.instance) p.node
 
--- what the instance has at a node, or x where there is none
+-- the entry of an instance at a node, or x without an instance
 abbrev pub in_instance : {X : Type 0} → X → (Spot → X) → Option ℕ → ℕ → X
 in_instance x f (Some i) n = f (record { instance = i; node = n })
 in_instance x f None n = x
 
--- what stands at a place of the script, or x where no instance stands at its path
+-- the entry at a place of the script, or x if no instance is at its path
 abbrev pub by_place : {X : Type 0} → Instances → X → (Spot → X) → Place → X
 by_place t x f p = in_instance x f (at_path t p.0) p.1
 
-abbrev pub kept_of : Learned → Kept
+abbrev pub kept_of : FactBase → Kept
 kept_of l = record {
   value = by_place l.instances None (value_at l.facts);
   turn = by_place l.instances None (turn_at l);
@@ -93,10 +93,10 @@ kept_of l = record {
   faulted = λ f at p. by_place l.instances false (fault_at l.facts f at) p;
 }
 
--- WHAT WAS TOLD
+-- FACTS DERIVED BEFORE
 
--- what was told before of what an instance sees
-abbrev pub past_of : Learned → ℕ → Past
+-- the facts derived before, as an instance sees them
+abbrev pub past_of : FactBase → ℕ → Past
 past_of l i = record {
   valued = λ x. is_there (value_at l.facts (spot l.instances.all.items i x));
   written = λ a k n. is_written_in (writes_at l.facts (spot l.instances.all.items i a)) k (record { instance = i; node = n });
@@ -106,14 +106,14 @@ past_of l i = record {
   deep = nat_le most_steps (length (path_of l.instances.all.items i));
 }
 
--- WHERE INSTANCES STAND
+-- PATHS OF INSTANCES
 
--- a place of a program is one of its instances, at the path of a place of the script
+-- a place of a program is in one of its instances, at the path of a place of the script
 pub record IsLocated (ns : List Instance) (p : Spot) (q : Place) : Type 0 where
   pub within : p.instance < length ns
   pub view_is : place_view ns p ≡ q
 
--- the instances are a tree, and each stands at its path
+-- the instances are a tree, and each is at its path
 pub record IsPlaced (s : Core) (t : Instances) : Type 0 where
   pub tree : IsTree t
   pub stands : (i : ℕ) → i < length t.all.items → Stands s t.all.items i (path_of t.all.items i)

@@ -1,4 +1,4 @@
--- Which fault of the meaning a kind of fault is.
+-- The fault of the meaning for each kind of fault.
 use Rattle.values.specs.declared.fault.OpFault.TheVariants as Op
 use Rattle.language.specs.Facts.{Fault, operation, no_element, element_twice, too_deep}
 use Rattle.paths.specs.declared.faults.FaultKind.{FaultKind}

@@ -1,4 +1,4 @@
--- The paths of a program's instances: each stands one step behind the one that opened it, and is found again by its steps.
+-- The paths of a program's instances: each is one step below its parent, and is found by its steps.
 use Rattle.std.specs.Prelude.{◌≡◌, ℕ, ◌<◌, ◌≤◌, ℤ, Bool, ◌&&◌, List, [], ◌∷◌, ◌++◌, length, map, nat_eq, Option, Some, None, slice_get, if◌then◌else◌}
 use Rattle.std.specs.HashMap.{HashMap, get}
 use Rattle.std.specs.Ordering.{int_eq}
@@ -9,7 +9,7 @@ use Rattle.values.specs.Keys.{same_key}
 use Rattle.language.specs.Places.{Path, most_steps}
 use Rattle.language.specs.Places.{Step as PathStep}
 use Rattle.paths.specs.declared.steps.Step.{Step}
-use Rattle.meaning_facts.specs.declared.instances.Given.{Given}
+use Rattle.meaning_facts.specs.declared.instances.InstanceBindings.{InstanceBindings}
 use Rattle.meaning_facts.specs.declared.instances.Instance.{Instance}
 use Rattle.meaning_facts.specs.declared.instances.Instances.{Instances}
 use Rattle.meaning_facts.specs.Store.{same_pair, parent_of, inputs_of, outputs_of, variables_of}
@@ -25,20 +25,20 @@ path_in None = []
 abbrev pub path_of : List Instance → ℕ → Path
 path_of ns i = path_in (slice_get ns i)
 
--- a step behind the same instance, at the same offset and under the same key
+-- equality of steps: the same parent, offset and key
 abbrev pub same_step : ℕ × ℕ × Key → ℕ × ℕ × Key → Bool
 same_step p q = (nat_eq p.0 q.0 && nat_eq p.1 q.1) && same_key p.2 q.2
 
--- the same, under a number
+-- equality of steps with number keys
 abbrev pub same_turn : ℕ × ℕ × ℤ → ℕ × ℕ × ℤ → Bool
 same_turn p q = (nat_eq p.0 q.0 && nat_eq p.1 q.1) && int_eq p.2 q.2
 
--- the instance that is opened under a text, among those at an offset
+-- the instance at a text key, among those at an offset
 abbrev pub named_in : {S : Type 0} → Option (HashMap (List ℕ) ℕ S) → List ℕ → Option ℕ
 named_in None bytes = None
 named_in (Some children) bytes = get bytes_eq children bytes
 
--- the instance that another one has opened under a step
+-- the child of an instance at a step
 abbrev pub child_at : Instances → ℕ → (at : ℕ) → Key → Option ℕ
 child_at t i at (Number z) = get same_turn t.opened (i, at, z)
 child_at t i at (Text bytes) = named_in (get same_pair t.named (i, at)) bytes
@@ -47,32 +47,32 @@ abbrev pub child_behind : Instances → Option ℕ → (at : ℕ) → Key → Op
 child_behind t (Some i) at k = child_at t i at k
 child_behind t None at k = None
 
--- the instance that is found at a path, step by step from the script's own
+-- the instance at a path, found step by step from the instance of the script
 abbrev pub at_path : Instances → Path → Option ℕ
 at_path t [] = Some 0
 at_path t (s ∷ path) = child_behind t (at_path t path) s.0 s.1
 
--- nothing is given
-pub record IsNone (g : Given) : Type 0 where
+-- empty bindings
+pub record IsNone (g : InstanceBindings) : Type 0 where
   pub inputs : g.inputs.items ≡ []
   pub outputs : g.outputs.items ≡ []
   pub variables : g.variables.items ≡ []
 
--- an instance stands one step behind another
+-- an instance is one step below another
 pub record IsChild (ns : List Instance) (i : ℕ) (at : ℕ) (k : Key) (j : ℕ) : Type 0 where
   pub within : j < length ns
   pub behind : i < j
   pub parent_is : parent_of ns j ≡ i
   pub path_is : path_of ns j ≡ (at, k) ∷ path_of ns i
 
--- which step it is that an instance was opened under
+-- the step at which an instance was opened
 pub record IsOpened (t : Instances) (j : ℕ) : Type 0 where
   pub at : ℕ
   pub key : Key
   pub opened : child_at t (parent_of t.all.items j) at key ≡ Some j
 
--- the script's own instance stands at no step, with nothing given; what opens an instance is what it stands behind, and each
--- other instance was opened
+-- the instance of the script has the empty path and empty bindings; an opened instance is a child of its parent, and
+-- each other instance was opened
 pub record IsTree (t : Instances) : Type 0 where
   pub rooted : 0 < length t.all.items
   pub root_path : path_of t.all.items 0 ≡ []
@@ -84,8 +84,8 @@ pub record IsTree (t : Instances) : Type 0 where
   pub opened : (j : ℕ) → 0 < j → j < length t.all.items → IsOpened t j
   pub short : (j : ℕ) → length (path_of t.all.items j) ≤ most_steps
 
--- an instance was opened under a step of another one: it stands behind all others, and is found under that step
-pub record IsOpen (t : Instances) (parent : ℕ) (s : Step) (g : Given) (u : Instances) : Type 0 where
+-- an instance was opened at a step of another one: it is appended to the list, and is found at that step
+pub record IsOpen (t : Instances) (parent : ℕ) (s : Step) (g : InstanceBindings) (u : Instances) : Type 0 where
   pub made : Instance
   pub all : u.all.items ≡ t.all.items ++ made ∷ []
   pub parent_is : made.parent ≡ parent

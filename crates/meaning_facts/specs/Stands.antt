@@ -1,4 +1,5 @@
--- At which path an instance of a program stands: the script's own at none, each other one step behind the one that opened it, with inputs and outputs that lie where the names of its call do.
+-- The path of an instance of a program: that of the script is empty, and each other is one step below its parent.
+-- Inputs and outputs of an instance are at the places of the names of its call.
 use Rattle.std.specs.Prelude.{◌≡◌, ℕ, List, [], ◌∷◌}
 use Rattle.values.specs.declared.key.Key.{Key}
 use Rattle.language.specs.Core.{Core}
@@ -15,7 +16,7 @@ pub data Stands (s : Core) (ns : List Instance) : ℕ → Path → Type 0 where
       → ((j : ℕ) → given_at (outputs_of ns i) j (parent_of ns i) ≡ spot ns (parent_of ns i) (output_name (call_at s at) j))
       → Stands s ns i ((at, k) ∷ path)
 
--- a place of a program is one of the script
+-- a place of a program is a place of the script
 pub record IsPlace (s : Core) (ns : List Instance) (p : Spot) (q : Place) : Type 0 where
   pub stands : Stands s ns p.instance q.0
   pub node_is : p.node ≡ q.1

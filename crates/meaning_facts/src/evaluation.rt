@@ -1,5 +1,6 @@
-//! Expressions and cells under what is known (Swift/T Guide, on expressions): an expression is worked out once all its parts
-//! are known, and the first fault in reading order is its fault.
+//! Evaluation of expressions and cells over the known facts (Swift/T Guide, on expressions).
+//!
+//! An expression evaluates once all its parts are known. The first fault in reading order is its fault.
 ghost use Rattle.std.specs.Prelude.{◌≡◌, Some, false, IfOk, option_map};
 ghost use Rattle.values.specs.Formats.{pieces};
 ghost use Rattle.values.specs.Keys.{key_seen};
@@ -10,40 +11,40 @@ ghost use Rattle.flow.specs.View.{expr_view, exprs_view, form_view, name_view, o
 ghost use Rattle.meaning_steps.specs.Environment.{element_come, many_come, outcome, worked, worked_all};
 ghost use Rattle.meaning_facts.specs.Sighted.{outcome_view, sight_of};
 
-use crate::facts::{Place, Written, kind_of_operation};
-use crate::learned::Learned;
-use flow::cell::Form;
+use crate::fact_base::FactBase;
+use crate::facts::{KeyWrites, Place, kind_of_operation};
+use flow::cell::CellForm;
 use flow::expression::{Expr, Operation};
 use flow::name::Name;
 use paths::FaultKind;
 use std::alloc::{AllocError, Allocator, Global};
 use values::fault::OpFault;
-use values::format::{Format, FormatFault};
+use values::format::{Format, FormatError};
 use values::key::KeyRef;
 use values::op::Op;
 use values::text::Text;
 use values::value::Value;
 
 /// The value or the fault of a cell.
-pub type Outcome = Result<Value, FaultKind>;
+pub type CellResult = Result<Value, FaultKind>;
 
-impl Learned {
-    /// The value or the fault that a cell has, where it is known.
+impl FactBase {
+    /// Returns the value or the fault of a cell, or `None` if it is not known.
     pub fn outcome<A: Allocator>(
         &self,
         alloc: Global,
         instance: usize,
-        form: &Form<A>,
-    ) -> Result<Option<Outcome>, AllocError>
+        form: &CellForm<A>,
+    ) -> Result<Option<CellResult>, AllocError>
         ensures { IfOk result (λ r. outcome_view r ≡ outcome (sight_of self.now instance) (form_view form.now)) }
     {
         match form {
-            Form::Compute(expr) => match self.value_under(alloc, instance, expr)? {
+            CellForm::Compute(expr) => match self.value_under(alloc, instance, expr)? {
                 Some(Ok(value)) => Ok(Some(Ok(value))),
                 Some(Err(fault)) => Ok(Some(Err(kind_of_operation(fault)?))),
                 None => Ok(None),
             },
-            Form::Read { array, index } => {
+            CellForm::Read { array, index } => {
                 let index = Place {
                     instance,
                     node: *index,
@@ -59,25 +60,26 @@ impl Learned {
         }
     }
 
-    /// The element of an array: what was written once, or none where the array is closed and nothing was.
+    /// Returns the element of an array at a key. This is the value that was written once, or the fault `NoElement` if
+    /// the array is closed and the key was never written.
     fn element(
         &self,
         instance: usize,
         array: Name,
         key: KeyRef<'_>,
-    ) -> Result<Option<Outcome>, AllocError>
+    ) -> Result<Option<CellResult>, AllocError>
         ensures { IfOk result (λ r. outcome_view r ≡ element_come ((sight_of self.now instance).writes (name_view array) (key_seen key.entry))
             ((sight_of self.now instance).closed (name_view array))) }
     {
         let place = self.instances.place(instance, array);
         match self.facts.written(place, key) {
-            Written::Once(scalar) => Ok(Some(Ok(Value::One(scalar.share()?)))),
-            Written::Never if self.is_closed(place) => Ok(Some(Err(FaultKind::NoElement))),
+            KeyWrites::Once(scalar) => Ok(Some(Ok(Value::One(scalar.share()?)))),
+            KeyWrites::Never if self.is_closed(place) => Ok(Some(Err(FaultKind::NoElement))),
             _ => Ok(None),
         }
     }
 
-    /// The value or the fault of an expression, where all its parts are known.
+    /// Returns the value or the fault of an expression, or `None` unless all its parts are known.
     #[cycle(value)]
     fn value_under<A: Allocator>(
         &self,
@@ -102,13 +104,13 @@ impl Learned {
             Expr::Operation(operation, operands) => match self.operands(
                 alloc, instance, operands,
             )? {
-                Some(values) => operate(alloc, operation, values),
+                Some(values) => apply_operation(alloc, operation, values),
                 None => Ok(None),
             },
         }
     }
 
-    /// All the elements of an array, where it is closed.
+    /// Returns all elements of an array, or `None` if it is not closed.
     fn whole(
         &self,
         alloc: Global,
@@ -125,7 +127,7 @@ impl Learned {
         Ok(Some(Ok(Value::Many(self.facts.elements(alloc, place)?))))
     }
 
-    /// The values and faults of operands, where all are known.
+    /// Returns the values and faults of operands, or `None` unless all are known.
     #[cycle(value)]
     #[tactic(auto, using(crate::proofs::Fronts::front_more, crate::proofs::Fronts::front_all, crate::proofs::Fronts::front_none))]
     fn operands<A: Allocator>(
@@ -147,8 +149,8 @@ impl Learned {
     }
 }
 
-/// What an operation gives.
-fn operate<A: Allocator>(
+/// Applies an operation to its operands.
+fn apply_operation<A: Allocator>(
     alloc: Global,
     operation: &Operation<A>,
     operands: Vec<Result<Value, OpFault>>,
@@ -156,30 +158,34 @@ fn operate<A: Allocator>(
     ensures { IfOk result (λ r. r ≡ Some (evaluated (operation_view operation.now) operands.items)) }
 {
     match operation {
-        Operation::Sum(signs) => give(alloc, &Op::Sum(signs.as_slice()), operands),
-        Operation::Product(factors) => give(alloc, &Op::Product(factors.as_slice()), operands),
-        Operation::Compare(order) => give(alloc, &Op::Compare(*order), operands),
-        Operation::Equal => give(alloc, &Op::Equal, operands),
-        Operation::Unequal => give(alloc, &Op::Unequal, operands),
-        Operation::And => give(alloc, &Op::And, operands),
-        Operation::Or => give(alloc, &Op::Or, operands),
-        Operation::Not => give(alloc, &Op::Not, operands),
-        Operation::Negate => give(alloc, &Op::Negate, operands),
-        Operation::Join => give(alloc, &Op::Join, operands),
-        Operation::FromInt => give(alloc, &Op::FromInt, operands),
-        Operation::ToInt => give(alloc, &Op::ToInt, operands),
-        Operation::Size => give(alloc, &Op::Size, operands),
+        Operation::Sum(signs) => apply_operator(alloc, &Op::Sum(signs.as_slice()), operands),
+        Operation::Product(factors) => apply_operator(
+            alloc,
+            &Op::Product(factors.as_slice()),
+            operands,
+        ),
+        Operation::Compare(order) => apply_operator(alloc, &Op::Compare(*order), operands),
+        Operation::Equal => apply_operator(alloc, &Op::Equal, operands),
+        Operation::Unequal => apply_operator(alloc, &Op::Unequal, operands),
+        Operation::And => apply_operator(alloc, &Op::And, operands),
+        Operation::Or => apply_operator(alloc, &Op::Or, operands),
+        Operation::Not => apply_operator(alloc, &Op::Not, operands),
+        Operation::Negate => apply_operator(alloc, &Op::Negate, operands),
+        Operation::Join => apply_operator(alloc, &Op::Join, operands),
+        Operation::FromInt => apply_operator(alloc, &Op::FromInt, operands),
+        Operation::ToInt => apply_operator(alloc, &Op::ToInt, operands),
+        Operation::Size => apply_operator(alloc, &Op::Size, operands),
         Operation::Printf(bytes) => {
             let format = format_of(alloc, bytes.as_slice())?;
-            give(alloc, &Op::Printf(&format), operands)
+            apply_operator(alloc, &Op::Printf(&format), operands)
         }
-        Operation::Assert => give(alloc, &Op::Assert, operands),
-        Operation::Literal => give(alloc, &Op::Literal, operands),
+        Operation::Assert => apply_operator(alloc, &Op::Assert, operands),
+        Operation::Literal => apply_operator(alloc, &Op::Literal, operands),
     }
 }
 
-/// What an operator gives.
-fn give(
+/// Applies an operator to its operands. `OpFault::Memory` becomes `AllocError`.
+fn apply_operator(
     alloc: Global,
     op: &Op<'_>,
     operands: Vec<Result<Value, OpFault>>,
@@ -197,14 +203,14 @@ fn give(
     }
 }
 
-/// The format that a text is; of a text that is none, the format that prints nothing.
+/// Parses a format. A text that is not a format becomes the format that prints nothing.
 fn format_of(alloc: Global, bytes: &[u8]) -> Result<Format, AllocError>
     ensures { IfOk result (λ format. format ≡ pieces_or_none (pieces false bytes.now)) }
 {
     match Format::read(alloc, bytes) {
         Ok(format) => Ok(format),
-        Err(FormatFault::Memory) => Err(AllocError),
-        Err(FormatFault::Unreadable) => match Format::read(alloc, &[]) {
+        Err(FormatError::Memory) => Err(AllocError),
+        Err(FormatError::Unreadable) => match Format::read(alloc, &[]) {
             Ok(format) => Ok(format),
             Err(_) => Err(AllocError),
         },

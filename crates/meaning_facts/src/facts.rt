@@ -1,4 +1,4 @@
-//! What can be known of a script's run.
+//! Facts of a script's run, in maps by place.
 ghost use Rattle.std.specs.Prelude.{◌≡◌, ◌↔◌, [], option_copied, IfOk, IfErr, OnOk, IsSome, IsTrue};
 ghost use Rattle.std.specs.HashMap.{get, IsUnique};
 ghost use Rattle.meaning_steps.specs.Kept.{several_in};
@@ -21,7 +21,7 @@ use values::map::{Element, Map, place_of};
 use values::text::Text;
 use values::value::{Scalar, Value};
 
-/// A place: a block instance, by its number, with a node.
+/// A place: the number of a block instance, with a node.
 #[derive(Clone, Copy, PartialEq, Eq, Hash, Debug)]
 pub struct Place {
     pub instance: usize,
@@ -36,7 +36,7 @@ pub struct FaultFact {
     pub place: Place,
 }
 
-/// A write of an array's key, with its writer.
+/// A write of a key of an array, with its writer.
 #[derive(Drop)]
 pub struct Write {
     pub key: Key,
@@ -44,7 +44,7 @@ pub struct Write {
     pub value: Scalar,
 }
 
-/// A fact: the value of a cell or of a scalar variable; a write of an array's key; a line, with its writer; a fault.
+/// A fact: a value of a cell or a scalar variable, a write of an array key, a line with its writer, or a fault.
 #[derive(Drop)]
 pub enum Fact {
     Value(Place, Value),
@@ -53,7 +53,7 @@ pub enum Fact {
     Fault(FaultFact),
 }
 
-/// Facts, to be found by their places: by the number of an instance and a node.
+/// A set of facts, indexed by place: the number of an instance with a node.
 #[derive(Drop)]
 pub struct Facts {
     values: HashMap<(usize, u32), Value>,
@@ -62,9 +62,9 @@ pub struct Facts {
     pub faults: HashSet<FaultFact>,
 }
 
-/// What is written under a key.
+/// The writes of one array key: none, exactly one, or at least two.
 #[derive(Drop)]
-pub enum Written<'a> {
+pub enum KeyWrites<'a> {
     Never,
     Once(&'a Scalar),
     Twice,
@@ -84,11 +84,11 @@ impl Place {
     }
 }
 
-/// The kind of a fault of an operator, a conversion or a range.
+/// Converts the fault of an operator, a conversion or a range into its kind.
 ///
 /// # Errors
 ///
-/// `AllocError` for want of memory, which is no fault of a script.
+/// Returns `AllocError` for `OpFault::Memory`, which is not a fault of the script.
 pub fn kind_of_operation(fault: OpFault) -> Result<FaultKind, AllocError>
     ensures kind { IfOk result (λ kind. kind_view kind ≡ operation fault) }
     ensures memory { IfErr result (λ _. fault ≡ OpFault.Memory) }
@@ -97,7 +97,7 @@ pub fn kind_of_operation(fault: OpFault) -> Result<FaultKind, AllocError>
 }
 
 impl Facts {
-    /// Nothing.
+    /// Creates an empty set of facts.
     pub fn new(alloc: Global) -> Facts
         ensures { IsNothing result }
     {
@@ -109,21 +109,21 @@ impl Facts {
         }
     }
 
-    /// The value at a place.
+    /// Returns the value at a place, if it is known.
     pub fn value(&self, place: Place) -> Option<&Value>
         ensures { option_copied result ≡ value_at self.now place }
     {
         self.values.get(&place.key())
     }
 
-    /// The line of a statement.
+    /// Returns the line of a statement, if it is known.
     pub fn line(&self, writer: Place) -> Option<&Text>
         ensures { option_copied result ≡ line_at self.now writer }
     {
         self.lines.get(&writer.key())
     }
 
-    /// The lines, in no order, one of each writer.
+    /// Returns all lines, one for each writer, in no particular order.
     pub fn all_lines(&self, alloc: Global) -> Result<Vec<Text>, AllocError>
         ensures lines { IfOk result (λ lines. lines.items ≡ all_lines self.now) }
         ensures once { IsUnique same_pair self.now.lines }
@@ -135,7 +135,7 @@ impl Facts {
         Ok(lines)
     }
 
-    /// The writes of an array.
+    /// Returns the writes of an array.
     pub fn writes_of(&self, array: Place) -> &[Write]
         ensures { result.now ≡ writes_at self.now array }
     {
@@ -145,17 +145,17 @@ impl Facts {
         }
     }
 
-    /// What is written under a key of an array.
-    pub fn written(&self, array: Place, key: KeyRef<'_>) -> Written<'_>
+    /// Returns the writes of a key of an array.
+    pub fn written(&self, array: Place, key: KeyRef<'_>) -> KeyWrites<'_>
         ensures { WrittenAs result (writes_under (writes_at self.now array) (key_seen key.entry)) }
     {
         match self.writes.get(&array.key()) {
             Some(writes) => writes.written(key),
-            None => Written::Never,
+            None => KeyWrites::Never,
         }
     }
 
-    /// Whether a statement has written a key of an array.
+    /// Returns true if a statement has written a key of an array.
     pub fn is_written_by(&self, array: Place, key: KeyRef<'_>, writer: Place) -> bool
         ensures { result ≡ is_written_in (writes_at self.now array) (key_seen key.entry) writer }
     {
@@ -165,24 +165,24 @@ impl Facts {
         }
     }
 
-    /// Whether a key of an array has two writers.
+    /// Returns true if a key of an array has two writers.
     pub fn is_written_twice(&self, array: Place, key: KeyRef<'_>) -> bool
         ensures { result ≡ several_in (writes_under (writes_at self.now array) (key_seen key.entry)) }
     {
         match self.written(array, key) {
-            Written::Twice => true,
+            KeyWrites::Twice => true,
             _ => false,
         }
     }
 
-    /// Whether a fault of the statement at an offset is known at a place.
+    /// Returns true if a fault of the statement at an offset is known at a place.
     pub fn has_fault(&self, at: usize, place: Place) -> bool
         ensures { result ≡ some_fault_at self.now at place }
     {
         self.has_one_of(&FaultKind::ALL, at, place)
     }
 
-    /// The same of one of these kinds.
+    /// Returns true if a fault of one of these kinds is known at a place.
     fn has_one_of(&self, kinds: &[FaultKind], at: usize, place: Place) -> bool
         ensures { result ≡ has_some self.now kinds.now at place }
     {
@@ -195,7 +195,7 @@ impl Facts {
         false
     }
 
-    /// Whether no key of an array has two writers.
+    /// Returns true if no key of an array has two writers.
     pub fn has_one_writer(&self, array: Place) -> bool
         ensures { result ≡ one_writer_in (writes_at self.now array) }
     {
@@ -205,14 +205,14 @@ impl Facts {
         }
     }
 
-    /// The elements of an array of which no key has two writers.
+    /// Returns the elements of an array, by rising key. If a key has two writers, its first write counts.
     pub fn elements(&self, alloc: Global, array: Place) -> Result<Map, AllocError>
         ensures { IfOk result (λ map. map ≡ elements_from [] (writes_at self.now array)) }
     {
         elements_in(alloc, self.writes_of(array))
     }
 
-    /// Adds a fact. Whether it was not known.
+    /// Adds a fact. Returns true if the fact was not known.
     pub fn add(&mut self, alloc: Global, fact: Fact) -> Result<bool, AllocError>
         ensures added { OnOk result (IsAdded self.old fact self.new) }
         ensures new { IfOk result (λ new. new ≡ is_new self.old fact) }
@@ -265,7 +265,7 @@ impl Facts {
         self.put_write(array, write)
     }
 
-    /// Makes a list for the writes of an array where there is none.
+    /// Creates an empty list of writes for an array, unless it has one.
     fn make_list(&mut self, alloc: Global, array: Place) -> Result<(), AllocError>
         ensures same { OnOk result (HasSame self.old self.new) }
         ensures there { OnOk result (IsSome (get same_pair self.new.writes (array.instance, array.node))) }
@@ -276,7 +276,7 @@ impl Facts {
         Ok(())
     }
 
-    /// Puts a write behind the others of an array that has a list for them.
+    /// Appends a write to the list of an array, which must exist. Returns true if the write was not known.
     fn put_write(&mut self, array: Place, write: Write) -> Result<bool, AllocError>
         requires { IsSome (get same_pair self.old.writes (array.instance, array.node)) }
         ensures added { OnOk result (IsAdded self.old (Fact.Element array write) self.new) }
@@ -288,7 +288,7 @@ impl Facts {
         }
     }
 
-    /// Whether no key of any array has two writers.
+    /// Returns true if no key of any array has two writers.
     pub fn is_clean(&self) -> bool
         ensures { IsTrue result ↔ ((a : Place) → IsTrue (one_writer_in (writes_at self.now a))) }
     {
@@ -301,7 +301,7 @@ impl Facts {
     }
 }
 
-/// The elements of these writes, by rising key.
+/// Returns the elements of these writes, by rising key. The first write of a key counts.
 fn elements_in(alloc: Global, writes: &[Write]) -> Result<Map, AllocError>
     ensures { IfOk result (λ map. map ≡ elements_from [] writes.now) }
 {
@@ -312,7 +312,7 @@ fn elements_in(alloc: Global, writes: &[Write]) -> Result<Map, AllocError>
     Map::new(alloc, elements)
 }
 
-/// Puts an element at its place, unless its key is there.
+/// Inserts an element in order, unless its key is present.
 #[tactic(auto, using(crate::proofs::Stored::put_kept, crate::proofs::Stored::put_new, crate::proofs::Stored::put_rising))]
 fn put_element(elements: &mut Vec<Element>, write: &Write) -> Result<(), AllocError>
     requires { IsTrue (rising elements.old.items) }

@@ -1,4 +1,4 @@
-//! Block instances: their paths, and where names lie.
+//! Block instances: their tree, their paths, and the resolution of names to places.
 ghost use Rattle.std.specs.Prelude.{◌≡◌, ◌&&◌, ◌<◌, ◌∷◌, ℕ, List, None, Some, if◌then◌else◌, cond, length, map, nat_le, option_copied, IfOk, OnOk};
 ghost use Rattle.std.specs.HashMap.{get};
 ghost use Rattle.std.specs.Str.{bytes_eq};
@@ -11,7 +11,7 @@ ghost use Rattle.meaning_facts.specs.Stands.{Stands, IsPlace};
 ghost use Rattle.meaning_facts.specs.Store.{same_pair, spot, spots, outward, parent_of, owner_spot, given_at, variable_in, variables_of, inputs_of, outputs_of};
 
 use crate::facts::Place;
-use flow::name::{Name, Owned};
+use flow::name::{Name, NameBinding};
 use paths::Step;
 use std::alloc::{AllocError, Global};
 use std::collections::HashMap;
@@ -19,47 +19,47 @@ use values::key::Key;
 use values::text::Text;
 use values::value::Scalar;
 
-/// A variable of a loop, by its node, and what it is in a turn.
+/// A loop variable, by its node, and its value in one turn.
 #[derive(Drop)]
-pub struct Variable {
+pub struct LoopVariable {
     pub node: u32,
     pub value: Scalar,
 }
 
-/// What opens an instance beside its step: where the inputs and outputs of a call lie, and what the variables of a loop are.
+/// The bindings of an instance: the places of the inputs and outputs of a call, and the values of loop variables.
 #[derive(Drop)]
-pub struct Given {
+pub struct InstanceBindings {
     pub inputs: Vec<Place>,
     pub outputs: Vec<Place>,
-    pub variables: Vec<Variable>,
+    pub variables: Vec<LoopVariable>,
 }
 
-/// An instance: the one that opened it, its path with the innermost step first, and what it was given.
+/// A block instance: the number of its parent, its path with the innermost step first, and its bindings.
 #[derive(Drop)]
 pub struct Instance {
     pub parent: usize,
     pub path: Vec<Step>,
-    pub given: Given,
+    pub given: InstanceBindings,
 }
 
-/// The block instances of a script, the script's own first. Each stands behind the one that opened it.
+/// The tree of block instances of a script, root first. Each instance comes after its parent.
 #[derive(Drop)]
 pub struct Instances {
     pub all: Vec<Instance>,
-    // By the one that opened it and its step: those behind numbers, and those behind texts.
+    // Children by parent and step: those with a number as key, and those with a text.
     opened: HashMap<(usize, usize, i64), usize>,
     named: HashMap<(usize, usize), HashMap<Text, usize>>,
 }
 
-/// The most steps of a path.
+/// Maximum number of steps of a path.
 pub const MOST_STEPS: usize = 2048;
 
-impl Given {
-    /// Nothing.
-    pub fn none(alloc: Global) -> Given
+impl InstanceBindings {
+    /// Creates bindings that bind nothing.
+    pub fn none(alloc: Global) -> InstanceBindings
         ensures { IsNone result }
     {
-        Given {
+        InstanceBindings {
             inputs: Vec::new(alloc),
             outputs: Vec::new(alloc),
             variables: Vec::new(alloc),
@@ -68,7 +68,7 @@ impl Given {
 }
 
 impl Instances {
-    /// The script's own instance.
+    /// Creates the tree with only the instance of the script.
     #[tactic(auto, using(crate::proofs::Tree::one_is_tree))]
     pub fn new(alloc: Global) -> Result<Instances, AllocError>
         ensures tree { IfOk result IsTree }
@@ -78,7 +78,7 @@ impl Instances {
         all.push(Instance {
             parent: 0,
             path: Vec::new(alloc),
-            given: Given::none(alloc),
+            given: InstanceBindings::none(alloc),
         })?;
         Ok(Instances {
             all,
@@ -87,14 +87,14 @@ impl Instances {
         })
     }
 
-    /// Whether no further step fits behind the path.
+    /// Returns true if the path of an instance has the maximum length.
     pub fn is_deep(&self, instance: usize) -> bool
         ensures { result ≡ nat_le most_steps (length (path_of self.now.all.items instance)) }
     {
         self.path(instance).len() >= MOST_STEPS
     }
 
-    /// The path of an instance, the innermost step first.
+    /// Returns the path of an instance, innermost step first.
     pub fn path(&self, instance: usize) -> &[Step]
         ensures { map step_view result.now ≡ path_of self.now.all.items instance }
     {
@@ -104,7 +104,7 @@ impl Instances {
         }
     }
 
-    /// The instance that another one has opened under a step.
+    /// Returns the child of an instance at a step, if it is open.
     pub fn child(&self, parent: usize, at: usize, key: &Key) -> Option<usize>
         ensures { result ≡ child_at self.now parent at key.now }
     {
@@ -117,13 +117,13 @@ impl Instances {
         }
     }
 
-    /// Opens an instance. Its number.
+    /// Opens a child instance, and returns its number.
     pub fn open(
         &mut self,
         alloc: Global,
         parent: usize,
         step: Step,
-        given: Given,
+        given: InstanceBindings,
     ) -> Result<usize, AllocError>
         ensures number { IfOk result (λ number. number ≡ length self.old.all.items) }
         ensures opened { OnOk result (IsOpen self.old parent step given self.new) }
@@ -141,7 +141,7 @@ impl Instances {
         Ok(number)
     }
 
-    /// Notes the instance that another one opens under a step.
+    /// Records a child instance at its step.
     fn note(
         &mut self,
         alloc: Global,
@@ -169,7 +169,7 @@ impl Instances {
         }
     }
 
-    /// What the variable of a loop is in the turn that an instance is.
+    /// Returns the value of a loop variable at a place, if the instance is a turn of its loop.
     pub fn variable(&self, place: Place) -> Option<&Scalar>
         ensures { option_copied result ≡ variable_in (variables_of self.now.all.items place.instance) place.node }
     {
@@ -179,28 +179,29 @@ impl Instances {
         }
     }
 
-    /// The place that a name denotes in an instance: out of as many instances, and there the owner's node; for an input or an
-    /// output of a function, the place of what the calling block gave for it.
+    /// Returns the place that a name denotes in an instance. The name's level selects an ancestor of the instance,
+    /// where the owner's node is the place. An input or an output of a function resolves to the place that the caller
+    /// bound.
     pub fn place(&self, instance: usize, name: Name) -> Place
         ensures spot { result ≡ spot self.now.all.items instance (name_view name) }
         ensures lies { (s : Core) (path : Path) → Stands s self.now.all.items instance path
             → IsPlace s self.now.all.items result (place s path (name_view name)) }
     {
-        self.owner_place(self.outward(instance, name.up), name.what)
+        self.owner_place(self.ancestor(instance, name.up), name.what)
     }
 
-    /// The instance that is so many further out.
+    /// Returns the ancestor `up` levels above an instance.
     #[tactic(auto, using(crate::proofs::Stored::outward_step))]
-    fn outward(&self, instance: usize, up: usize) -> usize
+    fn ancestor(&self, instance: usize, up: usize) -> usize
         ensures { result ≡ outward self.now.all.items up instance }
     {
         if up == 0 {
             return instance;
         }
-        self.outward(self.parent(instance), up - 1)
+        self.ancestor(self.parent(instance), up - 1)
     }
 
-    /// The instance that opened one; the script's own opened itself.
+    /// Returns the parent of an instance. The instance of the script is its own parent.
     fn parent(&self, instance: usize) -> usize
         ensures { result ≡ parent_of self.now.all.items instance }
     {
@@ -210,18 +211,18 @@ impl Instances {
         }
     }
 
-    /// The place of what an instance owns.
-    fn owner_place(&self, instance: usize, what: Owned) -> Place
+    /// Returns the place of a variable, an input or an output that an instance owns.
+    fn owner_place(&self, instance: usize, what: NameBinding) -> Place
         ensures { result ≡ owner_spot self.now.all.items instance (owned_view what) }
     {
         match what {
-            Owned::Local(node) => Place { instance, node },
-            Owned::Input(i) => self.given_place(self.inputs(instance), i, instance),
-            Owned::Output(i) => self.given_place(self.outputs(instance), i, instance),
+            NameBinding::Local(node) => Place { instance, node },
+            NameBinding::Input(i) => self.given_place(self.inputs(instance), i, instance),
+            NameBinding::Output(i) => self.given_place(self.outputs(instance), i, instance),
         }
     }
 
-    /// One of the places that an instance was given.
+    /// Returns one of the bound places of an instance, or node 0 of its parent if there is none.
     fn given_place(&self, places: &[Place], i: usize, instance: usize) -> Place
         ensures { result ≡ given_at places.now i (parent_of self.now.all.items instance) }
     {
@@ -252,7 +253,7 @@ impl Instances {
         }
     }
 
-    /// The places that names denote in an instance.
+    /// Returns the places that names denote in an instance.
     pub fn places(
         &self,
         alloc: Global,
@@ -269,7 +270,7 @@ impl Instances {
     }
 }
 
-/// Notes the instance that is opened under a text.
+/// Records the child instance at a text key.
 fn note_named(
     named: &mut HashMap<(usize, usize), HashMap<Text, usize>>,
     alloc: Global,
@@ -286,7 +287,7 @@ fn note_named(
     Ok(())
 }
 
-/// Takes out the instances that are opened under texts at an offset of another one.
+/// Removes and returns the children at an offset whose keys are texts.
 fn take_named(
     named: &mut HashMap<(usize, usize), HashMap<Text, usize>>,
     alloc: Global,
@@ -301,8 +302,8 @@ fn take_named(
     }
 }
 
-/// What the variable of a node is among these.
-fn scalar_of(variables: &[Variable], node: u32) -> Option<&Scalar>
+/// Returns the value of the variable with this node, if it is in the list.
+fn scalar_of(variables: &[LoopVariable], node: u32) -> Option<&Scalar>
     ensures { option_copied result ≡ variable_in variables.now node }
 {
     for variable in variables {
@@ -313,7 +314,7 @@ fn scalar_of(variables: &[Variable], node: u32) -> Option<&Scalar>
     None
 }
 
-/// A path with a further step.
+/// Returns a path extended by one innermost step.
 fn path_behind(alloc: Global, path: &[Step], step: Step) -> Result<Vec<Step>, AllocError>
     ensures { IfOk result (λ longer. map step_view longer.items ≡ step_view step ∷ map step_view path.now) }
 {

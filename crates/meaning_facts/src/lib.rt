@@ -1,10 +1,11 @@
-//! What is known of a script by its places: facts, block instances and closed arrays, and what expressions come to by them.
+//! The fact base of the meaning of a script: facts, block instances and closed arrays by place, and the evaluation of
+//! expressions over them.
 #![tactic(auto)]
 
 pub mod evaluation;
+pub mod fact_base;
 pub mod facts;
-pub mod firsts;
+pub mod first_writes;
 pub mod instances;
 pub mod laws;
-pub mod learned;
 pub mod writes;

@@ -1,21 +1,21 @@
-//! The writes of an array, to be found by their keys.
+//! Writes of an array, indexed by key.
 ghost use Rattle.std.specs.Prelude.{◌≡◌, ◌++◌, ◌∷◌, ◌&&◌, [], not, IfOk, OnOk};
 ghost use Rattle.meaning_facts.specs.Added.{with_write};
 ghost use Rattle.meaning_facts.specs.Indexed.{again, one_writer_in};
 ghost use Rattle.meaning_facts.specs.Store.{is_written_in, WrittenAs, writes_under};
 ghost use Rattle.values.specs.Keys.{key_seen};
 
-use crate::facts::{Place, Write, Written};
-use crate::firsts::{First, Firsts};
+use crate::facts::{KeyWrites, Place, Write};
+use crate::first_writes::{FirstWrite, FirstWrites};
 use std::alloc::{AllocError, Global};
 use std::marker::Model;
 use values::key::KeyRef;
 
-/// The writes of an array, in the order in which they came. The first of each key is found by it.
+/// The writes of an array, in the order in which they were added. An index gives the first write of each key.
 #[derive(Drop)]
 pub struct Writes {
     all: Vec<Write>,
-    firsts: Firsts,
+    firsts: FirstWrites,
     is_apart: bool,
 }
 
@@ -32,13 +32,13 @@ impl Model for Writes {
 }
 
 impl Writes {
-    /// None.
+    /// Creates an empty list of writes.
     pub fn new(alloc: Global) -> Writes
         ensures { result ≡ [] }
     {
         Writes {
             all: Vec::new(alloc),
-            firsts: Firsts::new(alloc),
+            firsts: FirstWrites::new(alloc),
             is_apart: true,
         }
     }
@@ -49,18 +49,18 @@ impl Writes {
         self.all.as_slice()
     }
 
-    /// What is written under a key.
-    pub fn written(&self, key: KeyRef<'_>) -> Written<'_>
+    /// Returns the writes of a key.
+    pub fn written(&self, key: KeyRef<'_>) -> KeyWrites<'_>
         ensures { WrittenAs result (writes_under self.now (key_seen key.entry)) }
     {
         match self.firsts.get(key) {
-            None => Written::Never,
-            Some(first) if first.is_several => Written::Twice,
-            Some(first) => Written::Once(&self.all[first.at].value),
+            None => KeyWrites::Never,
+            Some(first) if first.is_several => KeyWrites::Twice,
+            Some(first) => KeyWrites::Once(&self.all[first.at].value),
         }
     }
 
-    /// Whether a statement has written a key.
+    /// Returns true if a statement has written a key.
     pub fn is_written_by(&self, key: KeyRef<'_>, writer: Place) -> bool
         ensures { result ≡ is_written_in self.now (key_seen key.entry) writer }
     {
@@ -71,14 +71,14 @@ impl Writes {
         }
     }
 
-    /// Whether no two writes have one key.
+    /// Returns true if no two writes have the same key.
     pub fn has_one_writer(&self) -> bool
         ensures { result ≡ one_writer_in self.now }
     {
         self.is_apart
     }
 
-    /// Puts a write behind the others, unless its writer has written the key. Whether it was put.
+    /// Appends a write, unless its writer has already written the key. Returns true if it was appended.
     pub fn put(&mut self, write: Write) -> Result<bool, AllocError>
         ensures put { OnOk result (self.new ≡ with_write self.old write) }
         ensures new { IfOk result (λ new. new ≡ not (is_written_in self.old write.key write.writer)) }
@@ -102,30 +102,30 @@ impl Writes {
     }
 }
 
-/// The first write of a key, where another one comes behind so many.
-fn with_another(first: Option<First>, len: usize) -> First
+/// Returns the first write of a key after one more write of that key, which is appended at index `len`.
+fn with_another(first: Option<FirstWrite>, len: usize) -> FirstWrite
     ensures { result ≡ again len first }
 {
     match first {
-        Some(first) => First {
+        Some(first) => FirstWrite {
             at: first.at,
             is_several: true,
         },
-        None => First {
+        None => FirstWrite {
             at: len,
             is_several: false,
         },
     }
 }
 
-/// Whether no two writes have one key, where this is the first of the last one's.
-fn stays_apart(is_apart: bool, first: First) -> bool
+/// Returns true if still no two writes have the same key. `first` is the first write of the key that was written last.
+fn stays_apart(is_apart: bool, first: FirstWrite) -> bool
     ensures { result ≡ is_apart && not first.is_several }
 {
     is_apart && !first.is_several
 }
 
-/// Whether one of these writes has this key and writer.
+/// Returns true if one of these writes has this key and this writer.
 fn has_writer(writes: &[Write], key: KeyRef<'_>, writer: Place) -> bool
     ensures { result ≡ is_written_in writes.now (key_seen key.entry) writer }
 {

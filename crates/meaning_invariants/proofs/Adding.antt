@@ -16,7 +16,7 @@ use Rattle.meaning_facts.specs.declared.facts.Facts.{Facts}
 use Rattle.meaning_facts.specs.declared.facts.Place.{Place as Spot}
 use Rattle.meaning_facts.specs.declared.facts.Write.{Write}
 use Rattle.meaning_facts.specs.declared.instances.Instance.{Instance}
-use Rattle.meaning_facts.specs.declared.learned.Learned.{Learned}
+use Rattle.meaning_facts.specs.declared.fact_base.FactBase.{FactBase}
 use Rattle.meaning_facts.specs.Added.{first_of, with_write, IsAdded}
 use Rattle.meaning_facts.specs.Growing.{fact_view, IsWithin, With, IsAgreed, with_facts}
 use Rattle.meaning_facts.specs.Keeping.{place_view, same_fault}
@@ -86,7 +86,7 @@ module _ (ns : List Instance) (k l : Facts) (w : AreWithin ns k) where
 abbrev pub OneLine : Knowledge → Type 0
 OneLine K = (w : Place) (b c : List ℕ) → K (script.line w b) → K (script.line w c) → b ≡ c
 
-module _ (K : Knowledge) (l : Learned) (k : Facts) (h : IsTree l.instances) (holds : Holds K l) where
+module _ (K : Knowledge) (l : FactBase) (k : Facts) (h : IsTree l.instances) (holds : Holds K l) where
   abbrev ns : List Instance
   ns = l.instances.all.items
 

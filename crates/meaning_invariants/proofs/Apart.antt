@@ -13,7 +13,7 @@ use Rattle.meaning_steps.specs.Kept.{Write as KeptWrite}
 use Rattle.meaning_facts.specs.declared.facts.Place.{Place as Spot}
 use Rattle.meaning_facts.specs.declared.facts.Write.{Write}
 use Rattle.meaning_facts.specs.declared.instances.Instance.{Instance}
-use Rattle.meaning_facts.specs.declared.learned.Learned.{Learned}
+use Rattle.meaning_facts.specs.declared.fact_base.FactBase.{FactBase}
 use Rattle.meaning_facts.specs.Growing.{KeepsFacts}
 use Rattle.meaning_facts.specs.Keeping.{kept_of, place_view, write_view}
 use Rattle.meaning_facts.specs.Paths.{path_of, IsTree}
@@ -67,7 +67,7 @@ module _ (K : Knowledge) (ns : List Instance) (a : Place) (one : OneWriter K a) 
       by true e q = let r = some_key ws w.key e in absurd (clash r.0 r.1 r.2)
       by false e q = ap (λ (z : Bool). not z && one_writer_in ws) e ∙ q
 
-module _ (K : Knowledge) (l : Learned) (tree : IsTree l.instances) (keeps : KeepsFacts K l) (i : ℕ) (within : i < length l.instances.all.items) (n : ℕ) where
+module _ (K : Knowledge) (l : FactBase) (tree : IsTree l.instances) (keeps : KeepsFacts K l) (i : ℕ) (within : i < length l.instances.all.items) (n : ℕ) where
   abbrev at : Spot
   at = record { instance = i; node = n }
 

@@ -8,7 +8,7 @@ use Rattle.language.specs.Meaning.{Live, LiveStmt, in_block}
 use Rattle.language.specs.Parts.{block_list, stmt_action}
 use Rattle.language_laws.proofs.Declared.{live_block}
 use Rattle.meaning_facts.specs.declared.facts.Place.{Place as Spot}
-use Rattle.meaning_facts.specs.declared.learned.Learned.{Learned}
+use Rattle.meaning_facts.specs.declared.fact_base.FactBase.{FactBase}
 use Rattle.meaning_facts.specs.Paths.{path_of}
 use Rattle.meaning_invariants.specs.Active.{Active, active, Candidate, IsDeclared}
 use Rattle.meaning_invariants.specs.Never.{never_ends}
@@ -101,7 +101,7 @@ module _ (s : Core) (levels : ℕ) (i : ℕ) (b : Block) where
     | inr y ↦ further (stmt at n x) ss p c (of_declares ss p c y)
   ]
 
-module _ (s : Core) (K : Knowledge) (levels : ℕ) (l : Learned) (ls : List Active) (arrays : List Candidate) (far : IsSoFar s K levels l ls arrays)
+module _ (s : Core) (K : Knowledge) (levels : ℕ) (l : FactBase) (ls : List Active) (arrays : List Candidate) (far : IsSoFar s K levels l ls arrays)
     (i : ℕ) (within : i < length l.instances.all.items) (b : Block) (live : Live s K (path_of l.instances.all.items i) b) where
   abbrev pub more : List Active
   more = ls ++ all_active i (block_list b)

@@ -14,11 +14,11 @@ use Rattle.language.specs.Places.{Path, most_steps}
 use Rattle.language.specs.WellFormed.{NamesFound}
 use Rattle.language_laws.proofs.Declared.{stmt_in}
 use Rattle.meaning_facts.specs.declared.facts.Place.{Place as Spot}
-use Rattle.meaning_facts.specs.declared.instances.Given.{Given}
+use Rattle.meaning_facts.specs.declared.instances.InstanceBindings.{InstanceBindings}
 use Rattle.meaning_facts.specs.declared.instances.Instance.{Instance}
 use Rattle.paths.specs.declared.steps.Step.{Step}
-use Rattle.meaning_facts.specs.declared.instances.Variable.{Variable}
-use Rattle.meaning_facts.specs.declared.learned.Learned.{Learned}
+use Rattle.meaning_facts.specs.declared.instances.LoopVariable.{LoopVariable}
+use Rattle.meaning_facts.specs.declared.fact_base.FactBase.{FactBase}
 use Rattle.meaning_facts.specs.Paths.{path_of}
 use Rattle.meaning_facts.specs.Store.{given_at, spot, spots, variable_in}
 use Rattle.meaning_invariants.specs.Active.{Active, active, Candidate}
@@ -39,8 +39,8 @@ live_turn : {s : Core} {K : Knowledge} {path : Path} {at n : ℕ} {header : Acti
     → Opens header vs k b → length path < most_steps → Live s K ((at, k) ∷ path) b
 live_turn (in_block l m) r o h = opened l m r o h
 
-module _ (s : Core) (names : NamesFound s) (K : Knowledge) (levels : ℕ) (l : Learned) (ls : List Active) (arrays : List Candidate) (far : IsSoFar s K levels l ls arrays) (i : ℕ)
-    (x : Step) (g : Given) (short : length (path_of l.instances.all.items i) < most_steps) where
+module _ (s : Core) (names : NamesFound s) (K : Knowledge) (levels : ℕ) (l : FactBase) (ls : List Active) (arrays : List Candidate) (far : IsSoFar s K levels l ls arrays) (i : ℕ)
+    (x : Step) (g : InstanceBindings) (short : length (path_of l.instances.all.items i) < most_steps) where
   abbrev ns : List Instance
   ns = l.instances.all.items
 
@@ -58,7 +58,7 @@ module _ (s : Core) (names : NamesFound s) (K : Knowledge) (levels : ℕ) (l : L
           (subst (λ (a : ℕ). Live s K ((a, Key.Number (pos 0)) ∷ path_of ns i) f.body) (sym at) (live_body (far.live (active i st) there).so calls found short));
       inputs = λ j. ap (λ (ps : List Spot). given_at ps j i) ins ∙ given_name ns i c.inputs j ∙ ap (λ (o : Option Call). spot ns i (input_name o j)) (sym call_is);
       outputs = λ j. ap (λ (ps : List Spot). given_at ps j i) outs ∙ given_name ns i c.outputs j ∙ ap (λ (o : Option Call). spot ns i (output_name o j)) (sym call_is);
-      origin = of_call (far.live (active i st) there).so calls (sym at) (λ y. ap (λ (vs : List Variable). variable_in vs y) none);
+      origin = of_call (far.live (active i st) there).so calls (sym at) (λ y. ap (λ (vs : List LoopVariable). variable_in vs y) none);
     }
 
   -- a turn of a header

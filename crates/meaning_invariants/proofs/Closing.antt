@@ -8,7 +8,7 @@ use Rattle.language.specs.Meaning.{closed}
 use Rattle.language.specs.Members.{◌∈◌}
 use Rattle.meaning_steps.proofs.Settled.{finished_so}
 use Rattle.meaning_facts.specs.declared.facts.Place.{Place as Spot}
-use Rattle.meaning_facts.specs.declared.learned.Learned.{Learned}
+use Rattle.meaning_facts.specs.declared.fact_base.FactBase.{FactBase}
 use Rattle.meaning_cells.specs.Ending.{IsDone}
 use Rattle.meaning_facts.specs.Growing.{KeepsFacts}
 use Rattle.meaning_facts.specs.Sighted.{closed_at}
@@ -24,13 +24,13 @@ use Rattle.meaning_invariants.specs.Opened.{AreCalled, ArePassed, IsClosedSo, Is
 use Rattle.meaning_invariants.proofs.Right.{is_right}
 
 -- the same with the closed arrays of another
-abbrev closed_of : Learned → Learned → Learned
+abbrev closed_of : FactBase → FactBase → FactBase
 closed_of l m = record { facts = l.facts; instances = l.instances; closed = m.closed }
 
-of_closed : (l m : Learned) → m.facts ≡ l.facts → m.instances ≡ l.instances → closed_of l m ≡ m
+of_closed : (l m : FactBase) → m.facts ≡ l.facts → m.instances ≡ l.instances → closed_of l m ≡ m
 of_closed l m e f = λ i. record { facts = sym e i; instances = sym f i; closed = m.closed }
 
-module _ (s : Core) (K : Knowledge) (levels : ℕ) (l : Learned) (ls : List Active) (arrays : List Candidate) (far : IsSoFar s K levels l ls arrays) where
+module _ (s : Core) (K : Knowledge) (levels : ℕ) (l : FactBase) (ls : List Active) (arrays : List Candidate) (far : IsSoFar s K levels l ls arrays) where
   -- what is done closes
   pub now_closed : (p : Spot) (b : Block) → ◌∈◌ {X = Candidate} (p, b) arrays → IsDone s l (goal_of p b) → one_writer_in (writes_at l.facts p) ≡ true → IsClosedSo s K l p
   now_closed p b there ended one =
@@ -44,7 +44,7 @@ module _ (s : Core) (K : Knowledge) (levels : ℕ) (l : Learned) (ls : List Acti
             (apart.one_so K l far.placed.tree keeps p.instance c.within p.node one);
       }
 
-  keeps_still : (m : Learned) → KeepsFacts K (closed_of l m)
+  keeps_still : (m : FactBase) → KeepsFacts K (closed_of l m)
   keeps_still m =
       let k = far.holds.keeps in
       record {
@@ -60,7 +60,7 @@ module _ (s : Core) (K : Knowledge) (levels : ℕ) (l : Learned) (ls : List Acti
         writers = k.writers;
       }
 
-  holds_still : (m : Learned) → Holds K (closed_of l m)
+  holds_still : (m : FactBase) → Holds K (closed_of l m)
   holds_still m = record {
     keeps = keeps_still m;
     within = far.holds.within;
@@ -70,20 +70,20 @@ module _ (s : Core) (K : Knowledge) (levels : ℕ) (l : Learned) (ls : List Acti
     fault_all = far.holds.fault_all;
   }
 
-  closed_still : (m : Learned) (q : Spot) → IsClosedSo s K l q → IsClosedSo s K (closed_of l m) q
+  closed_still : (m : FactBase) (q : Spot) → IsClosedSo s K l q → IsClosedSo s K (closed_of l m) q
   closed_still m q c = record { within = c.within; so = c.so }
 
-  closed_now : (m : Learned) (p : Spot) → IsClosedSo s K l p → ((q : Spot) → closed_at m q ≡ cond (same_place p q) true (closed_at l q)) → (q : Spot) → closed_at m q ≡ true → IsClosedSo s K l q
+  closed_now : (m : FactBase) (p : Spot) → IsClosedSo s K l p → ((q : Spot) → closed_at m q ≡ cond (same_place p q) true (closed_at l q)) → (q : Spot) → closed_at m q ≡ true → IsClosedSo s K l q
   closed_now m p c more q e = elim (cases_Bool (same_place p q)) [
     | inl same ↦ subst (λ (z : Spot). IsClosedSo s K l z) (same_place-eq p q same) c
     | inr other ↦ far.closed q (sym (more q ∙ ap (λ (z : Bool). cond z true (closed_at l q)) other) ∙ e)
   ]
 
   -- all is so with one array more
-  pub closes : (m : Learned) → m.facts ≡ l.facts → m.instances ≡ l.instances → (p : Spot) → IsClosedSo s K l p → ((q : Spot) → closed_at m q ≡ cond (same_place p q) true (closed_at l q))
+  pub closes : (m : FactBase) → m.facts ≡ l.facts → m.instances ≡ l.instances → (p : Spot) → IsClosedSo s K l p → ((q : Spot) → closed_at m q ≡ cond (same_place p q) true (closed_at l q))
       → IsSoFar s K levels m ls arrays
   closes m e f p c more =
-      subst (λ (z : Learned). IsSoFar s K levels z ls arrays) (of_closed l m e f)
+      subst (λ (z : FactBase). IsSoFar s K levels z ls arrays) (of_closed l m e f)
       (record {
         holds = holds_still m;
         placed = far.placed;
@@ -97,7 +97,7 @@ module _ (s : Core) (K : Knowledge) (levels : ℕ) (l : Learned) (ls : List Acti
 
 -- WHAT WAS PASSED STAYS SO
 
-module _ (s : Core) (K : Knowledge) (l m : Learned) (ls : List Active) where
+module _ (s : Core) (K : Knowledge) (l m : FactBase) (ls : List Active) where
   block_still : (i at : ℕ) (k : _) (b : Block) → HasBlock l ls i at k b → HasBlock (closed_of l m) ls i at k b
   block_still i at k b h = record { instance = h.instance; opened = h.opened; listed = h.listed }
 
@@ -111,7 +111,7 @@ module _ (s : Core) (K : Knowledge) (l m : Learned) (ls : List Active) where
 
   pub passed_still : m.facts ≡ l.facts → m.instances ≡ l.instances → (ps ws : List Active) → ArePassed s K l ls ps ws → ArePassed s K m ls ps ws
   passed_still e f ps ws passed =
-      subst (λ (z : Learned). ArePassed s K z ls ps ws) (of_closed l m e f)
+      subst (λ (z : FactBase). ArePassed s K z ls ps ws) (of_closed l m e f)
       (record {
         called = λ a i. called_still a (passed.called a i);
         opened = λ a i. by a (passed.opened a i);

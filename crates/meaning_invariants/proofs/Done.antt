@@ -5,7 +5,7 @@ use Rattle.language.specs.Core.{Owned, output, Name, Stmt, Block, no_stmts, stmt
 use Rattle.language.specs.Members.{◌∈◌, first, later}
 use Rattle.language.specs.Parts.{block_list}
 use Rattle.language.proofs.Members.{either, split_in}
-use Rattle.meaning_facts.specs.declared.learned.Learned.{Learned}
+use Rattle.meaning_facts.specs.declared.fact_base.FactBase.{FactBase}
 use Rattle.meaning_cells.specs.Chosen.{Chosen, key_in}
 use Rattle.meaning_cells.specs.Ending.{Goal, Goals, behind, both, child_goals, goals_in, IsDone, done, output_goals, statement_goals, turn_goals, where_so}
 use Rattle.meaning_facts.specs.Paths.{child_at}
@@ -13,22 +13,22 @@ use Rattle.meaning_cells.specs.Targeted.{same_owned}
 use Rattle.meaning_invariants.proofs.Aiming.{same_so}
 
 -- there are goals, and each is done
-pub record AllDone (s : Core) (l : Learned) (o : Goals) : Type 0 where
+pub record AllDone (s : Core) (l : FactBase) (o : Goals) : Type 0 where
   pub goals : List Goal
   pub is : o ≡ Some goals
   pub each : (h : Goal) → h ∈ goals → IsDone s l h
 
-pub done_none : {s : Core} {l : Learned} → AllDone s l (Some [])
+pub done_none : {s : Core} {l : FactBase} → AllDone s l (Some [])
 done_none = record { goals = []; is = refl; each = λ h m. elim m [ ] }
 
-pub done_one : {s : Core} {l : Learned} (g : Goal) → IsDone s l g → AllDone s l (Some (g ∷ []))
+pub done_one : {s : Core} {l : FactBase} (g : Goal) → IsDone s l g → AllDone s l (Some (g ∷ []))
 done_one {s} {l} g d = record { goals = g ∷ []; is = refl; each = only }
   where
     only : (h : Goal) → h ∈ (g ∷ []) → IsDone s l h
     only h first = d
     only h (later m) = elim m [ ]
 
-pub done_both : {s : Core} {l : Learned} (m n : Goals) → AllDone s l m → AllDone s l n → AllDone s l (both m n)
+pub done_both : {s : Core} {l : FactBase} (m n : Goals) → AllDone s l m → AllDone s l n → AllDone s l (both m n)
 done_both {s} {l} m n x y = record {
   goals = x.goals ++ y.goals;
   is = ap (λ (z : Goals). both z n) x.is ∙ ap (behind x.goals) y.is;
@@ -39,20 +39,20 @@ done_both {s} {l} m n x y = record {
     by h (inl q) = x.each h q
     by h (inr q) = y.each h q
 
-pub done_where : {s : Core} {l : Learned} (b : Bool) (gs : List Goal) → b ≡ true → AllDone s l (Some gs) → AllDone s l (where_so b gs)
+pub done_where : {s : Core} {l : FactBase} (b : Bool) (gs : List Goal) → b ≡ true → AllDone s l (Some gs) → AllDone s l (where_so b gs)
 done_where {s} {l} b gs e x = subst (λ (z : Bool). AllDone s l (where_so z gs)) (sym e) x
 
 -- a block of which each statement's goals are done is done
-pub done_block : (s : Core) (l : Learned) (i : ℕ) (a : Owned) (b : Block) → ((st : Stmt) → st ∈ block_list b → AllDone s l (statement_goals s l i a st)) → AllDone s l (goals_in s l i a b)
+pub done_block : (s : Core) (l : FactBase) (i : ℕ) (a : Owned) (b : Block) → ((st : Stmt) → st ∈ block_list b → AllDone s l (statement_goals s l i a st)) → AllDone s l (goals_in s l i a b)
 done_block s l i a no_stmts f = done_none
 done_block s l i a (stmts st b) f = done_both (statement_goals s l i a st) (goals_in s l i a b) (f st first) (done_block s l i a b (λ x m. f x (later m)))
 
-pub done_goal : {s : Core} {l : Learned} (g : Goal) → AllDone s l (goals_in s l g.instance g.what g.block) → IsDone s l g
+pub done_goal : {s : Core} {l : FactBase} (g : Goal) → AllDone s l (goals_in s l g.instance g.what g.block) → IsDone s l g
 done_goal g x = done {g = g} x.is x.each
 
 -- TURNS
 
-pub done_turns : (s : Core) (l : Learned) (i : ℕ) (a : Owned) (at : ℕ) (b : Block) (c : Chosen) (k n : ℕ)
+pub done_turns : (s : Core) (l : FactBase) (i : ℕ) (a : Owned) (at : ℕ) (b : Block) (c : Chosen) (k n : ℕ)
     → ((t : ℕ) → k ≤ t → t < k + n → AllDone s l (child_goals (child_at l.instances i at (key_in c t)) a b)) → AllDone s l (turn_goals l i a at b c k n)
 done_turns s l i a at b c k zero f = done_none
 done_turns s l i a at b c k (suc n) f =
@@ -61,7 +61,7 @@ done_turns s l i a at b c k (suc n) f =
 
 -- OUTPUTS
 
-pub done_outputs : (s : Core) (l : Learned) (j : ℕ) (a : Owned) (b : Block) (k : ℕ) (xs : List Name)
+pub done_outputs : (s : Core) (l : FactBase) (j : ℕ) (a : Owned) (b : Block) (k : ℕ) (xs : List Name)
     → ((t : ℕ) (x : Name) → slice_get xs t ≡ Some x → x.what ≡ a → IsDone s l (record { instance = j; what = output (k + t); block = b }))
     → (h : Goal) → h ∈ output_goals j a b k xs → IsDone s l h
 done_outputs s l j a b k [] f h m = elim m [ ]

@@ -10,7 +10,7 @@ use Rattle.language.specs.Meaning.{Closed, closed, HasValue, stored, LiveStmt}
 use Rattle.language.specs.Places.{Path, Place}
 use Rattle.meaning_steps.specs.Kept.{scalar_by}
 use Rattle.meaning_steps.specs.Taken.{IsSo}
-use Rattle.meaning_facts.specs.declared.learned.Learned.{Learned}
+use Rattle.meaning_facts.specs.declared.fact_base.FactBase.{FactBase}
 use Rattle.meaning_facts.specs.Growing.{KeepsFacts}
 use Rattle.meaning_facts.specs.Keeping.{kept_of}
 use Rattle.meaning_invariants.specs.Active.{Active, active, taken_by, IsRight}
@@ -18,7 +18,7 @@ use Rattle.meaning_invariants.specs.Active.{Active, active, taken_by, IsRight}
 one_writer : {s : Core} {K : Knowledge} {a : Place} → Closed s K a → OneWriter K a
 one_writer (closed l m f o) = o
 
-module _ (s : Core) (K : Knowledge) (l : Learned) (ls : List Active) where
+module _ (s : Core) (K : Knowledge) (l : FactBase) (ls : List Active) where
   pub right_apart : IsRight s K l ls → (a : Place) → (kept_of l).closed a ≡ true → OneWriter K a
   right_apart right a e = one_writer (right.closed a e)
 

@@ -23,7 +23,7 @@ use Rattle.language_laws.proofs.Rising.{rising_once}
 use Rattle.language_accepted.proofs.Values.{key_same}
 use Rattle.meaning_steps.specs.Environment.{Sight}
 use Rattle.meaning_steps.specs.Taken.{Taken, ReadyBy, by_cells, by_source}
-use Rattle.meaning_facts.specs.declared.instances.Variable.{Variable}
+use Rattle.meaning_facts.specs.declared.instances.LoopVariable.{LoopVariable}
 use Rattle.meaning_cells.specs.Chosen.{Chosen, chosen_from, chosen_in, count_in, item_key, item_value, items, items_seen, key_in, turns, turns_by, turns_of}
 use Rattle.meaning_facts.specs.Store.{variable_in}
 use Rattle.meaning_cells.specs.Taking.{SeesBy}
@@ -31,7 +31,7 @@ use Rattle.meaning_cells.proofs.Looping.{each_turn, has_at}
 use Rattle.meaning_cells.proofs.Readying.{cells_all}
 use Rattle.meaning_invariants.specs.Turns.{key_variable, turn_variables}
 
-found_first : (x : ℕ) (v : Scalar) (vs : List Variable) → variable_in (record { node = x; value = v } ∷ vs) x ≡ Some v
+found_first : (x : ℕ) (v : Scalar) (vs : List LoopVariable) → variable_in (record { node = x; value = v } ∷ vs) x ≡ Some v
 found_first x v vs = ap (λ (z : Bool). if z then Some v else variable_in vs x) (eq-eqb x x refl)
 
 found_next : (x t : ℕ) (v u : Scalar) → (x ≡ t → ⊥) → variable_in (record { node = x; value = v } ∷ record { node = t; value = u } ∷ []) t ≡ Some u
@@ -136,7 +136,7 @@ record KeyAt (t : Option ℕ) (k : Key) (y : ℕ) (v : Scalar) : Type 0 where
   node_is : key_node ≡ y
   value_is : key_value k ≡ v
 
-found_one : (x y : ℕ) (u v : Scalar) (vs : List Variable) → variable_in (record { node = x; value = u } ∷ vs) y ≡ Some v → GivenAt x y u v ⊎ (variable_in vs y ≡ Some v)
+found_one : (x y : ℕ) (u v : Scalar) (vs : List LoopVariable) → variable_in (record { node = x; value = u } ∷ vs) y ≡ Some v → GivenAt x y u v ⊎ (variable_in vs y ≡ Some v)
 found_one x y u v vs h = by (nat_eq x y) refl h
   where
     by : (b : Bool) → nat_eq x y ≡ b → (if b then Some u else variable_in vs y) ≡ Some v → GivenAt x y u v ⊎ (variable_in vs y ≡ Some v)

@@ -17,7 +17,7 @@ use Rattle.language_laws.proofs.Declared.{stmt_in}
 use Rattle.meaning_steps.specs.News.{Past}
 use Rattle.meaning_steps.specs.Taken.{FinishedBy, no_target_by, value_by, write_by, body_by, blocks_by, content_by, ReadyBy}
 use Rattle.meaning_steps.proofs.Settled.{ready_so}
-use Rattle.meaning_facts.specs.declared.learned.Learned.{Learned}
+use Rattle.meaning_facts.specs.declared.fact_base.FactBase.{FactBase}
 use Rattle.meaning_cells.specs.Chosen.{Chosen, block_in, is_other, count_in, have_come_in, key_in}
 use Rattle.meaning_cells.specs.Ending.{Goal, Goals, action_goals, block_goals, body_goals, child_goals, choice_goals, function_goals, header_goals, inserted_by, is_inserted_in, IsDone, output_goals, statement_goals, where_aimed}
 use Rattle.meaning_facts.specs.Growing.{KeepsFacts}
@@ -36,7 +36,7 @@ use Rattle.meaning_invariants.proofs.Done.{AllDone, done_none, done_one, done_wh
 use Rattle.meaning_invariants.proofs.EndedRight.{right_apart, right_so}
 use Rattle.meaning_invariants.proofs.Sights.{sees, come_all, ready_names}
 
-done_aimed : {s : Core} {l : Learned} (b : Bool) (o : Goals) → AllDone s l o → AllDone s l (where_aimed b o)
+done_aimed : {s : Core} {l : FactBase} (b : Bool) (o : Goals) → AllDone s l o → AllDone s l (where_aimed b o)
 done_aimed true o x = x
 done_aimed false o x = done_none
 
@@ -58,14 +58,14 @@ block_some (range lo hi st x t b) c h = (b, refl)
 block_some (each a x t b) c h = (b, refl)
 block_some _ c h = elim h [ ]
 
-of_header : (s : Core) (l : Learned) (i : ℕ) (a : Owned) (at n : ℕ) (header : Action) → Branches header → AllDone s l (header_goals l i a at header) → AllDone s l (action_goals s l i a at n header)
+of_header : (s : Core) (l : FactBase) (i : ℕ) (a : Owned) (at n : ℕ) (header : Action) → Branches header → AllDone s l (header_goals l i a at header) → AllDone s l (action_goals s l i a at n header)
 of_header s l i a at n (when c b) h x = x
 of_header s l i a at n (choose c b d) h x = x
 of_header s l i a at n (range lo hi st v t b) h x = x
 of_header s l i a at n (each v y t b) h x = x
 of_header s l i a at n _ h x = elim h [ ]
 
-untargeted : (s : Core) (l : Learned) (i : ℕ) (a : Owned) (st : Stmt) → (IsTarget a st → ⊥) → AllDone s l (statement_goals s l i a st)
+untargeted : (s : Core) (l : FactBase) (i : ℕ) (a : Owned) (st : Stmt) → (IsTarget a st → ⊥) → AllDone s l (statement_goals s l i a st)
 untargeted s l i a (stmt at n action) h = by (aims_of a action) refl
   where
     by : (b : Bool) → aims_of a action ≡ b → AllDone s l (where_aimed (aims_of a action) (action_goals s l i a at n action))
@@ -75,7 +75,7 @@ untargeted s l i a (stmt at n action) h = by (aims_of a action) refl
 alone_there : (at n : ℕ) (p : ℤ) (ps : List Part) (c : Call) → c ∈ stmt_calls (stmt at n (call_alone p ps c))
 alone_there at n p ps c = subst (λ (z : List Call). c ∈ z) (sym (calls_append ps (calls c ∷ []))) (to_right (part_calls ps) (c ∷ []) first)
 
-module _ (s : Core) (K : Knowledge) (l : Learned) (ls : List Active) (placed : IsPlaced s l.instances) (keeps : KeepsFacts K l) (right : IsRight s K l ls)
+module _ (s : Core) (K : Knowledge) (l : FactBase) (ls : List Active) (placed : IsPlaced s l.instances) (keeps : KeepsFacts K l) (right : IsRight s K l ls)
     (open_all : IsAllOpen s K l ls) (indexes : HasIndexes s K) where
   abbrev At : ℕ → Path
   At i = path_of l.instances.all.items i

@@ -6,9 +6,9 @@ use Rattle.language.specs.Facts.{Knowledge}
 use Rattle.language.specs.Meaning.{Live}
 use Rattle.language.specs.Parts.{block_list}
 use Rattle.language.specs.Places.{Path}
-use Rattle.meaning_facts.specs.declared.instances.Given.{Given}
+use Rattle.meaning_facts.specs.declared.instances.InstanceBindings.{InstanceBindings}
 use Rattle.paths.specs.declared.steps.Step.{Step}
-use Rattle.meaning_facts.specs.declared.learned.Learned.{Learned}
+use Rattle.meaning_facts.specs.declared.fact_base.FactBase.{FactBase}
 use Rattle.meaning_facts.specs.Paths.{child_at, path_of}
 use Rattle.meaning_facts.proofs.Tree.{found_itself, path_comes}
 use Rattle.meaning_invariants.specs.Held.{with_instances}
@@ -20,15 +20,15 @@ use Rattle.meaning_invariants.proofs.Opening.{goes_on, so_far_opened}
 use Rattle.meaning_invariants.proofs.Blocks.{block_goes_on, block_listed, so_far_listed}
 
 -- a block became live
-pub record IsEntered (s : Core) (K : Knowledge) (levels : ℕ) (l : Learned) (ls : List Active) (arrays : List Candidate) (i : ℕ) (x : Step) (b : Block) (m : Learned) (child : ℕ) : Type 0 where
+pub record IsEntered (s : Core) (K : Knowledge) (levels : ℕ) (l : FactBase) (ls : List Active) (arrays : List Candidate) (i : ℕ) (x : Step) (b : Block) (m : FactBase) (child : ℕ) : Type 0 where
   pub so : IsSoFar s K levels m (ls ++ all_active child (block_list b)) (arrays ++ declares s levels child b (block_list b))
   pub goes : GoesOn l ls m (ls ++ all_active child (block_list b))
   pub block : HasBlock m (ls ++ all_active child (block_list b)) i x.offset x.key b
 
-module _ (s : Core) (K : Knowledge) (levels : ℕ) (l : Learned) (ls : List Active) (arrays : List Candidate) (far : IsSoFar s K levels l ls arrays)
-    (i : ℕ) (x : Step) (g : Given) (b : Block) (opening : IsOpening s K l i x g b) where
+module _ (s : Core) (K : Knowledge) (levels : ℕ) (l : FactBase) (ls : List Active) (arrays : List Candidate) (far : IsSoFar s K levels l ls arrays)
+    (i : ℕ) (x : Step) (g : InstanceBindings) (b : Block) (opening : IsOpening s K l i x g b) where
   -- in the instance that is the child
-  in_child : (m : Learned) (child : ℕ) → IsSoFar s K levels m ls arrays → GoesOn l ls m ls → child_at m.instances i x.offset x.key ≡ Some child
+  in_child : (m : FactBase) (child : ℕ) → IsSoFar s K levels m ls arrays → GoesOn l ls m ls → child_at m.instances i x.offset x.key ≡ Some child
       → child < length m.instances.all.items → path_of m.instances.all.items child ≡ (x.offset, x.key) ∷ path_of l.instances.all.items i → IsEntered s K levels l ls arrays i x b m child
   in_child m child so goes found within path =
       let live : Live s K (path_of m.instances.all.items child) b = subst (λ (p : Path). Live s K p b) (sym path) opening.live in
@@ -38,7 +38,7 @@ module _ (s : Core) (K : Knowledge) (levels : ℕ) (l : Learned) (ls : List Acti
         block = record { instance = child; opened = found; listed = block_listed s K levels m ls arrays so child within b live };
       }
 
-  pub entered : (m : Learned) (child : ℕ) → IsChildOf l i x g m child → IsEntered s K levels l ls arrays i x b m child
+  pub entered : (m : FactBase) (child : ℕ) → IsChildOf l i x g m child → IsEntered s K levels l ls arrays i x b m child
   entered m child (was_there e) =
       let c = far.placed.tree.opens i x.offset x.key child e in
       in_child l child far (record { within = λ j w. w; path_same = λ j w. refl; children = λ j at k d h. h; sight_same = λ j w. refl; listed = λ a h. h }) e c.within c.path_is

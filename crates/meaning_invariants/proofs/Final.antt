@@ -14,7 +14,7 @@ use Rattle.language.specs.Places.{Path, most_steps}
 use Rattle.language.specs.WellFormed.{NamesFound}
 use Rattle.language_laws.proofs.Declared.{live_block, stmt_in}
 use Rattle.language_laws.proofs.Hinge.{choice_stays, Later}
-use Rattle.meaning_facts.specs.declared.learned.Learned.{Learned}
+use Rattle.meaning_facts.specs.declared.fact_base.FactBase.{FactBase}
 use Rattle.meaning_facts.specs.Paths.{path_of}
 use Rattle.meaning_invariants.specs.Active.{Active, active, Candidate, HasBlock, IsAllOpen}
 use Rattle.meaning_invariants.specs.Opened.{ArePassed, IsOpened, nothing, branches, content, IsSoFar, IsUnready, OffsetsApart, Origin, of_header, of_call}
@@ -52,7 +52,7 @@ module _ (s : Core) (names : NamesFound s) (offsets : OffsetsApart s) (K : Knowl
       let found : call_at s at ≡ Some c = ap (call_at s) (sym e) ∙ live_call s names c live m in
       none_some (sym (offsets.no_call (stmt at n header) (stmt_in s here) (opens_branches opens)) ∙ found)
 
-  module _ (levels : ℕ) (l : Learned) (ls : List Active) (arrays : List Candidate) (far : IsSoFar s K levels l ls arrays)
+  module _ (levels : ℕ) (l : FactBase) (ls : List Active) (arrays : List Candidate) (far : IsSoFar s K levels l ls arrays)
       (ws : List Active) (passed : ArePassed s K l ls ls ws) (unready : (a : Active) → a ∈ ws → IsUnready l a) where
     block_of : (i at n : ℕ) (header : Action) (vs : List Value) (k : Key) (b : Block) → IsOpened s K l ls (active i (stmt at n header)) → Ready s K (path_of l.instances.all.items i) header vs
         → Opens header vs k b → length (path_of l.instances.all.items i) < most_steps → HasBlock l ls i at k b

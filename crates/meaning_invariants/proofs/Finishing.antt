@@ -14,7 +14,7 @@ use Rattle.language.specs.Parts.{block_list, stmts_of}
 use Rattle.language.specs.Places.{Path, Place, place, most_steps}
 use Rattle.meaning_steps.specs.News.{Past}
 use Rattle.meaning_steps.specs.Taken.{FinishedBy, no_target_by, value_by, write_by, body_by, blocks_by, content_by, by_names}
-use Rattle.meaning_facts.specs.declared.learned.Learned.{Learned}
+use Rattle.meaning_facts.specs.declared.fact_base.FactBase.{FactBase}
 use Rattle.meaning_cells.specs.Chosen.{Chosen, block_in, chosen_in, count_in, have_come_in, key_in}
 use Rattle.meaning_cells.specs.Ending.{Goal, action_goals, block_goals, body_goals, choice_goals, function_goals, inserted_by, IsDone, done, is_inserted_in, statement_goals, turn_goals, where_aimed, where_so, output_goals}
 use Rattle.meaning_facts.specs.Growing.{KeepsFacts}
@@ -33,7 +33,7 @@ use Rattle.meaning_invariants.proofs.Sights.{sees, come_so, some_is}
 below : (n : ℕ) → not (nat_le most_steps n) ≡ true → n < most_steps
 below n e = grind (arith, nat_tests, e)
 
-module _ (s : Core) (K : Knowledge) (l : Learned) (ls : List Active) (placed : IsPlaced s l.instances) (keeps : KeepsFacts K l)
+module _ (s : Core) (K : Knowledge) (l : FactBase) (ls : List Active) (placed : IsPlaced s l.instances) (keeps : KeepsFacts K l)
     (apart : (a : Place) → (kept_of l).closed a ≡ true → OneWriter K a) where
   abbrev At : ℕ → Path
   At i = path_of l.instances.all.items i

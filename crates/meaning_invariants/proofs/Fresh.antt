@@ -20,7 +20,7 @@ use Rattle.meaning_steps.specs.Environment.{Sight, Sees, Outcome, outcome}
 use Rattle.meaning_steps.specs.News.{Past, Recalls, unless, comes, comes_all, cell_by, cell_told, cells_told, assigned_told, element_by, element_told, elements_told, filled_told, inserted_told, printed_told, deep_by, deep_told, bad_by, bad_told, items_told, own_told, count_of, opens_some, some_call, key_in, one_in, text_in, news}
 use Rattle.paths.specs.declared.faults.FaultKind.{FaultKind}
 use Rattle.paths.specs.declared.faults.FaultKind.TheVariants as Kind
-use Rattle.meaning_facts.specs.declared.learned.Learned.{Learned}
+use Rattle.meaning_facts.specs.declared.fact_base.FactBase.{FactBase}
 use Rattle.meaning_facts.specs.Keeping.{fault_at, has_kind, kept_of, kind_of}
 use Rattle.meaning_facts.specs.Kinds.{kind_view}
 use Rattle.meaning_facts.specs.Paths.{IsTree}
@@ -159,7 +159,7 @@ kind_known Kind.TooDeep = refl
 kind_known Kind.NotANumber = refl
 kind_known Kind.AssertFailed = refl
 
-module _ (s : Core) (K : Knowledge) (l : Learned) (tree : IsTree l.instances) (holds : Holds K l) where
+module _ (s : Core) (K : Knowledge) (l : FactBase) (tree : IsTree l.instances) (holds : Holds K l) where
   pub lined_known : (q : Place) (bytes : List ℕ) → K (line q bytes) → (kept_of l).lined q ≡ true
   lined_known q bytes x =
       let h = holds.line_all q bytes x in

@@ -8,14 +8,14 @@ use Rattle.language.specs.Members.{◌∈◌}
 use Rattle.language.specs.Meaning.{Ready}
 use Rattle.language.specs.Parts.{stmt_action}
 use Rattle.language.specs.Places.{Path, most_steps}
-use Rattle.meaning_facts.specs.declared.learned.Learned.{Learned}
+use Rattle.meaning_facts.specs.declared.fact_base.FactBase.{FactBase}
 use Rattle.meaning_facts.specs.Paths.{path_of}
 use Rattle.meaning_cells.specs.Chosen.{chosen_in, have_come_in}
 use Rattle.meaning_steps.specs.Environment.{Sight}
 use Rattle.meaning_invariants.specs.Active.{Active, active, HasBlock}
 use Rattle.meaning_invariants.specs.Opened.{AreCalled, ArePassed, IsOpened, nothing, branches, content, IsUnready, GoesOn}
 
-pub goes_further : (l m r : Learned) (ls ms rs : List Active) → GoesOn l ls m ms → GoesOn m ms r rs → GoesOn l ls r rs
+pub goes_further : (l m r : FactBase) (ls ms rs : List Active) → GoesOn l ls m ms → GoesOn m ms r rs → GoesOn l ls r rs
 goes_further l m r ls ms rs g h = record {
   within = λ i w. h.within i (g.within i w);
   path_same = λ i w. h.path_same i (g.within i w) ∙ g.path_same i w;
@@ -24,7 +24,7 @@ goes_further l m r ls ms rs g h = record {
   listed = λ a x. h.listed a (g.listed a x);
 }
 
-pub goes_nowhere : (l : Learned) (ls ms : List Active) → ((a : Active) → a ∈ ls → a ∈ ms) → GoesOn l ls l ms
+pub goes_nowhere : (l : FactBase) (ls ms : List Active) → ((a : Active) → a ∈ ls → a ∈ ms) → GoesOn l ls l ms
 goes_nowhere l ls ms f = record {
   within = λ i w. w;
   path_same = λ i w. refl;
@@ -33,7 +33,7 @@ goes_nowhere l ls ms f = record {
   listed = f;
 }
 
-module _ (l m : Learned) (ls ms : List Active) (g : GoesOn l ls m ms) where
+module _ (l m : FactBase) (ls ms : List Active) (g : GoesOn l ls m ms) where
   pub block_stays : {i at : ℕ} {k : Key} {b : Block} → HasBlock l ls i at k b → HasBlock m ms i at k b
   block_stays {i} {at} {k} {b} x = record { instance = x.instance; opened = g.children i at k x.instance x.opened; listed = λ st j. g.listed (active x.instance st) (x.listed st j) }
 

@@ -12,10 +12,10 @@ use Rattle.meaning_steps.specs.Kept.{Write as KeptWrite}
 use Rattle.paths.specs.declared.faults.FaultKind.{FaultKind}
 use Rattle.meaning_facts.specs.declared.facts.Place.{Place as Spot}
 use Rattle.meaning_facts.specs.declared.facts.Write.{Write}
-use Rattle.meaning_facts.specs.declared.instances.Given.{Given}
+use Rattle.meaning_facts.specs.declared.instances.InstanceBindings.{InstanceBindings}
 use Rattle.meaning_facts.specs.declared.instances.Instances.{Instances}
 use Rattle.paths.specs.declared.steps.Step.{Step}
-use Rattle.meaning_facts.specs.declared.learned.Learned.{Learned}
+use Rattle.meaning_facts.specs.declared.fact_base.FactBase.{FactBase}
 use Rattle.meaning_facts.specs.Growing.{KeepsFacts}
 use Rattle.meaning_facts.specs.Keeping.{by_place, in_instance, fault_at, has_kind, kept_of, kind_of, place_view, write_view, same_fault, IsLocated}
 use Rattle.meaning_facts.specs.Kinds.{kind_view}
@@ -29,7 +29,7 @@ use Rattle.std.proofs.Common.{length-append}
 use Rattle.std.proofs.lemmas.Option.{none-some}
 
 -- one that is opened
-pub grows_by_one : (t u : Instances) (p : ℕ) (x : Step) (g : Given) → IsOpen t p x g u → Grows t.all.items u.all.items
+pub grows_by_one : (t u : Instances) (p : ℕ) (x : Step) (g : InstanceBindings) → IsOpen t p x g u → Grows t.all.items u.all.items
 grows_by_one t u p x g o = record {
   longer = omega (arith, ap length o.all, length-append t.all.items (o.made ∷ []));
   path_same = λ i l. path_stays t u p x g o i l;
@@ -94,11 +94,11 @@ writer_there n ws key p f e = let x = found_write ws key p e in subst (λ (z : S
 
 -- MORE INSTANCES
 
-module _ (K : Knowledge) (l : Learned) (u : Instances) (h : IsTree l.instances) (k : IsTree u) (g : Grows l.instances.all.items u.all.items) (holds : Holds K l) where
+module _ (K : Knowledge) (l : FactBase) (u : Instances) (h : IsTree l.instances) (k : IsTree u) (g : Grows l.instances.all.items u.all.items) (holds : Holds K l) where
   abbrev count : ℕ
   count = length l.instances.all.items
 
-  abbrev now : Learned
+  abbrev now : FactBase
   now = with_instances l u
 
   value_same : (q : Place) → (kept_of now).value q ≡ (kept_of l).value q

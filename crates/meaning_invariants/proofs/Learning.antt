@@ -8,7 +8,7 @@ use Rattle.language.specs.Facts.{Knowledge}
 use Rattle.language.specs.Places.{Path}
 use Rattle.language_laws.proofs.Growth.{Grows, keeps_closed, keeps_live, keeps_ready, keeps_stmt}
 use Rattle.meaning_facts.specs.declared.facts.Facts.{Facts}
-use Rattle.meaning_facts.specs.declared.learned.Learned.{Learned}
+use Rattle.meaning_facts.specs.declared.fact_base.FactBase.{FactBase}
 use Rattle.meaning_facts.specs.Growing.{with_facts}
 use Rattle.meaning_invariants.specs.Held.{Holds}
 use Rattle.meaning_invariants.specs.Active.{Active, Candidate}
@@ -19,7 +19,7 @@ module _ (s : Core) (K K' : Knowledge) (g : Grows s K K') where
   origin_later (of_header l r o all so) = of_header (keeps_stmt s K K' g l) (keeps_ready s K K' g r) o all so
   origin_later (of_call l m e none) = of_call (keeps_stmt s K K' g l) m e none
 
-  module _ (levels : ℕ) (l : Learned) (k : Facts) (ls : List Active) (arrays : List Candidate) where
+  module _ (levels : ℕ) (l : FactBase) (k : Facts) (ls : List Active) (arrays : List Candidate) where
     opened_later : {a : Active} → IsOpened s K l ls a → IsOpened s K' (with_facts l k) ls a
     opened_later (nothing p q) = nothing p q
     opened_later (branches r b f) = branches (keeps_ready s K K' g r) b (λ c d o h. (let x = f c d o h in record { instance = x.instance; opened = x.opened; listed = x.listed }))

@@ -10,11 +10,11 @@ use Rattle.language.specs.Meaning.{Closed, Live, LiveStmt}
 use Rattle.language.specs.Parts.{call_at, input_name, output_name}
 use Rattle.language.specs.Places.{Path, most_steps}
 use Rattle.meaning_facts.specs.declared.facts.Place.{Place as Spot}
-use Rattle.meaning_facts.specs.declared.instances.Given.{Given}
+use Rattle.meaning_facts.specs.declared.instances.InstanceBindings.{InstanceBindings}
 use Rattle.meaning_facts.specs.declared.instances.Instances.{Instances}
 use Rattle.paths.specs.declared.steps.Step.{Step}
-use Rattle.meaning_facts.specs.declared.instances.Variable.{Variable}
-use Rattle.meaning_facts.specs.declared.learned.Learned.{Learned}
+use Rattle.meaning_facts.specs.declared.instances.LoopVariable.{LoopVariable}
+use Rattle.meaning_facts.specs.declared.fact_base.FactBase.{FactBase}
 use Rattle.meaning_facts.specs.Keeping.{IsPlaced}
 use Rattle.meaning_facts.specs.Paths.{path_of, child_at, same_step, IsOpen, IsTree}
 use Rattle.meaning_facts.specs.Sighted.{closed_at, scalar_at, sight_of}
@@ -28,13 +28,13 @@ use Rattle.meaning_invariants.proofs.HeldOpening.{grows_by_one, holds_still}
 use Rattle.meaning_invariants.specs.Active.{Active, Candidate}
 use Rattle.meaning_invariants.specs.Opened.{GoesOn, IsActive, IsCandidate, IsClosedSo, IsSoFar, Origin}
 
-module _ (s : Core) (K : Knowledge) (levels : ℕ) (l : Learned) (ls : List Active) (arrays : List Candidate) (far : IsSoFar s K levels l ls arrays)
-    (i : ℕ) (within : i < length l.instances.all.items) (x : Step) (g : Given) (u : Instances) (o : IsOpen l.instances i x g u) (lacks : child_at l.instances i x.offset x.key ≡ None)
+module _ (s : Core) (K : Knowledge) (levels : ℕ) (l : FactBase) (ls : List Active) (arrays : List Candidate) (far : IsSoFar s K levels l ls arrays)
+    (i : ℕ) (within : i < length l.instances.all.items) (x : Step) (g : InstanceBindings) (u : Instances) (o : IsOpen l.instances i x g u) (lacks : child_at l.instances i x.offset x.key ≡ None)
     (short : length (path_of l.instances.all.items i) < most_steps) where
   abbrev t : Instances
   t = l.instances
 
-  abbrev pub now : Learned
+  abbrev pub now : FactBase
   now = with_instances l u
 
   tree : IsTree t
@@ -48,7 +48,7 @@ module _ (s : Core) (K : Knowledge) (levels : ℕ) (l : Learned) (ls : List Acti
 
   -- WHAT INSTANCES SEE
   scalar_same : (p : Spot) → p.instance < length t.all.items → scalar_at now p ≡ scalar_at l p
-  scalar_same p w = ap (λ (vs : List Variable). scalar_by (value_at l.facts p) (variable_in vs p.node)) (ap variables_in (stays t u i x g o p.instance w))
+  scalar_same p w = ap (λ (vs : List LoopVariable). scalar_by (value_at l.facts p) (variable_in vs p.node)) (ap variables_in (stays t u i x g o p.instance w))
 
   sees_same : (j : ℕ) → j < length t.all.items → sight_of now j ≡ sight_of l j
   sees_same j w =
@@ -100,14 +100,14 @@ module _ (s : Core) (K : Knowledge) (levels : ℕ) (l : Learned) (ls : List Acti
     origin_new : FromAt i x.offset x.key (length t.all.items)
     origin_new =
         subst (λ (p : Path). Origin s K p x.offset x.key (variable_in (variables_of u.all.items (length t.all.items)))) (sym (same_path i within))
-        (subst (λ (vs : List Variable). Origin s K (path_of t.all.items i) x.offset x.key (variable_in vs)) (sym (ap variables_in (comes t u i x g o) ∙ ap (λ (z : Given). z.variables.items) o.given_is)) origin)
+        (subst (λ (vs : List LoopVariable). Origin s K (path_of t.all.items i) x.offset x.key (variable_in vs)) (sym (ap variables_in (comes t u i x g o) ∙ ap (λ (z : InstanceBindings). z.variables.items) o.given_is)) origin)
 
     origin_old : (j at : ℕ) (k : Key) (c : ℕ) → child_at t j at k ≡ Some c → FromAt j at k c
     origin_old j at k c e =
         let h = tree.opens j at k c e in
         let jw : j < length t.all.items = omega (arith, h.within, h.behind) in
         subst (λ (p : Path). Origin s K p at k (variable_in (variables_of u.all.items c))) (sym (same_path j jw))
-        (subst (λ (vs : List Variable). Origin s K (path_of t.all.items j) at k (variable_in vs)) (sym (ap variables_in (stays t u i x g o c h.within))) (far.origins j at k c e))
+        (subst (λ (vs : List LoopVariable). Origin s K (path_of t.all.items j) at k (variable_in vs)) (sym (ap variables_in (stays t u i x g o c h.within))) (far.origins j at k c e))
 
     origins_now : (j at : ℕ) (k : Key) (c : ℕ) → child_at u j at k ≡ Some c → FromAt j at k c
     origins_now j at k c e = elim (cases_Bool (same_step (i, x.offset, x.key) (j, at, k))) [

@@ -6,7 +6,7 @@ use Rattle.language.specs.Core.{Owned, output, Name, Stmt, Block, no_stmts, stmt
 use Rattle.language.specs.Members.{◌∈◌, first, later}
 use Rattle.language.specs.Parts.{block_list}
 use Rattle.language.proofs.Members.{to_left, to_right}
-use Rattle.meaning_facts.specs.declared.learned.Learned.{Learned}
+use Rattle.meaning_facts.specs.declared.fact_base.FactBase.{FactBase}
 use Rattle.meaning_cells.specs.Chosen.{Chosen, key_in}
 use Rattle.meaning_cells.specs.Ending.{Goal, Goals, both, child_goals, goals_in, output_goals, statement_goals, turn_goals, where_so}
 use Rattle.meaning_facts.specs.Paths.{child_at}
@@ -40,14 +40,14 @@ right_part m n gs e = let p = parted m n gs e in record { goals = p.right; is = 
 part_in : {o : Goals} (gs hs : List Goal) → Part o gs → ((h : Goal) → h ∈ gs → h ∈ hs) → Part o hs
 part_in gs hs p f = record { goals = p.goals; is = p.is; within = λ h i. f h (p.within h i) }
 
-pub part_of_block : (s : Core) (l : Learned) (i : ℕ) (a : Owned) (b : Block) (gs : List Goal) → goals_in s l i a b ≡ Some gs → (st : Stmt) → st ∈ block_list b → Part (statement_goals s l i a st) gs
+pub part_of_block : (s : Core) (l : FactBase) (i : ℕ) (a : Owned) (b : Block) (gs : List Goal) → goals_in s l i a b ≡ Some gs → (st : Stmt) → st ∈ block_list b → Part (statement_goals s l i a st) gs
 part_of_block s l i a no_stmts gs e st m = elim m [ ]
 part_of_block s l i a (stmts x b) gs e st first = left_part (statement_goals s l i a x) (goals_in s l i a b) gs e
 part_of_block s l i a (stmts x b) gs e st (later m) =
     let r = right_part (statement_goals s l i a x) (goals_in s l i a b) gs e in
     part_in r.goals gs (part_of_block s l i a b r.goals r.is st m) r.within
 
-pub part_of_turns : (l : Learned) (i : ℕ) (a : Owned) (at : ℕ) (b : Block) (c : Chosen) (k n : ℕ) (gs : List Goal) → turn_goals l i a at b c k n ≡ Some gs
+pub part_of_turns : (l : FactBase) (i : ℕ) (a : Owned) (at : ℕ) (b : Block) (c : Chosen) (k n : ℕ) (gs : List Goal) → turn_goals l i a at b c k n ≡ Some gs
     → (t : ℕ) → k ≤ t → t < k + n → Part (child_goals (child_at l.instances i at (key_in c t)) a b) gs
 part_of_turns l i a at b c k zero gs e t p q = absurd (omega (arith, p, q))
 part_of_turns l i a at b c k (suc n) gs e t p q = elim (cases_lt k t) [

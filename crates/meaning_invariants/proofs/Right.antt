@@ -9,8 +9,8 @@ use Rattle.language.specs.Meaning.{Closed, HasValue, in_block, in_turn, Ready}
 use Rattle.language.specs.Places.{Path, Place, most_steps}
 use Rattle.meaning_steps.specs.Taken.{Taken, by_names}
 use Rattle.meaning_steps.proofs.Settled.{ready_so}
-use Rattle.meaning_facts.specs.declared.instances.Variable.{Variable}
-use Rattle.meaning_facts.specs.declared.learned.Learned.{Learned}
+use Rattle.meaning_facts.specs.declared.instances.LoopVariable.{LoopVariable}
+use Rattle.meaning_facts.specs.declared.fact_base.FactBase.{FactBase}
 use Rattle.meaning_cells.specs.Chosen.{Chosen, chosen_in, have_come_in}
 use Rattle.meaning_facts.specs.Keeping.{in_instance, turn_at}
 use Rattle.meaning_facts.specs.Paths.{at_path, path_of}
@@ -29,14 +29,14 @@ origin_value : {s : Core} {K : Knowledge} {path : Path} {at : ℕ} {k : Key} {va
 origin_value (of_header (in_block l m) r o all so) short x v e = in_turn l m r o (so x v e) short
 origin_value (of_call l m e none) short x v q = let z : None ≡ Some v = sym (none x) ∙ q in absurd (cc (z))
 
-module _ (s : Core) (K : Knowledge) (levels : ℕ) (l : Learned) (ls : List Active) (arrays : List Candidate) (far : IsSoFar s K levels l ls arrays) where
+module _ (s : Core) (K : Knowledge) (levels : ℕ) (l : FactBase) (ls : List Active) (arrays : List Candidate) (far : IsSoFar s K levels l ls arrays) where
   closed_found : (a : Place) (o : Option ℕ) → at_path l.instances a.0 ≡ o → in_instance false (closed_at l) o a.1 ≡ true → Closed s K a
   closed_found a (Some j) q e = subst (λ (p : Path). Closed s K (p, a.1)) (found_there l.instances far.placed.tree a.0 j q).1 (far.closed (record { instance = j; node = a.1 }) e).so
   closed_found a None q e = absurd (cc (e))
 
   turn_in : (j x : ℕ) (v : Scalar) → j < length l.instances.all.items → variable_in (variables_of l.instances.all.items j) x ≡ Some v → HasValue s K (path_of l.instances.all.items j, x) v
   turn_in zero x v w e =
-      let none : variable_in (variables_of l.instances.all.items 0) x ≡ None = ap (λ (vs : List Variable). variable_in vs x) far.placed.tree.root_variables in
+      let none : variable_in (variables_of l.instances.all.items 0) x ≡ None = ap (λ (vs : List LoopVariable). variable_in vs x) far.placed.tree.root_variables in
       let z : None ≡ Some v = sym none ∙ e in
       absurd (cc (z))
   turn_in (suc j) x v w e =

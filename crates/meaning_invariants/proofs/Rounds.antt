@@ -21,7 +21,7 @@ use Rattle.meaning_facts.specs.declared.facts.Facts.{Facts}
 use Rattle.meaning_facts.specs.declared.facts.Place.{Place as Spot}
 use Rattle.meaning_facts.specs.declared.facts.Write.{Write}
 use Rattle.meaning_facts.specs.declared.instances.Instance.{Instance}
-use Rattle.meaning_facts.specs.declared.learned.Learned.{Learned}
+use Rattle.meaning_facts.specs.declared.fact_base.FactBase.{FactBase}
 use Rattle.meaning_facts.specs.Added.{IsNothing}
 use Rattle.meaning_facts.specs.Growing.{fact_view, IsWithin, With, IsAgreed, with_facts}
 use Rattle.meaning_facts.specs.Keeping.{by_place, in_instance, has_kind, kept_of, kind_of, write_view}
@@ -34,7 +34,7 @@ use Rattle.meaning_invariants.proofs.Lines.{one_line}
 
 -- NOTHING IS HELD BEFORE THE FIRST ROUND
 
-module _ (l : Learned) (e : IsNothing l.facts) where
+module _ (l : FactBase) (e : IsNothing l.facts) where
   nothing_by : {X : Type 0} (x : X) (f : Spot → X) → ((p : Spot) → f p ≡ x) → (o : Option ℕ) (n : ℕ) → in_instance x f o n ≡ x
   nothing_by x f z (Some i) n = z (record { instance = i; node = n })
   nothing_by x f z None n = refl
@@ -116,7 +116,7 @@ also_from K (g ∷ gs) f (inl k) = also_from (With K g) gs f (inl (inl k))
 also_from K (g ∷ gs) f (inr i) = elim (split_in i) [ inl e ↦ also_from (With K g) gs f (inl (inr e)) | inr j ↦ also_from (With K g) gs f (inr j) ]
 
 -- the same knowledge
-pub holds_same : (K M : Knowledge) → ((f : script.Fact) → K f → M f) → ((f : script.Fact) → M f → K f) → (l : Learned) → Holds K l → Holds M l
+pub holds_same : (K M : Knowledge) → ((f : script.Fact) → K f → M f) → ((f : script.Fact) → M f → K f) → (l : FactBase) → Holds K l → Holds M l
 holds_same K M to from l h = record {
   keeps = record {
     value_so = λ q v e. to (script.value q v) (h.keeps.value_so q v e);
@@ -137,7 +137,7 @@ holds_same K M to from l h = record {
   fault_all = λ f at q x. h.fault_all f at q (from (script.fault f at q) x);
 }
 
-module _ (M : Knowledge) (agreed : IsAgreed M) (one : OneLine M) (l : Learned) (tree : IsTree l.instances) where
+module _ (M : Knowledge) (agreed : IsAgreed M) (one : OneLine M) (l : FactBase) (tree : IsTree l.instances) where
   abbrev inside : List Instance
   inside = l.instances.all.items
 
@@ -170,7 +170,7 @@ module _ (s : Core) (w : WellFormed s) (single : SinglyAssigned s) (nodes : Node
     writes = ((law.sound s w single n).one_each).one_element;
   }
 
-  pub round_held : (n : ℕ) (l : Learned) (fs : List Fact) (k : Facts) → IsTree l.instances → Holds (Known s n) l → AreAdded l.facts fs k → ((f : Fact) → f ∈ fs → IsWithin l.instances.all.items f)
+  pub round_held : (n : ℕ) (l : FactBase) (fs : List Fact) (k : Facts) → IsTree l.instances → Holds (Known s n) l → AreAdded l.facts fs k → ((f : Fact) → f ∈ fs → IsWithin l.instances.all.items f)
       → ((f : script.Fact) → Known s (suc n) f ↔ (Known s n f ⊎ (f ∈ map (fact_view l.instances.all.items) fs))) → Holds (Known s (suc n)) (with_facts l k)
   round_held n l fs k tree h added within round =
       let views = map (fact_view l.instances.all.items) fs in

@@ -17,7 +17,7 @@ use Rattle.language_laws.proofs.Declared.{live_block}
 use Rattle.meaning_steps.specs.Kept.{Keeps, scalar_by}
 use Rattle.meaning_steps.specs.Taken.{FinishedBy, IsSettled, ReadyBy}
 use Rattle.meaning_steps.proofs.Settled.{closed_taken, live_taken, ready_so, ready_taken, stmt_taken}
-use Rattle.meaning_facts.specs.declared.learned.Learned.{Learned}
+use Rattle.meaning_facts.specs.declared.fact_base.FactBase.{FactBase}
 use Rattle.meaning_facts.specs.Growing.{KeepsFacts}
 use Rattle.meaning_facts.specs.Keeping.{kept_of, turn_at, IsPlaced}
 use Rattle.meaning_facts.specs.Paths.{path_of}
@@ -40,7 +40,7 @@ opens_branches else_second = tt
 opens_branches (turn p q l) = tt
 opens_branches (item m) = tt
 
-module _ (s : Core) (K : Knowledge) (l : Learned) (ls : List Active) (levels : ℕ) (arrays : List Candidate) (names : NamesFound s) (placed : IsPlaced s l.instances) (keeps : KeepsFacts K l)
+module _ (s : Core) (K : Knowledge) (l : FactBase) (ls : List Active) (levels : ℕ) (arrays : List Candidate) (names : NamesFound s) (placed : IsPlaced s l.instances) (keeps : KeepsFacts K l)
     (right : IsRight s K l ls) (open_all : IsAllOpen s K l ls) (close_all : IsAllClosed s levels l ls arrays) (indexes : HasIndexes s K)
     (one : (p : Place) (v u : Scalar) → HasValue s K p v → HasValue s K p u → v ≡ u) where
   abbrev At : ℕ → Path

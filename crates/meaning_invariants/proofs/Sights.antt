@@ -10,7 +10,7 @@ use Rattle.meaning_steps.specs.Kept.{element_of, by_key, sight_by}
 use Rattle.meaning_steps.proofs.Written.{elements, elements_one}
 use Rattle.meaning_steps.specs.Environment.{Sight}
 use Rattle.meaning_steps.specs.Taken.{ComeBy, ReadyBy, by_cells, by_names}
-use Rattle.meaning_facts.specs.declared.learned.Learned.{Learned}
+use Rattle.meaning_facts.specs.declared.fact_base.FactBase.{FactBase}
 use Rattle.meaning_cells.specs.Chosen.{has_come_in, have_come_in}
 use Rattle.meaning_facts.specs.Growing.{KeepsFacts}
 use Rattle.meaning_facts.specs.Keeping.{kept_of, IsPlaced}
@@ -21,7 +21,7 @@ use Rattle.meaning_facts.proofs.Growing.{both}
 use Rattle.meaning_facts.proofs.Keeping.{sees_kept}
 use Rattle.meaning_invariants.specs.Active.{Active, taken_by}
 
-module _ (s : Core) (K : Knowledge) (l : Learned) (ls : List Active) (placed : IsPlaced s l.instances) (keeps : KeepsFacts K l)
+module _ (s : Core) (K : Knowledge) (l : FactBase) (ls : List Active) (placed : IsPlaced s l.instances) (keeps : KeepsFacts K l)
     (apart : (a : Place) → (kept_of l).closed a ≡ true → OneWriter K a) where
   kept_sees : (path : Path) → SeesBy s K (taken_by l ls) path (sight_by s (kept_of l) path)
   kept_sees path = record {
@@ -44,7 +44,7 @@ pub some_is : {X : Type 0} (o : Option X) → is_some o ≡ true → (x : X) × 
 some_is (Some x) e = (x, refl)
 some_is None e = absurd (cc (e))
 
-module _ (s : Core) (l : Learned) (ls : List Active) (path : Path) where
+module _ (s : Core) (l : FactBase) (ls : List Active) (path : Path) where
   abbrev seen : Sight
   seen = sight_by s (kept_of l) path
 
@@ -65,7 +65,7 @@ module _ (s : Core) (l : Learned) (ls : List Active) (path : Path) where
   names_all [] f = refl
   names_all (n ∷ ns) f = and_from _ _ (one_all n (f n first)) (names_all ns (λ x m. f x (later m)))
 
-module _ (s : Core) (l : Learned) (ls : List Active) (placed : IsPlaced s l.instances) (i : ℕ) (within : i < length l.instances.all.items) where
+module _ (s : Core) (l : FactBase) (ls : List Active) (placed : IsPlaced s l.instances) (i : ℕ) (within : i < length l.instances.all.items) where
   pub come_so : (ns : List Awaited) → have_come_in (sight_of l i) ns ≡ true → (x : Awaited) → x ∈ ns → ComeBy s (taken_by l ls) (path_of l.instances.all.items i) x
   come_so ns e = names_so s l ls (path_of l.instances.all.items i) ns (subst (λ (g : Sight). have_come_in g ns ≡ true) (sees_kept s l placed i within) e)
 
@@ -73,7 +73,7 @@ module _ (s : Core) (l : Learned) (ls : List Active) (placed : IsPlaced s l.inst
   come_all ns f = subst (λ (g : Sight). have_come_in g ns ≡ true) (sym (sees_kept s l placed i within)) (names_all s l ls (path_of l.instances.all.items i) ns f)
 
 -- the names of a `wait` that is ready
-pub ready_names : {s : Core} {K : Knowledge} {l : Learned} {ls : List Active} {path : Path} {ns : List Awaited} {b : Block} → ReadyBy s K (taken_by l ls) path (wait ns b) []
+pub ready_names : {s : Core} {K : Knowledge} {l : FactBase} {ls : List Active} {path : Path} {ns : List Awaited} {b : Block} → ReadyBy s K (taken_by l ls) path (wait ns b) []
     → (x : Awaited) → x ∈ ns → ComeBy s (taken_by l ls) path x
 ready_names (by_cells k d) = elim d [ ]
 ready_names (by_names f) = f

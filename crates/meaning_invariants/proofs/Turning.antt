@@ -11,10 +11,10 @@ use Rattle.language.specs.WellFormed.{WellFormed}
 use Rattle.language_laws.proofs.Declared.{stmt_in}
 use Rattle.meaning_steps.specs.Taken.{Taken}
 use Rattle.meaning_steps.proofs.Settled.{ready_so}
-use Rattle.meaning_facts.specs.declared.instances.Given.{Given}
+use Rattle.meaning_facts.specs.declared.instances.InstanceBindings.{InstanceBindings}
 use Rattle.paths.specs.declared.steps.Step.{Step}
-use Rattle.meaning_facts.specs.declared.instances.Variable.{Variable}
-use Rattle.meaning_facts.specs.declared.learned.Learned.{Learned}
+use Rattle.meaning_facts.specs.declared.instances.LoopVariable.{LoopVariable}
+use Rattle.meaning_facts.specs.declared.fact_base.FactBase.{FactBase}
 use Rattle.meaning_cells.specs.Chosen.{Chosen, block_in, chosen_in, count_in, key_in}
 use Rattle.meaning_facts.specs.Paths.{path_of}
 use Rattle.meaning_facts.specs.Sighted.{sight_of}
@@ -30,8 +30,8 @@ use Rattle.meaning_invariants.specs.Opened.{IsOpening, IsSoFar, OffsetsApart}
 use Rattle.meaning_invariants.proofs.Calling.{turn_opening}
 use Rattle.meaning_invariants.proofs.Right.{is_right}
 
-module _ (s : Core) (w : WellFormed s) (offsets : OffsetsApart s) (K : Knowledge) (levels : ℕ) (l : Learned) (ls : List Active) (arrays : List Candidate)
-    (far : IsSoFar s K levels l ls arrays) (i : ℕ) (x : Step) (g : Given) (short : length (path_of l.instances.all.items i) < most_steps) (at n : ℕ) (header : Action) (c : Chosen) (j : ℕ) (b : Block)
+module _ (s : Core) (w : WellFormed s) (offsets : OffsetsApart s) (K : Knowledge) (levels : ℕ) (l : FactBase) (ls : List Active) (arrays : List Candidate)
+    (far : IsSoFar s K levels l ls arrays) (i : ℕ) (x : Step) (g : InstanceBindings) (short : length (path_of l.instances.all.items i) < most_steps) (at n : ℕ) (header : Action) (c : Chosen) (j : ℕ) (b : Block)
     (there : active i (stmt at n header) ∈ ls) (chosen : chosen_in (sight_of l i) header ≡ Some c) (below : j < count_in c) (block : block_in header c ≡ Some b) where
   abbrev T : Taken
   T = taken_by l ls
@@ -52,8 +52,8 @@ module _ (s : Core) (w : WellFormed s) (offsets : OffsetsApart s) (K : Knowledge
   seen_opening at_is key ins outs variables =
       turn_opening s w.names K levels l ls arrays far i x g short offsets at n header ready.values b there (ready_so s K T (right_so s K l ls far.holds.keeps (is_right s K levels l ls arrays far)) ready.ready)
       at_is (subst (λ (k : Key). Opens header ready.values k b) (sym key) opens) ins outs
-      (λ y v t. ap (λ (vs : List Variable). variable_in vs y) variables
+      (λ y v t. ap (λ (vs : List LoopVariable). variable_in vs y) variables
       ∙ by_ready s w.loops at n K T path (sight_of l i) seen header ready.values (stmt_in s (far.live (active i (stmt at n header)) there).so) c chosen ready.ready j below (key_in c j) refl y v
       (subst (λ (k : Key). InTurn header ready.values k y v) key t))
       (λ y v e. subst (λ (k : Key). InTurn header ready.values k y v) (sym key)
-      (by_given s K T path (sight_of l i) seen header ready.values c chosen ready.ready j below y v (sym (ap (λ (vs : List Variable). variable_in vs y) variables) ∙ e)))
+      (by_given s K T path (sight_of l i) seen header ready.values c chosen ready.ready j below y v (sym (ap (λ (vs : List LoopVariable). variable_in vs y) variables) ∙ e)))

@@ -1,14 +1,15 @@
--- Variables that never end in a block: those that it assigns as scalars, whatever its branches choose, so many levels of calls deep.
+-- Variables that never end in a block: those that it assigns as scalars, whatever branches are chosen, up to a number
+-- of levels of calls.
 use Rattle.std.specs.Prelude.{ℕ, zero, suc, Bool, false, ◌&&◌, ◌||◌, List, [], ◌∷◌, Option, Some, None, slice_get}
 use Rattle.language.specs.Core.{Owned, output, Name, Stmt, stmt, Action, call_alone, assign, choose, wait, Block, no_stmts, stmts, Function, Core}
 use Rattle.meaning_cells.specs.Targeted.{same_owned}
 
--- some output of a call stands for the variable, and never ends in the body that is called
+-- an output of a call is bound to the variable, and never ends in the called body
 abbrev pub some_output : (ℕ → Bool) → Owned → ℕ → List Name → Bool
 some_output never x j [] = false
 some_output never x j (y ∷ ys) = (same_owned y.what x && never j) || some_output never x (suc j) ys
 
--- by what never ends in the functions that are called
+-- given what never ends in called functions
 abbrev mutual
   pub never : (ℕ → ℕ → Bool) → Owned → Stmt → Bool
   never f x (stmt at n a) = never_by f x a

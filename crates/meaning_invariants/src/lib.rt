@@ -1,6 +1,7 @@
-//! That the facts which a program holds are those that are known of a script, from round to round.
+//! Invariants of the evaluation of a script by rounds: a program holds exactly the facts that are known.
 //!
-//! Nothing here runs: each function of `laws` has an empty body, and its contract is a law of the definitions in `specs/`.
+//! This crate has no executable code. Each public function has an empty body, and its contract is a law of the
+//! definitions in `specs/`.
 #![tactic(auto)]
 
 pub mod ended_laws;

@@ -9,53 +9,53 @@ use Rattle.language.specs.Members.{◌∈◌}
 use Rattle.language.specs.Openings.{Branches}
 use Rattle.language.specs.Parts.{stmt_action, stmt_at}
 use Rattle.language.specs.Places.{Path, most_steps}
-use Rattle.meaning_facts.specs.declared.learned.Learned.{Learned}
+use Rattle.meaning_facts.specs.declared.fact_base.FactBase.{FactBase}
 use Rattle.meaning_cells.specs.Chosen.{Chosen, chosen_in, count_in}
 use Rattle.meaning_facts.specs.Paths.{path_of}
 use Rattle.meaning_facts.specs.Sighted.{sight_of}
 use Rattle.meaning_invariants.specs.Active.{Active, HasBlock}
 use Rattle.meaning_invariants.specs.Opened.{nothing, branches, IsUnready}
 use Rattle.meaning_invariants.proofs.Right.{sees_choices}
-use Rattle.meaning_round.specs.declared.state.State.{State}
+use Rattle.meaning_round.specs.declared.state.RoundState.{RoundState}
 use Rattle.meaning_round.specs.Made.{arrays_of, tasks_of, waiting_of}
 use Rattle.meaning_openings.specs.Insides.{inside, no_block, choices, awaited}
 use Rattle.meaning_openings.specs.Opening.{AreTurned, IsGood, IsLookedAt, is_opened, IsStep}
 use Rattle.meaning_openings.proofs.Entering.{no_step}
 
 -- the blocks of all turns are live
-pub header_opened : {A : Type 0} (s : Core) (n : ℕ) (old new : State A) (a : Active) (c : Chosen) → IsGood s n old → a ∈ tasks_of old → Branches (stmt_action a.statement)
-    → chosen_in (sight_of old.learned a.instance) (stmt_action a.statement) ≡ Some c → AreTurned s n old new a.instance (stmt_at a.statement) (stmt_action a.statement) c (count_in c)
+pub header_opened : {A : Type 0} (s : Core) (n : ℕ) (old new : RoundState A) (a : Active) (c : Chosen) → IsGood s n old → a ∈ tasks_of old → Branches (stmt_action a.statement)
+    → chosen_in (sight_of old.fact_base a.instance) (stmt_action a.statement) ≡ Some c → AreTurned s n old new a.instance (stmt_at a.statement) (stmt_action a.statement) c (count_in c)
     → waiting_of new ≡ waiting_of old → IsStep s n old new × IsLookedAt s n old a new
 header_opened {A} s n old new a c good there header chosen turned waiting =
     let h = good.live a there in
-    let choice = (sees_choices s (Known s n) 0 old.learned (tasks_of old) (arrays_of old) good).choice a.instance (stmt_action a.statement) c h.within chosen in
-    let same : path_of new.learned.instances.all.items a.instance ≡ path_of old.learned.instances.all.items a.instance = turned.step.goes.path_same a.instance h.within in (
+    let choice = (sees_choices s (Known s n) 0 old.fact_base (tasks_of old) (arrays_of old) good).choice a.instance (stmt_action a.statement) c h.within chosen in
+    let same : path_of new.fact_base.instances.all.items a.instance ≡ path_of old.fact_base.instances.all.items a.instance = turned.step.goes.path_same a.instance h.within in (
       turned.step,
       is_opened
           (branches (subst (λ (p : Path). Ready s (Known s n) p (stmt_action a.statement) choice.values) (sym same) choice.ready) header
           (λ k b o short. (
           let at = choice.opens.all k b o in
-          subst (λ (z : Key). HasBlock new.learned (tasks_of new) a.instance (stmt_at a.statement) z b) at.key_is
+          subst (λ (z : Key). HasBlock new.fact_base (tasks_of new) a.instance (stmt_at a.statement) z b) at.key_is
           (turned.blocks at.index b at.below at.block_is (subst (λ (p : Path). length p < most_steps) same short))
           ))) waiting,
     )
 
 -- where the header is known by another name
-pub header_opened_by : {A : Type 0} (s : Core) (n : ℕ) (old new : State A) (a : Active) (x : Action) (c : Chosen) → IsGood s n old → a ∈ tasks_of old → stmt_action a.statement ≡ x → Branches x
-    → chosen_in (sight_of old.learned a.instance) x ≡ Some c → AreTurned s n old new a.instance (stmt_at a.statement) x c (count_in c)
+pub header_opened_by : {A : Type 0} (s : Core) (n : ℕ) (old new : RoundState A) (a : Active) (x : Action) (c : Chosen) → IsGood s n old → a ∈ tasks_of old → stmt_action a.statement ≡ x → Branches x
+    → chosen_in (sight_of old.fact_base a.instance) x ≡ Some c → AreTurned s n old new a.instance (stmt_at a.statement) x c (count_in c)
     → waiting_of new ≡ waiting_of old → IsStep s n old new × IsLookedAt s n old a new
 header_opened_by {A} s n old new a x c good there e header chosen turned waiting =
-    header_opened s n old new a c good there (subst Branches (sym e) header) (subst (λ (z : Action). chosen_in (sight_of old.learned a.instance) z ≡ Some c) (sym e) chosen)
+    header_opened s n old new a c good there (subst Branches (sym e) header) (subst (λ (z : Action). chosen_in (sight_of old.fact_base a.instance) z ≡ Some c) (sym e) chosen)
     (subst (λ (z : Action). AreTurned s n old new a.instance (stmt_at a.statement) z c (count_in c)) (sym e) turned) waiting
 
 no_wait : (ns : List Awaited) (b : core.Block) → Branches (wait ns b) → ⊥
 no_wait ns b h = h
 
 -- the choice is not known
-pub no_choice : (l : Learned) (a : Active) → Branches (stmt_action a.statement) → chosen_in (sight_of l a.instance) (stmt_action a.statement) ≡ None → IsUnready l a
+pub no_choice : (l : FactBase) (a : Active) → Branches (stmt_action a.statement) → chosen_in (sight_of l a.instance) (stmt_action a.statement) ≡ None → IsUnready l a
 no_choice l a header lacks = record { choice = lacks; names = λ ns b e. absurd (no_wait ns b (subst Branches e header)) }
 
-pub no_choice_by : (l : Learned) (a : Active) (x : Action) → stmt_action a.statement ≡ x → Branches x → chosen_in (sight_of l a.instance) x ≡ None → IsUnready l a
+pub no_choice_by : (l : FactBase) (a : Active) (x : Action) → stmt_action a.statement ≡ x → Branches x → chosen_in (sight_of l a.instance) x ≡ None → IsUnready l a
 no_choice_by l a x e header lacks = no_choice l a (subst Branches (sym e) header) (subst (λ (z : Action). chosen_in (sight_of l a.instance) z ≡ None) (sym e) lacks)
 
 -- WHAT STANDS INSIDE
@@ -78,7 +78,7 @@ not_awaited : (x : Action) → no_block ≡ inside x → (ns : List Awaited) (b 
 not_awaited x e ns b h = let z : no_block ≡ awaited ns b = e ∙ ap inside h in absurd (cc (z))
 
 -- a statement that opens nothing
-pub nothing_opened : {A : Type 0} (s : Core) (n : ℕ) (old : State A) (a : Active) → IsGood s n old → no_block ≡ inside (stmt_action a.statement) → IsStep s n old old × IsLookedAt s n old a old
+pub nothing_opened : {A : Type 0} (s : Core) (n : ℕ) (old : RoundState A) (a : Active) → IsGood s n old → no_block ≡ inside (stmt_action a.statement) → IsStep s n old old × IsLookedAt s n old a old
 nothing_opened {A} s n old a good e = (no_step s n old good, is_opened (nothing (not_choices (stmt_action a.statement) e) (λ ns b h. not_awaited (stmt_action a.statement) e ns b h)) refl)
 
 pub choices_same : (x y : Action) → choices y ≡ inside x → x ≡ y

@@ -14,21 +14,21 @@ use Rattle.language.proofs.Members.{split_in}
 use Rattle.paths.proofs.Orders.{number_order}
 use Rattle.meaning_facts.specs.declared.facts.Place.{Place as Spot}
 use Rattle.meaning_facts.specs.declared.instances.Instance.{Instance}
-use Rattle.meaning_facts.specs.declared.instances.Variable.{Variable}
-use Rattle.meaning_facts.specs.declared.learned.Learned.{Learned}
+use Rattle.meaning_facts.specs.declared.instances.LoopVariable.{LoopVariable}
+use Rattle.meaning_facts.specs.declared.fact_base.FactBase.{FactBase}
 use Rattle.meaning_facts.specs.Keeping.{place_view}
 use Rattle.meaning_facts.specs.Paths.{path_of}
 use Rattle.meaning_facts.specs.Store.{parent_of, same_place, variable_in, variables_of}
 use Rattle.meaning_facts.proofs.Keeping.{one_instance}
 use Rattle.meaning_invariants.specs.Active.{Active, Candidate}
 use Rattle.meaning_invariants.specs.Opened.{IsSoFar, Origin, of_call, of_header}
-use Rattle.meaning_round.specs.declared.state.State.{State}
-use Rattle.meaning_round.specs.declared.state.Task.{Task}
+use Rattle.meaning_round.specs.declared.state.RoundState.{RoundState}
+use Rattle.meaning_round.specs.declared.state.LiveTask.{LiveTask}
 use Rattle.meaning_round.specs.Made.{arrays_of, tasks_of}
 use Rattle.meaning_round.specs.Standing.{active_of}
 use Rattle.meaning_round.proofs.Listed.{mapped_in, nth_in}
-use Rattle.meaning_openings.specs.declared.fault.MeaningFault.{MeaningFault}
-use Rattle.meaning_openings.specs.declared.fault.MeaningFault.TheVariants.{Memory, TooLarge}
+use Rattle.meaning_openings.specs.declared.fault.MeaningError.{MeaningError}
+use Rattle.meaning_openings.specs.declared.fault.MeaningError.TheVariants.{Memory, TooLarge}
 use Rattle.meaning_openings.specs.Larger.{turns_from, IsLarger, IsOwn, OwnsMore}
 use Rattle.meaning_openings.specs.Opening.{IsGood}
 
@@ -122,7 +122,7 @@ is_turn ns j m =
     subst (λ (z : ℕ). IsTurn ns z) same h.turn
 
 -- what opens a turn opens a live block
-origin_live : (s : Core) (K : Knowledge) (path : Path) (at : ℕ) (k : Key) (vs : List Variable) → Origin s K path at k (variable_in vs) → length path < most_steps
+origin_live : (s : Core) (K : Knowledge) (path : Path) (at : ℕ) (k : Key) (vs : List LoopVariable) → Origin s K path at k (variable_in vs) → length path < most_steps
     → nat_eq (length vs) 0 ≡ false → (b : Block) × Live s K ((at, k) ∷ path) b
 origin_live s K path at k vs (of_header {b = b} (in_block live there) ready opens f g) short has = (b, opened live there ready opens short)
 origin_live s K path at k [] (of_call live c same none) short has = absurd (cc (has))
@@ -134,9 +134,9 @@ origin_live s K path at k (v ∷ vs) (of_call live c same none) short has = absu
     lost : Some v.value ≡ None
     lost = sym found ∙ none v.node
 
-module _ (s : Core) (K : Knowledge) (l : Learned) (ls : List Active) (cs : List Candidate) (good : IsSoFar s K 0 l ls cs) where
+module _ (s : Core) (K : Knowledge) (l : FactBase) (ls : List Active) (cs : List Candidate) (good : IsSoFar s K 0 l ls cs) where
   turn_live : (j : ℕ) → IsTurn l.instances.all.items j → (b : Block) × Live s K (path_of l.instances.all.items j) b
-  turn_live zero t = clash (ap (λ (z : List Variable). nat_eq (length z) 0) good.placed.tree.root_variables) t.has
+  turn_live zero t = clash (ap (λ (z : List LoopVariable). nat_eq (length z) 0) good.placed.tree.root_variables) t.has
   turn_live (suc j) t =
       let tree = good.placed.tree in
       let up = parent_of l.instances.all.items (suc j) in
@@ -148,17 +148,17 @@ module _ (s : Core) (K : Knowledge) (l : Learned) (ls : List Active) (cs : List 
       subst (λ (p : Path). (b : Block) × Live s K p b) (sym c.path_is)
       (origin_live s K (path_of l.instances.all.items up) o.at o.key (variables_of l.instances.all.items (suc j)) (good.origins up o.at o.key (suc j) o.opened) short t.has)
 
-pub larger_by_turns : {A : Type 0} (s : Core) (n : ℕ) (state : State A) (most : ℕ) → most < length (turns_from 0 state.learned.instances.all.items) → IsGood s n state → IsLarger s n most
+pub larger_by_turns : {A : Type 0} (s : Core) (n : ℕ) (state : RoundState A) (most : ℕ) → most < length (turns_from 0 state.fact_base.instances.all.items) → IsGood s n state → IsLarger s n most
 larger_by_turns s n state most more good =
-    let ns = state.learned.instances.all.items in
+    let ns = state.fact_base.instances.all.items in
     let js = turns_from 0 ns in
-    let turn : (i : ℕ) → i ≤ most → IsTurn state.learned.instances.all.items (get_or (turns_from 0 state.learned.instances.all.items) i 0)
+    let turn : (i : ℕ) → i ≤ most → IsTurn state.fact_base.instances.all.items (get_or (turns_from 0 state.fact_base.instances.all.items) i 0)
     = λ i h. is_turn ns (get_or js i 0) (nth_in js i 0 (omega (arith, h, more))) in
     inl (record {
       path = λ i. path_of ns (get_or js i 0);
-      live = λ i h. turn_live s (Known s n) state.learned (tasks_of state) (arrays_of state) good (get_or js i 0) (turn i h);
+      live = λ i h. turn_live s (Known s n) state.fact_base (tasks_of state) (arrays_of state) good (get_or js i 0) (turn i h);
       apart = λ i j a b e. apart_at nat_eq number_own 0 js (turns_distinct 0 ns) i j (omega (arith, a, more)) (omega (arith, b, more))
-          (one_instance state.learned.instances good.placed.tree (get_or js i 0) (get_or js j 0) (turn i a).within (turn j b).within e);
+          (one_instance state.fact_base.instances good.placed.tree (get_or js i 0) (get_or js j 0) (turn i a).within (turn j b).within e);
     })
 
 -- a loop over instances counts them
@@ -211,10 +211,10 @@ key_contained (q ∷ ps) p m = any_of (same_place p q) (list_any (same_place p) 
 ])
 
 -- a loop over live statements puts their places into a set
-pub task_own : {A : Type 0} (ts : List (Task A)) (i : ℕ) (t : Task A) → i < length ts → t ≡ get_or ts i t → IsOwn (map active_of ts) (record { instance = t.site.instance; node = t.site.node })
+pub task_own : {A : Type 0} (ts : List (LiveTask A)) (i : ℕ) (t : LiveTask A) → i < length ts → t ≡ get_or ts i t → IsOwn (map active_of ts) (record { instance = t.site.instance; node = t.site.node })
 task_own {A} ts i t l e = record {
   active = active_of t;
-  there = subst (λ (z : Task A). active_of z ∈ map active_of ts) (sym e) (mapped_in active_of ts (nth_in ts i t l));
+  there = subst (λ (z : LiveTask A). active_of z ∈ map active_of ts) (sym e) (mapped_in active_of ts (nth_in ts i t l));
   instance_is = refl;
   node_is = refl;
 }
@@ -227,7 +227,7 @@ own_next ls old new k updates own was p h = by (same_place k p) refl (sym (updat
     by true e q = subst (λ (z : Spot). IsOwn ls z) (spot_parts k p e) own
     by false e q = was p q
 
-module _ {A : Type 0} (s : Core) (n : ℕ) (state : State A) (most : ℕ) (good : IsGood s n state) (owns : OwnsMore (tasks_of state) most) where
+module _ {A : Type 0} (s : Core) (n : ℕ) (state : RoundState A) (most : ℕ) (good : IsGood s n state) (owns : OwnsMore (tasks_of state) most) where
   abbrev zero_spot : Spot
   zero_spot = record { instance = 0; node = 0 }
 
@@ -237,42 +237,42 @@ module _ {A : Type 0} (s : Core) (n : ℕ) (state : State A) (most : ℕ) (good 
   owner : (i : ℕ) → i ≤ most → IsOwn (tasks_of state) (nth_spot i)
   owner i h = let more = owns.many in owns.own (nth_spot i) (nth_in owns.places i zero_spot (omega (arith, h, more)))
 
-  spot_within : (i : ℕ) → i ≤ most → (nth_spot i).instance < length state.learned.instances.all.items
-  spot_within i h = let o = owner i h in subst (λ (z : ℕ). z < length state.learned.instances.all.items) o.instance_is (good.live o.active o.there).within
+  spot_within : (i : ℕ) → i ≤ most → (nth_spot i).instance < length state.fact_base.instances.all.items
+  spot_within i h = let o = owner i h in subst (λ (z : ℕ). z < length state.fact_base.instances.all.items) o.instance_is (good.live o.active o.there).within
 
-  spot_live : (i : ℕ) → i ≤ most → (st : Stmt) × LiveStmt s (Known s n) (path_of state.learned.instances.all.items (nth_spot i).instance) st × (stmt_node st ≡ (nth_spot i).node)
+  spot_live : (i : ℕ) → i ≤ most → (st : Stmt) × LiveStmt s (Known s n) (path_of state.fact_base.instances.all.items (nth_spot i).instance) st × (stmt_node st ≡ (nth_spot i).node)
   spot_live i h =
       let o = owner i h in (
         o.active.statement,
-        subst (λ (z : ℕ). LiveStmt s (Known s n) (path_of state.learned.instances.all.items z) o.active.statement) o.instance_is (good.live o.active o.there).so,
+        subst (λ (z : ℕ). LiveStmt s (Known s n) (path_of state.fact_base.instances.all.items z) o.active.statement) o.instance_is (good.live o.active o.there).so,
         o.node_is,
       )
 
-  spots_apart : (i j : ℕ) → i ≤ most → j ≤ most → ◌≡◌ {A = Place} (place_view state.learned.instances.all.items (nth_spot i)) (place_view state.learned.instances.all.items (nth_spot j)) → i ≡ j
+  spots_apart : (i j : ℕ) → i ≤ most → j ≤ most → ◌≡◌ {A = Place} (place_view state.fact_base.instances.all.items (nth_spot i)) (place_view state.fact_base.instances.all.items (nth_spot j)) → i ≡ j
   spots_apart i j a b e =
       let more = owns.many in
       let p = nth_spot i in
       let q = nth_spot j in
       let where_is : (nth_spot i).instance ≡ (nth_spot j).instance
-      = one_instance state.learned.instances good.placed.tree p.instance q.instance (spot_within i a) (spot_within j b) (ap (λ (z : Place). z.0) e) in
+      = one_instance state.fact_base.instances good.placed.tree p.instance q.instance (spot_within i a) (spot_within j b) (ap (λ (z : Place). z.0) e) in
       let node_is : (nth_spot i).node ≡ (nth_spot j).node = ap (λ (z : Place). z.1) e in
       apart_at same_place spot_own zero_spot owns.places owns.distinct i j (omega (arith, a, more)) (omega (arith, b, more)) (λ k. record { instance = where_is k; node = node_is k })
 
   pub larger_by_statements : IsLarger s n most
-  larger_by_statements = inr (record { place = λ i. place_view state.learned.instances.all.items (nth_spot i); live = spot_live; apart = spots_apart })
+  larger_by_statements = inr (record { place = λ i. place_view state.fact_base.instances.all.items (nth_spot i); live = spot_live; apart = spots_apart })
 
 -- WHERE A CALL ENDS
 
-abbrev is_large : MeaningFault → Bool
+abbrev is_large : MeaningError → Bool
 is_large Memory = false
 is_large TooLarge = true
 
 -- want of memory is no answer on what is live
-pub memory_is_small : {T : Type 0} (X : Type 0) (r : Result T MeaningFault) → IsErrAnd r (λ f. f ≡ Memory) → IfErr r (λ f. f ≡ TooLarge → X)
+pub memory_is_small : {T : Type 0} (X : Type 0) (r : Result T MeaningError) → IsErrAnd r (λ f. f ≡ Memory) → IfErr r (λ f. f ≡ TooLarge → X)
 memory_is_small X (Ok x) h = tt
 memory_is_small X (Err f) h = λ e. clash (ap is_large e) (ap is_large h)
 
 -- an answer is passed on
-pub answer_passes : {T X : Type 0} (g : MeaningFault) (r : Result T MeaningFault) → IsErrAnd r (λ f. f ≡ g) → (g ≡ TooLarge → X) → IfErr r (λ f. f ≡ TooLarge → X)
+pub answer_passes : {T X : Type 0} (g : MeaningError) (r : Result T MeaningError) → IsErrAnd r (λ f. f ≡ g) → (g ≡ TooLarge → X) → IfErr r (λ f. f ≡ TooLarge → X)
 answer_passes g (Ok x) h so = tt
 answer_passes g (Err f) h so = λ e. so (sym h ∙ e)

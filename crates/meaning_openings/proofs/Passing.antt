@@ -9,7 +9,7 @@ use Rattle.language.proofs.Members.{either, split_in, to_left, to_right}
 use Rattle.meaning_invariants.specs.Active.{Active}
 use Rattle.meaning_invariants.specs.Opened.{AreCalled, ArePassed, IsOpened, IsUnready}
 use Rattle.meaning_invariants.proofs.Going.{called_stays, opened_stays, unready_stays}
-use Rattle.meaning_round.specs.declared.state.State.{State}
+use Rattle.meaning_round.specs.declared.state.RoundState.{RoundState}
 use Rattle.meaning_round.specs.Made.{tasks_of, waiting_of}
 use Rattle.meaning_openings.specs.Opening.{ArePassedBy, AreWaiting, AreWoken, IsGood, IsLookedAt, is_opened, still_waits, IsMore, IsPassed, IsStep}
 use Rattle.meaning_openings.proofs.Entering.{step_joins}
@@ -18,18 +18,18 @@ use Rattle.meaning_openings.proofs.Taking.{got_in, taken_all, taken_before, take
 
 -- ONE STATEMENT LOOKED AT
 
-module _ {A : Type 0} (s : Core) (n : ℕ) (old new : State A) (good : IsGood s n old) (step : IsStep s n old new) where
-  within : (x : Active) → x ∈ tasks_of old → x.instance < length old.learned.instances.all.items
+module _ {A : Type 0} (s : Core) (n : ℕ) (old new : RoundState A) (good : IsGood s n old) (step : IsStep s n old new) where
+  within : (x : Active) → x ∈ tasks_of old → x.instance < length old.fact_base.instances.all.items
   within x m = (good.live x m).within
 
-  pub still_opened : (x : Active) → x ∈ tasks_of old → IsOpened s (Known s n) old.learned (tasks_of old) x → IsOpened s (Known s n) new.learned (tasks_of new) x
-  still_opened x m o = opened_stays old.learned new.learned (tasks_of old) (tasks_of new) step.goes x (within x m) o
+  pub still_opened : (x : Active) → x ∈ tasks_of old → IsOpened s (Known s n) old.fact_base (tasks_of old) x → IsOpened s (Known s n) new.fact_base (tasks_of new) x
+  still_opened x m o = opened_stays old.fact_base new.fact_base (tasks_of old) (tasks_of new) step.goes x (within x m) o
 
-  pub still_called : (x : Active) → x ∈ tasks_of old → AreCalled s old.learned (tasks_of old) x → AreCalled s new.learned (tasks_of new) x
-  still_called x m o = called_stays old.learned new.learned (tasks_of old) (tasks_of new) step.goes s x (within x m) o
+  pub still_called : (x : Active) → x ∈ tasks_of old → AreCalled s old.fact_base (tasks_of old) x → AreCalled s new.fact_base (tasks_of new) x
+  still_called x m o = called_stays old.fact_base new.fact_base (tasks_of old) (tasks_of new) step.goes s x (within x m) o
 
-  pub still_unready : (x : Active) → x ∈ tasks_of old → IsUnready old.learned x → IsUnready new.learned x
-  still_unready x m u = unready_stays old.learned new.learned (tasks_of old) (tasks_of new) step.goes x (within x m) u
+  pub still_unready : (x : Active) → x ∈ tasks_of old → IsUnready old.fact_base x → IsUnready new.fact_base x
+  still_unready x m u = unready_stays old.fact_base new.fact_base (tasks_of old) (tasks_of new) step.goes x (within x m) u
 
   -- where those that wait are the same
   pub waiting_stays : waiting_of new ≡ waiting_of old → AreWaiting old → AreWaiting new
@@ -51,7 +51,7 @@ module _ {A : Type 0} (s : Core) (n : ℕ) (old new : State A) (good : IsGood s 
       ];
       unready = λ x m. elim (either (waiting_of old) (a ∷ []) (subst (λ (z : List Active). x ∈ z) e m)) [
         | inl i ↦ still_unready x (waiting.live x i) (waiting.unready x i)
-        | inr i ↦ subst (λ (z : Active). IsUnready new.learned z) (sym (only_one x a i)) u
+        | inr i ↦ subst (λ (z : Active). IsUnready new.fact_base z) (sym (only_one x a i)) u
       ];
     }
 
@@ -68,7 +68,7 @@ module _ {A : Type 0} (s : Core) (n : ℕ) (old new : State A) (good : IsGood s 
 
 -- THOSE THAT WAITED
 
-pub none_woken : {A : Type 0} (s : Core) (n : ℕ) (old new : State A) → IsStep s n old new → waiting_of new ≡ [] → AreWoken s n old new (waiting_of old)
+pub none_woken : {A : Type 0} (s : Core) (n : ℕ) (old new : RoundState A) → IsStep s n old new → waiting_of new ≡ [] → AreWoken s n old new (waiting_of old)
 none_woken {A} s n old new step e = record {
   step = step;
   waiting = record { live = λ x m. absurd (none x m); unready = λ x m. absurd (none x m) };
@@ -82,7 +82,7 @@ none_woken {A} s n old new step e = record {
     none x m = empty x (subst (λ (z : List Active). x ∈ z) e m)
 
 -- one more of them was looked at
-pub woken_next : {A : Type 0} (s : Core) (n : ℕ) (old mid new : State A) (a : Active) (left : List Active) → ((x : Active) → x ∈ waiting_of old → x ∈ tasks_of old) → a ∈ waiting_of old
+pub woken_next : {A : Type 0} (s : Core) (n : ℕ) (old mid new : RoundState A) (a : Active) (left : List Active) → ((x : Active) → x ∈ waiting_of old → x ∈ tasks_of old) → a ∈ waiting_of old
     → AreWoken s n old mid (a ∷ left) → (IsGood s n mid → a ∈ tasks_of mid → IsStep s n mid new × IsLookedAt s n mid a new) → AreWoken s n old new left
 woken_next {A} s n old mid new a left live there w looks =
     let in_mid : (x : Active) → x ∈ waiting_of old → x ∈ tasks_of mid = λ x m. w.step.goes.listed x (live x m) in
@@ -102,7 +102,7 @@ woken_next {A} s n old mid new a left live there w looks =
 -- THOSE THAT BECAME LIVE
 
 -- where all that waited were looked at again, what was passed is passed
-pub pass_first : {A : Type 0} (s : Core) (n : ℕ) (old mid : State A) (j k : ℕ) → j ≤ k → j ≤ length (tasks_of old) → IsGood s n old → ArePassed s (Known s n) old.learned (tasks_of old) (take k (tasks_of old)) (waiting_of old)
+pub pass_first : {A : Type 0} (s : Core) (n : ℕ) (old mid : RoundState A) (j k : ℕ) → j ≤ k → j ≤ length (tasks_of old) → IsGood s n old → ArePassed s (Known s n) old.fact_base (tasks_of old) (take k (tasks_of old)) (waiting_of old)
     → AreWoken s n old mid [] → IsMore old mid → ArePassedBy s n old mid (take j (tasks_of mid))
 pass_first {A} s n old mid j k below inside good passed w more =
     let before : (x : Active) → x ∈ take j (tasks_of mid) → x ∈ take k (tasks_of old)
@@ -123,8 +123,8 @@ pass_first {A} s n old mid j k below inside good passed w more =
     empty x m = elim m [ ]
 
 -- one more was passed
-pub pass_next : {A : Type 0} (s : Core) (n : ℕ) (old mid called new : State A) (a : Active) (k : ℕ) → ArePassedBy s n old mid (take k (tasks_of mid)) → slice_get (tasks_of mid) k ≡ Some a
-    → (IsGood s n mid → a ∈ tasks_of mid → IsStep s n mid called × AreCalled s called.learned (tasks_of called) a) → waiting_of called ≡ waiting_of mid
+pub pass_next : {A : Type 0} (s : Core) (n : ℕ) (old mid called new : RoundState A) (a : Active) (k : ℕ) → ArePassedBy s n old mid (take k (tasks_of mid)) → slice_get (tasks_of mid) k ≡ Some a
+    → (IsGood s n mid → a ∈ tasks_of mid → IsStep s n mid called × AreCalled s called.fact_base (tasks_of called) a) → waiting_of called ≡ waiting_of mid
     → (IsGood s n called → a ∈ tasks_of called → IsStep s n called new × IsLookedAt s n called a new) → IsMore mid called → IsMore called new
     → ArePassedBy s n old new (take (k + 1) (tasks_of new))
 pass_next {A} s n old mid called new a k p found calls same looks more further =
@@ -144,7 +144,7 @@ pass_next {A} s n old mid called new a k p found calls same looks more further =
       so = record {
         called = λ x m. elim (split x m) [
           | inl i ↦ still_called s n mid new p.step.so both x (taken_in k (tasks_of mid) x i) (p.so.called x i)
-          | inr e ↦ subst (λ (z : Active). AreCalled s new.learned (tasks_of new) z) (sym e) (still_called s n called new c.0.so o.0 a there_called c.1)
+          | inr e ↦ subst (λ (z : Active). AreCalled s new.fact_base (tasks_of new) z) (sym e) (still_called s n called new c.0.so o.0 a there_called c.1)
         ];
         opened = λ x m. elim (split x m) [
           | inl i ↦ (
@@ -157,7 +157,7 @@ pass_next {A} s n old mid called new a k p found calls same looks more further =
     }
 
 -- all were passed
-pub pass_all : {A : Type 0} (s : Core) (n : ℕ) (old mid : State A) (k : ℕ) → ArePassedBy s n old mid (take k (tasks_of mid)) → slice_get (tasks_of mid) k ≡ None → ArePassedBy s n old mid (tasks_of mid)
+pub pass_all : {A : Type 0} (s : Core) (n : ℕ) (old mid : RoundState A) (k : ℕ) → ArePassedBy s n old mid (take k (tasks_of mid)) → slice_get (tasks_of mid) k ≡ None → ArePassedBy s n old mid (tasks_of mid)
 pass_all {A} s n old mid k p none = record {
   step = p.step;
   waiting = p.waiting;

@@ -1,10 +1,10 @@
--- What stands inside of a statement: no block, the blocks that it opens by a choice, or the content of a `wait`.
+-- The blocks nested in a statement: none, those that it opens by a choice, or the content of a `wait`.
 use Rattle.std.specs.Prelude.{List, map}
 use Rattle.flow.specs.View.{action_view, awaited_view}
 use Rattle.language.specs.Core.{Action, Awaited, Block, when, choose, range, each, wait}
 use Rattle.meaning_round.specs.Standing.{content_view}
-use Rattle.meaning_openings.specs.declared.headers.Inside.{Inside as Found}
-use Rattle.meaning_openings.specs.declared.headers.Inside.TheVariants as Is
+use Rattle.meaning_openings.specs.declared.headers.InnerBlocks.{InnerBlocks as Found}
+use Rattle.meaning_openings.specs.declared.headers.InnerBlocks.TheVariants as Is
 
 pub data Inside : Type 0 where
   no_block : Inside

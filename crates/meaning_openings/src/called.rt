@@ -1,4 +1,4 @@
-//! The bodies of the functions that live statements call (Swift/T Guide, on composite functions).
+//! Opening of the bodies of called functions (Swift/T Guide, on composite functions).
 
 ghost use Rattle.std.specs.Prelude.{◌≡◌, ◌<◌, ℕ, pos, length, Some, slice_get, IfErr, OnOk};
 ghost use Rattle.values.specs.declared.key.Key.{Key as StepKey};
@@ -13,30 +13,30 @@ ghost use Rattle.meaning_invariants.specs.Active.{active, HasBlock};
 ghost use Rattle.meaning_invariants.specs.Opened.{AreCalled};
 ghost use Rattle.meaning_round.specs.Made.{tasks_of, waiting_of};
 ghost use Rattle.meaning_round.specs.Standing.{active_of};
-ghost use Rattle.meaning_openings.specs.declared.fault.MeaningFault.TheVariants.{TooLarge};
+ghost use Rattle.meaning_openings.specs.declared.fault.MeaningError.TheVariants.{TooLarge};
 ghost use Rattle.meaning_openings.specs.Larger.{IsLarger};
 ghost use Rattle.meaning_openings.specs.Opening.{IsGood, IsMore, IsStep};
 
 use crate::children::enter;
-use crate::fault::MeaningFault;
-use crate::room::Room;
+use crate::fault::MeaningError;
+use crate::live_limits::LiveLimits;
 use flow::cell::Call;
 use meaning_cells::parts::calls_of;
-use meaning_facts::instances::Given;
-use meaning_round::state::{Deed, State, Task};
+use meaning_facts::instances::InstanceBindings;
+use meaning_round::state::{LiveAction, LiveTask, RoundState};
 use paths::Step;
 use std::alloc::{AllocError, Allocator, Global};
 use values::key::Key;
 
 /// Makes the bodies of a statement's calls live.
 pub(crate) fn open_calls<'a, A: Allocator>(
-    state: &mut State<'a, A>,
-    room: Room,
-    task: &Task<'a, A>,
-) -> Result<(), MeaningFault>
+    state: &mut RoundState<'a, A>,
+    room: LiveLimits,
+    task: &LiveTask<'a, A>,
+) -> Result<(), MeaningError>
     ensures so { OnOk result ((s : Core) (n : ℕ) → s ≡ core_of state.old.flow.now → WellFormed s → IsGood s n state.old
         → active_of task.now ∈ tasks_of state.old
-        → IsStep s n state.old state.new × AreCalled s state.new.learned (tasks_of state.new) (active_of task.now)) }
+        → IsStep s n state.old state.new × AreCalled s state.new.fact_base (tasks_of state.new) (active_of task.now)) }
     ensures large { IfErr result (λ fault. fault ≡ TooLarge → (s : Core) (n : ℕ) → s ≡ core_of state.old.flow.now → WellFormed s → IsGood s n state.old
         → active_of task.now ∈ tasks_of state.old → IsLarger s n room.most) }
     ensures more { OnOk result (IsMore state.old state.new) }
@@ -44,20 +44,20 @@ pub(crate) fn open_calls<'a, A: Allocator>(
     ensures passed { state.new.passed ≡ state.old.passed }
     ensures waiting { waiting_of state.new ≡ waiting_of state.old }
 {
-    let Deed::Does(action) = &task.deed else {
+    let LiveAction::Does(action) = &task.live_action else {
         return Ok(());
     };
     let calls = calls_of(room.alloc, *action)?;
     for call in &calls {
-        room.hold(state)?;
+        room.check(state)?;
         open_call(state, room.alloc, task.site.instance, *call)?;
     }
     Ok(())
 }
 
-/// Makes the body of a call live.
+/// Makes the body of a call live. Does nothing if the path has the maximum length.
 fn open_call<'a, A: Allocator>(
-    state: &mut State<'a, A>,
+    state: &mut RoundState<'a, A>,
     alloc: Global,
     instance: usize,
     call: &'a Call<A>,
@@ -65,15 +65,15 @@ fn open_call<'a, A: Allocator>(
     ensures so { OnOk result ((s : Core) (n : ℕ) → s ≡ core_of state.old.flow.now → WellFormed s → IsGood s n state.old
         → (st : Stmt) → active instance st ∈ tasks_of state.old → call_view call.entry.now ∈ stmt_calls st
         → IsStep s n state.old state.new × ((f : Function) → slice_get s.functions call.entry.now.function ≡ Some f
-        → length (path_of state.old.learned.instances.all.items instance) < most_steps
-        → HasBlock state.new.learned (tasks_of state.new) instance call.entry.now.at (StepKey.Number (pos 0)) f.body)) }
+        → length (path_of state.old.fact_base.instances.all.items instance) < most_steps
+        → HasBlock state.new.fact_base (tasks_of state.new) instance call.entry.now.at (StepKey.Number (pos 0)) f.body)) }
     ensures more { OnOk result (IsMore state.old state.new) }
     ensures flow { state.new.flow.now ≡ state.old.flow.now }
     ensures passed { state.new.passed ≡ state.old.passed }
     ensures waiting { waiting_of state.new ≡ waiting_of state.old }
 {
     let flow = state.flow;
-    if state.learned.instances.is_deep(instance) {
+    if state.fact_base.instances.is_deep(instance) {
         return Ok(());
     }
     let Some(function) = flow.functions.get(call.function) else {
@@ -83,13 +83,13 @@ fn open_call<'a, A: Allocator>(
         offset: call.at,
         key: Key::Number(0),
     };
-    let given = Given {
+    let given = InstanceBindings {
         inputs: state
-            .learned
+            .fact_base
             .instances
             .places(alloc, instance, &call.inputs)?,
         outputs: state
-            .learned
+            .fact_base
             .instances
             .places(alloc, instance, &call.outputs)?,
         variables: Vec::new(alloc),

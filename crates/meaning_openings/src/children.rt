@@ -1,4 +1,4 @@
-//! Makes a block live behind a step.
+//! Opening of a block in a child instance.
 
 ghost use Rattle.std.specs.Prelude.{◌≡◌, IfOk, OnOk};
 ghost use Rattle.flow.specs.View.{block_view};
@@ -7,49 +7,49 @@ ghost use Rattle.meaning_round.specs.Made.{waiting_of};
 ghost use Rattle.meaning_openings.specs.Opening.{IsEnteredBy};
 
 use flow::statement::Block;
-use meaning_facts::instances::Given;
-use meaning_facts::learned::Learned;
-use meaning_round::state::State;
+use meaning_facts::fact_base::FactBase;
+use meaning_facts::instances::InstanceBindings;
+use meaning_round::state::RoundState;
 use paths::Step;
 use std::alloc::{AllocError, Allocator, Global};
 
-/// Makes the statements of a block live in the instance under a step.
+/// Makes the statements of a block live in the child instance at a step.
 pub(crate) fn enter<'a, A: Allocator>(
-    state: &mut State<'a, A>,
+    state: &mut RoundState<'a, A>,
     alloc: Global,
     parent: usize,
     step: Step,
-    given: Given,
+    given: InstanceBindings,
     block: &'a Block<A>,
 ) -> Result<(), AllocError>
     ensures entered { OnOk result (IsEnteredBy state.old parent step given (block_view block.entry.now) state.new) }
-    ensures facts { state.new.learned.facts ≡ state.old.learned.facts }
-    ensures closed { state.new.learned.closed ≡ state.old.learned.closed }
-    ensures tellers { state.new.tellers ≡ state.old.tellers }
+    ensures facts { state.new.fact_base.facts ≡ state.old.fact_base.facts }
+    ensures closed { state.new.fact_base.closed ≡ state.old.fact_base.closed }
+    ensures worklist { state.new.worklist ≡ state.old.worklist }
     ensures flow { state.new.flow.now ≡ state.old.flow.now }
     ensures passed { state.new.passed ≡ state.old.passed }
     ensures waiting { waiting_of state.new ≡ waiting_of state.old }
 {
-    let child = child_of(alloc, &mut state.learned, parent, step, given)?;
+    let child = child_of(alloc, &mut state.fact_base, parent, step, given)?;
     state.add_block(child, &[], block)
 }
 
-/// The instance that another one has opened under a step, which is opened where there is none.
+/// Returns the child instance at a step, and opens it if there is none.
 fn child_of(
     alloc: Global,
-    learned: &mut Learned,
+    fact_base: &mut FactBase,
     parent: usize,
     step: Step,
-    given: Given,
+    given: InstanceBindings,
 ) -> Result<usize, AllocError>
-    ensures found { IfOk result (λ child. IsChildOf learned.old parent step given learned.new child) }
-    ensures facts { learned.new.facts ≡ learned.old.facts }
-    ensures closed { learned.new.closed ≡ learned.old.closed }
+    ensures found { IfOk result (λ child. IsChildOf fact_base.old parent step given fact_base.new child) }
+    ensures facts { fact_base.new.facts ≡ fact_base.old.facts }
+    ensures closed { fact_base.new.closed ≡ fact_base.old.closed }
 {
-    match learned.instances.child(parent, step.offset, &step.key) {
+    match fact_base.instances.child(parent, step.offset, &step.key) {
         Some(child) => Ok(child),
         None => {
-            let child = learned.instances.open(alloc, parent, step, given)?;
+            let child = fact_base.instances.open(alloc, parent, step, given)?;
             Ok(child)
         }
     }

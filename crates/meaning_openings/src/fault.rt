@@ -1,31 +1,31 @@
-//! Why the meaning of a script could not be worked out.
+//! Errors of the evaluation of a script's meaning.
 
 ghost use Rattle.std.specs.Prelude.{◌≡◌};
-ghost use Rattle.meaning_openings.specs.declared.fault.MeaningFault.TheVariants.{Memory};
+ghost use Rattle.meaning_openings.specs.declared.fault.MeaningError.TheVariants.{Memory};
 
 use std::alloc::{AllocError, AllocFailed};
 
-/// Why the meaning of a script could not be worked out.
+/// The reason why the meaning of a script could not be computed.
 #[derive(Clone, Copy, PartialEq, Eq, Debug)]
-pub enum MeaningFault {
-    /// Memory that was asked for was refused.
+pub enum MeaningError {
+    /// An allocation failure.
     Memory,
-    /// More is live than is allowed.
+    /// More live turns or statements than the limit allows.
     TooLarge,
 }
 
-impl From<AllocError> for MeaningFault {
+impl From<AllocError> for MeaningError {
     ghost from_gives = { λ _ fault. fault ≡ Memory };
 
-    fn from(_refused: AllocError) -> MeaningFault {
-        MeaningFault::Memory
+    fn from(_refused: AllocError) -> MeaningError {
+        MeaningError::Memory
     }
 }
 
-impl<T: Drop> From<AllocFailed<T>> for MeaningFault {
+impl<T: Drop> From<AllocFailed<T>> for MeaningError {
     ghost from_gives = { λ _ fault. fault ≡ Memory };
 
-    fn from(_refused: AllocFailed<T>) -> MeaningFault {
-        MeaningFault::Memory
+    fn from(_refused: AllocFailed<T>) -> MeaningError {
+        MeaningError::Memory
     }
 }

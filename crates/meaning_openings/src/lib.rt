@@ -1,4 +1,7 @@
-//! Which arrays are closed: those whose declaring block has nothing left to write in them.
+//! Opening of blocks and closing of arrays between two rounds of a script's meaning.
+//!
+//! `open_all` makes the blocks that live statements open or call live. `close_some` closes the arrays that can be
+//! written no more. The crate `meaning_outcomes` alternates the two until no array closes.
 #![tactic(auto)]
 
 mod called;
@@ -6,6 +9,6 @@ mod children;
 pub mod closing;
 pub mod fault;
 mod headers;
+pub mod live_limits;
 pub mod opening;
-pub mod room;
 mod turns;

@@ -1,4 +1,4 @@
-//! The blocks that a header opens by its choice, one for each turn (Swift/T Guide, on conditionals and loops).
+//! Opening of the blocks of a choice, one for each turn (Swift/T Guide, on conditionals and loops).
 
 ghost use Rattle.std.specs.Prelude.{◌≡◌, ◌<◌, ◌∷◌, ℕ, length, Some, IfErr, IfOk, OnOk, option_map};
 ghost use Rattle.flow.specs.View.{action_view, block_view};
@@ -13,59 +13,59 @@ ghost use Rattle.meaning_invariants.specs.Active.{active, HasBlock};
 ghost use Rattle.meaning_invariants.specs.Turns.{key_variable, turn_variables};
 ghost use Rattle.meaning_invariants.specs.Opened.{OffsetsApart};
 ghost use Rattle.meaning_round.specs.Made.{tasks_of, waiting_of};
-ghost use Rattle.meaning_openings.specs.declared.fault.MeaningFault.TheVariants.{TooLarge};
+ghost use Rattle.meaning_openings.specs.declared.fault.MeaningError.TheVariants.{TooLarge};
 ghost use Rattle.meaning_openings.specs.Larger.{IsLarger};
 ghost use Rattle.meaning_openings.specs.Opening.{AreTurned, IsGood, IsMore, IsStep};
 
 use crate::children::enter;
-use crate::fault::MeaningFault;
-use crate::room::Room;
-use flow::statement::{Action, Block, Variable as Declared};
+use crate::fault::MeaningError;
+use crate::live_limits::LiveLimits;
+use flow::statement::{Action, Block, Variable};
 use meaning_cells::choices::{Choice, block_of};
-use meaning_facts::instances::{Given, Variable};
-use meaning_round::state::State;
+use meaning_facts::instances::{InstanceBindings, LoopVariable};
+use meaning_round::state::RoundState;
 use paths::Step;
 use std::alloc::{AllocError, Allocator, Global};
 use values::key::Key;
 use values::value::Scalar;
 
-/// Makes the blocks live that a header opens by its choice.
+/// Makes the blocks that a header opens by its choice live. Does nothing if the path has the maximum length.
 pub(crate) fn open_choice<'a, A: Allocator>(
-    state: &mut State<'a, A>,
-    room: Room,
+    state: &mut RoundState<'a, A>,
+    room: LiveLimits,
     instance: usize,
     at: usize,
     action: &'a Action<A>,
     choice: &Choice,
-) -> Result<(), MeaningFault>
+) -> Result<(), MeaningError>
     ensures so { OnOk result ((s : Core) (n : ℕ) → WellFormed s → OffsetsApart s → IsGood s n state.old → (node : ℕ)
         → active instance (stmt at node (action_view action.entry.now)) ∈ tasks_of state.old
-        → chosen_in (sight_of state.old.learned instance) (action_view action.entry.now) ≡ Some (choice_view choice.now)
+        → chosen_in (sight_of state.old.fact_base instance) (action_view action.entry.now) ≡ Some (choice_view choice.now)
         → AreTurned s n state.old state.new instance at (action_view action.entry.now) (choice_view choice.now) (count_in (choice_view choice.now))) }
     ensures large { IfErr result (λ fault. fault ≡ TooLarge → (s : Core) (n : ℕ) → WellFormed s → OffsetsApart s → IsGood s n state.old → (node : ℕ)
         → active instance (stmt at node (action_view action.entry.now)) ∈ tasks_of state.old
-        → chosen_in (sight_of state.old.learned instance) (action_view action.entry.now) ≡ Some (choice_view choice.now) → IsLarger s n room.most) }
+        → chosen_in (sight_of state.old.fact_base instance) (action_view action.entry.now) ≡ Some (choice_view choice.now) → IsLarger s n room.most) }
     ensures more { OnOk result (IsMore state.old state.new) }
     ensures flow { state.new.flow.now ≡ state.old.flow.now }
     ensures passed { state.new.passed ≡ state.old.passed }
     ensures waiting { waiting_of state.new ≡ waiting_of state.old }
 {
-    if state.learned.instances.is_deep(instance) {
+    if state.fact_base.instances.is_deep(instance) {
         return Ok(());
     }
     let Some(block) = block_of(action, choice) else {
         return Ok(());
     };
     for i in 0..choice.count() {
-        room.hold(state)?;
+        room.check(state)?;
         open_turn(state, room.alloc, instance, at, action, choice, i, block)?;
     }
     Ok(())
 }
 
-/// Makes the block of a turn live.
+/// Makes the block of one turn live.
 fn open_turn<'a, A: Allocator>(
-    state: &mut State<'a, A>,
+    state: &mut RoundState<'a, A>,
     alloc: Global,
     instance: usize,
     at: usize,
@@ -76,10 +76,10 @@ fn open_turn<'a, A: Allocator>(
 ) -> Result<(), AllocError>
     ensures so { OnOk result ((s : Core) (n : ℕ) → WellFormed s → OffsetsApart s → IsGood s n state.old → (node : ℕ)
         → active instance (stmt at node (action_view action.entry.now)) ∈ tasks_of state.old
-        → chosen_in (sight_of state.old.learned instance) (action_view action.entry.now) ≡ Some (choice_view choice.now) → i < count_in (choice_view choice.now)
+        → chosen_in (sight_of state.old.fact_base instance) (action_view action.entry.now) ≡ Some (choice_view choice.now) → i < count_in (choice_view choice.now)
         → block_in (action_view action.entry.now) (choice_view choice.now) ≡ Some (block_view block.entry.now)
-        → length (path_of state.old.learned.instances.all.items instance) < most_steps
-        → IsStep s n state.old state.new × HasBlock state.new.learned (tasks_of state.new) instance at (key_in (choice_view choice.now) i)
+        → length (path_of state.old.fact_base.instances.all.items instance) < most_steps
+        → IsStep s n state.old state.new × HasBlock state.new.fact_base (tasks_of state.new) instance at (key_in (choice_view choice.now) i)
         (block_view block.entry.now)) }
     ensures more { OnOk result (IsMore state.old state.new) }
     ensures flow { state.new.flow.now ≡ state.old.flow.now }
@@ -90,7 +90,7 @@ fn open_turn<'a, A: Allocator>(
         offset: at,
         key: key_at(choice, i)?,
     };
-    let given = Given {
+    let given = InstanceBindings {
         inputs: Vec::new(alloc),
         outputs: Vec::new(alloc),
         variables: variables_of(alloc, action, choice, i)?,
@@ -99,13 +99,13 @@ fn open_turn<'a, A: Allocator>(
     Ok(())
 }
 
-/// What the variables of a loop are behind so many turns.
+/// Returns the loop variables of the turn at index `i`, with their values.
 fn variables_of<A: Allocator>(
     alloc: Global,
     action: &Action<A>,
     choice: &Choice,
     i: u64,
-) -> Result<Vec<Variable>, AllocError>
+) -> Result<Vec<LoopVariable>, AllocError>
     ensures { IfOk result (λ vs. i < count_in (choice_view choice.now) → vs.items ≡ turn_variables (action_view action.now) (choice_view choice.now) i) }
 {
     match action {
@@ -124,27 +124,27 @@ fn variables_of<A: Allocator>(
     }
 }
 
-/// The variable for the value, then the one for the number or key of the turn.
+/// Creates the variable for the value, followed by the one for the index or key of the turn.
 fn turn_of<A: Allocator>(
     alloc: Global,
     node: u32,
-    key: &Option<Declared<A>>,
+    key: &Option<Variable<A>>,
     choice: &Choice,
     i: u64,
-) -> Result<Vec<Variable>, AllocError>
+) -> Result<Vec<LoopVariable>, AllocError>
     ensures { IfOk result (λ vs. i < count_in (choice_view choice.now) → vs.items
         ≡ record { node = node; value = value_at_turn (choice_view choice.now) i } ∷ key_variable (option_map (λ x. x.node) key.now)
         (key_in (choice_view choice.now) i)) }
 {
     let mut variables = Vec::new(alloc);
-    variables.push(Variable {
+    variables.push(LoopVariable {
         node,
         value: choice.value(i)?,
     })?;
     if let Some(turn) = key {
         let key = key_at(choice, i)?;
         let value = key.scalar()?;
-        variables.push(Variable {
+        variables.push(LoopVariable {
             node: turn.node,
             value,
         })?;
@@ -152,7 +152,7 @@ fn turn_of<A: Allocator>(
     Ok(variables)
 }
 
-/// The key of a turn. One that no number says counts as want of memory.
+/// Returns the key of a turn. An index of 2^63 or more counts as an allocation failure.
 fn key_at(choice: &Choice, i: u64) -> Result<Key, AllocError>
     ensures { IfOk result (λ key. i < count_in (choice_view choice.now) → key ≡ key_in (choice_view choice.now) i) }
 {

@@ -7,7 +7,7 @@ use Rattle.language.specs.Places.{Place}
 use Rattle.meaning_steps.specs.Kept.{Write as KeptWrite}
 use Rattle.meaning_facts.specs.declared.facts.Place.{Place as Spot}
 use Rattle.meaning_facts.specs.declared.facts.Write.{Write}
-use Rattle.meaning_facts.specs.declared.learned.Learned.{Learned}
+use Rattle.meaning_facts.specs.declared.fact_base.FactBase.{FactBase}
 use Rattle.meaning_facts.specs.Keeping.{kept_of, place_view, write_view}
 use Rattle.meaning_facts.specs.Paths.{IsTree}
 use Rattle.meaning_facts.specs.Indexed.{one_writer_in}
@@ -17,7 +17,7 @@ use Rattle.meaning_facts.proofs.Keeping.{found_there}
 use Rattle.meaning_invariants.specs.Held.{Holds}
 use Rattle.meaning_invariants.proofs.Apart.{one_all, one_so}
 
-module _ (K : Knowledge) (l : Learned) (tree : IsTree l.instances) (holds : Holds K l) where
+module _ (K : Knowledge) (l : FactBase) (tree : IsTree l.instances) (holds : Holds K l) where
   spots_so : ((p : Spot) → one_writer_in (writes_at l.facts p) ≡ true) → (a : Place) → OneWriter K a
   spots_so h a = λ k w w' v v' x y.
       let at = looked l.instances (λ (ws : List KeptWrite). record { key = k; writer = w; value = v } ∈ ws) [] (λ p. map (write_view l.instances.all.items) (writes_at l.facts p)) a (λ i. elim i [ ]) (holds.keeps.write_all a k w v x) in

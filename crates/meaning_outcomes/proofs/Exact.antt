@@ -17,7 +17,7 @@ use Rattle.meaning_steps.specs.Environment.{Sight, Sees}
 use Rattle.meaning_steps.specs.News.{Past, Recalls}
 use Rattle.meaning_steps.specs.Kept.{Keeps}
 use Rattle.meaning_steps.proofs.Seen as seen
-use Rattle.meaning_facts.specs.declared.learned.Learned.{Learned}
+use Rattle.meaning_facts.specs.declared.fact_base.FactBase.{FactBase}
 use Rattle.meaning_facts.specs.Keeping.{kept_of, IsPlaced}
 use Rattle.meaning_facts.specs.Paths.{path_of}
 use Rattle.meaning_facts.proofs.Keeping.{sees_kept, recalls_kept}
@@ -27,7 +27,7 @@ use Rattle.meaning_outcomes.specs.Stuck.{is_stuck_in}
 use Rattle.meaning_outcomes.proofs.Finding as law
 
 pub stuck_exact : (bytes : List ℕ) (t : Table) (tree : Tree) → Reads bytes tree → WellTyped tree t → SinglyAssigned (core t tree)
-    → (n : ℕ) (l : Learned) → IsPlaced (core t tree) l.instances → Keeps (core t tree) (Known (core t tree) n) (kept_of l) → Holds (Known (core t tree) n) l
+    → (n : ℕ) (l : FactBase) → IsPlaced (core t tree) l.instances → Keeps (core t tree) (Known (core t tree) n) (kept_of l) → Holds (Known (core t tree) n) l
     → (i : ℕ) → i < length l.instances.all.items → (at m : ℕ) (a : Action) → LiveStmt (core t tree) (Known (core t tree) n) (path_of l.instances.all.items i) (stmt at m a)
     → (is_stuck_in l i (stmt at m a) ≡ true) ↔ Stuck (core t tree) (Known (core t tree) n) (path_of l.instances.all.items i) at m a
 stuck_exact bytes t tree r w single n l placed keeps holds i within at m a live =

@@ -21,7 +21,7 @@ use Rattle.meaning_steps.specs.Taken.{Taken, ReadyBy, by_cells, by_source, by_na
 use Rattle.paths.specs.declared.faults.FaultKind.{FaultKind}
 use Rattle.paths.specs.declared.faults.FaultKind.TheVariants as Kind
 use Rattle.meaning_facts.specs.declared.facts.Place.{Place as Spot}
-use Rattle.meaning_facts.specs.declared.learned.Learned.{Learned}
+use Rattle.meaning_facts.specs.declared.fact_base.FactBase.{FactBase}
 use Rattle.meaning_cells.specs.Chosen.{chosen_in, has_come_in, have_come_in}
 use Rattle.meaning_cells.specs.Ending.{inserted_by}
 use Rattle.meaning_facts.specs.Keeping.{all_kinds, fault_at, has_kind, has_some, past_of, some_fault_at, IsLocated}
@@ -95,7 +95,7 @@ kind_among Kind.TooDeep = later (later (later (later (later first))))
 kind_among Kind.NotANumber = later (later (later (later (later (later first)))))
 kind_among Kind.AssertFailed = later (later (later (later (later (later (later first))))))
 
-module _ (s : Core) (K : Knowledge) (l : Learned) (tree : IsTree l.instances) (holds : Holds K l) (i : ℕ) (within : i < length l.instances.all.items) where
+module _ (s : Core) (K : Knowledge) (l : FactBase) (tree : IsTree l.instances) (holds : Holds K l) (i : ℕ) (within : i < length l.instances.all.items) where
   abbrev path : Path
   path = path_of l.instances.all.items i
 

@@ -15,7 +15,7 @@ use Rattle.language.specs.Places.{Path, Place}
 use Rattle.language.proofs.Members.{split_in}
 use Rattle.meaning_facts.specs.declared.facts.Place.{Place as Spot}
 use Rattle.meaning_facts.specs.declared.instances.Instance.{Instance}
-use Rattle.meaning_facts.specs.declared.learned.Learned.{Learned}
+use Rattle.meaning_facts.specs.declared.fact_base.FactBase.{FactBase}
 use Rattle.meaning_facts.specs.Keeping.{place_view}
 use Rattle.meaning_facts.specs.Paths.{at_path, IsTree}
 use Rattle.meaning_facts.specs.Store.{all_lines, line_at, same_pair}
@@ -92,7 +92,7 @@ entry_of (d ∷ es) p bytes h = by (same_pair p d.0) refl h (λ k. entry_of es p
 
 -- THE LINES
 
-module _ (K : Knowledge) (l : Learned) (tree : IsTree l.instances) (holds : Holds K l) (unique : IsUnique same_pair l.facts.lines) where
+module _ (K : Knowledge) (l : FactBase) (tree : IsTree l.instances) (holds : Holds K l) (unique : IsUnique same_pair l.facts.lines) where
   abbrev ns : List Instance
   ns = l.instances.all.items
 

@@ -9,7 +9,7 @@ use Rattle.language.specs.Places.{Path}
 use Rattle.language_laws.proofs.Declared.{live_block}
 use Rattle.meaning_facts.specs.declared.facts.Place.{Place as Spot}
 use Rattle.meaning_facts.specs.declared.instances.Instance.{Instance}
-use Rattle.meaning_facts.specs.declared.learned.Learned.{Learned}
+use Rattle.meaning_facts.specs.declared.fact_base.FactBase.{FactBase}
 use Rattle.meaning_facts.specs.Fresh.{IsFresh}
 use Rattle.meaning_facts.specs.Paths.{path_of}
 use Rattle.meaning_facts.specs.Stands.{Stands, at_root}
@@ -20,7 +20,7 @@ use Rattle.meaning_invariants.specs.Opened.{IsActive, IsCandidate}
 use Rattle.meaning_invariants.proofs.Blocks.{active_in, listed_or_never, of_declares, one_of}
 use Rattle.meaning_round.specs.Going.{StandsBetween}
 
-module _ (s : Core) (l : Learned) (fresh : IsFresh l) where
+module _ (s : Core) (l : FactBase) (fresh : IsFresh l) where
   abbrev ns : List Instance
   ns = l.instances.all.items
 

@@ -5,7 +5,7 @@ use Rattle.std.specs.Cmp.{IsStrictWeakOrder}
 use Rattle.std.specs.List.Sorted.{IsPermutation, IsSortedBy}
 use Rattle.meaning_outcomes.specs.Lists.{each_once, Lists}
 use Rattle.paths.specs.declared.faults.Fault.{Fault}
-use Rattle.paths.specs.declared.statements.Statement.{Statement}
+use Rattle.paths.specs.declared.statements.StatementInstance.{StatementInstance}
 use Rattle.paths.specs.Order.{fault_below, same_fault, same_statement, statement_below}
 use Rattle.paths.proofs.Orders.{number_order}
 use Rattle.paths.proofs.Points.{mark_below, mark_of, mark_order, point_below, point_of, point_order, same_mark, same_point}
@@ -17,7 +17,7 @@ number_own n = number_order.own n
 pub statement_weak : IsStrictWeakOrder statement_below
 statement_weak = weak_order point_of point_below same_point point_order
 
-pub lists_statements : (xs sorted found : List Statement) → IsPermutation xs sorted → IsSortedBy statement_below sorted → found ≡ each_once same_statement [] sorted → Lists statement_below same_statement xs found
+pub lists_statements : (xs sorted found : List StatementInstance) → IsPermutation xs sorted → IsSortedBy statement_below sorted → found ≡ each_once same_statement [] sorted → Lists statement_below same_statement xs found
 lists_statements = lists_all point_of point_below same_point point_order
 
 pub fault_weak : IsStrictWeakOrder fault_below

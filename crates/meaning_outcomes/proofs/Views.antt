@@ -28,9 +28,9 @@ use Rattle.meaning_facts.specs.Store.{same_place}
 use Rattle.meaning_facts.proofs.Growing.{fault_eq, place_same}
 use Rattle.meaning_round.proofs.Listed.{mapped_in}
 use Rattle.meaning_outcomes.specs.declared.knowledge.Knowledge.{Knowledge}
-use Rattle.meaning_outcomes.specs.declared.knowledge.Stuck.{Stuck}
+use Rattle.meaning_outcomes.specs.declared.knowledge.BlockedId.{BlockedId}
 use Rattle.paths.specs.declared.faults.Fault.{Fault}
-use Rattle.paths.specs.declared.statements.Statement.{Statement}
+use Rattle.paths.specs.declared.statements.StatementInstance.{StatementInstance}
 use Rattle.meaning_outcomes.specs.Known.{IsKnowledgeOf}
 use Rattle.meaning_outcomes.specs.Lists.{Lists}
 use Rattle.paths.specs.Order.{fault_below, same_fault, same_statement, statement_below}
@@ -90,9 +90,9 @@ in_held k g h = let r = any_in (keeping.same_fault g) (keys k.faults) h in subst
 
 module _ (s : Core) (k : Knowledge) (h : IsKnowledgeOf s k) where
   abbrev ns : List Instance
-  ns = k.learned.instances.all.items
+  ns = k.fact_base.instances.all.items
 
-  pub blocked_read : (found bs : List Statement) → map point_of found ≡ map (stuck_point ns) k.stuck.items → Lists statement_below same_statement found bs → AreBlocked s (Known s k.rounds) bs
+  pub blocked_read : (found bs : List StatementInstance) → map point_of found ≡ map (stuck_point ns) k.stuck.items → Lists statement_below same_statement found bs → AreBlocked s (Known s k.rounds) bs
   blocked_read found bs e l = record {
     order = l.in_order;
     each = λ b i. (
@@ -112,17 +112,17 @@ module _ (s : Core) (k : Knowledge) (h : IsKnowledgeOf s k) where
         );
   }
 
-  pub faults_read : (found fs : List Fault) → map mark_of found ≡ map (held_mark ns) (keys k.learned.facts.faults) → Lists fault_below same_fault found fs → AreFaults (Known s k.rounds) fs
+  pub faults_read : (found fs : List Fault) → map mark_of found ≡ map (held_mark ns) (keys k.fact_base.facts.faults) → Lists fault_below same_fault found fs → AreFaults (Known s k.rounds) fs
   faults_read found fs e l = record {
     order = l.in_order;
     each = λ f i. (
-        let r = matched mark_of (held_mark ns) found (keys k.learned.facts.faults) e f (l.each f i) in
-        let so = h.holds.fault_so r.0 (held_in k.learned.facts r.0 r.1) in
+        let r = matched mark_of (held_mark ns) found (keys k.fact_base.facts.faults) e f (l.each f i) in
+        let so = h.holds.fault_so r.0 (held_in k.fact_base.facts r.0 r.1) in
         (r.0.place.node, subst (λ (m : Mark). Known s k.rounds (fault (kind_view m.kind) m.point.at (m.point.path, r.0.place.node))) (sym r.2) so)
         );
     all = λ kind at path x. (
         let q = h.holds.fault_all kind at (path, x.0) x.1 in
-        let r = matched (held_mark ns) mark_of (keys k.learned.facts.faults) found (sym e) q.held (in_held k.learned.facts q.held q.there) in
+        let r = matched (held_mark ns) mark_of (keys k.fact_base.facts.faults) found (sym e) q.held (in_held k.fact_base.facts q.held q.there) in
         let t = l.all r.0 r.1 in
         let p = fault_is r.0 t.0 t.2 in (
           t.0,

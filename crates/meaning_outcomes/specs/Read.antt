@@ -1,4 +1,4 @@
--- What is read off what is known: blocked statements and faults, in their order.
+-- The blocked statements and faults of what is known, in their order.
 use Rattle.std.specs.Prelude.{◌≡◌, ℕ, List, map, reverse}
 use Rattle.language.specs.Core.{Core}
 use Rattle.language.specs.Facts as script
@@ -12,39 +12,39 @@ use Rattle.meaning_facts.specs.declared.instances.Instance.{Instance}
 use Rattle.meaning_facts.specs.Kinds.{kind_view}
 use Rattle.meaning_facts.specs.Paths as instances
 use Rattle.meaning_facts.specs.Paths.{step_view}
-use Rattle.meaning_outcomes.specs.declared.knowledge.Stuck.{Stuck}
+use Rattle.meaning_outcomes.specs.declared.knowledge.BlockedId.{BlockedId}
 use Rattle.paths.specs.declared.faults.Fault.{Fault}
-use Rattle.paths.specs.declared.statements.Statement.{Statement}
+use Rattle.paths.specs.declared.statements.StatementInstance.{StatementInstance}
 use Rattle.meaning_outcomes.specs.Lists.{IsInOrder}
 use Rattle.paths.specs.Order.{fault_below, statement_below}
 
--- the path of a statement, the innermost step first
-abbrev pub path_of : Statement → Path
+-- the path of a statement, innermost step first
+abbrev pub path_of : StatementInstance → Path
 path_of b = reverse (map step_view b.path.items)
 
--- these are the blocked statements, in their order
-pub record AreBlocked (s : Core) (K : Knowledge) (bs : List Statement) : Type 0 where
+-- these are exactly the blocked statements, in order
+pub record AreBlocked (s : Core) (K : Knowledge) (bs : List StatementInstance) : Type 0 where
   pub order : IsInOrder statement_below bs
-  pub each : (b : Statement) → b ∈ bs → Blocked s K b.at (path_of b)
-  pub all : (at : ℕ) (path : Path) → Blocked s K at path → (b : Statement) × (b ∈ bs) × (b.at ≡ at) × (path_of b ≡ path)
+  pub each : (b : StatementInstance) → b ∈ bs → Blocked s K b.at (path_of b)
+  pub all : (at : ℕ) (path : Path) → Blocked s K at path → (b : StatementInstance) × (b ∈ bs) × (b.at ≡ at) × (path_of b ≡ path)
 
--- these are the faults, in their order
+-- these are exactly the faults, in order
 pub record AreFaults (K : Knowledge) (fs : List Fault) : Type 0 where
   pub order : IsInOrder fault_below fs
   pub each : (f : Fault) → f ∈ fs → Faults K (kind_view f.kind) f.statement.at (path_of f.statement)
   pub all : (kind : script.Fault) (at : ℕ) (path : Path) → Faults K kind at path
       → (f : Fault) × (f ∈ fs) × (kind_view f.kind ≡ kind) × (f.statement.at ≡ at) × (path_of f.statement ≡ path)
 
--- WHAT STATEMENTS AND FAULTS ARE TOLD BY
+-- IDENTITY OF STATEMENTS AND FAULTS
 
 pub record Point : Type 0 where
   pub at : ℕ
   pub path : Path
 
-abbrev pub point_of : Statement → Point
+abbrev pub point_of : StatementInstance → Point
 point_of b = record { at = b.at; path = path_of b }
 
-abbrev pub stuck_point : List Instance → Stuck → Point
+abbrev pub stuck_point : List Instance → BlockedId → Point
 stuck_point ns b = record { at = b.at; path = instances.path_of ns b.instance }
 
 pub record Mark : Type 0 where

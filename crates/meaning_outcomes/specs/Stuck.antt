@@ -1,11 +1,11 @@
--- Which live statements are blocked, by what was learned.
+-- Blocked statements among the live ones, by the fact base.
 use Rattle.std.specs.Prelude.{ℕ, Bool, true, false, not, ◌&&◌, ◌||◌, List, [], ◌∷◌, is_some, Option, Some, None}
 use Rattle.values.specs.declared.value.Scalar.{Scalar}
 use Rattle.values.specs.declared.value.Value.{Value}
 use Rattle.values.specs.declared.value.Value.TheVariants.{One, Many}
 use Rattle.language.specs.Core.{Cell, Stmt, stmt, Action, declare, call_alone, assign, fill, insert, print, assert, when, choose, range, each, wait}
 use Rattle.language.specs.Parts.{outer_cells}
-use Rattle.meaning_facts.specs.declared.learned.Learned.{Learned}
+use Rattle.meaning_facts.specs.declared.fact_base.FactBase.{FactBase}
 use Rattle.meaning_cells.specs.Chosen.{chosen_in, have_come_in}
 use Rattle.meaning_cells.specs.Ending.{is_inserted_in}
 use Rattle.meaning_facts.specs.Keeping.{some_fault_at}
@@ -19,8 +19,8 @@ is_truth (Some (One (Scalar.Text t))) = false
 is_truth (Some (Many es)) = false
 is_truth None = false
 
--- a statement of a node in an instance has its own fact, or is none that can be blocked
-abbrev pub has_fact : Learned → (instance node : ℕ) → Action → Bool
+-- a statement of a node in an instance has its own fact, or is of a form that is never blocked
+abbrev pub has_fact : FactBase → (instance node : ℕ) → Action → Bool
 has_fact l i n (declare v) = true
 has_fact l i n (call_alone p ps c) = true
 has_fact l i n (assign x e) = is_some (value_at l.facts (record { instance = i; node = e.cell.node }))
@@ -35,10 +35,10 @@ has_fact l i n (each a x t b) = is_some (chosen_in (sight_of l i) (each a x t b)
 has_fact l i n (wait ns b) = have_come_in (sight_of l i) ns
 
 -- a fault of the statement at an offset is known at one of these cells
-abbrev pub fails_among : Learned → (instance at : ℕ) → List Cell → Bool
+abbrev pub fails_among : FactBase → (instance at : ℕ) → List Cell → Bool
 fails_among l i at [] = false
 fails_among l i at (c ∷ cs) = some_fault_at l.facts at (record { instance = i; node = c.node }) || fails_among l i at cs
 
 -- a live statement in an instance is blocked
-abbrev pub is_stuck_in : Learned → ℕ → Stmt → Bool
+abbrev pub is_stuck_in : FactBase → ℕ → Stmt → Bool
 is_stuck_in l i (stmt at n a) = not (has_fact l i n a) && (not (some_fault_at l.facts at (record { instance = i; node = n })) && not (fails_among l i at (outer_cells a)))

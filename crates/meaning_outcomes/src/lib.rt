@@ -1,11 +1,12 @@
-//! What is read off what was learned of a script: which of its statements are blocked.
+//! Results of a script's meaning after some rounds: its lines, faults and blocked statements, and the fixpoint of what
+//! is live and closed.
 #![tactic(auto)]
 
+pub mod blocked;
+pub mod fixpoint;
 pub mod knowledge;
 pub mod laws;
 mod lists;
-pub mod reading;
-pub mod settle;
-pub mod stuck;
+pub mod results;
 
-pub use paths::{Fault, FaultKind, Statement, Step};
+pub use paths::{Fault, FaultKind, StatementInstance, Step};

@@ -1,19 +1,22 @@
-//! Lists of statements and of faults in their order, each once.
+//! Sorting and deduplication of statements and of faults.
 ghost use Rattle.std.specs.Prelude.{◌≡◌, [], IfOk};
 ghost use Rattle.std.specs.Ordering.{is_lt};
 ghost use Rattle.meaning_outcomes.specs.Lists.{each_once, is_last, Lists};
 ghost use Rattle.paths.specs.Order.{fault_below, same_fault, same_statement, statement_below};
 
-use paths::{Fault, Statement};
+use paths::{Fault, StatementInstance};
 use std::alloc::{AllocError, Global};
 use std::cmp::Ordering;
 
-/// Statements in their order, each once.
+/// Sorts statements and removes duplicates.
 ///
 /// # Errors
 ///
-/// `AllocError` where memory that was asked for was refused.
-pub fn in_order(alloc: Global, statements: Vec<Statement>) -> Result<Vec<Statement>, AllocError>
+/// Returns `AllocError` if an allocation fails.
+pub fn in_order(
+    alloc: Global,
+    statements: Vec<StatementInstance>,
+) -> Result<Vec<StatementInstance>, AllocError>
     ensures { IfOk result (λ found. Lists statement_below same_statement statements.items found.items) }
 {
     let mut statements = statements;
@@ -25,11 +28,11 @@ pub fn in_order(alloc: Global, statements: Vec<Statement>) -> Result<Vec<Stateme
     each_once(alloc, statements)
 }
 
-/// Faults in their order, each once.
+/// Sorts faults and removes duplicates.
 ///
 /// # Errors
 ///
-/// `AllocError` where memory that was asked for was refused.
+/// Returns `AllocError` if an allocation fails.
 pub fn faults_in_order(alloc: Global, faults: Vec<Fault>) -> Result<Vec<Fault>, AllocError>
     ensures { IfOk result (λ found. Lists fault_below same_fault faults.items found.items) }
 {
@@ -42,7 +45,7 @@ pub fn faults_in_order(alloc: Global, faults: Vec<Fault>) -> Result<Vec<Fault>, 
     each_fault_once(alloc, faults)
 }
 
-/// How things stand in an order, where one is below the other or the other below it.
+/// Converts two tests, for below and above, into an ordering.
 fn by_tests(below: bool, above: bool) -> Ordering
     ensures { is_lt result ≡ below }
 {
@@ -55,8 +58,11 @@ fn by_tests(below: bool, above: bool) -> Ordering
     }
 }
 
-/// Statements, each once where the same ones stand together.
-fn each_once(alloc: Global, statements: Vec<Statement>) -> Result<Vec<Statement>, AllocError>
+/// Removes adjacent duplicates from a list of statements.
+fn each_once(
+    alloc: Global,
+    statements: Vec<StatementInstance>,
+) -> Result<Vec<StatementInstance>, AllocError>
     ensures { IfOk result (λ found. found.items ≡ each_once same_statement [] statements.items) }
 {
     let mut found = Vec::new(alloc);
@@ -68,8 +74,8 @@ fn each_once(alloc: Global, statements: Vec<Statement>) -> Result<Vec<Statement>
     Ok(found)
 }
 
-/// Whether the statement is the last of these.
-fn is_last(found: &[Statement], statement: &Statement) -> bool
+/// Returns true if the statement is the last of these.
+fn is_last(found: &[StatementInstance], statement: &StatementInstance) -> bool
     ensures { result ≡ is_last same_statement found.now statement.now }
 {
     match found.last() {
@@ -78,7 +84,7 @@ fn is_last(found: &[Statement], statement: &Statement) -> bool
     }
 }
 
-/// Faults, each once where the same ones stand together.
+/// Removes adjacent duplicates from a list of faults.
 fn each_fault_once(alloc: Global, faults: Vec<Fault>) -> Result<Vec<Fault>, AllocError>
     ensures { IfOk result (λ found. found.items ≡ each_once same_fault [] faults.items) }
 {
@@ -91,7 +97,7 @@ fn each_fault_once(alloc: Global, faults: Vec<Fault>) -> Result<Vec<Fault>, Allo
     Ok(found)
 }
 
-/// Whether the fault is the last of these.
+/// Returns true if the fault is the last of these.
 fn is_last_fault(found: &[Fault], fault: &Fault) -> bool
     ensures { result ≡ is_last same_fault found.now fault.now }
 {

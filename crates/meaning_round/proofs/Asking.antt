@@ -7,17 +7,17 @@ use Rattle.language.specs.Members.{◌∈◌, first}
 use Rattle.language.proofs.Members.{to_left, to_right}
 use Rattle.meaning_facts.specs.declared.facts.Fact.{Fact as Known}
 use Rattle.meaning_facts.specs.declared.instances.Instance.{Instance}
-use Rattle.meaning_facts.specs.declared.learned.Learned.{Learned}
+use Rattle.meaning_facts.specs.declared.fact_base.FactBase.{FactBase}
 use Rattle.meaning_facts.specs.Growing.{fact_view}
 use Rattle.meaning_invariants.specs.Active.{Active}
 use Rattle.meaning_invariants.specs.Held.{HasPlaces}
-use Rattle.meaning_faults.specs.Viewed.{facts_view}
+use Rattle.meaning_round.specs.Viewed.{facts_view}
 use Rattle.meaning_round.specs.Made.{picks}
 use Rattle.meaning_round.specs.Standing.{active_news, actives_news, HavePlaces}
 use Rattle.meaning_round.proofs.Steps.{actives_append}
 
 -- the first of those who are left, and then the others
-pub asked_next : (l : Learned) (ls : List Active) (k : ℕ) (ks : List ℕ) (xs ys whole : List Fact) → xs ++ actives_news l (picks ls (k ∷ ks)) ≡ whole
+pub asked_next : (l : FactBase) (ls : List Active) (k : ℕ) (ks : List ℕ) (xs ys whole : List Fact) → xs ++ actives_news l (picks ls (k ∷ ks)) ≡ whole
     → ys ≡ xs ++ actives_news l (picks ls (k ∷ [])) → ys ++ actives_news l (picks ls ks) ≡ whole
 asked_next l ls k ks xs ys whole e f =
     ap (λ (z : List Fact). z ++ actives_news l (picks ls ks)) f
@@ -29,7 +29,7 @@ asked_next l ls k ks xs ys whole e f =
     one_and_others : (os : List Active) → (os ++ []) ++ picks ls ks ≡ os ++ picks ls ks
     one_and_others os = ap (λ (z : List Active). z ++ picks ls ks) (append-nil os)
 
-pub asked_last : (l : Learned) (ls : List Active) (ks : List ℕ) (xs whole : List Fact) → ks ≡ [] → xs ++ actives_news l (picks ls ks) ≡ whole → xs ≡ whole
+pub asked_last : (l : FactBase) (ls : List Active) (ks : List ℕ) (xs whole : List Fact) → ks ≡ [] → xs ++ actives_news l (picks ls ks) ≡ whole → xs ≡ whole
 asked_last l ls ks xs whole e f = sym (append-nil xs) ∙ ap (λ (z : List ℕ). xs ++ actives_news l (picks ls z)) (sym e) ∙ f
 
 pub places_next : (ns : List Instance) (ls : List Active) (k : ℕ) (ks : List ℕ) → HavePlaces ns (picks ls (k ∷ ks)) → HavePlaces ns (picks ls (k ∷ [])) × HavePlaces ns (picks ls ks)
@@ -39,11 +39,11 @@ places_next ns ls k ks h = (
 )
 
 -- nobody has that number
-pub nobody_tells : (l : Learned) (ls : List Active) (k : ℕ) (xs : List Fact) → slice_get ls k ≡ None → xs ≡ xs ++ actives_news l (picks ls (k ∷ []))
+pub nobody_tells : (l : FactBase) (ls : List Active) (k : ℕ) (xs : List Fact) → slice_get ls k ≡ None → xs ≡ xs ++ actives_news l (picks ls (k ∷ []))
 nobody_tells l ls k xs e = sym (append-nil xs) ∙ ap (λ (o : Option Active). xs ++ actives_news l (option_to_list o ++ [])) (sym e)
 
 -- what the one of a number tells
-pub one_tells : (l : Learned) (ls : List Active) (k : ℕ) (a : Active) (xs ys : List Fact) → slice_get ls k ≡ Some a → ys ≡ xs ++ active_news l a → ys ≡ xs ++ actives_news l (picks ls (k ∷ []))
+pub one_tells : (l : FactBase) (ls : List Active) (k : ℕ) (a : Active) (xs ys : List Fact) → slice_get ls k ≡ Some a → ys ≡ xs ++ active_news l a → ys ≡ xs ++ actives_news l (picks ls (k ∷ []))
 one_tells l ls k a xs ys e f =
     f ∙ ap (λ (z : List Fact). xs ++ z) (sym (append-nil (active_news l a)))
     ∙ ap (λ (o : Option Active). xs ++ actives_news l (option_to_list o ++ [])) (sym e)

@@ -8,8 +8,8 @@ use Rattle.std.proofs.lemmas.Bool.{cases_Bool, eq-eqb, eqb-true, and_from, or_le
 use Rattle.std.proofs.lemmas.List.{append_assoc, append-nil, take_more}
 use Rattle.language.specs.Members.{◌∈◌}
 use Rattle.language.proofs.Members.{either, split_in}
-use Rattle.meaning_round.specs.declared.tellers.Event.{Event}
-use Rattle.meaning_round.specs.declared.tellers.Tellers.{Tellers}
+use Rattle.meaning_round.specs.declared.worklist.WakeEvent.{WakeEvent}
+use Rattle.meaning_round.specs.declared.worklist.Worklist.{Worklist}
 use Rattle.meaning_round.specs.Hearing.{counted, event_key, is_asleep, is_called, is_in, same_event, AreWoken, FallsAsleep}
 
 -- TESTS
@@ -33,45 +33,45 @@ event_same p q h =
 -- ONE MORE IS CALLED
 
 -- the first so many events are
-pub record AreCalled (old new : Tellers) (number : ℕ) (events : List Event) : Type 0 where
+pub record AreCalled (old new : Worklist) (number : ℕ) (events : List WakeEvent) : Type 0 where
   pub fresh : new.fresh ≡ old.fresh
   pub awake : new.awake.items ≡ old.awake.items
   pub asleep : new.asleep ≡ old.asleep
-  pub still : (e : Event) (k : ℕ) → is_called old e k ≡ true → is_called new e k ≡ true
-  pub called : (e : Event) → e ∈ events → is_called new e number ≡ true
+  pub still : (e : WakeEvent) (k : ℕ) → is_called old e k ≡ true → is_called new e k ≡ true
+  pub called : (e : WakeEvent) → e ∈ events → is_called new e number ≡ true
 
-pub none_called : (t : Tellers) (number : ℕ) (es : List Event) → AreCalled t t number (take 0 es)
+pub none_called : (t : Worklist) (number : ℕ) (es : List WakeEvent) → AreCalled t t number (take 0 es)
 none_called t number [] = record { fresh = refl; awake = refl; asleep = refl; still = λ e k c. c; called = λ e i. elim i [ ] }
 none_called t number (x ∷ es) = record { fresh = refl; awake = refl; asleep = refl; still = λ e k c. c; called = λ e i. elim i [ ] }
 
-pub next_called : (old mid new : Tellers) (number : ℕ) (es : List Event) (i : ℕ) (d : Event) → i < length es
-    → ((e : Event) (k : ℕ) → is_called new e k ≡ (same_event (event_key (get_or es i d)) (event_key e) && nat_eq number k) || is_called mid e k) → new.fresh ≡ mid.fresh → new.awake.items ≡ mid.awake.items → new.asleep ≡ mid.asleep
+pub next_called : (old mid new : Worklist) (number : ℕ) (es : List WakeEvent) (i : ℕ) (d : WakeEvent) → i < length es
+    → ((e : WakeEvent) (k : ℕ) → is_called new e k ≡ (same_event (event_key (get_or es i d)) (event_key e) && nat_eq number k) || is_called mid e k) → new.fresh ≡ mid.fresh → new.awake.items ≡ mid.awake.items → new.asleep ≡ mid.asleep
     → AreCalled old mid number (take i es) → AreCalled old new number (take (i + 1) es)
 next_called old mid new number es i d h calls fresh awake asleep a = record {
   fresh = fresh ∙ a.fresh;
   awake = awake ∙ a.awake;
   asleep = asleep ∙ a.asleep;
   still = λ e k c. kept e k (a.still e k c);
-  called = λ e m. elim (either (take i es) (get_or es i d ∷ []) (subst (λ (z : List Event). e ∈ z) (take_more es i d h) m)) [
+  called = λ e m. elim (either (take i es) (get_or es i d ∷ []) (subst (λ (z : List WakeEvent). e ∈ z) (take_more es i d h) m)) [
     | inl j ↦ kept e number (a.called e j)
     | inr j ↦ now e (alone e (get_or es i d) j)
   ];
 }
   where
-    alone : (e x : Event) → e ∈ (x ∷ []) → e ≡ x
+    alone : (e x : WakeEvent) → e ∈ (x ∷ []) → e ≡ x
     alone e x m = elim (split_in m) [ inl q ↦ q | inr j ↦ elim j [ ] ]
 
-    kept : (e : Event) (k : ℕ) → is_called mid e k ≡ true → is_called new e k ≡ true
+    kept : (e : WakeEvent) (k : ℕ) → is_called mid e k ≡ true → is_called new e k ≡ true
     kept e k c = calls e k ∙ or_right (same_event (event_key (get_or es i d)) (event_key e) && nat_eq number k) (is_called mid e k) c
 
-    now : (e : Event) → e ≡ get_or es i d → is_called new e number ≡ true
+    now : (e : WakeEvent) → e ≡ get_or es i d → is_called new e number ≡ true
     now e q =
         calls e number
         ∙ or_left (same_event (event_key (get_or es i d)) (event_key e) && nat_eq number number) (is_called mid e number)
         (and_from (same_event (event_key (get_or es i d)) (event_key e)) (nat_eq number number)
-        (ap (λ (z : Event). same_event (event_key (get_or es i d)) (event_key z)) q ∙ event_self (event_key (get_or es i d))) (number_self number))
+        (ap (λ (z : WakeEvent). same_event (event_key (get_or es i d)) (event_key z)) q ∙ event_self (event_key (get_or es i d))) (number_self number))
 
-pub all_asleep : (old mid new : Tellers) (number : ℕ) (events : List Event) → AreCalled old mid number events → new.fresh ≡ mid.fresh → new.awake.items ≡ mid.awake.items → new.called ≡ mid.called
+pub all_asleep : (old mid new : Worklist) (number : ℕ) (events : List WakeEvent) → AreCalled old mid number events → new.fresh ≡ mid.fresh → new.awake.items ≡ mid.awake.items → new.called ≡ mid.called
     → ((k : ℕ) → is_asleep new k ≡ cond (nat_eq number k) true (is_asleep mid k)) → FallsAsleep old new number events
 all_asleep old mid new number events a fresh awake called asleep = record {
   fresh = fresh ∙ a.fresh;
@@ -85,7 +85,7 @@ all_asleep old mid new number events a fresh awake called asleep = record {
     or_cond true b = refl
     or_cond false b = refl
 
-    same : (e : Event) (k : ℕ) → is_called new e k ≡ is_called mid e k
+    same : (e : WakeEvent) (k : ℕ) → is_called new e k ≡ is_called mid e k
     same e k = ap (λ c. is_in (get same_event c (event_key e)) k) called
 
 -- one more on a list that is there
@@ -120,24 +120,24 @@ none_more f p q new k o none put empty = elim (cases_Bool (same_event p q)) [
 -- THOSE ARE WOKEN
 
 -- nobody is called at an event
-pub nobody_woken : (t : Tellers) (e : Event) → ((k : ℕ) → is_called t e k ≡ false) → AreWoken t t (e ∷ [])
+pub nobody_woken : (t : Worklist) (e : WakeEvent) → ((k : ℕ) → is_called t e k ≡ false) → AreWoken t t (e ∷ [])
 nobody_woken t e none = record {
   fresh = refl;
   called = refl;
   asleep = λ k s. s;
-  quiet = λ d i k s. elim (split_in i) [ inl q ↦ ap (λ (z : Event). is_called t z k) q ∙ none k | inr j ↦ elim j [ ] ];
+  quiet = λ d i k s. elim (split_in i) [ inl q ↦ ap (λ (z : WakeEvent). is_called t z k) q ∙ none k | inr j ↦ elim j [ ] ];
   woken = λ k s. inl s;
   awake = λ k i. i;
 }
 
-pub those_woken : (old new : Tellers) (e : Event) → new.fresh ≡ old.fresh → new.called ≡ old.called → ((k : ℕ) → is_asleep new k ≡ true → is_asleep old k ≡ true)
+pub those_woken : (old new : Worklist) (e : WakeEvent) → new.fresh ≡ old.fresh → new.called ≡ old.called → ((k : ℕ) → is_asleep new k ≡ true → is_asleep old k ≡ true)
     → ((k : ℕ) → is_asleep new k ≡ true → is_called old e k ≡ false) → ((k : ℕ) → is_asleep old k ≡ true → (is_asleep new k ≡ true) ⊎ (k ∈ new.awake.items))
     → ((k : ℕ) → k ∈ old.awake.items → k ∈ new.awake.items) → AreWoken old new (e ∷ [])
 those_woken old new e fresh called fewer others woken still = record {
   fresh = fresh;
   called = called;
   asleep = fewer;
-  quiet = λ d i k s. elim (split_in i) [ inl q ↦ ap (λ (z : Event). is_called old z k) q ∙ others k s | inr j ↦ elim j [ ] ];
+  quiet = λ d i k s. elim (split_in i) [ inl q ↦ ap (λ (z : WakeEvent). is_called old z k) q ∙ others k s | inr j ↦ elim j [ ] ];
   woken = woken;
   awake = still;
 }

@@ -2,7 +2,7 @@
 use Rattle.std.specs.Prelude.{◌≡◌, ℕ, ◌+◌, ◌<◌, ◌≤◌, Bool, true, false, ◌||◌, List, [], ◌∷◌, ◌++◌, length, drop, refl}
 use Rattle.std.proofs.Common.{sym, ap, ◌∙◌, get_or}
 use Rattle.std.proofs.lemmas.List.{append_assoc, drop_more}
-use Rattle.flow.specs.declared.cell.Part.{Part as Stands}
+use Rattle.flow.specs.declared.cell.CellPart.{CellPart as Stands}
 use Rattle.flow.specs.View.{part_view, parts_view}
 use Rattle.language.specs.Core.{Cell, Call, Part, inner, calls, Outer}
 use Rattle.language.specs.Parts.{part_calls, outer_parts}

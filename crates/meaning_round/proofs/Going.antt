@@ -18,7 +18,7 @@ use Rattle.language_accepted.proofs.Accepted.{accepted_formed}
 use Rattle.meaning_steps.proofs.Nodes.{accepted_nodes}
 use Rattle.meaning_facts.specs.declared.facts.Fact.{Fact}
 use Rattle.meaning_facts.specs.declared.facts.Facts.{Facts}
-use Rattle.meaning_facts.specs.declared.learned.Learned.{Learned}
+use Rattle.meaning_facts.specs.declared.fact_base.FactBase.{FactBase}
 use Rattle.meaning_facts.specs.Growing.{with_facts}
 use Rattle.meaning_facts.proofs.Keeping.{name_located}
 use Rattle.meaning_invariants.specs.Held.{AreAdded, AreInside, Holds}
@@ -41,12 +41,12 @@ use Rattle.meaning_facts.specs.Indexed.{one_writer_in}
 use Rattle.meaning_facts.specs.Store.{writes_at}
 use Rattle.meaning_round.specs.Going.{IsTelling, StandsBetween}
 use Rattle.meaning_round.specs.Standing.{HavePlaces, IsAfter}
-use Rattle.meaning_faults.specs.Viewed.{facts_view}
+use Rattle.meaning_round.specs.Viewed.{facts_view}
 
 -- WHAT WAS PASSED, BY THE SAME INSTANCES
 
-module _ (s : Core) (K : Knowledge) (l : Learned) (d : Learned) (ls : List Active) where
-  abbrev other : Learned
+module _ (s : Core) (K : Knowledge) (l : FactBase) (d : FactBase) (ls : List Active) where
+  abbrev other : FactBase
   other = record { facts = d.facts; instances = l.instances; closed = d.closed }
 
   block_same : {i at : ℕ} {k : Key} {b : Block} → HasBlock l ls i at k b → HasBlock other ls i at k b
@@ -65,13 +65,13 @@ module _ (s : Core) (K : Knowledge) (l : Learned) (d : Learned) (ls : List Activ
 
 -- WHAT IS HELD AFTER THE NEXT ROUND
 
-places_of : (s : Core) (n : ℕ) (l : Learned) (ls telling : List Active) → IsAfter s n l ls telling → HavePlaces l.instances.all.items telling
+places_of : (s : Core) (n : ℕ) (l : FactBase) (ls telling : List Active) → IsAfter s n l ls telling → HavePlaces l.instances.all.items telling
 places_of s n l ls telling h a i =
     let within = h.live.within a (h.live.among a i) in
     record { within = within; names = λ x. (name_located s l h.placed a.instance within x).within }
 
 pub held_next : (bytes : List ℕ) (t : Table) (tree : Tree) → Reads bytes tree → WellTyped tree t → SinglyAssigned (core t tree)
-    → (n : ℕ) (l : Learned) (ls telling : List Active) (news : List Fact) (k : Facts) → IsAfter (core t tree) n l ls telling → Holds (Known (core t tree) n) l
+    → (n : ℕ) (l : FactBase) (ls telling : List Active) (news : List Fact) (k : Facts) → IsAfter (core t tree) n l ls telling → Holds (Known (core t tree) n) l
     → (HavePlaces l.instances.all.items telling → AreInside l.instances.all.items news) → AreAdded l.facts news k
     → ((f : script.Fact) → Known (core t tree) (suc n) f ↔ (Known (core t tree) n f ⊎ (f ∈ facts_view l.instances.all.items news)))
     → Holds (Known (core t tree) (suc n)) (with_facts l k)
@@ -84,7 +84,7 @@ held_next bytes t tree r w single n l ls telling news k after holds inside added
 
 module _ (s : Core) (w : WellFormed s) (single : SinglyAssigned s) (n : ℕ) where
   -- where all is open and closed, what is kept is what is known
-  pub settled_after : OffsetsApart s → (l : Learned) (ls : List Active) (arrays : List Candidate) (waiting telling : List Active) → StandsBetween s n l ls arrays ls waiting → IsTelling l ls telling
+  pub settled_after : OffsetsApart s → (l : FactBase) (ls : List Active) (arrays : List Candidate) (waiting telling : List Active) → StandsBetween s n l ls arrays ls waiting → IsTelling l ls telling
       → ((a : Active) → a ∈ waiting → IsUnready l a) → ((p : Spot) (b : Block) → ◌∈◌ {X = Candidate} (p, b) arrays → closed_at l p ≡ false → IsDone s l (goal_of p b) → one_writer_in (writes_at l.facts p) ≡ true → ⊥)
       → IsAfter s n l ls telling
   settled_after offsets l ls arrays waiting telling h tells unready ended =
@@ -107,7 +107,7 @@ module _ (s : Core) (w : WellFormed s) (single : SinglyAssigned s) (n : ℕ) whe
       }
 
   -- facts that are held after the next round lead there
-  pub between_next : (l : Learned) (ls : List Active) (arrays : List Candidate) (passed waiting : List Active) (k : Facts) → StandsBetween s n l ls arrays passed waiting
+  pub between_next : (l : FactBase) (ls : List Active) (arrays : List Candidate) (passed waiting : List Active) (k : Facts) → StandsBetween s n l ls arrays passed waiting
       → Holds (Known s (suc n)) (with_facts l k) → StandsBetween s (suc n) (with_facts l k) ls arrays passed waiting
   between_next l ls arrays passed waiting k h holds =
       let grown = grows s w.names (Known s n) (Known s (suc n)) (later_known s w single n (suc n) (omega arith)) in
@@ -119,7 +119,7 @@ module _ (s : Core) (w : WellFormed s) (single : SinglyAssigned s) (n : ℕ) whe
 
 -- the next round of an accepted script
 pub round_goes : (bytes : List ℕ) (t : Table) (tree : Tree) → Reads bytes tree → WellTyped tree t → SinglyAssigned (core t tree)
-    → (n : ℕ) (l : Learned) (ls : List Active) (arrays : List Candidate) (passed waiting telling : List Active) (news : List Fact) (k : Facts)
+    → (n : ℕ) (l : FactBase) (ls : List Active) (arrays : List Candidate) (passed waiting telling : List Active) (news : List Fact) (k : Facts)
     → StandsBetween (core t tree) n l ls arrays passed waiting → IsAfter (core t tree) n l ls telling
     → (HavePlaces l.instances.all.items telling → AreInside l.instances.all.items news) → AreAdded l.facts news k
     → ((f : script.Fact) → Known (core t tree) (suc n) f ↔ (Known (core t tree) n f ⊎ (f ∈ facts_view l.instances.all.items news)))
@@ -129,7 +129,7 @@ round_goes bytes t tree r w single n l ls arrays passed waiting telling news k h
     (held_next bytes t tree r w single n l ls telling news k after h.good.holds inside added round)
 
 -- a script is finished just where nothing is told
-pub nothing_told : (s : Core) (n : ℕ) (l : Learned) (news : List Fact) → ((f : script.Fact) → Known s (suc n) f ↔ (Known s n f ⊎ (f ∈ facts_view l.instances.all.items news))) → news ≡ [] → IsFinished s n
+pub nothing_told : (s : Core) (n : ℕ) (l : FactBase) (news : List Fact) → ((f : script.Fact) → Known s (suc n) f ↔ (Known s n f ⊎ (f ∈ facts_view l.instances.all.items news))) → news ≡ [] → IsFinished s n
 nothing_told s n l news round e f k = elim ((round f).0 k) [ inl old ↦ old | inr i ↦ absurd (none (subst (λ (z : List Fact). f ∈ facts_view l.instances.all.items z) e i)) ]
   where
     none : f ∈ facts_view l.instances.all.items [] → ⊥

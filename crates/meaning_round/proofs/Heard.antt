@@ -10,12 +10,12 @@ use Rattle.language.specs.Parts.{stmt_action}
 use Rattle.language.proofs.Members.{either, split_in, to_left, to_right}
 use Rattle.meaning_facts.specs.declared.facts.Fact.{Fact}
 use Rattle.meaning_facts.specs.declared.facts.Facts.{Facts}
-use Rattle.meaning_facts.specs.declared.learned.Learned.{Learned}
+use Rattle.meaning_facts.specs.declared.fact_base.FactBase.{FactBase}
 use Rattle.meaning_facts.specs.Added.{IsAdded}
 use Rattle.meaning_facts.specs.Growing.{with_facts}
 use Rattle.meaning_invariants.specs.Active.{Active}
-use Rattle.meaning_round.specs.declared.tellers.Event.{Event}
-use Rattle.meaning_round.specs.declared.tellers.Tellers.{Tellers}
+use Rattle.meaning_round.specs.declared.worklist.WakeEvent.{WakeEvent}
+use Rattle.meaning_round.specs.declared.worklist.Worklist.{Worklist}
 use Rattle.meaning_round.specs.Going.{IsTelling}
 use Rattle.meaning_round.specs.Hearing.{active_reads, comes_with, counted, event_key, is_asleep, is_called, is_in, numbers_of, same_event, AreHeard, AreWoken, FallsAsleep, IsAwake, Sleeps}
 use Rattle.meaning_round.specs.Made.{picks}
@@ -68,14 +68,14 @@ counted_in n (suc more) k b l = elim (cases_lt n k) [
   | inr above ↦ (let e : n ≡ k = omega (arith, b, above) in subst (λ (z : ℕ). z ∈ counted n (suc more)) e first)
 ]
 
-asked_of : (t : Tellers) (count k : ℕ) → k < count → IsAwake t k → k ∈ numbers_of t count
+asked_of : (t : Worklist) (count k : ℕ) → k < count → IsAwake t k → k ∈ numbers_of t count
 asked_of t count k l (inl i) = to_left t.awake.items (counted t.fresh (count - t.fresh)) i
 asked_of t count k l (inr b) = to_right t.awake.items (counted t.fresh (count - t.fresh)) (counted_in t.fresh (count - t.fresh) k b (omega (arith, l, b)))
 
 -- WHO SLEEPS
 
-sleeps_later : (l m : Learned) (t u : Tellers) (k : ℕ) (a : Active) (s : Sleeps l t k a) → KnowsMore l m → ((e : Event) → e ∈ active_reads s.earlier a → IsSame l m e)
-    → ((e : Event) → is_called t e k ≡ true → is_called u e k ≡ true) → Sleeps m u k a
+sleeps_later : (l m : FactBase) (t u : Worklist) (k : ℕ) (a : Active) (s : Sleeps l t k a) → KnowsMore l m → ((e : WakeEvent) → e ∈ active_reads s.earlier a → IsSame l m e)
+    → ((e : WakeEvent) → is_called t e k ≡ true → is_called u e k ≡ true) → Sleeps m u k a
 sleeps_later l m t u k a s more same called = record {
   earlier = s.earlier;
   more = more_and_more s.earlier l m s.more more;
@@ -86,17 +86,17 @@ sleeps_later l m t u k a s more same called = record {
 }
 
 -- who sleeps tells nothing
-sleeps_silent : (l : Learned) (t : Tellers) (k : ℕ) (a : Active) → Sleeps l t k a → active_news l a ≡ []
+sleeps_silent : (l : FactBase) (t : Worklist) (k : ℕ) (a : Active) → Sleeps l t k a → active_news l a ≡ []
 sleeps_silent l t k a s = silence_stays s.earlier l s.more (site_of a) s.placed (stmt_action a.statement) s.silent s.same
 
 -- AS MORE IS LIVE AND KNOWN
 
 -- at first nobody was asked
-pub heard_first : (l : Learned) (ls : List Active) (t : Tellers) → t.fresh ≡ 0 → AreHeard l ls t []
+pub heard_first : (l : FactBase) (ls : List Active) (t : Worklist) → t.fresh ≡ 0 → AreHeard l ls t []
 heard_first l ls t e = record { fresh = omega (arith, e); each = λ k a f. inl (inr (omega (arith, e))) }
 
 -- more is live
-pub heard_opened : (l m : Learned) (ls more : List Active) (t : Tellers) → KnowsMore l m → ((e : Event) → IsSame l m e) → AreHeard l ls t [] → AreHeard m (ls ++ more) t []
+pub heard_opened : (l m : FactBase) (ls more : List Active) (t : Worklist) → KnowsMore l m → ((e : WakeEvent) → IsSame l m e) → AreHeard l ls t [] → AreHeard m (ls ++ more) t []
 heard_opened l m ls more t knows same h = record {
   fresh = let f = h.fresh in let e : length (ls ++ more) ≡ length ls + length more = length_both ls in omega (arith, f, e);
   each = λ k a e. elim (got_before ls more k a e) [
@@ -119,11 +119,11 @@ no_one : {k : ℕ} → k ∈ [] → ⊥
 no_one i = elim i [ ]
 
 -- something has come, and those were woken who have read it
-pub heard_woken : (l m : Learned) (ls : List Active) (old new : Tellers) (events : List Event) → AreWoken old new events → KnowsMore l m → ((e : Event) → (e ∈ events) ⊎ IsSame l m e)
+pub heard_woken : (l m : FactBase) (ls : List Active) (old new : Worklist) (events : List WakeEvent) → AreWoken old new events → KnowsMore l m → ((e : WakeEvent) → (e ∈ events) ⊎ IsSame l m e)
     → AreHeard l ls old [] → AreHeard m ls new []
 heard_woken l m ls old new events woken more comes h = record { fresh = subst (λ (z : ℕ). z ≤ length ls) (sym woken.fresh) h.fresh; each = each }
   where
-    same_called : (k : ℕ) (e : Event) → is_called new e k ≡ is_called old e k
+    same_called : (k : ℕ) (e : WakeEvent) → is_called new e k ≡ is_called old e k
     same_called k e = ap (λ c. is_in (get same_event c (event_key e)) k) woken.called
 
     still : (k : ℕ) (a : Active) → is_asleep new k ≡ true → Sleeps l old k a → Sleeps m new k a
@@ -145,17 +145,17 @@ heard_woken l m ls old new events woken more comes h = record { fresh = subst (�
     ]
 
 -- one fact more is known
-pub heard_learned : (l : Learned) (ls : List Active) (old new : Tellers) (f : Fact) (k : Facts) → AreWoken old new (comes_with l f) → IsAdded l.facts f k → AreHeard l ls old [] → AreHeard (with_facts l k) ls new []
+pub heard_learned : (l : FactBase) (ls : List Active) (old new : Worklist) (f : Fact) (k : Facts) → AreWoken old new (comes_with l f) → IsAdded l.facts f k → AreHeard l ls old [] → AreHeard (with_facts l k) ls new []
 heard_learned l ls old new f k woken added h = heard_woken l (with_facts l k) ls old new (comes_with l f) woken (more_by_one l f k added) (λ e. comes_or_same l k f added e) h
 
 -- none or some are woken
-pub none_woken : (t : Tellers) → AreWoken t t []
+pub none_woken : (t : Worklist) → AreWoken t t []
 none_woken t = record { fresh = refl; called = refl; asleep = λ k e. e; quiet = λ e i. absurd (none e i); woken = λ k e. inl e; awake = λ k i. i }
   where
-    none : (e : Event) → e ∈ [] → ⊥
+    none : (e : WakeEvent) → e ∈ [] → ⊥
     none e i = elim i [ ]
 
-pub more_woken : (t u v : Tellers) (es ds : List Event) → AreWoken t u es → AreWoken u v ds → AreWoken t v (es ++ ds)
+pub more_woken : (t u v : Worklist) (es ds : List WakeEvent) → AreWoken t u es → AreWoken u v ds → AreWoken t v (es ++ ds)
 more_woken t u v es ds a b = record {
   fresh = b.fresh ∙ a.fresh;
   called = b.called ∙ a.called;
@@ -170,9 +170,9 @@ more_woken t u v es ds a b = record {
 
 -- AS THEY ARE ASKED
 
-module _ (l : Learned) (ls : List Active) where
+module _ (l : FactBase) (ls : List Active) where
   -- all who are awake are asked now
-  pub heard_taken : (old new : Tellers) (asked : List ℕ) → asked ≡ numbers_of old (length ls) → new.fresh ≡ length ls → new.asleep ≡ old.asleep → new.called ≡ old.called
+  pub heard_taken : (old new : Worklist) (asked : List ℕ) → asked ≡ numbers_of old (length ls) → new.fresh ≡ length ls → new.asleep ≡ old.asleep → new.called ≡ old.called
       → AreHeard l ls old [] → AreHeard l ls new asked
   heard_taken old new asked numbers fresh asleep called h = record {
     fresh = omega (arith, fresh);
@@ -190,7 +190,7 @@ module _ (l : Learned) (ls : List Active) where
   }
 
   -- one who told something stays awake
-  pub heard_kept : (old new : Tellers) (n : ℕ) (asked : List ℕ) → new.awake.items ≡ old.awake.items ++ n ∷ [] → new.fresh ≡ old.fresh → new.asleep ≡ old.asleep → new.called ≡ old.called
+  pub heard_kept : (old new : Worklist) (n : ℕ) (asked : List ℕ) → new.awake.items ≡ old.awake.items ++ n ∷ [] → new.fresh ≡ old.fresh → new.asleep ≡ old.asleep → new.called ≡ old.called
       → AreHeard l ls old (n ∷ asked) → AreHeard l ls new asked
   heard_kept old new n asked awake fresh asleep called h = record {
     fresh = subst (λ (z : ℕ). z ≤ length ls) (sym fresh) h.fresh;
@@ -214,7 +214,7 @@ module _ (l : Learned) (ls : List Active) where
   }
 
   -- one who told nothing sleeps
-  pub heard_asleep : (old new : Tellers) (n : ℕ) (asked : List ℕ) (b : Active) (events : List Event) → HavePlaces l.instances.all.items ls → slice_get ls n ≡ Some b → active_news l b ≡ []
+  pub heard_asleep : (old new : Worklist) (n : ℕ) (asked : List ℕ) (b : Active) (events : List WakeEvent) → HavePlaces l.instances.all.items ls → slice_get ls n ≡ Some b → active_news l b ≡ []
       → events ≡ active_reads l b → FallsAsleep old new n events → AreHeard l ls old (n ∷ asked) → AreHeard l ls new asked
   heard_asleep old new n asked b events places there silent reads falls h = record {
     fresh = subst (λ (z : ℕ). z ≤ length ls) (sym falls.fresh) h.fresh;
@@ -248,7 +248,7 @@ module _ (l : Learned) (ls : List Active) where
         placed = places b (got_in n ls b there);
         silent = silent;
         same = λ d i. same_self l d;
-        called = λ d i. falls.called d (subst (λ (z : List Event). d ∈ z) (sym reads) i);
+        called = λ d i. falls.called d (subst (λ (z : List WakeEvent). d ∈ z) (sym reads) i);
       }
 
       now : (k : ℕ) (a : Active) → k ≡ n → slice_get ls k ≡ Some a → (is_asleep new k ≡ true) × Sleeps l new k a
@@ -259,7 +259,7 @@ module _ (l : Learned) (ls : List Active) where
           )
 
   -- nobody has that number
-  pub heard_nobody : (t : Tellers) (n : ℕ) (asked : List ℕ) → slice_get ls n ≡ None → AreHeard l ls t (n ∷ asked) → AreHeard l ls t asked
+  pub heard_nobody : (t : Worklist) (n : ℕ) (asked : List ℕ) → slice_get ls n ≡ None → AreHeard l ls t (n ∷ asked) → AreHeard l ls t asked
   heard_nobody t n asked none h = record {
     fresh = h.fresh;
     each = λ k a e. elim (h.each k a e) [
@@ -275,7 +275,7 @@ module _ (l : Learned) (ls : List Active) where
       nobody k a q e = let z : Some a ≡ None = sym e ∙ ap (slice_get ls) q ∙ none in absurd (cc (z))
 
   -- what is not among those who are asked tells nothing
-  pub heard_tells : (t : Tellers) → AreHeard l ls t [] → IsTelling l ls (picks ls (numbers_of t (length ls)))
+  pub heard_tells : (t : Worklist) → AreHeard l ls t [] → IsTelling l ls (picks ls (numbers_of t (length ls)))
   heard_tells t h = record {
     among = λ a i. picked_in ls (numbers_of t (length ls)) a i;
     quiet = λ a i. (

@@ -10,7 +10,7 @@ use Rattle.meaning_facts.specs.declared.facts.Write.{Write}
 use Rattle.meaning_facts.specs.declared.instances.Instance.{Instance}
 use Rattle.meaning_facts.specs.Store.{spot}
 use Rattle.meaning_invariants.specs.Held.{AreInside, StayInside}
-use Rattle.meaning_faults.proofs.Inside.{one_inside}
+use Rattle.meaning_round.proofs.FaultsInside.{one_inside}
 
 module _ (ns : List Instance) (i : ℕ) {old new : List Fact} where
   pub value_added : (p : Place) (v : Value) (n : ℕ) → new ≡ old ++ Is.Value p v ∷ [] → p ≡ record { instance = i; node = n } → StayInside ns i old new

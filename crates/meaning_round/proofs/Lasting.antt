@@ -16,7 +16,7 @@ use Rattle.meaning_facts.specs.declared.facts.FaultFact.{FaultFact}
 use Rattle.meaning_facts.specs.declared.facts.Facts.{Facts}
 use Rattle.meaning_facts.specs.declared.facts.Place.{Place}
 use Rattle.meaning_facts.specs.declared.facts.Write.{Write}
-use Rattle.meaning_facts.specs.declared.learned.Learned.{Learned}
+use Rattle.meaning_facts.specs.declared.fact_base.FactBase.{FactBase}
 use Rattle.meaning_facts.specs.Added.{first_of, with_write, IsAdded}
 use Rattle.meaning_facts.specs.Growing.{with_facts}
 use Rattle.meaning_facts.specs.Keeping.{same_fault}
@@ -24,7 +24,7 @@ use Rattle.meaning_facts.specs.Sighted.{closed_at}
 use Rattle.meaning_facts.specs.Store.{is_written_in, line_at, same_place, value_at, variable_in, variables_of, writes_at, writes_under}
 use Rattle.meaning_facts.proofs.Adding.{same_place-eq}
 use Rattle.meaning_facts.proofs.Growing.{value_stays}
-use Rattle.meaning_round.specs.declared.tellers.Event.{Event}
+use Rattle.meaning_round.specs.declared.worklist.WakeEvent.{WakeEvent}
 use Rattle.meaning_round.specs.Hearing.{closed_too, comes_with}
 use Rattle.meaning_round.specs.More.{KnowsMore}
 use Rattle.meaning_round.specs.Reads.{at, IsSame}
@@ -85,7 +85,7 @@ faults_stay k j (Is.Element x w) a g e = a.faults g ∙ e
 faults_stay k j (Is.Line x v) a g e = a.faults g ∙ e
 faults_stay k j (Is.Fault f) a g e = a.faults g ∙ true_stays (same_fault f g) (contains same_fault k.faults g) e
 
-pub more_by_one : (l : Learned) (f : Fact) (k : Facts) → IsAdded l.facts f k → KnowsMore l (with_facts l k)
+pub more_by_one : (l : FactBase) (f : Fact) (k : Facts) → IsAdded l.facts f k → KnowsMore l (with_facts l k)
 more_by_one l f k a = record {
   grows = record { longer = omega arith; path_same = λ i b. refl };
   spots = λ i x b. refl;
@@ -103,7 +103,7 @@ elsewhere : {X : Type 0} (p q : Place) (x y : X) → same_place p q ≡ false �
 elsewhere p q x y e = ap (λ (b : Bool). if b then x else y) e
 
 -- an event by its place and its mark
-is_event : (p : Place) (n : ℕ) (e : Event) → p ≡ e.place → n ≡ e.mark → record { place = p; mark = n } ≡ e
+is_event : (p : Place) (n : ℕ) (e : WakeEvent) → p ≡ e.place → n ≡ e.mark → record { place = p; mark = n } ≡ e
 is_event p n e f g = λ i. record { place = f i; mark = g i }
 
 not_zero : (n : ℕ) → nat_eq n 0 ≡ false → n ≡ 0 → ⊥
@@ -119,9 +119,9 @@ other_key a b n e z = elim (cases_Bool (same_key a b)) [
       )
 ]
 
-module _ (l : Learned) (k : Facts) where
+module _ (l : FactBase) (k : Facts) where
   -- where the same is there, nothing has come
-  same_here : (e : Event) → value_at k e.place ≡ value_at l.facts e.place → writes_at k e.place ≡ writes_at l.facts e.place → IsSame l (with_facts l k) e
+  same_here : (e : WakeEvent) → value_at k e.place ≡ value_at l.facts e.place → writes_at k e.place ≡ writes_at l.facts e.place → IsSame l (with_facts l k) e
   same_here e v w = record { value = λ z. v; closed = λ z. refl; elements = λ z c. w; writes = λ key z. ap (λ (ws : List Write). writes_under ws key) w }
 
   -- a write of another key leaves what is under a key
@@ -143,11 +143,11 @@ module _ (l : Learned) (k : Facts) where
         by false = under_more ws key e
 
   -- what comes of a value
-  value_comes : (p : Place) (v : Value) → IsAdded l.facts (Is.Value p v) k → (e : Event) → (e ∈ (at p ∷ [])) ⊎ IsSame l (with_facts l k) e
+  value_comes : (p : Place) (v : Value) → IsAdded l.facts (Is.Value p v) k → (e : WakeEvent) → (e ∈ (at p ∷ [])) ⊎ IsSame l (with_facts l k) e
   value_comes p v a e = elim (cases_Bool (same_place p e.place)) [
     | inr other ↦ inr (same_here e (a.values e.place ∙ elsewhere p e.place (first_of (value_at l.facts e.place) v) (value_at l.facts e.place) other) (a.writes e.place))
     | inl same ↦ elim (cases_Bool (nat_eq e.mark 0)) [
-      | inl whole ↦ inl (subst (λ (z : Event). z ∈ (at p ∷ [])) (is_event p 0 e (same_place-eq p e.place same) (sym (eqb-true e.mark 0 whole))) first)
+      | inl whole ↦ inl (subst (λ (z : WakeEvent). z ∈ (at p ∷ [])) (is_event p 0 e (same_place-eq p e.place same) (sym (eqb-true e.mark 0 whole))) first)
       | inr marked ↦ inr (record {
         value = λ z. absurd (not_zero e.mark marked z);
         closed = λ z. refl;
@@ -158,14 +158,14 @@ module _ (l : Learned) (k : Facts) where
   ]
 
   -- what comes of a write
-  write_comes : (p : Place) (w : Write) → IsAdded l.facts (Is.Element p w) k → (e : Event) → (e ∈ comes_with l (Is.Element p w)) ⊎ IsSame l (with_facts l k) e
+  write_comes : (p : Place) (w : Write) → IsAdded l.facts (Is.Element p w) k → (e : WakeEvent) → (e ∈ comes_with l (Is.Element p w)) ⊎ IsSame l (with_facts l k) e
   write_comes p w a e = elim (cases_Bool (same_place p e.place)) [
     | inr other ↦ inr (same_here e (a.values e.place) (a.writes e.place ∙ elsewhere p e.place (with_write (writes_at l.facts e.place) w) (writes_at l.facts e.place) other))
     | inl same ↦ here (same_place-eq p e.place same) (a.writes e.place ∙ ap (λ (b : Bool). if b then with_write (writes_at l.facts e.place) w else writes_at l.facts e.place) same)
   ]
     where
       whole : (b : Bool) → closed_at l p ≡ b → p ≡ e.place → e.mark ≡ 0 → (closed_at l e.place ≡ true) → e ∈ closed_too b p
-      whole true f g z c = subst (λ (y : Event). y ∈ (at p ∷ [])) (is_event p 0 e g (sym z)) first
+      whole true f g z c = subst (λ (y : WakeEvent). y ∈ (at p ∷ [])) (is_event p 0 e g (sym z)) first
       whole false f g z c = let h : true ≡ false = sym c ∙ ap (closed_at l) (sym g) ∙ f in absurd (cc (h))
 
       open_array : p ≡ e.place → writes_at k e.place ≡ with_write (writes_at l.facts e.place) w → nat_eq e.mark (mark_of w.key) ≡ false → (e.mark ≡ 0 → closed_at l e.place ≡ true → ⊥) → IsSame l (with_facts l k) e
@@ -178,7 +178,7 @@ module _ (l : Learned) (k : Facts) where
 
       here : p ≡ e.place → writes_at k e.place ≡ with_write (writes_at l.facts e.place) w → (e ∈ comes_with l (Is.Element p w)) ⊎ IsSame l (with_facts l k) e
       here g h = elim (cases_Bool (nat_eq e.mark (mark_of w.key))) [
-        | inl under_key ↦ inl (subst (λ (z : Event). z ∈ comes_with l (Is.Element p w)) (is_event p (mark_of w.key) e g (sym (eqb-true e.mark (mark_of w.key) under_key))) first)
+        | inl under_key ↦ inl (subst (λ (z : WakeEvent). z ∈ comes_with l (Is.Element p w)) (is_event p (mark_of w.key) e g (sym (eqb-true e.mark (mark_of w.key) under_key))) first)
         | inr other ↦ elim (cases_Bool (nat_eq e.mark 0)) [
           | inr marked ↦ inr (open_array g h other (λ z c. not_zero e.mark marked z))
           | inl unmarked ↦ elim (cases_Bool (closed_at l e.place)) [
@@ -189,7 +189,7 @@ module _ (l : Learned) (k : Facts) where
       ]
 
   -- at each event a fact comes, or nothing has come
-  pub comes_or_same : (f : Fact) → IsAdded l.facts f k → (e : Event) → (e ∈ comes_with l f) ⊎ IsSame l (with_facts l k) e
+  pub comes_or_same : (f : Fact) → IsAdded l.facts f k → (e : WakeEvent) → (e ∈ comes_with l f) ⊎ IsSame l (with_facts l k) e
   comes_or_same (Is.Value p v) a e = value_comes p v a e
   comes_or_same (Is.Element p w) a e = write_comes p w a e
   comes_or_same (Is.Line p v) a e = inr (same_here e (a.values e.place) (a.writes e.place))
@@ -197,7 +197,7 @@ module _ (l : Learned) (k : Facts) where
 
 -- ONE AFTER THE OTHER
 
-pub more_same : (l : Learned) → KnowsMore l l
+pub more_same : (l : FactBase) → KnowsMore l l
 more_same l = record {
   grows = record { longer = omega arith; path_same = λ i b. refl };
   spots = λ i x b. refl;
@@ -208,7 +208,7 @@ more_same l = record {
   faults = λ g e. e;
 }
 
-pub more_and_more : (l m n : Learned) → KnowsMore l m → KnowsMore m n → KnowsMore l n
+pub more_and_more : (l m n : FactBase) → KnowsMore l m → KnowsMore m n → KnowsMore l n
 more_and_more l m n a b = record {
   grows = record {
     longer = omega (arith, a.grows.longer, b.grows.longer);
@@ -227,7 +227,7 @@ more_and_more l m n a b = record {
     between p None None f g e = g ∙ sym f
     between p None (Some v) f g e = let z : Some v ≡ None = sym (b.values p v g) ∙ e ∙ f in absurd (cc (z))
 
-pub same_and_same : (l m n : Learned) (e : Event) → IsSame l m e → IsSame m n e → IsSame l n e
+pub same_and_same : (l m n : FactBase) (e : WakeEvent) → IsSame l m e → IsSame m n e → IsSame l n e
 same_and_same l m n e a b = record {
   value = λ z. b.value z ∙ a.value z;
   closed = λ z. b.closed z ∙ a.closed z;
@@ -235,5 +235,5 @@ same_and_same l m n e a b = record {
   writes = λ key z. b.writes key z ∙ a.writes key z;
 }
 
-pub same_self : (l : Learned) (e : Event) → IsSame l l e
+pub same_self : (l : FactBase) (e : WakeEvent) → IsSame l l e
 same_self l e = record { value = λ z. refl; closed = λ z. refl; elements = λ z c. refl; writes = λ key z. refl }

@@ -16,3 +16,4 @@ pub mod Steps
 pub mod Still
 pub mod Views
 pub mod Never
+pub mod FaultsInside

@@ -11,12 +11,12 @@ use Rattle.language.specs.Facts.{Fact, value}
 use Rattle.language.specs.Parts.{cells, outer_cells}
 use Rattle.language.specs.Places.{Place, place}
 use Rattle.meaning_steps.specs.News.{unless, assigned_told, element_by as meant_by, element_told, elements_told, filled_told, inserted_told, deep_told, bad_told, items_told, own_told, comes_all, key_in, one_in, with_value, news}
-use Rattle.meaning_facts.specs.declared.learned.Learned.{Learned}
-use Rattle.meaning_faults.specs.declared.site.LiveStatement.{LiveStatement}
-use Rattle.meaning_faults.specs.Faults.{sight_at, past_at, path_at, each_news}
+use Rattle.meaning_facts.specs.declared.fact_base.FactBase.{FactBase}
+use Rattle.meaning_round.specs.declared.site.LiveStatement.{LiveStatement}
+use Rattle.meaning_round.specs.Faults.{sight_at, past_at, path_at, each_news}
 use Rattle.meaning_round.specs.Told.{lies_at, comes_at, cells_news, assigned_news, element_by, element_news, elements_news, filled_news, inserted_news, branch_news, range_news, own_news, calls_news, site_news}
 
-module _ (s : Core) (l : Learned) (t : LiveStatement) (lies : (x : Name) → lies_at l t x ≡ place s (path_at l t) x) where
+module _ (s : Core) (l : FactBase) (t : LiveStatement) (lies : (x : Name) → lies_at l t x ≡ place s (path_at l t) x) where
   assigned_meant : (x : Name) (o : Option Value) → assigned_news l t x o ≡ assigned_told s (past_at l t) (path_at l t) x o
   assigned_meant x None = refl
   assigned_meant x (Some v) = ap (λ (p : Place). unless ((past_at l t).valued x) (value p v)) (lies x)

@@ -4,11 +4,11 @@ use Rattle.std.proofs.Common.{rules, sym, ap, ◌∙◌, get_or}
 use Rattle.std.proofs.lemmas.List.{drop_more}
 use Rattle.language.specs.Core as core
 use Rattle.flow.specs.declared.cell.Call.{Call}
-use Rattle.flow.specs.declared.cell.Outer.{Outer}
-use Rattle.flow.specs.declared.cell.Part.{Part}
+use Rattle.flow.specs.declared.cell.OuterCell.{OuterCell}
+use Rattle.flow.specs.declared.cell.CellPart.{CellPart}
 use Rattle.flow.specs.declared.statement.Action.{the_lemmas}
 use Rattle.flow.specs.declared.name.Name.{Name}
-use Rattle.flow.specs.declared.statement.Action as deed
+use Rattle.flow.specs.declared.statement.Action as live_action
 use Rattle.flow.specs.declared.statement.Action.{Call as Does}
 use Rattle.flow.specs.declared.statement.Block.{Block, out-Block}
 use Rattle.flow.specs.declared.statement.Header.{Header}
@@ -54,11 +54,11 @@ never_whole A x b = ap (never_in no_calls x) (block_seen A b)
 pub never_past : (A : Type 0) (x : core.Owned) (ss : List (Statement A)) (i : ℕ) → length ss ≤ i → never_in no_calls x (block_of (statements_view (drop i ss))) ≡ false
 never_past A x ss i l = ap (λ (z : List (Statement A)). never_in no_calls x (block_of (statements_view z))) (drop_past ss i l)
 
-view_call : {A : Type 0} (p : ℤ) (ps : Vec (Part A) A) (c : Box (Call A) A) → action_view (Does p ps c) ≡ core.call_alone p (parts_view ps.items) (call_view c.value)
+view_call : {A : Type 0} (p : ℤ) (ps : Vec (CellPart A) A) (c : Box (Call A) A) → action_view (Does p ps c) ≡ core.call_alone p (parts_view ps.items) (call_view c.value)
 view_call p ps c = search (rules, the_lemmas)
 
 -- a call says nothing
-pub call_never : {A : Type 0} (x : core.Owned) (p : ℤ) (ps : Vec (Part A) A) (c : Box (Call A) A) → false ≡ never_by no_calls x (action_view (Does p ps c))
+pub call_never : {A : Type 0} (x : core.Owned) (p : ℤ) (ps : Vec (CellPart A) A) (c : Box (Call A) A) → false ≡ never_by no_calls x (action_view (Does p ps c))
 call_never x p ps c = no_output x 0 c.value.function (call_view c.value).outputs ∙ sym (ap (never_by no_calls x) (view_call p ps c))
 
 -- SETS OF THEM
@@ -90,35 +90,35 @@ among_both old new nodes none s b d e f h = h ∙ ap (λ (z : Bool). old || (z &
     turned false b = refl
 
 module _ {A : Type 0} where
-  pub view_assign : (x : Name) (o : Box (Outer A) A) → action_view (deed.Assign x o) ≡ core.assign (name_view x) (outer_view o.value)
+  pub view_assign : (x : Name) (o : Box (OuterCell A) A) → action_view (live_action.Assign x o) ≡ core.assign (name_view x) (outer_view o.value)
   view_assign x o = search (rules, the_lemmas)
 
-  pub view_choose : (c : Box (Outer A) A) (b d : Box (Block A) A) → action_view (deed.Choose c b d) ≡ core.choose (outer_view c.value) (block_view b.value) (block_view d.value)
+  pub view_choose : (c : Box (OuterCell A) A) (b d : Box (Block A) A) → action_view (live_action.Choose c b d) ≡ core.choose (outer_view c.value) (block_view b.value) (block_view d.value)
   view_choose c b d = search (rules, the_lemmas)
 
-  pub view_declare : (v : Variable A) → action_view (deed.Declare v) ≡ core.declare v.node
+  pub view_declare : (v : Variable A) → action_view (live_action.Declare v) ≡ core.declare v.node
   view_declare v = search (rules, the_lemmas)
 
-  pub view_fill : (a : Name) (o : Box (Outer A) A) → action_view (deed.Fill a o) ≡ core.fill (name_view a) (outer_view o.value)
+  pub view_fill : (a : Name) (o : Box (OuterCell A) A) → action_view (live_action.Fill a o) ≡ core.fill (name_view a) (outer_view o.value)
   view_fill a o = search (rules, the_lemmas)
 
-  pub view_insert : (a : Name) (i o : Box (Outer A) A) → action_view (deed.Insert a i o) ≡ core.insert (name_view a) (outer_view i.value) (outer_view o.value)
+  pub view_insert : (a : Name) (i o : Box (OuterCell A) A) → action_view (live_action.Insert a i o) ≡ core.insert (name_view a) (outer_view i.value) (outer_view o.value)
   view_insert a i o = search (rules, the_lemmas)
 
-  pub view_print : (p : ℤ) (o : Box (Outer A) A) → action_view (deed.Print p o) ≡ core.print p (outer_view o.value)
+  pub view_print : (p : ℤ) (o : Box (OuterCell A) A) → action_view (live_action.Print p o) ≡ core.print p (outer_view o.value)
   view_print p o = search (rules, the_lemmas)
 
-  pub view_assert : (p : ℤ) (o : Box (Outer A) A) → action_view (deed.Assert p o) ≡ core.assert p (outer_view o.value)
+  pub view_assert : (p : ℤ) (o : Box (OuterCell A) A) → action_view (live_action.Assert p o) ≡ core.assert p (outer_view o.value)
   view_assert p o = search (rules, the_lemmas)
 
-  pub view_when : (c : Box (Outer A) A) (b : Box (Block A) A) → action_view (deed.When c b) ≡ core.when (outer_view c.value) (block_view b.value)
+  pub view_when : (c : Box (OuterCell A) A) (b : Box (Block A) A) → action_view (live_action.When c b) ≡ core.when (outer_view c.value) (block_view b.value)
   view_when c b = search (rules, the_lemmas)
 
   pub view_range : (r : Box (Range A) A) (v : Variable A) (k : Option (Variable A)) (b : Box (Block A) A)
-      → action_view (deed.Range r v k b)
+      → action_view (live_action.Range r v k b)
       ≡ core.range (outer_view r.value.low) (outer_view r.value.high) (option_map outer_view r.value.step) v.node (option_map (λ x. x.node) k) (block_view b.value)
   view_range r v k b = search (rules, the_lemmas)
 
   pub view_each : (a : Name) (v : Variable A) (k : Option (Variable A)) (b : Box (Block A) A)
-      → action_view (deed.Each a v k b) ≡ core.each (name_view a) v.node (option_map (λ x. x.node) k) (block_view b.value)
+      → action_view (live_action.Each a v k b) ≡ core.each (name_view a) v.node (option_map (λ x. x.node) k) (block_view b.value)
   view_each a v k b = search (rules, the_lemmas)

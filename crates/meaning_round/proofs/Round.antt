@@ -16,7 +16,7 @@ use Rattle.language.specs.Parts.{stmt_action, stmt_at, stmt_node}
 use Rattle.language.specs.Places.{Path}
 use Rattle.meaning_steps.specs.Environment.{Sight}
 use Rattle.meaning_steps.specs.News.{Past, ToldOf, news}
-use Rattle.meaning_facts.specs.declared.learned.Learned.{Learned}
+use Rattle.meaning_facts.specs.declared.fact_base.FactBase.{FactBase}
 use Rattle.meaning_facts.specs.Keeping.{kept_of, past_of, IsPlaced}
 use Rattle.meaning_facts.specs.Sighted.{sight_of}
 use Rattle.meaning_facts.proofs.Keeping.{name_located, sees_kept, recalls_kept}
@@ -50,20 +50,20 @@ split_in first = inl refl
 split_in (later i) = inr i
 
 -- one of them tells a fact
-record IsTold (l : Learned) (ls : List Active) (f : Fact) : Type 0 where
+record IsTold (l : FactBase) (ls : List Active) (f : Fact) : Type 0 where
   pub active : Active
   pub there : active ∈ ls
   pub told : f ∈ active_news l active
 
-told_later : {l : Learned} {ls : List Active} {f : Fact} (a : Active) → IsTold l ls f → IsTold l (a ∷ ls) f
+told_later : {l : FactBase} {ls : List Active} {f : Fact} (a : Active) → IsTold l ls f → IsTold l (a ∷ ls) f
 told_later a x = record { active = x.active; there = later x.there; told = x.told }
 
-told_by_one : (l : Learned) (ls : List Active) (f : Fact) → f ∈ actives_news l ls → IsTold l ls f
+told_by_one : (l : FactBase) (ls : List Active) (f : Fact) → f ∈ actives_news l ls → IsTold l ls f
 told_by_one l [] f i = elim i [ ]
 told_by_one l (a ∷ ls) f i =
     elim (in_either (active_news l a) (actives_news l ls) i) [ inl j ↦ record { active = a; there = first; told = j } | inr j ↦ told_later a (told_by_one l ls f j) ]
 
-told_by_all : (l : Learned) (ls : List Active) (a : Active) (f : Fact) → a ∈ ls → f ∈ active_news l a → f ∈ actives_news l ls
+told_by_all : (l : FactBase) (ls : List Active) (a : Active) (f : Fact) → a ∈ ls → f ∈ active_news l a → f ∈ actives_news l ls
 told_by_all l [] a f i j = elim i [ ]
 told_by_all l (b ∷ ls) a f i j =
     elim (split_in i) [
@@ -74,7 +74,7 @@ told_by_all l (b ∷ ls) a f i j =
 stmt_is_made : (st : Stmt) → stmt (stmt_at st) (stmt_node st) (stmt_action st) ≡ st
 stmt_is_made (stmt at n a) = refl
 
-module _ (s : Core) (l : Learned) (placed : IsPlaced s l.instances) where
+module _ (s : Core) (l : FactBase) (placed : IsPlaced s l.instances) where
   abbrev see : Path → Sight
   see path = sight_by s (kept_of l) path
 
@@ -118,7 +118,7 @@ module _ (s : Core) (l : Learned) (placed : IsPlaced s l.instances) where
 
 -- what is told is what the next round adds
 pub round_told : (bytes : List ℕ) (t : Table) (tree : Tree) → Reads bytes tree → WellTyped tree t → SinglyAssigned (core t tree)
-    → (n : ℕ) (l : Learned) (ls telling : List Active) (fs : List Fact) → fs ≡ actives_news l telling → IsAfter (core t tree) n l ls telling
+    → (n : ℕ) (l : FactBase) (ls telling : List Active) (fs : List Fact) → fs ≡ actives_news l telling → IsAfter (core t tree) n l ls telling
     → (f : Fact) → Known (core t tree) (suc n) f ↔ (Known (core t tree) n f ⊎ (f ∈ fs))
 round_told bytes t tree r w single n l ls telling fs e h f =
     let s = core t tree in

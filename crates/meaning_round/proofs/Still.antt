@@ -21,14 +21,14 @@ use Rattle.meaning_steps.specs.Environment.{Come, Outcome, outcome, as_outcome, 
 use Rattle.meaning_steps.specs.Kept.{is_there, several_in}
 use Rattle.meaning_steps.specs.News.{bad_by, branch_by, cell_by, come_by, comes_all, count_of, deep_by, key_in, one_in, printed_told, some_call, some_item, some_turn, text_in, unless, with_value}
 use Rattle.meaning_facts.specs.declared.facts.Place.{Place}
-use Rattle.meaning_facts.specs.declared.learned.Learned.{Learned}
+use Rattle.meaning_facts.specs.declared.fact_base.FactBase.{FactBase}
 use Rattle.meaning_facts.specs.Keeping.{has_kind, kind_of}
 use Rattle.meaning_facts.specs.Sighted.{closed_at, scalar_at, sight_of}
 use Rattle.meaning_facts.specs.Store.{elements_from, is_written_in, value_at, writes_at, writes_under}
 use Rattle.meaning_invariants.specs.Held.{HasPlaces}
-use Rattle.meaning_faults.specs.declared.site.LiveStatement.{LiveStatement}
-use Rattle.meaning_faults.specs.Faults.{sight_at, past_at, path_at, deep_news, each_news, fault_news}
-use Rattle.meaning_round.specs.declared.tellers.Event.{Event}
+use Rattle.meaning_round.specs.declared.site.LiveStatement.{LiveStatement}
+use Rattle.meaning_round.specs.Faults.{sight_at, past_at, path_at, deep_news, each_news, fault_news}
+use Rattle.meaning_round.specs.declared.worklist.WakeEvent.{WakeEvent}
 use Rattle.meaning_round.specs.More.{KnowsMore}
 use Rattle.meaning_round.specs.Reads.{at, cell_reads, cells_reads, elements_reads, element_reads, expr_reads, exprs_reads, filled_reads, form_reads, here, inserted_reads, key_reads, lies, own_reads, put_reads, site_reads, under, unknown, unless_known, IsSame}
 use Rattle.meaning_round.specs.Told.{assigned_news, branch_news, calls_news, cell_news, cells_news, comes_at, element_by, element_news, elements_news, filled_news, inserted_news, lies_at, own_news, range_news, site_news}
@@ -62,14 +62,14 @@ outer_in [] o i = elim i [ ]
 outer_in (x ∷ os) o first = now_in x.parts x.cell (outer_parts os)
 outer_in (x ∷ os) o (later i) = past_in x.parts x.cell (outer_parts os) o.cell (outer_in os o i)
 
-module _ (l m : Learned) (more : KnowsMore l m) (t : LiveStatement) (placed : HasPlaces l.instances.all.items t.instance) where
-  abbrev Quiet : List Event → Type 0
-  Quiet es = (e : Event) → e ∈ es → IsSame l m e
+module _ (l m : FactBase) (more : KnowsMore l m) (t : LiveStatement) (placed : HasPlaces l.instances.all.items t.instance) where
+  abbrev Quiet : List WakeEvent → Type 0
+  Quiet es = (e : WakeEvent) → e ∈ es → IsSame l m e
 
-  quiet_left : (xs ys : List Event) → Quiet (xs ++ ys) → Quiet xs
+  quiet_left : (xs ys : List WakeEvent) → Quiet (xs ++ ys) → Quiet xs
   quiet_left xs ys q e i = q e (to_left xs ys i)
 
-  quiet_right : (xs ys : List Event) → Quiet (xs ++ ys) → Quiet ys
+  quiet_right : (xs ys : List WakeEvent) → Quiet (xs ++ ys) → Quiet ys
   quiet_right xs ys q e i = q e (to_right xs ys i)
 
   -- WHAT IS SEEN
@@ -90,7 +90,7 @@ module _ (l m : Learned) (more : KnowsMore l m) (t : LiveStatement) (placed : Ha
       ∙ more.scalars (lies l t.instance x) (placed.names x) (value_same (lies l t.instance x) q)
 
   -- the elements of an array, where it is closed
-  abbrev elements_at : Learned → Place → List Element
+  abbrev elements_at : FactBase → Place → List Element
   elements_at k p = elements_from [] (writes_at k.facts p)
 
   elements_same : (p : Place) → IsSame l m (at p) → closed_at l p ≡ true → elements_at m p ≡ elements_at l p

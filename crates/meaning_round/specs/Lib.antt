@@ -5,3 +5,5 @@ pub mod Standing
 pub mod Hearing
 pub mod Made
 pub mod Going
+pub mod Viewed
+pub mod Faults

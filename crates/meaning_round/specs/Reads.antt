@@ -1,4 +1,4 @@
--- What a live statement that told nothing has read of what is known, and what can come of that.
+-- The read set of a live statement without a new fact, and the changes that matter to it.
 use Rattle.std.specs.Prelude.{◌≡◌, ℕ, true, List, [], ◌∷◌, ◌++◌, map, Option, Some, None}
 use Rattle.values.specs.declared.key.Key.{Key}
 use Rattle.values.specs.declared.map.Element.{Element}
@@ -8,24 +8,24 @@ use Rattle.values.specs.Keys.{mark_of, value_key}
 use Rattle.language.specs.Core.{Cell, Name, Expr, Exprs, literal, name, whole, operator, none, also, Form, compute, read, Outer, Action, fill, insert, each}
 use Rattle.language.specs.Parts.{outer_parts, parts, part_cells}
 use Rattle.meaning_facts.specs.declared.facts.Place.{Place}
-use Rattle.meaning_facts.specs.declared.learned.Learned.{Learned}
+use Rattle.meaning_facts.specs.declared.fact_base.FactBase.{FactBase}
 use Rattle.meaning_facts.specs.Sighted.{closed_at}
 use Rattle.meaning_facts.specs.Store.{value_at, writes_at, writes_under, spot}
-use Rattle.meaning_faults.specs.declared.site.LiveStatement.{LiveStatement}
-use Rattle.meaning_round.specs.declared.tellers.Event.{Event}
+use Rattle.meaning_round.specs.declared.site.LiveStatement.{LiveStatement}
+use Rattle.meaning_round.specs.declared.worklist.WakeEvent.{WakeEvent}
 
 -- EVENTS
 
--- that a place has its value, or is closed
-abbrev pub at : Place → Event
+-- a place gets its value, or is closed
+abbrev pub at : Place → WakeEvent
 at p = record { place = p; mark = 0 }
 
--- that a key of an array is written
-abbrev pub under : Place → Key → Event
+-- a key of an array is written
+abbrev pub under : Place → Key → WakeEvent
 under a k = record { place = a; mark = mark_of k }
 
--- nothing has come at an event
-pub record IsSame (l m : Learned) (e : Event) : Type 0 where
+-- nothing has changed for an event
+pub record IsSame (l m : FactBase) (e : WakeEvent) : Type 0 where
   pub value : e.mark ≡ 0 → value_at m.facts e.place ≡ value_at l.facts e.place
   pub closed : e.mark ≡ 0 → closed_at m e.place ≡ closed_at l e.place
   pub elements : e.mark ≡ 0 → closed_at l e.place ≡ true → writes_at m.facts e.place ≡ writes_at l.facts e.place
@@ -36,80 +36,80 @@ pub record IsSame (l m : Learned) (e : Event) : Type 0 where
 abbrev pub here : ℕ → ℕ → Place
 here i n = record { instance = i; node = n }
 
-abbrev pub lies : Learned → ℕ → Name → Place
+abbrev pub lies : FactBase → ℕ → Name → Place
 lies l i x = spot l.instances.all.items i x
 
--- a value that is not known
-abbrev pub unknown : Option Value → Place → List Event
+-- the event of a value that is not known
+abbrev pub unknown : Option Value → Place → List WakeEvent
 unknown (Some v) p = []
 unknown None p = at p ∷ []
 
 abbrev mutual
-  pub expr_reads : Learned → ℕ → Expr → List Event
+  pub expr_reads : FactBase → ℕ → Expr → List WakeEvent
   expr_reads l i (literal v) = []
   expr_reads l i (name x) = unknown (value_at l.facts (lies l i x)) (lies l i x)
   expr_reads l i (whole a) = at (lies l i a) ∷ []
   expr_reads l i (operator o es) = exprs_reads l i es
 
-  pub exprs_reads : Learned → ℕ → Exprs → List Event
+  pub exprs_reads : FactBase → ℕ → Exprs → List WakeEvent
   exprs_reads l i none = []
   exprs_reads l i (also e es) = expr_reads l i e ++ exprs_reads l i es
 
--- what is written under a key, and whether the array is closed
-abbrev pub key_reads : Place → Option Key → List Event
+-- the writes of a key, and the closing of the array
+abbrev pub key_reads : Place → Option Key → List WakeEvent
 key_reads a (Some k) = under a k ∷ at a ∷ []
 key_reads a None = []
 
--- of an element that, where its index is known, and else the index
-abbrev pub element_reads : Place → Place → Option Value → List Event
+-- the read set of an element: of its key if the index is known, and otherwise the index
+abbrev pub element_reads : Place → Place → Option Value → List WakeEvent
 element_reads a i (Some v) = key_reads a (value_key v)
 element_reads a i None = at i ∷ []
 
-abbrev pub form_reads : Learned → ℕ → Form → List Event
+abbrev pub form_reads : FactBase → ℕ → Form → List WakeEvent
 form_reads l i (compute e) = expr_reads l i e
 form_reads l i (read a n) = element_reads (lies l i a) (here i n) (value_at l.facts (here i n))
 
--- a cell that has its value reads nothing more
-abbrev pub unless_known : Option Value → Place → List Event → List Event
+-- a cell with a value reads nothing
+abbrev pub unless_known : Option Value → Place → List WakeEvent → List WakeEvent
 unless_known (Some v) p es = []
 unless_known None p es = at p ∷ es
 
-abbrev pub cell_reads : Learned → LiveStatement → Cell → List Event
+abbrev pub cell_reads : FactBase → LiveStatement → Cell → List WakeEvent
 cell_reads l t c = unless_known (value_at l.facts (here t.instance c.node)) (here t.instance c.node) (form_reads l t.instance c.form)
 
-abbrev pub cells_reads : Learned → LiveStatement → List Cell → List Event
+abbrev pub cells_reads : FactBase → LiveStatement → List Cell → List WakeEvent
 cells_reads l t [] = []
 cells_reads l t (c ∷ cs) = cell_reads l t c ++ cells_reads l t cs
 
--- outermost cells, each behind those inside it
-abbrev pub outers_reads : Learned → LiveStatement → List Outer → List Event
+-- outermost cells, each after its inner cells
+abbrev pub outers_reads : FactBase → LiveStatement → List Outer → List WakeEvent
 outers_reads l t os = cells_reads l t (part_cells (outer_parts os))
 
 -- STATEMENTS
 
-abbrev pub elements_reads : Place → List Element → List Event
+abbrev pub elements_reads : Place → List Element → List WakeEvent
 elements_reads a es = map (λ e. under a e.key) es
 
--- the other writes of the keys of the elements that an array is filled with
-abbrev pub filled_reads : Place → Option Value → List Event
+-- the writes of the keys of the elements that an array is filled with
+abbrev pub filled_reads : Place → Option Value → List WakeEvent
 filled_reads a (Some (Many es)) = elements_reads a es
 filled_reads a (Some (One v)) = []
 filled_reads a None = []
 
--- the other writes of a key
-abbrev pub put_reads : Place → Option Key → List Event
+-- the writes of a key
+abbrev pub put_reads : Place → Option Key → List WakeEvent
 put_reads a (Some k) = under a k ∷ []
 put_reads a None = []
 
-abbrev pub inserted_reads : Place → Option Value → List Event
+abbrev pub inserted_reads : Place → Option Value → List WakeEvent
 inserted_reads a (Some v) = put_reads a (value_key v)
 inserted_reads a None = []
 
-abbrev pub own_reads : Learned → LiveStatement → Action → List Event
+abbrev pub own_reads : FactBase → LiveStatement → Action → List WakeEvent
 own_reads l t (fill a e) = filled_reads (lies l t.instance a) (value_at l.facts (here t.instance e.cell.node))
 own_reads l t (insert a i e) = inserted_reads (lies l t.instance a) (value_at l.facts (here t.instance i.cell.node))
 own_reads l t (each a x n b) = at (lies l t.instance a) ∷ []
 own_reads l t _ = []
 
-abbrev pub site_reads : Learned → LiveStatement → Action → List Event
+abbrev pub site_reads : FactBase → LiveStatement → Action → List WakeEvent
 site_reads l t a = cells_reads l t (part_cells (parts a)) ++ own_reads l t a

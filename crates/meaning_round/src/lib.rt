@@ -1,14 +1,17 @@
-//! What a script means, worked out round by round from its definition.
+//! One round of the meaning of a script: the state of the evaluation, and the facts that the next round adds.
 //!
-//! Each round works out every statement that is live from what the rounds before made known, and from nothing else. It is the
-//! measure of everything that runs scripts.
+//! Each round evaluates the live statements from the facts of the rounds before, and from nothing else. The evaluation
+//! is incremental: a worklist holds the statements that may have a new fact, and events wake the others. The meaning is
+//! the reference for all code that runs scripts.
 #![tactic(auto)]
 
-mod adding;
-pub mod ending;
+pub mod derive;
+mod derive_cells;
+mod derive_statement;
+pub mod faults;
 pub mod laws;
+pub mod never_closed;
 mod reads;
+pub mod site;
 pub mod state;
-pub mod tellers;
-mod telling;
-pub mod told;
+pub mod worklist;

@@ -1,4 +1,4 @@
-//! What a live statement reads of what is known: at which events it may have something to tell that has nothing now.
+//! Read sets of live statements: the events after which a statement without a new fact may have one.
 
 ghost use Rattle.std.specs.Prelude.{◌≡◌, ◌++◌, ◌∷◌, [], option_map, option_to_list, OnOk};
 ghost use Rattle.flow.specs.View.{action_view, cell_view, expr_view, exprs_view, form_view, name_view, outer_view, part_view, parts_view};
@@ -8,130 +8,130 @@ ghost use Rattle.meaning_facts.specs.Store.{value_at};
 ghost use Rattle.meaning_round.specs.Reads.{at, cell_reads, cells_reads, element_reads, elements_reads, expr_reads, exprs_reads, filled_reads, form_reads, here, inserted_reads, lies, outers_reads, own_reads, site_reads, unknown};
 ghost use Rattle.meaning_round.specs.Told.{range_outers};
 
-use crate::tellers::Event;
-use flow::cell::{Cell, Form, Outer, Part};
+use crate::site::LiveStatement;
+use crate::worklist::WakeEvent;
+use flow::cell::{Cell, CellForm, CellPart, OuterCell};
 use flow::expression::Expr;
 use flow::name::Name;
 use flow::statement::{Action, Range};
+use meaning_facts::fact_base::FactBase;
 use meaning_facts::facts::Place;
-use meaning_facts::learned::Learned;
-use meaning_faults::site::LiveStatement;
 use std::alloc::{AllocError, Allocator};
 use values::key::KeyRef;
 use values::map::Element;
 use values::value::Value;
 
-/// Adds what a statement reads.
+/// Appends the events that a statement reads.
 pub(crate) fn add_reads<A: Allocator>(
-    learned: &Learned,
+    fact_base: &FactBase,
     site: LiveStatement,
     action: &Action<A>,
-    events: &mut Vec<Event>,
+    events: &mut Vec<WakeEvent>,
 ) -> Result<(), AllocError>
-    ensures { OnOk result (events.new.items ≡ events.old.items ++ site_reads learned.now site (action_view action.now)) }
+    ensures { OnOk result (events.new.items ≡ events.old.items ++ site_reads fact_base.now site (action_view action.now)) }
 {
     match action {
         Action::Declare(_) | Action::Wait { .. } => Ok(()),
-        Action::Call { parts, .. } => add_parts(learned, site, parts, events),
-        Action::Assign { right, .. } => add_only(learned, site, right, events),
-        Action::Fill { array, right } => add_filled(learned, site, *array, right, events),
+        Action::Call { parts, .. } => add_parts(fact_base, site, parts, events),
+        Action::Assign { right, .. } => add_only(fact_base, site, right, events),
+        Action::Fill { array, right } => add_filled(fact_base, site, *array, right, events),
         Action::Insert {
             array,
             index,
             right,
-        } => add_inserted(learned, site, *array, index, right, events),
-        Action::Print { line, .. } => add_only(learned, site, line, events),
-        Action::Assert { check, .. } => add_only(learned, site, check, events),
-        Action::When { condition, .. } => add_only(learned, site, condition, events),
-        Action::Choose { condition, .. } => add_only(learned, site, condition, events),
-        Action::Range { range, .. } => add_range(learned, site, range, events),
-        Action::Each { array, .. } => add_array(learned, site, *array, events),
+        } => add_inserted(fact_base, site, *array, index, right, events),
+        Action::Print { line, .. } => add_only(fact_base, site, line, events),
+        Action::Assert { check, .. } => add_only(fact_base, site, check, events),
+        Action::When { condition, .. } => add_only(fact_base, site, condition, events),
+        Action::Choose { condition, .. } => add_only(fact_base, site, condition, events),
+        Action::Range { range, .. } => add_range(fact_base, site, range, events),
+        Action::Each { array, .. } => add_array(fact_base, site, *array, events),
     }
 }
 
-/// Adds what an outermost cell and those inside it read, where nothing more is read.
+/// Appends the events that an outermost cell and its inner cells read, for a statement that reads nothing else.
 #[tactic(auto, using(crate::proofs::Reading::only_read))]
 fn add_only<A: Allocator>(
-    learned: &Learned,
+    fact_base: &FactBase,
     site: LiveStatement,
-    outer: &Outer<A>,
-    events: &mut Vec<Event>,
+    outer: &OuterCell<A>,
+    events: &mut Vec<WakeEvent>,
 ) -> Result<(), AllocError>
-    ensures { OnOk result (events.new.items ≡ events.old.items ++ (outers_reads learned.now site (outer_view outer.now ∷ []) ++ [])) }
+    ensures { OnOk result (events.new.items ≡ events.old.items ++ (outers_reads fact_base.now site (outer_view outer.now ∷ []) ++ [])) }
 {
-    add_outer(learned, site, outer, events)
+    add_outer(fact_base, site, outer, events)
 }
 
-/// Adds what the bounds of a range read.
+/// Appends the events that the bounds of a range read.
 fn add_range<A: Allocator>(
-    learned: &Learned,
+    fact_base: &FactBase,
     site: LiveStatement,
     range: &Range<A>,
-    events: &mut Vec<Event>,
+    events: &mut Vec<WakeEvent>,
 ) -> Result<(), AllocError>
-    ensures { OnOk result (events.new.items ≡ events.old.items ++ (outers_reads learned.now site (range_outers range.now) ++ [])) }
+    ensures { OnOk result (events.new.items ≡ events.old.items ++ (outers_reads fact_base.now site (range_outers range.now) ++ [])) }
 {
-    add_outer(learned, site, &range.low, events)?;
-    add_outer(learned, site, &range.high, events)?;
-    add_step(learned, site, &range.step, events)
+    add_outer(fact_base, site, &range.low, events)?;
+    add_outer(fact_base, site, &range.high, events)?;
+    add_step(fact_base, site, &range.step, events)
 }
 
-/// Adds what the step of a range reads, where there is one.
+/// Appends the events that the step of a range reads, if it has one.
 fn add_step<A: Allocator>(
-    learned: &Learned,
+    fact_base: &FactBase,
     site: LiveStatement,
-    step: &Option<Outer<A>>,
-    events: &mut Vec<Event>,
+    step: &Option<OuterCell<A>>,
+    events: &mut Vec<WakeEvent>,
 ) -> Result<(), AllocError>
-    ensures { OnOk result (events.new.items ≡ events.old.items ++ outers_reads learned.now site (option_to_list (option_map outer_view step.now))) }
+    ensures { OnOk result (events.new.items ≡ events.old.items ++ outers_reads fact_base.now site (option_to_list (option_map outer_view step.now))) }
 {
     match step {
-        Some(step) => add_outer(learned, site, step, events),
+        Some(step) => add_outer(fact_base, site, step, events),
         None => Ok(()),
     }
 }
 
-/// Adds that an array is closed.
+/// Appends the event that an array is closed.
 fn add_array(
-    learned: &Learned,
+    fact_base: &FactBase,
     site: LiveStatement,
     array: Name,
-    events: &mut Vec<Event>,
+    events: &mut Vec<WakeEvent>,
 ) -> Result<(), AllocError>
-    ensures { OnOk result (events.new.items ≡ events.old.items ++ at (lies learned.now site.instance (name_view array)) ∷ []) }
+    ensures { OnOk result (events.new.items ≡ events.old.items ++ at (lies fact_base.now site.instance (name_view array)) ∷ []) }
 {
-    events.push(Event::at(learned.instances.place(site.instance, array)))?;
+    events.push(WakeEvent::at(fact_base.instances.place(site.instance, array)))?;
     Ok(())
 }
 
-/// Adds what is read to fill an array, and the other writes of its keys.
+/// Appends the events that the filling of an array reads, and the writes of the same keys.
 fn add_filled<A: Allocator>(
-    learned: &Learned,
+    fact_base: &FactBase,
     site: LiveStatement,
     array: Name,
-    right: &Outer<A>,
-    events: &mut Vec<Event>,
+    right: &OuterCell<A>,
+    events: &mut Vec<WakeEvent>,
 ) -> Result<(), AllocError>
     ensures { OnOk result (events.new.items ≡ events.old.items
-        ++ (outers_reads learned.now site (outer_view right.now ∷ []) ++ own_reads learned.now site (core.fill (name_view array) (outer_view right.now)))) }
+        ++ (outers_reads fact_base.now site (outer_view right.now ∷ []) ++ own_reads fact_base.now site (core.fill (name_view array) (outer_view right.now)))) }
 {
-    add_outer(learned, site, right, events)?;
-    add_keys(learned, site, array, right, events)
+    add_outer(fact_base, site, right, events)?;
+    add_keys(fact_base, site, array, right, events)
 }
 
-/// Adds the writes of the keys of the elements that an array is filled with.
+/// Appends the writes of the keys that an array is filled with, if its value is known.
 fn add_keys<A: Allocator>(
-    learned: &Learned,
+    fact_base: &FactBase,
     site: LiveStatement,
     array: Name,
-    right: &Outer<A>,
-    events: &mut Vec<Event>,
+    right: &OuterCell<A>,
+    events: &mut Vec<WakeEvent>,
 ) -> Result<(), AllocError>
     ensures { OnOk result (events.new.items ≡ events.old.items
-        ++ filled_reads (lies learned.now site.instance (name_view array)) (value_at learned.now.facts (here site.instance (outer_view right.now).cell.node))) }
+        ++ filled_reads (lies fact_base.now site.instance (name_view array)) (value_at fact_base.now.facts (here site.instance (outer_view right.now).cell.node))) }
 {
-    let place = learned.instances.place(site.instance, array);
-    match learned.facts.value(site.place(right.cell.node)) {
+    let place = fact_base.instances.place(site.instance, array);
+    match fact_base.facts.value(site.place(right.cell.node)) {
         Some(Value::Many(map)) => add_elements(place, map.elements(), events),
         _ => Ok(()),
     }
@@ -140,200 +140,209 @@ fn add_keys<A: Allocator>(
 fn add_elements(
     place: Place,
     elements: &[Element],
-    events: &mut Vec<Event>,
+    events: &mut Vec<WakeEvent>,
 ) -> Result<(), AllocError>
     ensures { OnOk result (events.new.items ≡ events.old.items ++ elements_reads place elements.now) }
 {
     for element in elements {
-        events.push(Event::under(place, element.key.as_ref()))?;
+        events.push(WakeEvent::under(place, element.key.as_ref()))?;
     }
     Ok(())
 }
 
-/// Adds what is read to put an element into an array, and the other writes of its key.
+/// Appends the events that the insertion of an element reads, and the writes of the same key.
 fn add_inserted<A: Allocator>(
-    learned: &Learned,
+    fact_base: &FactBase,
     site: LiveStatement,
     array: Name,
-    index: &Outer<A>,
-    right: &Outer<A>,
-    events: &mut Vec<Event>,
+    index: &OuterCell<A>,
+    right: &OuterCell<A>,
+    events: &mut Vec<WakeEvent>,
 ) -> Result<(), AllocError>
     ensures { OnOk result (events.new.items ≡ events.old.items
-        ++ (outers_reads learned.now site (outer_view index.now ∷ outer_view right.now ∷ [])
-        ++ own_reads learned.now site (core.insert (name_view array) (outer_view index.now) (outer_view right.now)))) }
+        ++ (outers_reads fact_base.now site (outer_view index.now ∷ outer_view right.now ∷ [])
+        ++ own_reads fact_base.now site (core.insert (name_view array) (outer_view index.now) (outer_view right.now)))) }
 {
-    add_outer(learned, site, index, events)?;
-    add_outer(learned, site, right, events)?;
-    let place = learned.instances.place(site.instance, array);
-    add_key(learned, place, site.place(index.cell.node), events)
+    add_outer(fact_base, site, index, events)?;
+    add_outer(fact_base, site, right, events)?;
+    let place = fact_base.instances.place(site.instance, array);
+    add_key(fact_base, place, site.place(index.cell.node), events)
 }
 
-/// Adds the writes of the key that an index is, where that is known.
+/// Appends the writes of the key that an index evaluates to, if its value is known.
 fn add_key(
-    learned: &Learned,
+    fact_base: &FactBase,
     array: Place,
     index: Place,
-    events: &mut Vec<Event>,
+    events: &mut Vec<WakeEvent>,
 ) -> Result<(), AllocError>
-    ensures { OnOk result (events.new.items ≡ events.old.items ++ inserted_reads array (value_at learned.now.facts index)) }
+    ensures { OnOk result (events.new.items ≡ events.old.items ++ inserted_reads array (value_at fact_base.now.facts index)) }
 {
-    let Some(value) = learned.facts.value(index) else {
+    let Some(value) = fact_base.facts.value(index) else {
         return Ok(());
     };
     match KeyRef::of_value(value) {
         Some(key) => {
-            events.push(Event::under(array, key))?;
+            events.push(WakeEvent::under(array, key))?;
             Ok(())
         }
         None => Ok(()),
     }
 }
 
-/// Adds what an outermost cell and those inside it read.
+/// Appends the events that an outermost cell and its inner cells read.
 fn add_outer<A: Allocator>(
-    learned: &Learned,
+    fact_base: &FactBase,
     site: LiveStatement,
-    outer: &Outer<A>,
-    events: &mut Vec<Event>,
+    outer: &OuterCell<A>,
+    events: &mut Vec<WakeEvent>,
 ) -> Result<(), AllocError>
-    ensures { OnOk result (events.new.items ≡ events.old.items ++ outers_reads learned.now site (outer_view outer.now ∷ [])) }
+    ensures { OnOk result (events.new.items ≡ events.old.items ++ outers_reads fact_base.now site (outer_view outer.now ∷ [])) }
 {
-    add_parts(learned, site, &outer.parts, events)?;
-    add_cell(learned, site, &outer.cell, events)
+    add_parts(fact_base, site, &outer.parts, events)?;
+    add_cell(fact_base, site, &outer.cell, events)
 }
 
 fn add_parts<A: Allocator>(
-    learned: &Learned,
+    fact_base: &FactBase,
     site: LiveStatement,
-    parts: &Vec<Part<A>, A>,
-    events: &mut Vec<Event>,
+    parts: &Vec<CellPart<A>, A>,
+    events: &mut Vec<WakeEvent>,
 ) -> Result<(), AllocError>
-    ensures { OnOk result (events.new.items ≡ events.old.items ++ cells_reads learned.now site (part_cells (parts_view parts.now.items))) }
+    ensures { OnOk result (events.new.items ≡ events.old.items ++ cells_reads fact_base.now site (part_cells (parts_view parts.now.items))) }
 {
     for part in parts {
-        add_part(learned, site, part, events)?;
+        add_part(fact_base, site, part, events)?;
     }
     Ok(())
 }
 
 fn add_part<A: Allocator>(
-    learned: &Learned,
+    fact_base: &FactBase,
     site: LiveStatement,
-    part: &Part<A>,
-    events: &mut Vec<Event>,
+    part: &CellPart<A>,
+    events: &mut Vec<WakeEvent>,
 ) -> Result<(), AllocError>
-    ensures { OnOk result (events.new.items ≡ events.old.items ++ cells_reads learned.now site (part_cells (part_view part.now ∷ []))) }
+    ensures { OnOk result (events.new.items ≡ events.old.items ++ cells_reads fact_base.now site (part_cells (part_view part.now ∷ []))) }
 {
     match part {
-        Part::Inner(cell) => add_cell(learned, site, cell, events),
-        Part::Calls(_) => Ok(()),
+        CellPart::Inner(cell) => add_cell(fact_base, site, cell, events),
+        CellPart::Calls(_) => Ok(()),
     }
 }
 
-/// Adds what a cell reads that has no value yet.
+/// Appends the events that a cell reads. A cell with a value reads nothing.
 fn add_cell<A: Allocator>(
-    learned: &Learned,
+    fact_base: &FactBase,
     site: LiveStatement,
     cell: &Cell<A>,
-    events: &mut Vec<Event>,
+    events: &mut Vec<WakeEvent>,
 ) -> Result<(), AllocError>
-    ensures { OnOk result (events.new.items ≡ events.old.items ++ cell_reads learned.now site (cell_view cell.now)) }
+    ensures { OnOk result (events.new.items ≡ events.old.items ++ cell_reads fact_base.now site (cell_view cell.now)) }
 {
     let place = site.place(cell.node);
-    if learned.facts.value(place).is_some() {
+    if fact_base.facts.value(place).is_some() {
         return Ok(());
     }
-    events.push(Event::at(place))?;
-    add_form(learned, site.instance, &cell.form, events)
+    events.push(WakeEvent::at(place))?;
+    add_form(fact_base, site.instance, &cell.form, events)
 }
 
 fn add_form<A: Allocator>(
-    learned: &Learned,
+    fact_base: &FactBase,
     instance: usize,
-    form: &Form<A>,
-    events: &mut Vec<Event>,
+    form: &CellForm<A>,
+    events: &mut Vec<WakeEvent>,
 ) -> Result<(), AllocError>
-    ensures { OnOk result (events.new.items ≡ events.old.items ++ form_reads learned.now instance (form_view form.now)) }
+    ensures { OnOk result (events.new.items ≡ events.old.items ++ form_reads fact_base.now instance (form_view form.now)) }
 {
     match form {
-        Form::Compute(expr) => add_expr(learned, instance, expr, events),
-        Form::Read { array, index } => {
-            let array = learned.instances.place(instance, *array);
+        CellForm::Compute(expr) => add_expr(fact_base, instance, expr, events),
+        CellForm::Read { array, index } => {
+            let array = fact_base.instances.place(instance, *array);
             let index = Place {
                 instance,
                 node: *index,
             };
-            add_element(learned, array, index, events)
+            add_element(fact_base, array, index, events)
         }
     }
 }
 
-/// Adds what is read for an element: its index, or where that is known what is written under it, and whether the array is closed.
+/// Appends the events that the read of an element depends on. These are the value of its index, or, once the index is
+/// known, the writes of its key and the closing of the array.
 fn add_element(
-    learned: &Learned,
+    fact_base: &FactBase,
     array: Place,
     index: Place,
-    events: &mut Vec<Event>,
+    events: &mut Vec<WakeEvent>,
 ) -> Result<(), AllocError>
-    ensures { OnOk result (events.new.items ≡ events.old.items ++ element_reads array index (value_at learned.now.facts index)) }
+    ensures { OnOk result (events.new.items ≡ events.old.items ++ element_reads array index (value_at fact_base.now.facts index)) }
 {
-    let Some(value) = learned.facts.value(index) else {
-        events.push(Event::at(index))?;
+    let Some(value) = fact_base.facts.value(index) else {
+        events.push(WakeEvent::at(index))?;
         return Ok(());
     };
     match KeyRef::of_value(value) {
         Some(key) => {
-            events.push(Event::under(array, key))?;
-            events.push(Event::at(array))?;
+            events.push(WakeEvent::under(array, key))?;
+            events.push(WakeEvent::at(array))?;
             Ok(())
         }
         None => Ok(()),
     }
 }
 
-/// Adds what an expression reads that is not there yet.
+/// Appends the events for the values that an expression needs and that are not known.
 #[cycle(reads)]
 fn add_expr<A: Allocator>(
-    learned: &Learned,
+    fact_base: &FactBase,
     instance: usize,
     expr: &Expr<A>,
-    events: &mut Vec<Event>,
+    events: &mut Vec<WakeEvent>,
 ) -> Result<(), AllocError>
-    ensures { OnOk result (events.new.items ≡ events.old.items ++ expr_reads learned.now instance (expr_view expr.now)) }
+    ensures { OnOk result (events.new.items ≡ events.old.items ++ expr_reads fact_base.now instance (expr_view expr.now)) }
 {
     match expr {
         Expr::Number(_) | Expr::Text(_) | Expr::Truth(_) => Ok(()),
-        Expr::Name(name) => add_unknown(learned, learned.instances.place(instance, *name), events),
+        Expr::Name(name) => add_unknown(
+            fact_base,
+            fact_base.instances.place(instance, *name),
+            events,
+        ),
         Expr::Whole(array) => {
-            events.push(Event::at(learned.instances.place(instance, *array)))?;
+            events.push(WakeEvent::at(fact_base.instances.place(instance, *array)))?;
             Ok(())
         }
-        Expr::Operation(_, operands) => add_exprs(learned, instance, operands, events),
+        Expr::Operation(_, operands) => add_exprs(fact_base, instance, operands, events),
     }
 }
 
 #[cycle(reads)]
 fn add_exprs<A: Allocator>(
-    learned: &Learned,
+    fact_base: &FactBase,
     instance: usize,
     exprs: &Vec<Expr<A>, A>,
-    events: &mut Vec<Event>,
+    events: &mut Vec<WakeEvent>,
 ) -> Result<(), AllocError>
-    ensures { OnOk result (events.new.items ≡ events.old.items ++ exprs_reads learned.now instance (exprs_view exprs.now.items)) }
+    ensures { OnOk result (events.new.items ≡ events.old.items ++ exprs_reads fact_base.now instance (exprs_view exprs.now.items)) }
 {
     for expr in exprs {
-        add_expr(learned, instance, expr, events)?;
+        add_expr(fact_base, instance, expr, events)?;
     }
     Ok(())
 }
 
-/// Adds a value that is not known.
-fn add_unknown(learned: &Learned, place: Place, events: &mut Vec<Event>) -> Result<(), AllocError>
-    ensures { OnOk result (events.new.items ≡ events.old.items ++ unknown (value_at learned.now.facts place) place) }
+/// Appends the event for the value at a place, unless the value is known.
+fn add_unknown(
+    fact_base: &FactBase,
+    place: Place,
+    events: &mut Vec<WakeEvent>,
+) -> Result<(), AllocError>
+    ensures { OnOk result (events.new.items ≡ events.old.items ++ unknown (value_at fact_base.now.facts place) place) }
 {
-    if learned.facts.value(place).is_none() {
-        events.push(Event::at(place))?;
+    if fact_base.facts.value(place).is_none() {
+        events.push(WakeEvent::at(place))?;
     }
     Ok(())
 }

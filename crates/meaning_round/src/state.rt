@@ -1,4 +1,4 @@
-//! What follows from what is known: the block instances, their live statements, and the arrays that are closed.
+//! State of the round evaluation: the fact base, live statements, pending headers, and arrays that can be closed.
 
 ghost use Rattle.std.specs.Prelude.{◌≡◌, ◌++◌, ◌∷◌, [], ℕ, map, nat_eq, IfOk, OnOk};
 ghost use Rattle.std.specs.HashSet.{contains};
@@ -12,97 +12,98 @@ ghost use Rattle.meaning_invariants.specs.Listed.{all_active, unless_never};
 ghost use Rattle.meaning_round.specs.Made.{arrays_of, candidate_of, declares_here, declares_here_by, no_calls, tasks_of, waiting_of};
 ghost use Rattle.meaning_round.specs.Standing.{active_of, deed_view};
 
-use crate::ending::nevers_of;
-use crate::tellers::Tellers;
+use crate::never_closed::never_closed_nodes;
+use crate::site::LiveStatement;
+use crate::worklist::Worklist;
 use flow::name::Name;
 use flow::script::Flow;
 use flow::statement::{Action, Block, Header, Statement};
+use meaning_facts::fact_base::FactBase;
 use meaning_facts::facts::Place;
-use meaning_facts::learned::Learned;
-use meaning_faults::site::LiveStatement;
 use std::alloc::{AllocError, Allocator, Global};
 use std::collections::HashSet;
 
-/// A block: waits one in another, outermost first, with a block's statements in the innermost.
+/// A block nested in waits. The waits come outermost first; the innermost one contains the statements of the block.
 #[derive(Drop)]
-pub struct Content<'a, A: Allocator> {
+pub struct BlockContent<'a, A: Allocator> {
     pub waits: &'a [Header<A>],
     pub block: &'a Block<A>,
 }
 
-/// What a live statement does.
+/// The action of a live statement.
 #[derive(Drop)]
-pub enum Deed<'a, A: Allocator> {
-    /// All but a `wait`.
+pub enum LiveAction<'a, A: Allocator> {
+    /// Any action but a `wait`.
     Does(&'a Action<A>),
-    Waits(&'a [Name], Content<'a, A>),
+    Waits(&'a [Name], BlockContent<'a, A>),
 }
 
-/// A live statement: where it stands, and what it does.
+/// A live statement: its position and its action.
 #[derive(Drop)]
-pub struct Task<'a, A: Allocator> {
+pub struct LiveTask<'a, A: Allocator> {
     pub site: LiveStatement,
-    pub deed: Deed<'a, A>,
+    pub live_action: LiveAction<'a, A>,
 }
 
-/// An array that a live block declares, with the block.
+/// An array that a live block declares, with that block.
 #[derive(Drop)]
-pub struct Array<'a, A: Allocator> {
+pub struct LiveArray<'a, A: Allocator> {
     pub place: Place,
     pub block: &'a Block<A>,
 }
 
-/// What is known of a script, with what is live and closed by it: the live statements, and who among them may have something
-/// left to tell. Of the first so many, which were passed, the blocks of their calls are live, and those that they open
-/// as headers, but where they wait for their choice.
+/// The state of the round evaluation: the known facts, and the statements and arrays that are live because of them.
+///
+/// The first `passed` statements have been processed: the bodies of their calls are live, and the blocks that they open
+/// as headers. Headers whose choice is not known yet are in `waiting`.
 #[derive(Drop)]
-pub struct State<'a, A: Allocator> {
+pub struct RoundState<'a, A: Allocator> {
     pub flow: &'a Flow<A>,
-    pub learned: Learned,
-    pub tasks: Vec<Task<'a, A>>,
-    pub tellers: Tellers,
+    pub fact_base: FactBase,
+    pub tasks: Vec<LiveTask<'a, A>>,
+    pub worklist: Worklist,
     pub passed: usize,
-    pub waiting: Vec<Task<'a, A>>,
-    pub arrays: Vec<Array<'a, A>>,
+    pub waiting: Vec<LiveTask<'a, A>>,
+    pub arrays: Vec<LiveArray<'a, A>>,
 }
 
-impl<'a, A: Allocator> Task<'a, A> {
-    /// The same task.
-    pub fn again(&self) -> Task<'a, A>
+impl<'a, A: Allocator> LiveTask<'a, A> {
+    /// Returns a copy of the task.
+    pub fn again(&self) -> LiveTask<'a, A>
         ensures { active_of result ≡ active_of self.now }
     {
-        let deed = match &self.deed {
-            Deed::Does(action) => Deed::Does(*action),
-            Deed::Waits(names, content) => Deed::Waits(
+        let live_action = match &self.live_action {
+            LiveAction::Does(action) => LiveAction::Does(*action),
+            LiveAction::Waits(names, content) => LiveAction::Waits(
                 *names,
-                Content {
+                BlockContent {
                     waits: content.waits,
                     block: content.block,
                 },
             ),
         };
-        Task {
+        LiveTask {
             site: self.site,
-            deed,
+            live_action,
         }
     }
 }
 
-impl<'a, A: Allocator> State<'a, A> {
-    /// Nothing is known, and the script's own block is live.
-    pub fn new(alloc: Global, flow: &'a Flow<A>) -> Result<State<'a, A>, AllocError>
-        ensures learned { IfOk result (λ state. IsFresh state.learned) }
+impl<'a, A: Allocator> RoundState<'a, A> {
+    /// Creates the state in which no fact is known and only the block of the script is live.
+    pub fn new(alloc: Global, flow: &'a Flow<A>) -> Result<RoundState<'a, A>, AllocError>
+        ensures fact_base { IfOk result (λ state. IsFresh state.fact_base) }
         ensures tasks { IfOk result (λ state. tasks_of state ≡ all_active 0 (block_list (core_of flow.entry.now).body)) }
-        ensures fresh { IfOk result (λ state. state.tellers.fresh ≡ 0) }
+        ensures fresh { IfOk result (λ state. state.worklist.fresh ≡ 0) }
         ensures passed { IfOk result (λ state. (state.passed ≡ 0) × (waiting_of state ≡ [])) }
         ensures arrays { IfOk result (λ state. arrays_of state ≡ declares_here 0 (core_of flow.entry.now).body (block_list (core_of flow.entry.now).body)) }
         ensures flow { IfOk result (λ state. state.flow.now ≡ flow.entry.now) }
     {
-        let mut state = State {
+        let mut state = RoundState {
             flow,
-            learned: Learned::new(alloc)?,
+            fact_base: FactBase::new(alloc)?,
             tasks: Vec::new(alloc),
-            tellers: Tellers::new(alloc),
+            worklist: Worklist::new(alloc),
             passed: 0,
             waiting: Vec::new(alloc),
             arrays: Vec::new(alloc),
@@ -120,10 +121,10 @@ impl<'a, A: Allocator> State<'a, A> {
     ) -> Result<(), AllocError>
         ensures tasks { OnOk result (tasks_of self.new
             ≡ tasks_of self.old ++ all_active instance (block_list (waits_around waits.entry.now (block_view block.entry.now)))) }
-        ensures tellers { self.new.tellers ≡ self.old.tellers }
+        ensures worklist { self.new.worklist ≡ self.old.worklist }
         ensures arrays { OnOk result (let inside = waits_around waits.entry.now (block_view block.entry.now) in arrays_of self.new
             ≡ arrays_of self.old ++ declares_here instance inside (block_list inside)) }
-        ensures learned { self.new.learned ≡ self.old.learned }
+        ensures fact_base { self.new.fact_base ≡ self.old.fact_base }
         ensures flow { self.new.flow.now ≡ self.old.flow.now }
         ensures passed { self.new.passed ≡ self.old.passed }
         ensures waiting { waiting_of self.new ≡ waiting_of self.old }
@@ -136,9 +137,9 @@ impl<'a, A: Allocator> State<'a, A> {
                     at: wait.at,
                     node: wait.node,
                 },
-                Deed::Waits(
+                LiveAction::Waits(
                     wait.names.as_slice(),
-                    Content {
+                    BlockContent {
                         waits: inner,
                         block,
                     },
@@ -149,17 +150,17 @@ impl<'a, A: Allocator> State<'a, A> {
 
     fn add_statements(&mut self, instance: usize, block: &'a Block<A>) -> Result<(), AllocError>
         ensures tasks { OnOk result (tasks_of self.new ≡ tasks_of self.old ++ all_active instance (block_list (block_view block.entry.now))) }
-        ensures tellers { self.new.tellers ≡ self.old.tellers }
+        ensures worklist { self.new.worklist ≡ self.old.worklist }
         ensures arrays { OnOk result (arrays_of self.new
             ≡ arrays_of self.old ++ declares_here instance (block_view block.entry.now) (block_list (block_view block.entry.now))) }
-        ensures learned { self.new.learned ≡ self.old.learned }
+        ensures fact_base { self.new.fact_base ≡ self.old.fact_base }
         ensures flow { self.new.flow.now ≡ self.old.flow.now }
         ensures passed { self.new.passed ≡ self.old.passed }
         ensures waiting { waiting_of self.new ≡ waiting_of self.old }
     {
-        let nevers = nevers_of(*self.tasks.allocator(), block)?;
+        let never_closed = never_closed_nodes(*self.tasks.allocator(), block)?;
         for statement in &block.statements {
-            self.add_statement(instance, block, &nevers, statement)?;
+            self.add_statement(instance, block, &never_closed, statement)?;
         }
         Ok(())
     }
@@ -168,57 +169,74 @@ impl<'a, A: Allocator> State<'a, A> {
         &mut self,
         instance: usize,
         block: &'a Block<A>,
-        nevers: &HashSet<u32>,
+        never_closed: &HashSet<u32>,
         statement: &'a Statement<A>,
     ) -> Result<(), AllocError>
-        requires { (n : ℕ) → contains nat_eq nevers.now n ≡ never_in no_calls (local n) (block_view block.now) }
+        requires { (n : ℕ) → contains nat_eq never_closed.now n ≡ never_in no_calls (local n) (block_view block.now) }
         ensures tasks { OnOk result (tasks_of self.new ≡ tasks_of self.old ++ active instance (statement_view statement.entry.now) ∷ []) }
-        ensures tellers { self.new.tellers ≡ self.old.tellers }
+        ensures worklist { self.new.worklist ≡ self.old.worklist }
         ensures arrays { OnOk result (arrays_of self.new
             ≡ arrays_of self.old ++ declares_here instance (block_view block.entry.now) (statement_view statement.entry.now ∷ [])) }
-        ensures learned { self.new.learned ≡ self.old.learned }
+        ensures fact_base { self.new.fact_base ≡ self.old.fact_base }
         ensures flow { self.new.flow.now ≡ self.old.flow.now }
         ensures passed { self.new.passed ≡ self.old.passed }
         ensures waiting { waiting_of self.new ≡ waiting_of self.old }
     {
-        add_declared(&mut self.arrays, instance, block, nevers, &statement.action)?;
+        add_declared(
+            &mut self.arrays,
+            instance,
+            block,
+            never_closed,
+            &statement.action,
+        )?;
         let site = LiveStatement {
             instance,
             at: statement.at,
             node: statement.node,
         };
-        self.add_task(site, deed_of(&statement.action))
+        self.add_task(site, action_of(&statement.action))
     }
 
-    fn add_task(&mut self, site: LiveStatement, deed: Deed<'a, A>) -> Result<(), AllocError>
-        ensures tasks { OnOk result (tasks_of self.new ≡ tasks_of self.old ++ active site.instance (stmt site.at site.node (deed_view deed.entry)) ∷ []) }
-        ensures tellers { self.new.tellers ≡ self.old.tellers }
+    fn add_task(
+        &mut self,
+        site: LiveStatement,
+        live_action: LiveAction<'a, A>,
+    ) -> Result<(), AllocError>
+        ensures tasks { OnOk result (tasks_of self.new ≡ tasks_of self.old ++ active site.instance (stmt site.at site.node (deed_view live_action.entry)) ∷ []) }
+        ensures worklist { self.new.worklist ≡ self.old.worklist }
         ensures arrays { arrays_of self.new ≡ arrays_of self.old }
-        ensures learned { self.new.learned ≡ self.old.learned }
+        ensures fact_base { self.new.fact_base ≡ self.old.fact_base }
         ensures flow { self.new.flow.now ≡ self.old.flow.now }
         ensures passed { self.new.passed ≡ self.old.passed }
         ensures waiting { waiting_of self.new ≡ waiting_of self.old }
     {
-        let task = Task { site, deed };
+        let task = LiveTask { site, live_action };
         self.tasks.push(task)?;
         Ok(())
     }
 }
 
-/// Adds a variable that a block declares, where it may come to be closed: what is assigned as a scalar, whatever its branches choose, never is.
+/// Appends a variable that a block declares, unless it never closes. A variable that every choice of branches assigns
+/// as a scalar never closes.
 fn add_declared<'a, A: Allocator>(
-    arrays: &mut Vec<Array<'a, A>>,
+    arrays: &mut Vec<LiveArray<'a, A>>,
     instance: usize,
     block: &'a Block<A>,
-    nevers: &HashSet<u32>,
+    never_closed: &HashSet<u32>,
     action: &'a Action<A>,
 ) -> Result<(), AllocError>
-    requires { (n : ℕ) → contains nat_eq nevers.now n ≡ never_in no_calls (local n) (block_view block.now) }
+    requires { (n : ℕ) → contains nat_eq never_closed.now n ≡ never_in no_calls (local n) (block_view block.now) }
     ensures { OnOk result (map candidate_of arrays.new.items
         ≡ map candidate_of arrays.old.items ++ declares_here_by instance (block_view block.entry.now) (action_view action.entry.now)) }
 {
     match action {
-        Action::Declare(variable) => add_array(arrays, instance, block, nevers, variable.node),
+        Action::Declare(variable) => add_array(
+            arrays,
+            instance,
+            block,
+            never_closed,
+            variable.node,
+        ),
         Action::Call { .. }
         | Action::Assign { .. }
         | Action::Fill { .. }
@@ -234,19 +252,19 @@ fn add_declared<'a, A: Allocator>(
 }
 
 fn add_array<'a, A: Allocator>(
-    arrays: &mut Vec<Array<'a, A>>,
+    arrays: &mut Vec<LiveArray<'a, A>>,
     instance: usize,
     block: &'a Block<A>,
-    nevers: &HashSet<u32>,
+    never_closed: &HashSet<u32>,
     node: u32,
 ) -> Result<(), AllocError>
-    requires { (n : ℕ) → contains nat_eq nevers.now n ≡ never_in no_calls (local n) (block_view block.now) }
+    requires { (n : ℕ) → contains nat_eq never_closed.now n ≡ never_in no_calls (local n) (block_view block.now) }
     ensures { OnOk result (map candidate_of arrays.new.items
         ≡ map candidate_of arrays.old.items ++ unless_never instance (block_view block.entry.now) node
         (never_in no_calls (local node) (block_view block.entry.now))) }
 {
-    if !nevers.contains(&node) {
-        arrays.push(Array {
+    if !never_closed.contains(&node) {
+        arrays.push(LiveArray {
             place: Place { instance, node },
             block,
         })?;
@@ -254,8 +272,8 @@ fn add_array<'a, A: Allocator>(
     Ok(())
 }
 
-/// What a statement does, with a `wait` taken apart.
-fn deed_of<A: Allocator>(action: &Action<A>) -> Deed<'_, A>
+/// Returns the action of a statement. A `wait` is split into its names and its content.
+fn action_of<A: Allocator>(action: &Action<A>) -> LiveAction<'_, A>
     ensures { deed_view result ≡ action_view action.entry.now }
 {
     match action {
@@ -263,13 +281,13 @@ fn deed_of<A: Allocator>(action: &Action<A>) -> Deed<'_, A>
             names,
             inner,
             content,
-        } => Deed::Waits(
+        } => LiveAction::Waits(
             names.as_slice(),
-            Content {
+            BlockContent {
                 waits: inner.as_slice(),
                 block: content,
             },
         ),
-        other => Deed::Does(other),
+        other => LiveAction::Does(other),
     }
 }

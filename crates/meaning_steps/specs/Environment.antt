@@ -1,4 +1,5 @@
--- What a block instance sees of what is known, and what the expressions and cells of its statements come to by it. States docs/LANGUAGE.md: Cells; Elements.
+-- The environment of a block instance, and the values of the expressions and cells of its statements in it. States
+-- docs/LANGUAGE.md: Cells; Elements.
 use Rattle.std.specs.Prelude.{◌≡◌, ℕ, Bool, true, false, List, [], ◌∷◌, Option, Some, None, Result, Ok, Err}
 use Rattle.values.specs.declared.fault.OpFault.{OpFault}
 use Rattle.values.specs.declared.key.Key.{Key}
@@ -13,8 +14,8 @@ use Rattle.language.specs.Facts.{Fault, operation, no_element, value, element, K
 use Rattle.language.specs.Meaning.{Closed, HasValue}
 use Rattle.language.specs.Places.{Path, place}
 
--- what is seen: the scalar of a name, whether an array is closed, its elements, what is written under a key, and the value of a
--- cell of its own
+-- an environment: the scalar of a name, whether an array is closed, and its elements; the writes of a key, and the
+-- value of a cell of the instance
 pub record Sight : Type 0 where
   pub scalar : Name → Option Scalar
   pub closed : Name → Bool
@@ -22,7 +23,7 @@ pub record Sight : Type 0 where
   pub writes : Name → Key → List Scalar
   pub cell : ℕ → Option Value
 
--- what is seen at a path is what is known there
+-- the environment at a path is exactly what is known there
 pub record Sees (s : Core) (K : Knowledge) (path : Path) (g : Sight) : Type 0 where
   pub scalar_so : (x : Name) (v : Scalar) → g.scalar x ≡ Some v → HasValue s K (place s path x) v
   pub scalar_all : (x : Name) (v : Scalar) → HasValue s K (place s path x) v → g.scalar x ≡ Some v
@@ -37,7 +38,7 @@ pub record Sees (s : Core) (K : Knowledge) (path : Path) (g : Sight) : Type 0 wh
   pub cell_so : (n : ℕ) (v : Value) → g.cell n ≡ Some v → K (value (path, n) v)
   pub cell_all : (n : ℕ) (v : Value) → K (value (path, n) v) → g.cell n ≡ Some v
 
--- what comes of an expression, where all its parts are known
+-- the result of an expression, if all its parts are known
 abbrev pub Come : Type 0
 Come = Option (Result Value OpFault)
 
@@ -69,7 +70,7 @@ abbrev mutual
   worked_all g none = Some []
   worked_all g (also e es) = with_come (worked g e) (worked_all g es)
 
--- what a cell has, where it is known
+-- the result of a cell, if it is known
 abbrev pub Outcome : Type 0
 Outcome = Option (Result Value Fault)
 
@@ -78,7 +79,7 @@ as_outcome (Some (Ok v)) = Some (Ok v)
 as_outcome (Some (Err f)) = Some (Err (operation f))
 as_outcome None = None
 
--- an element by what is written under its key, and by whether its array is closed
+-- an element, given the writes of its key and whether its array is closed
 abbrev pub element_come : List Scalar → Bool → Outcome
 element_come (v ∷ []) c = Some (Ok (One v))
 element_come [] true = Some (Err no_element)
@@ -89,7 +90,7 @@ abbrev pub element_under : Sight → Name → Option Key → Outcome
 element_under g a (Some k) = element_come (g.writes a k) (g.closed a)
 element_under g a None = None
 
--- an element by the value of the index
+-- an element, given the value of the index
 abbrev pub read_come : Sight → Name → Option Value → Outcome
 read_come g a (Some v) = element_under g a (value_key v)
 read_come g a None = None

@@ -1,4 +1,4 @@
--- What a program keeps of what is known, to be found by places, and what is seen and was told by it.
+-- The data that a program keeps of what is known, as look-ups by place. The environment and past that follow from it.
 use Rattle.std.specs.Prelude.{◌≡◌, ℕ, ◌<◌, Bool, true, false, List, [], ◌∷◌, length, map, nat_eq, Option, Some, None, if◌then◌else◌}
 use Rattle.values.specs.declared.key.Key.{Key}
 use Rattle.values.specs.declared.map.Element.{Element}
@@ -17,13 +17,13 @@ use Rattle.language.specs.Places.{Path, Place, place, most_steps}
 use Rattle.meaning_steps.specs.Environment.{Sight}
 use Rattle.meaning_steps.specs.News.{Past}
 
--- a write of an array's key
+-- a write of a key of an array
 pub record Write : Type 0 where
   pub key : Key
   pub writer : Place
   pub value : Scalar
 
--- values, what a loop's variable is in a turn, closed arrays, writes, who has written what, whose line is there, and faults
+-- values, loop variables in their turns, closed arrays, writes, writers of keys, statements with lines, and faults
 pub record Kept : Type 0 where
   pub value : Place → Option Value
   pub turn : Place → Option Scalar
@@ -33,12 +33,12 @@ pub record Kept : Type 0 where
   pub lined : Place → Bool
   pub faulted : Fault → ℕ → Place → Bool
 
--- no two writes have one key and one writer
+-- no two writes have the same key and the same writer
 abbrev pub AreApart : List Write → Type 0
 AreApart [] = Unit {0}
 AreApart (w ∷ ws) = ((u : Write) → u ∈ ws → u.key ≡ w.key → u.writer ≡ w.writer → ⊥) × AreApart ws
 
--- what is kept is what is known
+-- what is kept is exactly what is known
 pub record Keeps (s : Core) (K : Knowledge) (k : Kept) : Type 0 where
   pub value_so : (p : Place) (v : Value) → k.value p ≡ Some v → K (value p v)
   pub value_all : (p : Place) (v : Value) → K (value p v) → k.value p ≡ Some v
@@ -56,15 +56,15 @@ pub record Keeps (s : Core) (K : Knowledge) (k : Kept) : Type 0 where
   pub lined_so : (p : Place) → k.lined p ≡ true → (bytes : List ℕ) × K (line p bytes)
   pub faulted_so : (f : Fault) (at : ℕ) (p : Place) → k.faulted f at p ≡ true → K (fault f at p)
 
--- WHAT IS SEEN
+-- THE ENVIRONMENT
 
--- a known scalar, or else what a loop's variable is
+-- a known scalar, or otherwise the value of a loop variable
 abbrev pub scalar_by : Option Value → Option Scalar → Option Scalar
 scalar_by (Some (One v)) o = Some v
 scalar_by (Some (Many es)) o = o
 scalar_by None o = o
 
--- the scalars that are written under a key
+-- the scalars written at a key
 abbrev pub values_under : List Write → Key → List Scalar
 values_under [] key = []
 values_under (w ∷ ws) key = if same_key w.key key then w.value ∷ values_under ws key else values_under ws key
@@ -72,7 +72,7 @@ values_under (w ∷ ws) key = if same_key w.key key then w.value ∷ values_unde
 abbrev pub element_of : Write → Element
 element_of w = record { key = w.key; value = w.value }
 
--- an element beside others, unless its key is there
+-- inserts an element among others, unless its key is present
 abbrev pub put_unless : Option Scalar → Element → List Element → List Element
 put_unless (Some v) e es = es
 put_unless None e es = inserted e.key e.value es
@@ -80,7 +80,7 @@ put_unless None e es = inserted e.key e.value es
 abbrev pub put_first : List Element → Element → List Element
 put_first es e = put_unless (found e.key es) e es
 
--- elements by rising key beside others, the first of each key
+-- inserts elements among others by rising key, the first of each key
 abbrev pub by_key_beside : List Element → List Element → List Element
 by_key_beside es [] = es
 by_key_beside es (d ∷ ds) = by_key_beside (put_first es d) ds
@@ -97,7 +97,7 @@ sight_by s k path = record {
   cell = λ n. k.value (path, n);
 }
 
--- WHAT WAS TOLD
+-- FACTS DERIVED BEFORE
 
 abbrev pub is_there : Option Value → Bool
 is_there (Some v) = true

@@ -1,4 +1,5 @@
--- What a round tells of a statement, worked out from what is seen at its path and from what was told before. States docs/LANGUAGE.md: Knowledge.
+-- The facts that a round derives from a statement, given what is seen at its path and what was derived before. States
+-- docs/LANGUAGE.md: Knowledge.
 use Rattle.std.specs.Prelude.{◌≡◌, ◌≢◌, ℕ, ℤ, Bool, true, false, ◌&&◌, List, [], ◌∷◌, ◌++◌, length, Option, Some, None, Result, Ok, Err, zero, suc}
 use Rattle.values.specs.declared.fault.OpFault.{OpFault}
 use Rattle.values.specs.declared.key.Key.{Key}
@@ -18,9 +19,8 @@ use Rattle.language.specs.Parts.{stmt_at, stmt_node, stmt_action, stmt_calls, ce
 use Rattle.language.specs.Places.{Path, Place, place, most_steps}
 use Rattle.meaning_steps.specs.Environment.{Sight, Outcome, outcome}
 
--- what was told before: whether a variable has a value, whether the statement of a node has written a key of an array, whether a
--- key has two writers, whether a statement has its line, which faults are at which offsets and nodes, and whether no step fits
--- behind the path
+-- the facts derived before, as tests: a variable has a value; the statement of a node has written a key of an array; a
+-- key has two writers; a statement has its line; a fault is at an offset and a node; the path has the maximum length
 pub record Past : Type 0 where
   pub valued : Name → Bool
   pub written : Name → Key → ℕ → Bool
@@ -29,7 +29,7 @@ pub record Past : Type 0 where
   pub faulted : Fault → ℕ → ℕ → Bool
   pub deep : Bool
 
--- what was told before at a path is what is known there
+-- the facts derived before at a path are those known there
 pub record Recalls (s : Core) (K : Knowledge) (path : Path) (m : Past) : Type 0 where
   pub valued_so : (x : Name) → m.valued x ≡ true → (v : Value) × K (value (place s path x) v)
   pub written_so : (a : Name) (k : Key) (n : ℕ) → m.written a k n ≡ true → (v : Scalar) × K (element (place s path a) k (path, n) v)
@@ -43,7 +43,7 @@ pub record Recalls (s : Core) (K : Knowledge) (path : Path) (m : Past) : Type 0 
 
 -- CELLS
 
--- nothing where it is told already
+-- no fact if it is known already
 abbrev pub unless : Bool → Fact → List Fact
 unless true f = []
 unless false f = f ∷ []
@@ -54,7 +54,7 @@ come_by None (Some (Ok v)) = Some v
 come_by None (Some (Err f)) = None
 come_by None None = None
 
--- the value that a cell has behind the round
+-- the value that a cell has after the round
 abbrev pub comes : Sight → Cell → Option Value
 comes g c = come_by (g.cell c.node) (outcome g c.form)
 
@@ -71,13 +71,13 @@ abbrev pub cells_told : Sight → Past → Path → ℕ → List Cell → List F
 cells_told g m path at [] = []
 cells_told g m path at (c ∷ cs) = cell_told g m path at c ++ cells_told g m path at cs
 
--- WHAT STATEMENTS DO WITH THEM
+-- EFFECTS OF STATEMENTS
 
 abbrev pub assigned_told : Core → Past → Path → Name → Option Value → List Fact
 assigned_told s m path x (Some v) = unless (m.valued x) (value (place s path x) v)
 assigned_told s m path x None = []
 
--- a write that is new, or its fault where the key has two writers
+-- a new write, or its fault if the key has two writers
 abbrev pub element_by : Core → Past → Path → (at n : ℕ) → Name → Key → Scalar → (written twice : Bool) → List Fact
 element_by s m path at n a k v false t = element (place s path a) k (path, n) v ∷ []
 element_by s m path at n a k v true true = unless (m.faulted element_twice at n) (fault element_twice at (path, n))
@@ -127,7 +127,7 @@ with_value (Some v) (Some vs) = Some (v ∷ vs)
 with_value (Some v) None = None
 with_value None vs = None
 
--- the values that cells have behind the round
+-- the values that cells have after the round
 abbrev pub comes_all : Sight → List Cell → Option (List Value)
 comes_all g [] = Some []
 comes_all g (c ∷ cs) = with_value (comes g c) (comes_all g cs)
@@ -158,7 +158,7 @@ abbrev pub items_by : List Value → Bool
 items_by (Many es ∷ []) = some_item es
 items_by _ = false
 
--- a header opens some block by the values of its cells or the elements of its array
+-- a header opens a block for the values of its cells or the elements of its array
 abbrev pub opens_some : Action → List Value → Bool
 opens_some (when c b) vs = branch_by vs false
 opens_some (choose c b d) vs = branch_by vs true
@@ -187,7 +187,7 @@ abbrev pub items_told : Past → Path → (at n : ℕ) → Bool → Action → L
 items_told m path at n true header es = deep_told m path at n header (Some (Many es ∷ []))
 items_told m path at n false header es = []
 
--- what a statement tells with the values of its outermost cells
+-- the facts of a statement that follow from the values of its outermost cells
 abbrev pub own_told : Core → Sight → Past → Path → (at n : ℕ) → Action → List Fact
 own_told s g m path at n (assign x e) = assigned_told s m path x (comes g e.cell)
 own_told s g m path at n (fill a e) = filled_told s m path at n a (comes g e.cell)
@@ -204,7 +204,7 @@ abbrev pub some_call : List Call → Bool
 some_call [] = false
 some_call (c ∷ cs) = true
 
--- WHAT A ROUND TELLS OF A STATEMENT
+-- THE FACTS OF A STATEMENT
 abbrev pub news : Core → Sight → Past → Path → Stmt → List Fact
 news s g m path st =
     cells_told g m path (stmt_at st) (cells st)
@@ -212,14 +212,15 @@ news s g m path st =
 
 -- PREMISES
 
--- a write is of a live statement, with what its cells have behind the round
+-- a write of a live statement, with the values that its cells have after the round
 pub data Wrote (s : Core) (K : Knowledge) (path : Path) : Stmt → Place → Key → Scalar → Type 0 where
   by_fill : {at n : ℕ} {a : Name} {c : Outer} {es : List Element} {k : Key} {v : Scalar}
       → Comes s K path c.cell (Many es) → entry k v ∈ es → Wrote s K path (stmt at n (fill a c)) (place s path a) k v
   by_insert : {at n : ℕ} {a : Name} {i c : Outer} {u : Value} {k : Key} {v : Scalar}
       → Comes s K path i.cell u → IsKey u k → Comes s K path c.cell (One v) → Wrote s K path (stmt at n (insert a i c)) (place s path a) k v
 
--- a live statement wrote, which has the offset and the node of this one: a declaration with a right side is two statements
+-- a live statement that wrote, with the offset and the node of this one: a declaration with a right side is two
+-- statements
 pub record Writer (s : Core) (K : Knowledge) (path : Path) (st : Stmt) (a : Place) (k : Key) (v : Scalar) : Type 0 where
   pub writing : Stmt
   pub live : LiveStmt s K path writing
@@ -227,7 +228,7 @@ pub record Writer (s : Core) (K : Knowledge) (path : Path) (st : Stmt) (a : Plac
   pub node_is : stmt_node writing ≡ stmt_node st
   pub wrote : Wrote s K path writing a k v
 
--- what is known of what live statements tell stays what they tell
+-- the known facts of live statements agree with what the statements derive
 pub record IsSteady (s : Core) (K : Knowledge) : Type 0 where
   pub cell_same : (path : Path) (st : Stmt) (c : Cell) (v : Value) (r : Result Value Fault) → LiveStmt s K path st → c ∈ cells st → K (value (path, c.node) v) → Gives s K path c.form r → r ≡ Ok v
   pub assign_same : (path : Path) (at n : ℕ) (x : Name) (c : Outer) (v u : Value) → LiveStmt s K path (stmt at n (assign x c)) → Comes s K path c.cell v → K (value (place s path x) u) → v ≡ u
@@ -235,12 +236,12 @@ pub record IsSteady (s : Core) (K : Knowledge) : Type 0 where
   pub print_same : (path : Path) (at n : ℕ) (p : ℤ) (c : Outer) (bytes bits : List ℕ) → LiveStmt s K path (stmt at n (print p c)) → Comes s K path c.cell (One (Scalar.Text bytes)) → K (line (path, n) bits) → bytes ≡ bits
   pub wrote : (path : Path) (st : Stmt) (a : Place) (k : Key) (v : Scalar) → LiveStmt s K path st → K (element a k (path, stmt_node st) v) → Writer s K path st a k v
 
--- statements of one node have one offset, and prints of one node one line
+-- statements of one node have one offset, and prints of one node have one line
 pub record NodesTell (s : Core) : Type 0 where
   pub one_at : (st x : Stmt) → st ∈ script_stmts s → x ∈ script_stmts s → stmt_node st ≡ stmt_node x → stmt_at st ≡ stmt_at x
   pub one_line : (at at' n : ℕ) (p p' : ℤ) (c c' : Outer) → stmt at n (print p c) ∈ script_stmts s → stmt at' n (print p' c') ∈ script_stmts s → c ≡ c'
 
--- a fact is told of some live statement
+-- a fact derived from some live statement
 pub record ToldOf (s : Core) (K : Knowledge) (g : Path → Sight) (m : Path → Past) (f : Fact) : Type 0 where
   pub path : Path
   pub st : Stmt

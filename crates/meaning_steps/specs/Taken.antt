@@ -1,4 +1,5 @@
--- What is taken to be live, closed and known of names, and what follows from it at once: the rules of the meaning without their recursion through one another. States docs/LANGUAGE.md: Blocks and paths; Closing.
+-- Sets taken to be live, closed and known of names, and what follows from them at once. These are the rules of the
+-- meaning without their mutual recursion. States docs/LANGUAGE.md: Blocks and paths; Closing.
 use Rattle.std.specs.Prelude.{◌≡◌, ℕ, ◌<◌, ℤ, pos, List, [], ◌∷◌, length, Option, Some, slice_get}
 use Rattle.values.specs.declared.key.Key.{Key}
 use Rattle.values.specs.declared.map.Element.{Element}
@@ -13,18 +14,18 @@ use Rattle.language.specs.Openings.{Decides, Opens, InTurn, Branches}
 use Rattle.language.specs.Parts.{outer_cells, block_list, stmt_calls, function_body}
 use Rattle.language.specs.Places.{Path, Place, place, most_steps}
 
--- which statements are taken to be live, which arrays closed, and what scalars are at places
+-- the statements taken to be live, the arrays taken to be closed, and the scalars at places
 pub record Taken : Type 1 where
   pub live : Path → Stmt → Type 0
   pub closed : Place → Type 0
   pub has : Place → Scalar → Type 0
 
--- what a `wait` waits for is taken to be there
+-- an input of a `wait` is taken to be known
 abbrev pub ComeBy : Core → Taken → Path → Awaited → Type 0
 ComeBy s T path (scalar x) = (v : Scalar) × T.has (place s path x) v
 ComeBy s T path (array x) = T.closed (place s path x)
 
--- the choice of a header is known by what is taken
+-- the choice of a header is known, given what is taken
 pub data ReadyBy (s : Core) (K : Knowledge) (T : Taken) : Path → Action → List Value → Type 0 where
   by_cells : {path : Path} {header : Action} {vs : List Value}
       → KnownAll K path (outer_cells header) vs → Decides header vs → ReadyBy s K T path header vs
@@ -33,7 +34,7 @@ pub data ReadyBy (s : Core) (K : Knowledge) (T : Taken) : Path → Action → Li
   by_names : {path : Path} {ns : List Awaited} {b : Block}
       → ((x : Awaited) → x ∈ ns → ComeBy s T path x) → ReadyBy s K T path (wait ns b) []
 
--- a statement is finished for an array by what is taken
+-- a statement is finished for an array, given what is taken
 pub data FinishedBy (s : Core) (K : Knowledge) (T : Taken) : Owned → Path → Stmt → Type 0 where
   no_target_by : {a : Owned} {path : Path} {st : Stmt} → (IsTarget a st → ⊥) → FinishedBy s K T a path st
   value_by : {a : Owned} {path : Path} {at n : ℕ} {x : Name} {c : Outer} {v : Value}
@@ -55,7 +56,7 @@ pub data FinishedBy (s : Core) (K : Knowledge) (T : Taken) : Owned → Path → 
       → ((st : Stmt) → st ∈ block_list b → FinishedBy s K T a path st)
       → FinishedBy s K T a path (stmt at n (wait ns b))
 
--- what is taken is so
+-- soundness: what is taken holds in the meaning
 pub record IsSo (s : Core) (K : Knowledge) (T : Taken) : Type 0 where
   pub live : (path : Path) (st : Stmt) → T.live path st → LiveStmt s K path st
   pub closed : (a : Place) → T.closed a → Closed s K a
@@ -79,7 +80,7 @@ pub record IsSettled (s : Core) (K : Knowledge) (T : Taken) : Type 0 where
       → T.live path (stmt at n header) → ReadyBy s K T path header vs → Opens header vs k b → InTurn header vs k x v
       → length path < most_steps → T.has ((at, k) ∷ path, x) v
 
--- what follows at once from what is taken is so
+-- what follows at once from what is taken holds in the meaning
 pub record FollowsSo (s : Core) (K : Knowledge) (T : Taken) : Type 0 where
   pub opened : (path : Path) (at n : ℕ) (header : Action) (vs : List Value) (k : Key) (c : Block) (st : Stmt)
       → T.live path (stmt at n header) → ReadyBy s K T path header vs → Opens header vs k c → length path < most_steps
@@ -95,11 +96,11 @@ pub record FollowsSo (s : Core) (K : Knowledge) (T : Taken) : Type 0 where
       → T.live path (stmt at n header) → ReadyBy s K T path header vs → Opens header vs k b → InTurn header vs k x v
       → length path < most_steps → HasValue s K ((at, k) ∷ path, x) v
 
--- knowledge of these facts
+-- the knowledge of exactly these facts
 abbrev pub Knows : List Fact → Knowledge
 Knows fs f = f ∈ fs
 
--- these statements are taken to be live, these arrays closed, and these scalars are at places
+-- these statements are taken to be live, these arrays to be closed, and these scalars to be at places
 abbrev pub taken : List (Path × Stmt) → List Place → List (Place × Scalar) → Taken
 taken ls cs vs = record {
   live = λ path st. ◌∈◌ {X = Path × Stmt} (path, st) ls;

@@ -1,4 +1,5 @@
-//! Laws of what is kept. Each function does nothing; its contract is the law.
+//! Laws of a state that keeps what is known, indexed by place. The functions have empty bodies; their contracts are the
+//! laws.
 ghost use Rattle.std.specs.Prelude.{◌≡◌, ◌↔◌, ◌⊎◌, ℕ, suc, List};
 ghost use Rattle.values.specs.declared.value.Scalar.{Scalar};
 ghost use Rattle.language.specs.Core.{Core};
@@ -15,8 +16,8 @@ ghost use Rattle.meaning_steps.specs.Environment.{Sees};
 ghost use Rattle.meaning_steps.specs.News.{Recalls, ToldOf};
 ghost use Rattle.meaning_steps.specs.Kept.{Kept, Keeps, sight_by, past_by};
 
-/// Where what is kept is what is known, and a name has one scalar, what is seen and was told by it at each path is what is
-/// known there.
+/// States that the views `sight_by` and `past_by` of kept knowledge are exact at each path. What is kept must be
+/// exactly what is known, and a place must have at most one scalar.
 pub fn kept_is_seen()
     ensures sees { (s : Core) (n : ℕ) (k : Kept) → Keeps s (Known s n) k
         → ((p : Place) (v u : Scalar) → HasValue s (Known s n) p v → HasValue s (Known s n) p u → v ≡ u)
@@ -26,8 +27,9 @@ pub fn kept_is_seen()
         → (path : Path) → Recalls s (Known s n) path (past_by s k path) }
 {}
 
-/// So of an accepted script, of which what is kept is what is known after so many rounds, the next round adds just what is told
-/// by it of the live statements, and the script is finished exactly where that is known already.
+/// States for an accepted script that the next round adds exactly the facts derived from what is kept, for all live
+/// statements. The script is finished exactly if all of these are known. What is kept must be what is known after n
+/// rounds.
 pub fn rounds_by_what_is_kept()
     ensures round { (bytes : List ℕ) (t : Table) (tree : Tree) → Reads bytes tree → WellTyped tree t → SinglyAssigned (core t tree)
         → (n : ℕ) (k : Kept) → Keeps (core t tree) (Known (core t tree) n) k

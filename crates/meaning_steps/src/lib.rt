@@ -1,6 +1,8 @@
-//! How the rounds of a whole script can be worked out, step by step.
+//! Laws for computing the rounds of a script's meaning step by step: a search without mutual recursion, and functions
+//! over its result.
 //!
-//! Nothing here runs: each function of `laws` has an empty body, and its contract is a law of the definitions in `specs/`.
+//! This crate has no executable code. Each public function has an empty body, and its contract is a law of the
+//! definitions in `specs/`.
 #![tactic(auto)]
 
 pub mod keeping_laws;

@@ -1,4 +1,4 @@
-//! Laws of rounds. Each function does nothing; its contract is the law.
+//! Laws of the facts that a round derives. The functions have empty bodies; their contracts are the laws.
 ghost use Rattle.std.specs.Prelude.{◌≡◌, ◌↔◌, ◌⊎◌, ℕ, suc, List, Some, Result};
 ghost use Rattle.values.specs.declared.fault.OpFault.{OpFault};
 ghost use Rattle.values.specs.declared.value.Scalar.{Scalar};
@@ -19,9 +19,9 @@ ghost use Rattle.meaning_steps.specs.Environment.{Sight, Sees, worked, outcome};
 ghost use Rattle.meaning_steps.specs.News.{Past, Recalls, IsSteady, NodesTell, ToldOf, news};
 ghost use Rattle.meaning_steps.specs.Taken.{taken, Knows, IsSo, IsSettled, FollowsSo, ReadyBy, FinishedBy};
 
-/// What is taken to be live, closed and known of names, where it is so and nothing more follows from it at once, is all that
-/// is live, closed and known of names; and by it the choice of a header is known, and a statement is finished, just where that
-/// is so. So live blocks and closed arrays can be found step by step.
+/// States that a sound and settled set of live statements, closed arrays and scalars is complete. A header is ready by
+/// it exactly if the header is ready, and a statement is finished by it exactly if the statement is finished. So live
+/// blocks and closed arrays can be found step by step.
 pub fn settled_is_all()
     ensures live { (s : Core) (fs : List Fact) (ls : List (Path × Stmt)) (cs : List Place) (vs : List (Place × Scalar))
         → IsSo s (Knows fs) (taken ls cs vs) → IsSettled s (Knows fs) (taken ls cs vs)
@@ -39,14 +39,15 @@ pub fn settled_is_all()
         → (a : Owned) (path : Path) (st : Stmt) → FinishedBy s (Knows fs) (taken ls cs vs) a path st ↔ Finished s (Knows fs) a path st }
 {}
 
-/// What follows at once from what is taken to be live, closed and known of names, where that is so, is so: so each step of a
-/// search for all of it is right.
+/// States that each step of such a search is sound. What follows at once from a sound set of live statements, closed
+/// arrays and scalars holds in the meaning.
 pub fn a_step_is_so()
     ensures { (s : Core) (fs : List Fact) (ls : List (Path × Stmt)) (cs : List Place) (vs : List (Place × Scalar))
         → IsSo s (Knows fs) (taken ls cs vs) → FollowsSo s (Knows fs) (taken ls cs vs) }
 {}
 
-/// By what is seen at a path, which is what is known there, an expression and a cell come to just what the meaning gives them.
+/// States that `worked` and `outcome` evaluate an expression and a cell exactly as the meaning does. What is seen at
+/// the path must be what is known there.
 pub fn sight_is_exact()
     ensures expressions { (s : Core) (fs : List Fact) (path : Path) (g : Sight) → Sees s (Knows fs) path g
         → (e : Expr) (r : Result Value OpFault) → (worked g e ≡ Some r) ↔ ValueUnder s (Knows fs) path e r }
@@ -54,8 +55,8 @@ pub fn sight_is_exact()
         → (f : Form) (r : Result Value Fault) → (outcome g f ≡ Some r) ↔ Gives s (Knows fs) path f r }
 {}
 
-/// What a round tells of the live statements, by what is seen and was told before at their paths, is just what is new: nothing
-/// but what follows from what is known, and all of that which is not known yet.
+/// States that `news` over the live statements derives exactly the new facts. It derives only facts that follow from
+/// what is known, and all of those that are not known yet.
 pub fn news_is_exact()
     ensures sound { (s : Core) (fs : List Fact) (path : Path) (g : Sight) (m : Past) → Sees s (Knows fs) path g → Recalls s (Knows fs) path m
         → (st : Stmt) (f : Fact) → LiveStmt s (Knows fs) path st → f ∈ news s g m path st → New s (Knows fs) f }
@@ -65,8 +66,8 @@ pub fn news_is_exact()
         → ToldOf s (Knows fs) g m f ⊎ (f ∈ fs) }
 {}
 
-/// After the rounds of an accepted script, what the next round tells of the live statements is just what it adds; the script is
-/// finished exactly where that is known already.
+/// States that after n rounds of an accepted script the next round adds exactly the facts derived from the live
+/// statements. The script is finished exactly if all of these are known.
 pub fn a_round_is_what_is_told()
     ensures round { (s : Core) → WellFormed s → SinglyAssigned s → NodesTell s → (n : ℕ) (g : Path → Sight) (m : Path → Past)
         → ((path : Path) → Sees s (Known s n) path (g path)) → ((path : Path) → Recalls s (Known s n) path (m path))
@@ -76,8 +77,8 @@ pub fn a_round_is_what_is_told()
         → IsFinished s n ↔ ((f : Fact) → ToldOf s (Known s n) g m f → Known s n f) }
 {}
 
-/// In the core of a text that reads as a tree statements of one node have one offset, and prints of one node one line. So of a
-/// script that is accepted each round adds just what is told of its live statements.
+/// States that each round of an accepted script adds exactly the facts derived from its live statements. In the core of
+/// a text that parses, statements of one node have one offset, and prints of one node have one line.
 pub fn accepted_rounds()
     ensures nodes { (bytes : List ℕ) (t : Table) (tree : Tree) → Reads bytes tree → NodesTell (core t tree) }
     ensures round { (bytes : List ℕ) (t : Table) (tree : Tree) → Reads bytes tree → WellTyped tree t → SinglyAssigned (core t tree)

@@ -4,7 +4,7 @@ use Rattle.std.specs.Prelude.{if◌then◌else◌, nat_eq, nat_lt}
 use Rattle.paths.specs.declared.faults.Fault.{Fault}
 use Rattle.paths.specs.declared.faults.FaultKind.{FaultKind}
 use Rattle.paths.specs.declared.faults.FaultKind.TheVariants as Kind
-use Rattle.paths.specs.declared.statements.Statement.{Statement}
+use Rattle.paths.specs.declared.statements.StatementInstance.{StatementInstance}
 use Rattle.paths.specs.declared.steps.Step.{Step}
 use Rattle.paths.specs.Order.{fault_number, path_below, same_fault, same_path, same_statement}
 use Rattle.paths.proofs.Orders.{number_order, order_by, path_order, IsOrder}
@@ -13,7 +13,7 @@ use Rattle.paths.proofs.Orders.{number_order, order_by, path_order, IsOrder}
 abbrev pub Point : Type 0
 Point = List Step × ℕ
 
-abbrev pub point_of : Statement → Point
+abbrev pub point_of : StatementInstance → Point
 point_of s = (s.path.items, s.at)
 
 -- what a fault is told by
@@ -49,7 +49,7 @@ mark_order = order_by {X = Mark} (λ x. x.0) (λ x. x.1) pair_is point_below sam
 -- WHAT IS THE SAME
 
 -- the same statement has the same path and offset
-pub point_is : (s t : Statement) → same_statement s t ≡ true → point_of s ≡ point_of t
+pub point_is : (s t : StatementInstance) → same_statement s t ≡ true → point_of s ≡ point_of t
 point_is s t h = point_order.is (point_of s) (point_of t) h
 
 kind_back : ℕ → FaultKind

@@ -1,4 +1,4 @@
--- What faults are called, and which of them operations have.
+-- Names of fault kinds, and the operation fault of each kind.
 use Rattle.std.specs.Prelude.{ℕ, List, Option, None, Some, codes}
 use Rattle.values.specs.declared.fault.OpFault.{OpFault}
 use Rattle.values.specs.declared.fault.OpFault.TheVariants as Op
@@ -16,7 +16,7 @@ fault_name Kind.TooDeep = codes "F6 TooDeep"
 fault_name Kind.NotANumber = codes "F7 NotANumber"
 fault_name Kind.AssertFailed = codes "F8 AssertFailed"
 
--- the fault of an operation that a kind is
+-- the fault of an operation for a kind, if there is one
 abbrev pub operation_of : FaultKind → Option OpFault
 operation_of Kind.Overflow = Some Op.Overflow
 operation_of Kind.DivideByZero = Some Op.DivideByZero

@@ -1,20 +1,21 @@
--- In which order statements and faults are told: by path, step by step from the outermost one, then by offset, then by number.
+-- The order of statements and faults in listings: by path, step by step from the outermost one, then by offset, then by
+-- fault number.
 use Rattle.std.specs.Prelude.{ℕ, Bool, true, false, ◌&&◌, ◌||◌, nat_eq, nat_lt, List, [], ◌∷◌}
 use Rattle.values.specs.Keys.{key_below, same_key}
 use Rattle.paths.specs.declared.faults.FaultKind.{FaultKind}
 use Rattle.paths.specs.declared.faults.FaultKind.TheVariants as Kind
 use Rattle.paths.specs.declared.steps.Step.{Step}
 use Rattle.paths.specs.declared.faults.Fault.{Fault}
-use Rattle.paths.specs.declared.statements.Statement.{Statement}
+use Rattle.paths.specs.declared.statements.StatementInstance.{StatementInstance}
 
--- by offset, and then by key
+-- by offset, then by key
 abbrev pub step_below : Step → Step → Bool
 step_below s t = nat_lt s.offset t.offset || (nat_eq s.offset t.offset && key_below s.key t.key)
 
 abbrev pub same_step : Step → Step → Bool
 same_step s t = nat_eq s.offset t.offset && same_key s.key t.key
 
--- step by step, and a beginning comes before what goes on from it
+-- lexicographic: step by step, where a proper prefix comes first
 abbrev pub path_below : List Step → List Step → Bool
 path_below [] [] = false
 path_below [] (t ∷ q) = true
@@ -27,11 +28,11 @@ same_path [] (t ∷ q) = false
 same_path (s ∷ p) [] = false
 same_path (s ∷ p) (t ∷ q) = same_step s t && same_path p q
 
--- by path, and then by offset
-abbrev pub statement_below : Statement → Statement → Bool
+-- by path, then by offset
+abbrev pub statement_below : StatementInstance → StatementInstance → Bool
 statement_below s t = path_below s.path.items t.path.items || (same_path s.path.items t.path.items && nat_lt s.at t.at)
 
-abbrev pub same_statement : Statement → Statement → Bool
+abbrev pub same_statement : StatementInstance → StatementInstance → Bool
 same_statement s t = same_path s.path.items t.path.items && nat_eq s.at t.at
 
 -- the number of a kind of fault
@@ -45,7 +46,7 @@ fault_number Kind.TooDeep = 6
 fault_number Kind.NotANumber = 7
 fault_number Kind.AssertFailed = 8
 
--- by statement, and then by number
+-- by statement, then by fault number
 abbrev pub fault_below : Fault → Fault → Bool
 fault_below f g = statement_below f.statement g.statement || (same_statement f.statement g.statement && nat_lt (fault_number f.kind) (fault_number g.kind))
 

@@ -1,43 +1,43 @@
-//! The eight kinds of faults, and faults by their statements.
+//! The eight fault kinds, and faults with the statements that caused them.
 ghost use Rattle.std.specs.Prelude.{◌≡◌, ◌≤◌, length, Some, IfOk, IfErr};
 ghost use Rattle.paths.specs.Names.{fault_name, operation_of};
 ghost use Rattle.paths.specs.Order.{fault_below, fault_number, same_fault};
 
-use crate::statements::Statement;
+use crate::statements::StatementInstance;
 use std::alloc::AllocError;
 use std::fmt;
 use values::fault::OpFault;
 
-/// What can go wrong in a run, by number from 1.
+/// A kind of fault that stops a run, numbered from 1.
 #[derive(Clone, Copy, PartialEq, Eq, Hash, Debug)]
 pub enum FaultKind {
-    /// A number has no place in 64 bits, or a range too many numbers.
+    /// A number that does not fit in 64 bits, or a range of too many values.
     Overflow,
-    /// Something is divided by 0.
+    /// A division by 0.
     DivideByZero,
-    /// The array is closed and has no such element.
+    /// A read of an element that a closed array does not have.
     NoElement,
-    /// An element is written that was written before.
+    /// A second write of one element.
     ElementTwice,
-    /// The step of a range is less than 1.
+    /// A range whose step is less than 1.
     BadStep,
-    /// A path would have too many steps.
+    /// A path that would have too many steps.
     TooDeep,
-    /// A text is no whole number.
+    /// A text that does not spell an integer.
     NotANumber,
-    /// What is asserted is not true.
+    /// A failed assertion.
     AssertFailed,
 }
 
-/// A fault, and the statement that met it.
+/// A fault and its statement.
 #[derive(Debug, Drop)]
 pub struct Fault {
     pub kind: FaultKind,
-    pub statement: Statement,
+    pub statement: StatementInstance,
 }
 
 impl FaultKind {
-    /// All kinds, by their numbers.
+    /// All kinds, in the order of their numbers.
     pub const ALL: [FaultKind; 8] = [
         FaultKind::Overflow,
         FaultKind::DivideByZero,
@@ -49,11 +49,11 @@ impl FaultKind {
         FaultKind::AssertFailed,
     ];
 
-    /// The kind of a fault of an operator, a conversion or a range.
+    /// Converts the fault of an operator, a conversion or a range into its kind.
     ///
     /// # Errors
     ///
-    /// `AllocError` for want of memory, which is no fault of a script.
+    /// Returns `AllocError` for `OpFault::Memory`, which is not a fault of the script.
     pub fn of_operation(fault: OpFault) -> Result<FaultKind, AllocError>
         ensures kind { IfOk result (λ kind. operation_of kind ≡ Some fault) }
         ensures memory { IfErr result (λ _. fault ≡ OpFault.Memory) }
@@ -68,7 +68,7 @@ impl FaultKind {
         }
     }
 
-    /// Its number, from 1 to 8.
+    /// Returns the number of the kind, from 1 to 8.
     pub fn number(self) -> u32
         ensures { result ≡ fault_number self }
     {
@@ -84,7 +84,7 @@ impl FaultKind {
         }
     }
 
-    /// Its number and its name, as in `F3 NoElement`.
+    /// Returns the number and the name of the kind, as in `F3 NoElement`.
     pub fn name(self) -> &'static str
         ensures name { result.now ≡ fault_name self }
         ensures short { length result.now ≤ 15 }
@@ -111,7 +111,7 @@ impl fmt::Display for FaultKind {
 }
 
 impl Fault {
-    /// Whether it comes before another: by their statements, and then by their numbers.
+    /// Returns true if this fault sorts before `other`: by statement, then by fault number.
     pub fn is_below(&self, other: &Fault) -> bool
         ensures { result ≡ fault_below self.now other.now }
     {
@@ -120,7 +120,7 @@ impl Fault {
                 && self.kind.number() < other.kind.number())
     }
 
-    /// Whether both are the same fault.
+    /// Returns true if both are the same fault of the same statement.
     pub fn is_same(&self, other: &Fault) -> bool
         ensures { result ≡ same_fault self.now other.now }
     {

@@ -1,8 +1,8 @@
-//! Where the statements of a script stand, which fault one met, and in which order both are told.
+//! Block paths, statement instances and faults of a run, with the order in which listings print them.
 //!
-//! A script opens blocks inside of blocks: the branches of `if`, the turns of loops, and the bodies of functions that are
-//! called. A statement is told by its offset and by the path of the block instance that it stands in, and a fault by its
-//! kind and its statement. The order is by path, step by step from the outermost one, then by offset, then by number.
+//! A script opens blocks within blocks: the branches of `if`, the turns of loops, and the bodies of called functions. A
+//! statement instance is identified by its offset and by the path of its block instance, and a fault by its kind and
+//! its statement. The order is by path, step by step from the outermost one, then by offset, then by fault number.
 #![tactic(auto)]
 
 mod faults;
@@ -10,5 +10,5 @@ mod statements;
 mod steps;
 
 pub use faults::{Fault, FaultKind};
-pub use statements::Statement;
+pub use statements::StatementInstance;
 pub use steps::Step;

@@ -1,11 +1,12 @@
-//! The steps of a path, and in which order paths come.
+//! Steps of block paths, and the lexicographic order of paths.
 ghost use Rattle.std.specs.Prelude.{◌≡◌, IfOk};
 ghost use Rattle.paths.specs.Order.{path_below, same_path, same_step, step_below};
 
 use std::alloc::AllocError;
 use values::key::Key;
 
-/// A step to a block: the offset of what opens it, and the branch, the turn's key, or 0 for a call.
+/// A step into a block instance: the offset of the construct that opens it, and a key. The key is the branch, the key
+/// of the turn, or 0 for a call.
 #[derive(Debug, Drop)]
 pub struct Step {
     pub offset: usize,
@@ -13,11 +14,11 @@ pub struct Step {
 }
 
 impl Step {
-    /// The same step.
+    /// Returns a copy of the step. A text key is shared.
     ///
     /// # Errors
     ///
-    /// `AllocError` for want of memory.
+    /// Returns `AllocError` if an allocation fails.
     pub fn share(&self) -> Result<Step, AllocError>
         ensures { IfOk result (λ step. step ≡ self.now) }
     {
@@ -27,14 +28,14 @@ impl Step {
         })
     }
 
-    /// Whether it comes before another: by offset, and then by key.
+    /// Returns true if this step sorts before `other`: by offset, then by key.
     pub fn is_below(&self, other: &Step) -> bool
         ensures { result ≡ step_below self.now other.now }
     {
         self.offset < other.offset || (self.offset == other.offset && self.key.is_below(&other.key))
     }
 
-    /// Whether both are the same step.
+    /// Returns true if both steps have the same offset and the same key.
     pub fn is_same(&self, other: &Step) -> bool
         ensures { result ≡ same_step self.now other.now }
     {
@@ -42,7 +43,7 @@ impl Step {
     }
 }
 
-/// Whether a path comes before another: step by step, and a beginning comes first.
+/// Returns true if the first path sorts before the second: step by step, where a proper prefix comes first.
 pub(crate) fn is_path_below(one: &[Step], other: &[Step]) -> bool
     ensures { result ≡ path_below one.now other.now }
 {
@@ -64,7 +65,7 @@ pub(crate) fn is_path_below(one: &[Step], other: &[Step]) -> bool
     !rest.is_empty()
 }
 
-/// Whether both are the same path.
+/// Returns true if both paths have the same steps.
 pub(crate) fn is_same_path(one: &[Step], other: &[Step]) -> bool
     ensures { result ≡ same_path one.now other.now }
 {

@@ -4,7 +4,7 @@ use Rattle.std.specs.Prelude.{IsPermutation, sum_by, ◌==◌, if◌then◌else�
 use Rattle.std.proofs.lemmas.Bool.Decides.{nat_tests}
 use Rattle.std.proofs.lemmas.List.Sums.{sum_by-cons}
 use Rattle.std.proofs.lemmas.List.Sorted.{IsPermutation-refl, IsPermutation-sym, IsPermutation-trans, IsPermutation-cons, IsPermutation-middle, sum_by-IsPermutation}
-use Rattle.pool.specs.declared.rule.SeatView.{SeatView}
+use Rattle.pool.specs.declared.protocol.SeatView.{SeatView}
 use Rattle.pool.specs.Views.{total, gathered, lying, Balanced, JoinedIsEmpty}
 
 -- the weights of pairs of a hole and a number, added up

@@ -6,8 +6,8 @@ use Rattle.std.proofs.Math.Seq.{take-suc}
 use Rattle.dataflow.specs.System.{In}
 use Rattle.dataflow.proofs.Lists.{in_split}
 use Rattle.task_code.specs.Code.{Code, Entry, Name}
-use Rattle.ref_counting.specs.declared.lead.Lead.{Lead}
-use Rattle.ref_counting.specs.declared.openings.Opening.{Opening}
+use Rattle.ref_counting.specs.declared.entry_name.EntryName.{EntryName}
+use Rattle.ref_counting.specs.declared.openings.BodyOpening.{BodyOpening}
 use Rattle.ref_counting.specs.Leads.{name_of}
 use Rattle.ref_counting.specs.Openings.{AreHomes, AreOpenings}
 use Rattle.ref_counting.specs.Rights.{Adds, AllLead, AllWithin, ByHomes, IsClosed, Passes, StepsOn}
@@ -60,7 +60,7 @@ at_in [] n d h = absurd (omega arith)
 at_in (y ∷ ys) zero d h = inl refl
 at_in (y ∷ ys) (suc n) d h = inr (at_in ys n d (omega arith))
 
-module _ (C : Code) (hs : List (List ℕ)) (os : List (List Opening)) (H : AreHomes C hs) (O : AreOpenings C os) (lead : Lead) (old new : List Lead) (there : In lead old)
+module _ (C : Code) (hs : List (List ℕ)) (os : List (List BodyOpening)) (H : AreHomes C hs) (O : AreOpenings C os) (lead : EntryName) (old new : List EntryName) (there : In lead old)
     (adds : Adds (ByHomes C os (name_of lead) (row hs lead.entry)) old new) where
   pub still_within : AllWithin C old → AllWithin C new
   still_within W l t = elim (old_or_new l adds.grows t) [ inl u ↦ W l u | inr p ↦ passed_within C lead.entry (name_of lead) l.entry (name_of l) (home_passes C hs os H O lead.entry (name_of lead) l.entry (name_of l) p) ]
@@ -68,22 +68,22 @@ module _ (C : Code) (hs : List (List ℕ)) (os : List (List Opening)) (H : AreHo
   pub still_led : (own : Entry → List Name) → AllLead C own old → AllLead C own new
   still_led own L l t = elim (old_or_new l adds.grows t) [ inl u ↦ L l u | inr p ↦ passed_led C own lead.entry (name_of lead) l.entry (name_of l) (L lead there) (home_passes C hs os H O lead.entry (name_of lead) l.entry (name_of l) p) ]
 
-  pub one_closed : (n : ℕ) (d : Lead) → n < length old → lead ≡ get_or old n d → AllWithin C old → IsClosed C (take n old) old → IsClosed C (take (n + 1) new) new
+  pub one_closed : (n : ℕ) (d : EntryName) → n < length old → lead ≡ get_or old n d → AllWithin C old → IsClosed C (take n old) old → IsClosed C (take (n + 1) new) new
   one_closed n d h is W before l t i r p = elim (in_take l old adds.grows.more n d h (subst (λ ls. In l (take (n + 1) ls)) adds.grows.is t)) [
     | inl u ↦ still_has adds.grows (before l u i r p)
-    | inr e ↦ adds.all i r (passes_home C hs os H O lead.entry (name_of lead) (W lead there) i r (subst (λ (m : Lead). Passes C m.entry (name_of m) i r) (e ∙ sym is) p))
+    | inr e ↦ adds.all i r (passes_home C hs os H O lead.entry (name_of lead) (W lead there) i r (subst (λ (m : EntryName). Passes C m.entry (name_of m) i r) (e ∙ sym is) p))
   ]
 
-pub all_closed : (C : Code) (ls : List Lead) (n : ℕ) → length ls ≤ n → IsClosed C (take n ls) ls → IsClosed C ls ls
+pub all_closed : (C : Code) (ls : List EntryName) (n : ℕ) → length ls ≤ n → IsClosed C (take n ls) ls → IsClosed C ls ls
 all_closed C ls n h before l t = before l (take_past l ls n h t)
 
-pub none_closed : (C : Code) (ls : List Lead) → IsClosed C (take 0 ls) ls
+pub none_closed : (C : Code) (ls : List EntryName) → IsClosed C (take 0 ls) ls
 none_closed C ls l t = absurd t
 
-module _ (C : Code) (hs : List (List ℕ)) (os : List (List Opening)) (H : AreHomes C hs) (O : AreOpenings C os) where
-  pub steps_on : (lead : Lead) (n : ℕ) (old new : List Lead) → n < length old → lead ≡ get_or old n lead → Adds (ByHomes C os (name_of lead) (row hs lead.entry)) old new → StepsOn C n old new
+module _ (C : Code) (hs : List (List ℕ)) (os : List (List BodyOpening)) (H : AreHomes C hs) (O : AreOpenings C os) where
+  pub steps_on : (lead : EntryName) (n : ℕ) (old new : List EntryName) → n < length old → lead ≡ get_or old n lead → Adds (ByHomes C os (name_of lead) (row hs lead.entry)) old new → StepsOn C n old new
   steps_on lead n old new h is adds =
-      let there : In lead old = subst (λ (l : Lead). In l old) (sym is) (at_in old n lead h) in
+      let there : In lead old = subst (λ (l : EntryName). In l old) (sym is) (at_in old n lead h) in
       record {
         kept = λ i r t. still_has adds.grows t;
         within = still_within C hs os H O lead old new there adds;

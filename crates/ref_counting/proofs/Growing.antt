@@ -9,15 +9,15 @@ use Rattle.indexmap.specs.IndexSet.{insert_key}
 use Rattle.dataflow.specs.System.{In}
 use Rattle.dataflow.proofs.Lists.{in_left, in_split}
 use Rattle.task_code.specs.Code.{Local, Name, Parameter, Variable}
-use Rattle.ref_counting.specs.declared.lead.Lead.{Lead}
+use Rattle.ref_counting.specs.declared.entry_name.EntryName.{EntryName}
 use Rattle.ref_counting.proofs.Keys.{same_flag}
 use Rattle.ref_counting.specs.Leads.{AllPlain, Grows, Has, IsPlain, IsThis, name_of}
 
 -- leads are the same where all their fields are
-abbrev pub same_fields : Lead → Lead → Bool
+abbrev pub same_fields : EntryName → EntryName → Bool
 same_fields a b = eqb a.entry b.entry && (eqb a.up b.up && (beq a.local b.local && (eqb a.node b.node && (eqb a.place b.place && beq a.array b.array))))
 
-pub same_lead : (a b : Lead) → same_fields a b ≡ true → a ≡ b
+pub same_lead : (a b : EntryName) → same_fields a b ≡ true → a ≡ b
 same_lead a b h =
     let x = and_parts (eqb a.entry b.entry) _ h in
     let y = and_parts (eqb a.up b.up) _ x.1 in
@@ -34,41 +34,41 @@ same_lead a b h =
 
 -- GROWTH
 
-pub grows_not : {P : ℕ → Name → Type 0} (ls : List Lead) → Grows P ls ls
+pub grows_not : {P : ℕ → Name → Type 0} (ls : List EntryName) → Grows P ls ls
 grows_not ls = record { more = []; is = sym (append-nil ls); each = λ l h. absurd h; plain = λ l h. absurd h }
 
-pub put_grows : (ls : List Lead) (l : Lead) (i : ℕ) (r : Name) → l.entry ≡ i → name_of l ≡ r → IsPlain l → Grows (IsThis i r) ls (insert_key same_fields ls l)
+pub put_grows : (ls : List EntryName) (l : EntryName) (i : ℕ) (r : Name) → l.entry ≡ i → name_of l ≡ r → IsPlain l → Grows (IsThis i r) ls (insert_key same_fields ls l)
 put_grows ls l i r e n p = by (list_any (same_fields l) ls)
   where
     plain : AllPlain (l ∷ [])
     plain m (inl s) = subst IsPlain (sym s) p
     plain m (inr h) = absurd h
 
-    each : (m : Lead) → In m (l ∷ []) → IsThis i r m.entry (name_of m)
-    each m (inl s) = (ap (λ (x : Lead). x.entry) s ∙ e, ap name_of s ∙ n)
+    each : (m : EntryName) → In m (l ∷ []) → IsThis i r m.entry (name_of m)
+    each m (inl s) = (ap (λ (x : EntryName). x.entry) s ∙ e, ap name_of s ∙ n)
     each m (inr h) = absurd h
 
     by : (b : Bool) → Grows (IsThis i r) ls (if b then ls else ls ++ l ∷ [])
     by true = grows_not ls
     by false = record { more = l ∷ []; is = refl; each = each; plain = plain }
 
-pub grows_on : {P Q : ℕ → Name → Type 0} {a b c : List Lead} → ((i : ℕ) (r : Name) → Q i r → P i r) → Grows P a b → Grows Q b c → Grows P a c
+pub grows_on : {P Q : ℕ → Name → Type 0} {a b c : List EntryName} → ((i : ℕ) (r : Name) → Q i r → P i r) → Grows P a b → Grows Q b c → Grows P a c
 grows_on {P} {Q} {a} {b} {c} weaken g h = record { more = g.more ++ h.more; is = h.is ∙ ap (λ x. x ++ h.more) g.is ∙ append_assoc a g.more h.more; each = each; plain = plain }
   where
     plain : AllPlain (g.more ++ h.more)
     plain l t = elim (in_split l g.more h.more t) [ inl q ↦ g.plain l q | inr q ↦ h.plain l q ]
 
-    each : (l : Lead) → In l (g.more ++ h.more) → P l.entry (name_of l)
+    each : (l : EntryName) → In l (g.more ++ h.more) → P l.entry (name_of l)
     each l t = elim (in_split l g.more h.more t) [ inl q ↦ g.each l q | inr q ↦ weaken l.entry (name_of l) (h.each l q) ]
 
-pub still_in : {P : ℕ → Name → Type 0} {a b : List Lead} (l : Lead) → Grows P a b → In l a → In l b
+pub still_in : {P : ℕ → Name → Type 0} {a b : List EntryName} (l : EntryName) → Grows P a b → In l a → In l b
 still_in {P} {a} {b} l g t = subst (In l) (sym g.is) (in_left l a g.more t)
 
-pub still_has : {P : ℕ → Name → Type 0} {a b : List Lead} {i : ℕ} {r : Name} → Grows P a b → Has a i r → Has b i r
+pub still_has : {P : ℕ → Name → Type 0} {a b : List EntryName} {i : ℕ} {r : Name} → Grows P a b → Has a i r → Has b i r
 still_has g h = record { lead = h.lead; there = still_in h.lead g h.there; of = h.of; to = h.to }
 
 -- each lead is old or such
-pub old_or_new : {P : ℕ → Name → Type 0} {a b : List Lead} (l : Lead) → Grows P a b → In l b → In l a ⊎ P l.entry (name_of l)
+pub old_or_new : {P : ℕ → Name → Type 0} {a b : List EntryName} (l : EntryName) → Grows P a b → In l b → In l a ⊎ P l.entry (name_of l)
 old_or_new {P} {a} {b} l g t = elim (in_split l a g.more (subst (In l) g.is t)) [ inl q ↦ inl q | inr q ↦ inr (g.each l q) ]
 
 -- PLAIN LEADS
@@ -76,7 +76,7 @@ old_or_new {P} {a} {b} l g t = elim (in_split l a g.more (subst (In l) g.is t)) 
 pub none_plain : AllPlain []
 none_plain l t = absurd t
 
-pub still_plain : {P : ℕ → Name → Type 0} {a b : List Lead} → Grows P a b → AllPlain a → AllPlain b
+pub still_plain : {P : ℕ → Name → Type 0} {a b : List EntryName} → Grows P a b → AllPlain a → AllPlain b
 still_plain {P} {a} {b} g h l t = elim (in_split l a g.more (subst (In l) g.is t)) [ inl q ↦ h l q | inr q ↦ g.plain l q ]
 
 eqb_self : (n : ℕ) → eqb n n ≡ true
@@ -86,16 +86,16 @@ beq_self : (b : Bool) → beq b b ≡ true
 beq_self true = refl
 beq_self false = refl
 
-pub same_self : (l : Lead) → same_fields l l ≡ true
+pub same_self : (l : EntryName) → same_fields l l ≡ true
 same_self l =
     and_from _ _ (eqb_self l.entry) (and_from _ _ (eqb_self l.up) (and_from _ _ (beq_self l.local) (and_from _ _ (eqb_self l.node) (and_from _ _ (eqb_self l.place) (beq_self l.array)))))
 
 -- the name of a lead, where it is known whether that is a variable's
-abbrev pub named : Bool → Lead → Name
+abbrev pub named : Bool → EntryName → Name
 named b l = record { up = l.up; owned = if b then Local (record { node = l.node; array = l.array }) else Parameter l.place l.array }
 
 -- plain leads of one entry to one name are the same
-pub plain_same : (a b : Lead) → IsPlain a → IsPlain b → a.entry ≡ b.entry → name_of a ≡ name_of b → a ≡ b
+pub plain_same : (a b : EntryName) → IsPlain a → IsPlain b → a.entry ≡ b.entry → name_of a ≡ name_of b → a ≡ b
 plain_same a b p q e n = by a.local b.local refl refl
   where
     at : {x y : Bool} → a.local ≡ x → b.local ≡ y → named x a ≡ named y b

@@ -8,7 +8,7 @@ use Rattle.task_code.specs.Code as pure
 use Rattle.task_code.specs.Code.{Argument, Named, Fixed, Code, Entry, Variable, Calling, InPlace, Parameter, Through, argument, argument_in, arguments, blank_entry, body, call_at, entry, here, is_array_name, nth}
 use Rattle.task_code.specs.View.{name_view}
 use Rattle.task_code.specs.Whole.{Declared, Seen}
-use Rattle.ref_counting.specs.declared.makes.Made.{Made}
+use Rattle.ref_counting.specs.declared.declarations.DeclaredIn.{DeclaredIn}
 use Rattle.ref_counting.specs.Makes.{AreMade, IsWaited, made_by}
 use Rattle.ref_counting.specs.Passing.{Answers, Hands, Outlives, Sees}
 
@@ -102,10 +102,10 @@ module _ (C : Code) (mark call : ℕ) (at : call_at C mark ≡ call) where
 
 -- DECLARED NAMES
 
-pub outlives_not : (ms : List Made) (b : ℕ) (v : Variable) → In (made_by b v) ms → Answers None (Outlives ms b (here v))
+pub outlives_not : (ms : List DeclaredIn) (b : ℕ) (v : Variable) → In (made_by b v) ms → Answers None (Outlives ms b (here v))
 outlives_not ms b v t = answers_none (Outlives ms b (here v)) (λ r o. o.lives v refl t)
 
-module _ (C : Code) (ms : List Made) (M : AreMade C ms) (b : ℕ) (h : b < length C.bodies) (w : IsWaited C b) (q : pure.Name) where
+module _ (C : Code) (ms : List DeclaredIn) (M : AreMade C ms) (b : ℕ) (h : b < length C.bodies) (w : IsWaited C b) (q : pure.Name) where
   pub not_declared : ((v : Variable) → q ≡ here v → In (made_by b v) ms → ⊥) → Declared C b q → ⊥
   not_declared lives d = lives d.variable d.is (M.all b d.variable h w d.made)
 
@@ -113,7 +113,7 @@ module _ (C : Code) (ms : List Made) (M : AreMade C ms) (b : ℕ) (h : b < lengt
   still_lives outer v e t = outer (record { variable = v; is = e; made = M.only (made_by b v) t })
 
 module _ (C : Code) (i b : ℕ) (q : pure.Name) where
-  pub seen_in_place : (ms : List Made) → AreMade C ms → b < length C.bodies → IsWaited C b → (a : Option Name) → Answers a (Outlives ms b q) → Answers a (Sees C i InPlace b q)
+  pub seen_in_place : (ms : List DeclaredIn) → AreMade C ms → b < length C.bodies → IsWaited C b → (a : Option Name) → Answers a (Outlives ms b q) → Answers a (Sees C i InPlace b q)
   seen_in_place ms M h w a t = answers_as a (Outlives ms b q) (Sees C i InPlace b q) (λ r o. record { outer = not_declared C ms M b h w q o.lives; seen = o.is }) (λ r s. record { lives = still_lives C ms M b h w q s.outer; is = s.seen }) t
 
   pub seen_through : (a : Option Name) → Answers a (λ r. q ≡ record { up = suc r.up; owned = r.owned }) → Answers a (Sees C i Through b q)

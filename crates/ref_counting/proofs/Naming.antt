@@ -4,18 +4,18 @@ use Rattle.std.proofs.lemmas.Bool.{eqb-true}
 use Rattle.dataflow.specs.System.{Distinct, In}
 use Rattle.task_code.specs.Code.{Code, Entry, Name, blank_entry, entry, nth}
 use Rattle.task_code.specs.Exact.{Leads, itself, through}
-use Rattle.ref_counting.specs.declared.lead.Lead.{Lead}
-use Rattle.ref_counting.specs.declared.uses.Right.{Right}
-use Rattle.ref_counting.specs.declared.uses.Right.TheVariants.{Read, Write}
+use Rattle.ref_counting.specs.declared.entry_name.EntryName.{EntryName}
+use Rattle.ref_counting.specs.declared.uses.RightKind.{RightKind}
+use Rattle.ref_counting.specs.declared.uses.RightKind.TheVariants.{Read, Write}
 use Rattle.ref_counting.specs.Leads.{AllPlain, Has, name_of, names_of}
 use Rattle.ref_counting.specs.Rights.{Adds, AllLead, AllWithin, AreRights, IsClosed, Passes}
 use Rattle.ref_counting.specs.Uses.{UsesBelow, own_of}
 use Rattle.ref_counting.proofs.Growing.{none_plain, old_or_new, plain_same, still_plain}
 
-has_later : (l : Lead) {ls : List Lead} {i : ℕ} {r : Name} → Has ls i r → Has (l ∷ ls) i r
+has_later : (l : EntryName) {ls : List EntryName} {i : ℕ} {r : Name} → Has ls i r → Has (l ∷ ls) i r
 has_later l h = record { lead = h.lead; there = inr h.there; of = h.of; to = h.to }
 
-pub names_in : (ls : List Lead) (i : ℕ) (r : Name) → In r (names_of ls i) → Has ls i r
+pub names_in : (ls : List EntryName) (i : ℕ) (r : Name) → In r (names_of ls i) → Has ls i r
 names_in [] i r t = absurd t
 names_in (l ∷ ls) i r t = by (nat_eq l.entry i) refl (names_in ls i r) t
   where
@@ -24,25 +24,25 @@ names_in (l ∷ ls) i r t = by (nat_eq l.entry i) refl (names_in ls i r) t
     by true e rest (inr u) = has_later l (rest u)
     by false e rest u = has_later l (rest u)
 
-pub has_names : (ls : List Lead) (i : ℕ) (r : Name) → Has ls i r → In r (names_of ls i)
+pub has_names : (ls : List EntryName) (i : ℕ) (r : Name) → Has ls i r → In r (names_of ls i)
 has_names ls i r h = by ls h.there
   where
-    more : (l : Lead) (ms : List Lead) → In r (names_of ms i) → In r (names_of (l ∷ ms) i)
+    more : (l : EntryName) (ms : List EntryName) → In r (names_of ms i) → In r (names_of (l ∷ ms) i)
     more l ms u = at (nat_eq l.entry i)
       where
         at : (b : Bool) → In r (elim b [ true ↦ name_of l ∷ names_of ms i | false ↦ names_of ms i ])
         at true = inr u
         at false = u
 
-    by : (ms : List Lead) → In h.lead ms → In r (names_of ms i)
+    by : (ms : List EntryName) → In h.lead ms → In r (names_of ms i)
     by [] t = absurd t
     by (l ∷ ms) (inl e) =
-        let own : l.entry ≡ i = ap (λ (m : Lead). m.entry) (sym e) ∙ h.of in
+        let own : l.entry ≡ i = ap (λ (m : EntryName). m.entry) (sym e) ∙ h.of in
         let is : r ≡ name_of l = sym h.to ∙ ap name_of e in
         subst (λ b. In r (elim b [ true ↦ name_of l ∷ names_of ms i | false ↦ names_of ms i ])) (sym (eq-eqb l.entry i own)) (inl is)
     by (l ∷ ms) (inr t) = more l ms (by ms t)
 
-pub names_once : (ls : List Lead) → AllPlain ls → Distinct ls → (i : ℕ) → Distinct (names_of ls i)
+pub names_once : (ls : List EntryName) → AllPlain ls → Distinct ls → (i : ℕ) → Distinct (names_of ls i)
 names_once [] P D i = tt
 names_once (l ∷ ls) P D i = by (nat_eq l.entry i) refl (names_once ls (λ m t. P m (inr t)) D.1 i)
   where
@@ -55,7 +55,7 @@ names_once (l ∷ ls) P D i = by (nat_eq l.entry i) refl (names_once ls (λ m t.
     by true e rest = (fresh (eqb-true l.entry i e), rest)
     by false e rest = rest
 
-module _ (C : Code) (right : Right) (seeds leads : List Lead) (uses : Adds (UsesBelow C (own_of right) (length C.entries)) [] seeds) where
+module _ (C : Code) (right : RightKind) (seeds leads : List EntryName) (uses : Adds (UsesBelow C (own_of right) (length C.entries)) [] seeds) where
   pub seeds_within : AllWithin C seeds
   seeds_within l t = elim (old_or_new l uses.grows t) [ inl u ↦ absurd u | inr q ↦ q.0 ]
 
@@ -66,7 +66,7 @@ module _ (C : Code) (right : Right) (seeds leads : List Lead) (uses : Adds (Uses
   used_there : (i : ℕ) (r : Name) → In r (own_of right (entry C i)) → i < length C.entries
   used_there i r t = by right C.entries i t
     where
-      by : (d : Right) (es : List Entry) (k : ℕ) → In r (own_of d (nth blank_entry es k)) → k < length es
+      by : (d : RightKind) (es : List Entry) (k : ℕ) → In r (own_of d (nth blank_entry es k)) → k < length es
       by Read [] k t = absurd t
       by Write [] k t = absurd t
       by d (x ∷ xs) zero t = omega arith

@@ -4,8 +4,8 @@ use Rattle.dataflow.specs.System.{In}
 use Rattle.dataflow.proofs.Lists.{in_left, in_right, in_split}
 use Rattle.task_code.specs.Code as pure
 use Rattle.task_code.specs.Code.{Code, blank_entry, body, entry, nth, ways}
-use Rattle.ref_counting.specs.declared.openings.Opening.{Opening}
-use Rattle.ref_counting.specs.declared.openings.Way.{Way}
+use Rattle.ref_counting.specs.declared.openings.BodyOpening.{BodyOpening}
+use Rattle.ref_counting.specs.declared.openings.OpenKind.{OpenKind}
 use Rattle.ref_counting.specs.Openings.{AreOpenings, IsOpened, Noted, NotesAll, NotesHomes, NotesOpened, OpeningsUpTo, HomesUpTo, way_of}
 use Rattle.ref_counting.specs.Rows.{row, Fills, put_in}
 use Rattle.ref_counting.proofs.Filling.{fills_not, put_fills, put_there}
@@ -17,20 +17,20 @@ below_or_at i n h = by (nat_lt i n) refl
     by true e = inl (grind arith)
     by false e = inr (grind arith)
 
-abbrev pub opening_by : ℕ → Way → Opening
+abbrev pub opening_by : ℕ → OpenKind → BodyOpening
 opening_by i way = record { entry = i; way = way }
 
-pub noted_one : (i : ℕ) (way : Way) (b : ℕ) (old new : List (List Opening)) → new ≡ put_in old b (opening_by i way) → NotesAll i ((way_of way, b) ∷ []) old new
+pub noted_one : (i : ℕ) (way : OpenKind) (b : ℕ) (old new : List (List BodyOpening)) → new ≡ put_in old b (opening_by i way) → NotesAll i ((way_of way, b) ∷ []) old new
 noted_one i way b old new is = record { fills = record { count = fills.count; kept = fills.kept; only = only }; all = all }
   where
-    fills : Fills (λ (k : ℕ) (o : Opening). (k ≡ b) × (o ≡ opening_by i way)) old new
-    fills = subst (Fills (λ (k : ℕ) (o : Opening). (k ≡ b) × (o ≡ opening_by i way)) old) (sym is) (put_fills old b (opening_by i way))
+    fills : Fills (λ (k : ℕ) (o : BodyOpening). (k ≡ b) × (o ≡ opening_by i way)) old new
+    fills = subst (Fills (λ (k : ℕ) (o : BodyOpening). (k ≡ b) × (o ≡ opening_by i way)) old) (sym is) (put_fills old b (opening_by i way))
 
     there : b < length old → In (opening_by i way) (row new b)
     there h = subst (λ rs. In (opening_by i way) (row rs b)) (sym is) (put_there old b (opening_by i way) h)
 
-    only : (k : ℕ) (o : Opening) → In o (row new k) → In o (row old k) ⊎ ((o.entry ≡ i) × In {X = pure.Way × ℕ} (way_of o.way, k) ((way_of way, b) ∷ []))
-    only k o t = elim (fills.only k o t) [ inl u ↦ inl u | inr q ↦ inr (ap (λ (x : Opening). x.entry) q.1, inl (λ j. (way_of (q.1 j).way, q.0 j))) ]
+    only : (k : ℕ) (o : BodyOpening) → In o (row new k) → In o (row old k) ⊎ ((o.entry ≡ i) × In {X = pure.Way × ℕ} (way_of o.way, k) ((way_of way, b) ∷ []))
+    only k o t = elim (fills.only k o t) [ inl u ↦ inl u | inr q ↦ inr (ap (λ (x : BodyOpening). x.entry) q.1, inl (λ j. (way_of (q.1 j).way, q.0 j))) ]
 
     all : (w : pure.Way) (k : ℕ) → In {X = pure.Way × ℕ} (w, k) ((way_of way, b) ∷ []) → k < length old → Noted i w (row new k)
     all w k (inl e) h =
@@ -39,13 +39,13 @@ noted_one i way b old new is = record { fills = record { count = fills.count; ke
         record { opening = opening_by i way; there = subst (λ n. In (opening_by i way) (row new n)) (sym at) (there (subst (λ n. n < length old) at h)); of = refl; by = sym by }
     all w k (inr f) h = absurd f
 
-pub noted_still : {P : ℕ → Opening → Type 0} {i : ℕ} {w : pure.Way} {old new : List (List Opening)} (k : ℕ) → Fills P old new → Noted i w (row old k) → Noted i w (row new k)
+pub noted_still : {P : ℕ → BodyOpening → Type 0} {i : ℕ} {w : pure.Way} {old new : List (List BodyOpening)} (k : ℕ) → Fills P old new → Noted i w (row old k) → Noted i w (row new k)
 noted_still k f n = record { opening = n.opening; there = f.kept k n.opening n.there; of = n.of; by = n.by }
 
-pub noted_both : (i : ℕ) (ws us : List (pure.Way × ℕ)) (a b c : List (List Opening)) → NotesAll i ws a b → NotesAll i us b c → NotesAll i (ws ++ us) a c
+pub noted_both : (i : ℕ) (ws us : List (pure.Way × ℕ)) (a b c : List (List BodyOpening)) → NotesAll i ws a b → NotesAll i us b c → NotesAll i (ws ++ us) a c
 noted_both i ws us a b c f g = record { fills = record { count = g.fills.count ∙ f.fills.count; kept = λ k x t. g.fills.kept k x (f.fills.kept k x t); only = only }; all = all }
   where
-    only : (k : ℕ) (o : Opening) → In o (row c k) → In o (row a k) ⊎ ((o.entry ≡ i) × In {X = pure.Way × ℕ} (way_of o.way, k) (ws ++ us))
+    only : (k : ℕ) (o : BodyOpening) → In o (row c k) → In o (row a k) ⊎ ((o.entry ≡ i) × In {X = pure.Way × ℕ} (way_of o.way, k) (ws ++ us))
     only k o t = elim (g.fills.only k o t) [
       | inl u ↦ elim (f.fills.only k o u) [ inl v ↦ inl v | inr q ↦ inr (q.0, in_left {X = pure.Way × ℕ} (way_of o.way, k) ws us q.1) ]
       | inr q ↦ inr (q.0, in_right {X = pure.Way × ℕ} (way_of o.way, k) ws us q.1)
@@ -58,13 +58,13 @@ noted_both i ws us a b c f g = record { fills = record { count = g.fills.count �
     ]
 
 module _ (C : Code) where
-  pub no_openings : (os : List (List Opening)) → length os ≡ length C.bodies → ((k : ℕ) → row os k ≡ []) → OpeningsUpTo C 0 os
+  pub no_openings : (os : List (List BodyOpening)) → length os ≡ length C.bodies → ((k : ℕ) → row os k ≡ []) → OpeningsUpTo C 0 os
   no_openings os count empty = record { count = count; only = λ b o t. absurd (subst (In o) (empty b) t); all = λ i b w h. absurd (omega arith) }
 
-  pub more_openings : (n : ℕ) (a b : List (List Opening)) → OpeningsUpTo C n a → NotesAll n (ways (entry C n).act) a b → OpeningsUpTo C (n + 1) b
+  pub more_openings : (n : ℕ) (a b : List (List BodyOpening)) → OpeningsUpTo C n a → NotesAll n (ways (entry C n).act) a b → OpeningsUpTo C (n + 1) b
   more_openings n a b before new = record { count = new.fills.count ∙ before.count; only = only; all = all }
     where
-      only : (k : ℕ) (o : Opening) → In o (row b k) → In {X = pure.Way × ℕ} (way_of o.way, k) (ways (entry C o.entry).act)
+      only : (k : ℕ) (o : BodyOpening) → In o (row b k) → In {X = pure.Way × ℕ} (way_of o.way, k) (ways (entry C o.entry).act)
       only k o t = elim (new.fills.only k o t) [ inl u ↦ before.only k o u | inr q ↦ subst (λ m. In {X = pure.Way × ℕ} (way_of o.way, k) (ways (entry C m).act)) (sym q.0) q.1 ]
 
       all : (i k : ℕ) (w : pure.Way) → i < n + 1 → k < length C.bodies → In {X = pure.Way × ℕ} (w, k) (ways (entry C i).act) → Noted i w (row b k)
@@ -104,11 +104,11 @@ module _ (C : Code) where
       by (x ∷ xs) (suc k) t = let l : k < length xs = by xs k t in omega arith
 
   -- what is opened is noted
-  pub opened_noted : (os : List (List Opening)) (b : ℕ) → AreOpenings C os → b < length C.bodies → (o : IsOpened C b) → Noted o.opener o.way (row os b)
+  pub opened_noted : (os : List (List BodyOpening)) (b : ℕ) → AreOpenings C os → b < length C.bodies → (o : IsOpened C b) → Noted o.opener o.way (row os b)
   opened_noted os b O h o = O.all o.opener b o.way (opener_there o.way o.opener b o.opens) h o.opens
 
   -- the entries of a body that nothing opens are not noted, those of others are
-  pub notes_unopened : (os : List (List Opening)) (b : ℕ) (hs : List (List ℕ)) → AreOpenings C os → b < length C.bodies → row os b ≡ [] → NotesOpened C b hs hs
+  pub notes_unopened : (os : List (List BodyOpening)) (b : ℕ) (hs : List (List ℕ)) → AreOpenings C os → b < length C.bodies → row os b ≡ [] → NotesOpened C b hs hs
   notes_unopened os b hs O h none = record { fills = fills_not hs; all = λ o. absurd (let n = opened_noted os b O h o in subst (In n.opening) none n.there) }
 
   pub notes_opened : (b : ℕ) (x y : List (List ℕ)) → NotesHomes b (body C b).entries x y → NotesOpened C b x y

@@ -1,12 +1,12 @@
--- What entries read and write themselves.
+-- The names that entries themselves read and write.
 use Rattle.std.specs.Prelude.{◌≡◌, ℕ, ◌<◌, List}
 use Rattle.dataflow.specs.System.{In}
 use Rattle.task_code.specs.Code.{Code, Entry, Name, entry, targets}
 use Rattle.task_code.specs.Exact.{needs_of}
-use Rattle.ref_counting.specs.declared.uses.Right.{Right}
-use Rattle.ref_counting.specs.declared.uses.Right.TheVariants.{Read, Write}
+use Rattle.ref_counting.specs.declared.uses.RightKind.{RightKind}
+use Rattle.ref_counting.specs.declared.uses.RightKind.TheVariants.{Read, Write}
 
-abbrev pub own_of : Right → Entry → List Name
+abbrev pub own_of : RightKind → Entry → List Name
 own_of Read = needs_of
 own_of Write = targets
 

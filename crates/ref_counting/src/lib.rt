@@ -1,11 +1,14 @@
-//! The rights of a code's entries: what each may read and write, by itself or through the bodies that it opens.
+//! Computation of the rights of code: the names that each entry may read and write, itself or through bodies that it
+//! opens.
+//!
+//! Names are propagated from bodies to the entries that open them by a worklist, up to the least fixed point.
 #![tactic(auto)]
 
-pub mod laid;
-pub mod lead;
-mod makes;
+mod call_names;
+pub mod code_tables;
+mod declarations;
+pub mod entry_name;
+pub mod numbered_lists;
 mod openings;
-mod passing;
 pub mod rights;
-pub mod rows;
 pub mod uses;

@@ -1,20 +1,20 @@
-//! Which entries open a body, and in which bodies an entry stands.
+//! Openings: the entries that open each body, and the bodies that contain each entry.
 ghost use Rattle.std.specs.Prelude.{◌≡◌, ℕ, ◌<◌, ◌∷◌, [], ◌^◌, length, OnOk, IfOk};
 ghost use Rattle.task_code.specs.Code.{body, entry, ways, Through};
 ghost use Rattle.task_code.specs.View.{act_view};
 ghost use Rattle.ref_counting.specs.Openings.{AreHomes, AreOpenings, NotesAll, NotesHomes, NotesOpened, way_of};
 
-use crate::laid::Laid;
-use crate::rows::Rows;
+use crate::code_tables::CodeTables;
+use crate::numbered_lists::NumberedLists;
 use std::alloc::{AllocError, Global};
 use task_code::entry::Act;
 
-/// How an entry opens a body.
+/// The way in which an entry opens a body.
 #[derive(Clone, Copy, PartialEq, Eq, Debug, Drop)]
-pub enum Way {
-    /// At its own path, as a `wait` does.
+pub enum OpenKind {
+    /// At the path of the entry, as a `wait` does.
     InPlace,
-    /// By a step, as a branch or a loop does.
+    /// By a step of the path, as a branch or a loop does.
     Through,
     /// By the step of a call.
     Calling,
@@ -22,50 +22,63 @@ pub enum Way {
 
 /// An entry that opens a body.
 #[derive(Clone, Copy, PartialEq, Eq, Debug, Drop)]
-pub struct Opening {
+pub struct BodyOpening {
     pub entry: u32,
-    pub way: Way,
+    pub way: OpenKind,
 }
 
-/// Notes that an entry opens a body.
-fn note(openings: &mut Rows<Opening>, entry: u32, way: Way, body: u32) -> Result<(), AllocError>
+/// Records that an entry opens a body.
+fn note(
+    openings: &mut NumberedLists<BodyOpening>,
+    entry: u32,
+    way: OpenKind,
+    body: u32,
+) -> Result<(), AllocError>
     ensures { OnOk result (NotesAll entry ((way_of way, body) ∷ []) openings.old openings.new) }
 {
-    openings.put(body as usize, Opening { entry, way })?;
+    openings.put(body as usize, BodyOpening { entry, way })?;
     Ok(())
 }
 
-/// Notes that an entry opens one of two branches.
+/// Records that an entry opens one of two branches.
 fn note_branches(
-    openings: &mut Rows<Opening>,
+    openings: &mut NumberedLists<BodyOpening>,
     entry: u32,
     then: u32,
     other: u32,
 ) -> Result<(), AllocError>
     ensures { OnOk result (NotesAll entry ((Through, then) ∷ (Through, other) ∷ []) openings.old openings.new) }
 {
-    note(openings, entry, Way::Through, then)?;
-    note(openings, entry, Way::Through, other)?;
+    note(openings, entry, OpenKind::Through, then)?;
+    note(openings, entry, OpenKind::Through, other)?;
     Ok(())
 }
 
-/// Notes what an entry's act opens.
-fn note_act(openings: &mut Rows<Opening>, entry: u32, act: &Act) -> Result<(), AllocError>
+/// Records the bodies that an act opens.
+fn note_act(
+    openings: &mut NumberedLists<BodyOpening>,
+    entry: u32,
+    act: &Act,
+) -> Result<(), AllocError>
     ensures { OnOk result (NotesAll entry (ways (act_view act.now)) openings.old openings.new) }
 {
     match act {
-        Act::Call { body, .. } => note(openings, entry, Way::Calling, *body),
-        Act::If(_, then, None) => note(openings, entry, Way::Through, *then),
+        Act::Call { body, .. } => note(openings, entry, OpenKind::Calling, *body),
+        Act::If(_, then, None) => note(openings, entry, OpenKind::Through, *then),
         Act::If(_, then, Some(other)) => note_branches(openings, entry, *then, *other),
-        Act::Range(_, _, _, turns) => note(openings, entry, Way::Through, turns.body),
-        Act::Each(turns) => note(openings, entry, Way::Through, turns.body),
-        Act::Wait(_, body) => note(openings, entry, Way::InPlace, *body),
+        Act::Range(_, _, _, turns) => note(openings, entry, OpenKind::Through, turns.body),
+        Act::Each(turns) => note(openings, entry, OpenKind::Through, turns.body),
+        Act::Wait(_, body) => note(openings, entry, OpenKind::InPlace, *body),
         _ => Ok(()),
     }
 }
 
-/// Notes what the entry of a number opens.
-fn note_entry(openings: &mut Rows<Opening>, code: &Laid, number: u32) -> Result<(), AllocError>
+/// Records the bodies that the entry of this number opens.
+fn note_entry(
+    openings: &mut NumberedLists<BodyOpening>,
+    code: &CodeTables,
+    number: u32,
+) -> Result<(), AllocError>
     requires { number < length code.now.entries }
     ensures { OnOk result (NotesAll number (ways (entry code.now number).act) openings.old openings.new) }
 {
@@ -75,20 +88,24 @@ fn note_entry(openings: &mut Rows<Opening>, code: &Laid, number: u32) -> Result<
     }
 }
 
-/// The entries that open each body.
-pub fn openings(alloc: Global, code: &Laid) -> Result<Rows<Opening>, AllocError>
+/// Returns the entries that open each body.
+pub fn openings(alloc: Global, code: &CodeTables) -> Result<NumberedLists<BodyOpening>, AllocError>
     requires { length code.now.entries < 2 ^ 32 }
     ensures { IfOk result (λ openings. AreOpenings code.now openings) }
 {
-    let mut openings = Rows::new(alloc, code.body_count())?;
+    let mut openings = NumberedLists::new(alloc, code.body_count())?;
     for number in 0..code.entry_count() {
         note_entry(&mut openings, code, number as u32)?;
     }
     Ok(openings)
 }
 
-/// Notes where the entries of a body stand.
-fn note_body(homes: &mut Rows<u32>, body: u32, entries: &Vec<u32>) -> Result<(), AllocError>
+/// Records the body for each of its entries.
+fn note_body(
+    homes: &mut NumberedLists<u32>,
+    body: u32,
+    entries: &Vec<u32>,
+) -> Result<(), AllocError>
     ensures { OnOk result (NotesHomes body entries.now.items homes.old homes.new) }
 {
     for number in entries {
@@ -97,11 +114,11 @@ fn note_body(homes: &mut Rows<u32>, body: u32, entries: &Vec<u32>) -> Result<(),
     Ok(())
 }
 
-/// Notes where the entries of the body of a number stand, if an entry opens it.
+/// Records the body of this number for each of its entries, if an entry opens that body.
 fn note_entries(
-    homes: &mut Rows<u32>,
-    code: &Laid,
-    openings: &Rows<Opening>,
+    homes: &mut NumberedLists<u32>,
+    code: &CodeTables,
+    openings: &NumberedLists<BodyOpening>,
     number: u32,
 ) -> Result<(), AllocError>
     requires number { number < length code.now.bodies }
@@ -120,13 +137,17 @@ fn note_entries(
     }
 }
 
-/// The bodies in which each entry stands and which an entry opens.
-pub fn homes(alloc: Global, code: &Laid, openings: &Rows<Opening>) -> Result<Rows<u32>, AllocError>
+/// Returns, for each entry, the bodies that contain it and that an entry opens.
+pub fn homes(
+    alloc: Global,
+    code: &CodeTables,
+    openings: &NumberedLists<BodyOpening>,
+) -> Result<NumberedLists<u32>, AllocError>
     requires bodies { length code.now.bodies < 2 ^ 32 }
     requires openings { AreOpenings code.now openings.now }
     ensures { IfOk result (λ homes. AreHomes code.now homes) }
 {
-    let mut homes = Rows::new(alloc, code.entry_count())?;
+    let mut homes = NumberedLists::new(alloc, code.entry_count())?;
     for number in 0..code.body_count() {
         note_entries(&mut homes, code, openings, number as u32)?;
     }

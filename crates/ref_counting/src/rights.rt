@@ -1,4 +1,4 @@
-//! Rights: what each entry may read and write.
+//! Rights: propagation of names from bodies to the entries that open them.
 ghost use Rattle.dataflow.specs.System.{Distinct, In};
 ghost use Rattle.ref_counting.specs.Rows.{row};
 ghost use Rattle.std.specs.Prelude.{List, ◌≡◌, ℕ, ◌<◌, ◌≤◌, ◌^◌, [], length, map, OnOk, IfOk};
@@ -13,25 +13,25 @@ ghost use Rattle.ref_counting.specs.Openings.{AreHomes, AreOpenings, way_of};
 ghost use Rattle.ref_counting.specs.Passing.{Sees};
 ghost use Rattle.ref_counting.specs.Rights.{Adds, AllLead, AllOpen, AllWithin, ByHomes, ByOpening, ByOpenings, AreRights, HasMarks, IsClosed, Opens, StepsOn};
 
-use crate::laid::Laid;
-use crate::lead::{Lead, put};
-use crate::makes::{Made, declarations};
-use crate::openings::{Opening, homes, openings};
-use crate::passing::outward;
-use crate::rows::Rows;
-use crate::uses::{Right, uses};
+use crate::call_names::outward;
+use crate::code_tables::CodeTables;
+use crate::declarations::{DeclaredIn, declarations};
+use crate::entry_name::{EntryName, add_name};
+use crate::numbered_lists::NumberedLists;
+use crate::openings::{BodyOpening, homes, openings};
+use crate::uses::{RightKind, uses};
 use indexmap::IndexSet;
 use std::alloc::{AllocError, Global};
 use task_code::entry::Name;
 
-/// Passes a name of a body on to an entry that opens it.
+/// Adds the translation of a name of a body to an entry that opens it.
 fn pass_to(
-    code: &Laid,
-    made: &IndexSet<Made>,
-    opening: Opening,
+    code: &CodeTables,
+    made: &IndexSet<DeclaredIn>,
+    opening: BodyOpening,
     body: u32,
     name: Name,
-    leads: &mut IndexSet<Lead>,
+    leads: &mut IndexSet<EntryName>,
 ) -> Result<(), AllocError>
     requires made { AreMade code.now made.now.keys }
     requires body { body < length code.now.bodies }
@@ -40,19 +40,19 @@ fn pass_to(
     ensures { OnOk result (Adds (ByOpening code.now body (name_view name) opening) leads.old.keys leads.new.keys) }
 {
     if let Some(outer) = outward(code, made, opening, body, name) {
-        put(leads, opening.entry, outer)?;
+        add_name(leads, opening.entry, outer)?;
     }
     Ok(())
 }
 
-/// Passes a name of a body on to each entry that opens it.
+/// Adds the translation of a name of a body to each entry that opens it.
 fn pass_body(
-    code: &Laid,
-    made: &IndexSet<Made>,
-    found: &[Opening],
+    code: &CodeTables,
+    made: &IndexSet<DeclaredIn>,
+    found: &[BodyOpening],
     body: u32,
     name: Name,
-    leads: &mut IndexSet<Lead>,
+    leads: &mut IndexSet<EntryName>,
 ) -> Result<(), AllocError>
     requires made { AreMade code.now made.now.keys }
     requires body { body < length code.now.bodies }
@@ -66,16 +66,16 @@ fn pass_body(
     Ok(())
 }
 
-/// What is looked up while names are passed on.
+/// Lookup tables for the propagation: containing bodies, openings and declarations.
 #[derive(Drop)]
 struct RightsIndex {
-    homes: Rows<u32>,
-    openings: Rows<Opening>,
-    made: IndexSet<Made>,
+    homes: NumberedLists<u32>,
+    openings: NumberedLists<BodyOpening>,
+    made: IndexSet<DeclaredIn>,
 }
 
 impl RightsIndex {
-    fn new(alloc: Global, code: &Laid) -> Result<RightsIndex, AllocError>
+    fn new(alloc: Global, code: &CodeTables) -> Result<RightsIndex, AllocError>
         requires entries { length code.now.entries < 2 ^ 32 }
         requires bodies { length code.now.bodies < 2 ^ 32 }
         ensures homes { IfOk result (λ index. AreHomes code.now index.homes) }
@@ -93,12 +93,12 @@ impl RightsIndex {
     }
 }
 
-/// Passes a lead on to each entry that opens a body in which its entry stands.
+/// Propagates the name of an entry to each entry that opens a body with that entry.
 fn pass_on(
-    code: &Laid,
+    code: &CodeTables,
     index: &RightsIndex,
-    lead: Lead,
-    leads: &mut IndexSet<Lead>,
+    lead: EntryName,
+    leads: &mut IndexSet<EntryName>,
 ) -> Result<(), AllocError>
     requires homes { AreHomes code.now index.now.homes }
     requires openings { AreOpenings code.now index.now.openings }
@@ -113,12 +113,12 @@ fn pass_on(
     Ok(())
 }
 
-/// Passes the lead of a number on.
+/// Propagates the pair at index `next`.
 fn pass_next(
-    code: &Laid,
+    code: &CodeTables,
     index: &RightsIndex,
     next: usize,
-    leads: &mut IndexSet<Lead>,
+    leads: &mut IndexSet<EntryName>,
 ) -> Result<(), AllocError>
     requires homes { AreHomes code.now index.now.homes }
     requires openings { AreOpenings code.now index.now.openings }
@@ -137,8 +137,12 @@ fn pass_next(
     }
 }
 
-/// Passes all leads on, until nothing new is found.
-fn pass_all(code: &Laid, index: &RightsIndex, leads: &mut IndexSet<Lead>) -> Result<(), AllocError>
+/// Propagates all pairs, until no new one is found. New pairs are appended and serve as the worklist.
+fn pass_all(
+    code: &CodeTables,
+    index: &RightsIndex,
+    leads: &mut IndexSet<EntryName>,
+) -> Result<(), AllocError>
     requires homes { AreHomes code.now index.now.homes }
     requires openings { AreOpenings code.now index.now.openings }
     requires made { AreMade code.now index.now.made.keys }
@@ -159,13 +163,13 @@ fn pass_all(code: &Laid, index: &RightsIndex, leads: &mut IndexSet<Lead>) -> Res
     Ok(())
 }
 
-/// The names that each entry of a code may read, or may write, as leads.
+/// Returns the names that each entry of the code may read or may write, each paired with its entry.
 fn names_led_to(
     alloc: Global,
-    code: &Laid,
+    code: &CodeTables,
     index: &RightsIndex,
-    right: Right,
-) -> Result<IndexSet<Lead>, AllocError>
+    right: RightKind,
+) -> Result<IndexSet<EntryName>, AllocError>
     requires entries { length code.now.entries < 2 ^ 32 }
     requires homes { AreHomes code.now index.now.homes }
     requires openings { AreOpenings code.now index.now.openings }
@@ -178,20 +182,23 @@ fn names_led_to(
     Ok(leads)
 }
 
-/// The names that entries may read, and those that they may write, each with its entry.
+/// The names that entries may read, and those that they may write, each paired with its entry.
 #[derive(Drop)]
 pub struct Grants {
-    pub reads: IndexSet<Lead>,
-    pub writes: IndexSet<Lead>,
+    pub reads: IndexSet<EntryName>,
+    pub writes: IndexSet<EntryName>,
 }
 
-/// The names that each entry of a code has rights of: those that it uses itself, and those that the entries of the bodies
-/// that it opens lead to, through any number of bodies and through functions that call themselves.
+/// Computes the rights of each entry of the code.
+///
+/// These are the names that the entry uses itself, and the names that entries of the bodies it opens lead to. The
+/// latter are found through any number of bodies and through recursive functions.
+///
 ///
 /// # Errors
 ///
-/// `AllocError` where memory that was asked for was refused.
-pub fn rights(alloc: Global, code: &Laid) -> Result<Grants, AllocError>
+/// Returns `AllocError` if an allocation fails.
+pub fn rights(alloc: Global, code: &CodeTables) -> Result<Grants, AllocError>
     requires entries { length code.now.entries < 2 ^ 32 }
     requires bodies { length code.now.bodies < 2 ^ 32 }
     requires marks { HasMarks code.now }
@@ -199,7 +206,7 @@ pub fn rights(alloc: Global, code: &Laid) -> Result<Grants, AllocError>
     ensures writes { IfOk result (λ found. AreRights code.now targets found.writes.keys) }
 {
     let index = RightsIndex::new(alloc, code)?;
-    let reads = names_led_to(alloc, code, &index, Right::Read)?;
-    let writes = names_led_to(alloc, code, &index, Right::Write)?;
+    let reads = names_led_to(alloc, code, &index, RightKind::Read)?;
+    let writes = names_led_to(alloc, code, &index, RightKind::Write)?;
     Ok(Grants { reads, writes })
 }

@@ -1,4 +1,4 @@
-//! What entries read and write themselves.
+//! Direct uses: the names that entries themselves read and write.
 ghost use Rattle.std.specs.Prelude.{◌≡◌, ℕ, ◌<◌, ◌^◌, [], ◌∷◌, List, length, map, OnOk, IfOk};
 ghost use Rattle.std.specs.List.{flat_map};
 ghost use Rattle.dataflow.specs.System.{In};
@@ -9,21 +9,25 @@ ghost use Rattle.task_code.specs.View.{entry_view, name_view, need_view};
 ghost use Rattle.ref_counting.specs.Rights.{Adds};
 ghost use Rattle.ref_counting.specs.Uses.{OfThis, UsesBelow, own_of};
 
-use crate::laid::Laid;
-use crate::lead::{Lead, put};
+use crate::code_tables::CodeTables;
+use crate::entry_name::{EntryName, add_name};
 use indexmap::IndexSet;
 use std::alloc::{AllocError, Global};
 use task_code::entry::{Act, Entry, Name, Need, Owned, Variable};
 
-/// What rights are of.
+/// The kind of a right.
 #[derive(Clone, Copy, PartialEq, Eq, Debug, Drop)]
-pub enum Right {
+pub enum RightKind {
     Read,
     Write,
 }
 
-/// Notes names of an entry.
-fn note_all(names: &Vec<Name>, number: u32, leads: &mut IndexSet<Lead>) -> Result<(), AllocError>
+/// Adds names of an entry.
+fn note_all(
+    names: &Vec<Name>,
+    number: u32,
+    leads: &mut IndexSet<EntryName>,
+) -> Result<(), AllocError>
     ensures { OnOk result (Adds (OfThis number (map name_view names.now.items)) leads.old.keys leads.new.keys) }
 {
     for name in names {
@@ -32,16 +36,16 @@ fn note_all(names: &Vec<Name>, number: u32, leads: &mut IndexSet<Lead>) -> Resul
     Ok(())
 }
 
-/// Notes a name of an entry.
-fn note_one(name: Name, number: u32, leads: &mut IndexSet<Lead>) -> Result<(), AllocError>
+/// Adds a name of an entry.
+fn note_one(name: Name, number: u32, leads: &mut IndexSet<EntryName>) -> Result<(), AllocError>
     ensures { OnOk result (Adds (OfThis number (name_view name ∷ [])) leads.old.keys leads.new.keys) }
 {
-    put(leads, number, name)?;
+    add_name(leads, number, name)?;
     Ok(())
 }
 
-/// Notes the names of a need.
-fn note_need(need: &Need, number: u32, leads: &mut IndexSet<Lead>) -> Result<(), AllocError>
+/// Adds the names of a need.
+fn note_need(need: &Need, number: u32, leads: &mut IndexSet<EntryName>) -> Result<(), AllocError>
     ensures { OnOk result (Adds (OfThis number (needed (need_view need.now))) leads.old.keys leads.new.keys) }
 {
     match need {
@@ -52,12 +56,12 @@ fn note_need(need: &Need, number: u32, leads: &mut IndexSet<Lead>) -> Result<(),
     }
 }
 
-/// Notes two names of an entry.
+/// Adds two names of an entry.
 fn note_two(
     first: Name,
     second: Name,
     number: u32,
-    leads: &mut IndexSet<Lead>,
+    leads: &mut IndexSet<EntryName>,
 ) -> Result<(), AllocError>
     ensures { OnOk result (Adds (OfThis number (name_view first ∷ name_view second ∷ [])) leads.old.keys leads.new.keys) }
 {
@@ -66,8 +70,12 @@ fn note_two(
     Ok(())
 }
 
-/// Notes what an entry needs.
-fn note_needs(needs: &Vec<Need>, number: u32, leads: &mut IndexSet<Lead>) -> Result<(), AllocError>
+/// Adds the names of the needs of an entry.
+fn note_needs(
+    needs: &Vec<Need>,
+    number: u32,
+    leads: &mut IndexSet<EntryName>,
+) -> Result<(), AllocError>
     ensures { OnOk result (Adds (OfThis number (flat_map needed (map need_view needs.now.items))) leads.old.keys leads.new.keys) }
 {
     for need in needs {
@@ -76,8 +84,12 @@ fn note_needs(needs: &Vec<Need>, number: u32, leads: &mut IndexSet<Lead>) -> Res
     Ok(())
 }
 
-/// Notes the targets of an entry.
-fn note_targets(found: &Entry, number: u32, leads: &mut IndexSet<Lead>) -> Result<(), AllocError>
+/// Adds the targets of an entry. The outputs of a call are targets.
+fn note_targets(
+    found: &Entry,
+    number: u32,
+    leads: &mut IndexSet<EntryName>,
+) -> Result<(), AllocError>
     ensures { OnOk result (Adds (OfThis number (targets (entry_view found.now))) leads.old.keys leads.new.keys) }
 {
     match &found.act {
@@ -91,7 +103,7 @@ fn note_targets(found: &Entry, number: u32, leads: &mut IndexSet<Lead>) -> Resul
     }
 }
 
-/// The scalar of a node, seen from its own block.
+/// Returns the name of the scalar of this node, as seen from its own block.
 fn own_name(node: u32) -> Name
     ensures { name_view result ≡ pure.here (pure.scalar node) }
 {
@@ -102,12 +114,12 @@ fn own_name(node: u32) -> Name
     }
 }
 
-/// Notes what the entry of a number uses itself.
+/// Adds the names that the entry of this number itself reads or writes.
 fn note_entry(
-    code: &Laid,
-    right: Right,
+    code: &CodeTables,
+    right: RightKind,
     number: u32,
-    leads: &mut IndexSet<Lead>,
+    leads: &mut IndexSet<EntryName>,
 ) -> Result<(), AllocError>
     requires { number < length code.now.entries }
     ensures { OnOk result (Adds (OfThis number (own_of right (entry code.now number))) leads.old.keys leads.new.keys) }
@@ -115,14 +127,18 @@ fn note_entry(
     match code.entry(number) {
         None => Ok(()),
         Some(found) => match right {
-            Right::Read => note_needs(&found.needs, number, leads),
-            Right::Write => note_targets(found, number, leads),
+            RightKind::Read => note_needs(&found.needs, number, leads),
+            RightKind::Write => note_targets(found, number, leads),
         },
     }
 }
 
-/// What entries use themselves.
-pub fn uses(alloc: Global, code: &Laid, right: Right) -> Result<IndexSet<Lead>, AllocError>
+/// Returns the names that entries themselves read or write, each paired with its entry.
+pub fn uses(
+    alloc: Global,
+    code: &CodeTables,
+    right: RightKind,
+) -> Result<IndexSet<EntryName>, AllocError>
     requires { length code.now.entries < 2 ^ 32 }
     ensures { IfOk result (λ leads. Adds (UsesBelow code.now (own_of right) (length code.now.entries)) [] leads.keys) }
 {

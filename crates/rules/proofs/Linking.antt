@@ -3,20 +3,20 @@ use Rattle.std.proofs.Common.{arith, ◌≡◌, ◌≢◌, inl, inr, ℕ, ◌+�
 use Rattle.std.proofs.lemmas.Bool.{cases_eq, cases_lt}
 use Rattle.std.proofs.lemmas.List.{get_or-set_same, get_or-set_other, get_or_append_left, length-set, length-append}
 use Rattle.std.proofs.Math.Seq.{get_or-append_seam}
-use Rattle.rules.specs.declared.places.Note.{Note}
+use Rattle.rules.specs.declared.subscribers.SlotNote.{SlotNote}
 use Rattle.rules.specs.Places.{blank, no_slot, note_at, IsAt, IsLast, IsLinked}
 
 -- one more
-longer : (notes : List Note) (x : Note) → length (notes ++ x ∷ []) ≡ length notes + 1
+longer : (notes : List SlotNote) (x : SlotNote) → length (notes ++ x ∷ []) ≡ length notes + 1
 longer notes x = length-append notes (x ∷ [])
 
-note_before : (notes : List Note) (x : Note) (i : ℕ) → i < length notes → note_at (notes ++ x ∷ []) i ≡ note_at notes i
+note_before : (notes : List SlotNote) (x : SlotNote) (i : ℕ) → i < length notes → note_at (notes ++ x ∷ []) i ≡ note_at notes i
 note_before notes x i below = get_or_append_left notes (x ∷ []) blank i below
 
-note_last : (notes : List Note) (x : Note) → note_at (notes ++ x ∷ []) (length notes) ≡ x
+note_last : (notes : List SlotNote) (x : SlotNote) → note_at (notes ++ x ∷ []) (length notes) ≡ x
 note_last notes x = get_or-append_seam notes x [] blank
 
-pub at_before : (notes : List Note) (x : Note) (a k : ℕ) → IsAt notes a k → IsAt (notes ++ x ∷ []) a k
+pub at_before : (notes : List SlotNote) (x : SlotNote) (a k : ℕ) → IsAt notes a k → IsAt (notes ++ x ∷ []) a k
 at_before notes x a k here = record {
   number = here.number;
   below = omega (arith, longer notes x, here.below);
@@ -25,7 +25,7 @@ at_before notes x a k here = record {
   real = here.real;
 }
 
-pub at_last : (notes : List Note) (x : Note) → x.slot ≢ no_slot → IsAt (notes ++ x ∷ []) x.address x.slot
+pub at_last : (notes : List SlotNote) (x : SlotNote) → x.slot ≢ no_slot → IsAt (notes ++ x ∷ []) x.address x.slot
 at_last notes x real = record {
   number = length notes;
   below = omega (arith, longer notes x);
@@ -34,14 +34,14 @@ at_last notes x real = record {
   real = real;
 }
 
-last_before : (n : ℕ) (notes : List Note) (x : Note) (b c end : ℕ) → end ≤ length notes → IsLast n notes b c end → IsLast n (notes ++ x ∷ []) b c end
+last_before : (n : ℕ) (notes : List SlotNote) (x : SlotNote) (b c end : ℕ) → end ≤ length notes → IsLast n notes b c end → IsLast n (notes ++ x ∷ []) b c end
 last_before n notes x b c end fits l = record {
   within = l.within;
   last = λ p. ap (λ m. m.address % n) (note_before notes x (c - 1) (omega (arith, p, fits, l.within))) ∙ l.last p;
   others = λ j from to real e. l.others j from to (λ q. real (ap (λ m. m.slot) (note_before notes x j (omega (arith, to, fits))) ∙ q)) (sym (ap (λ m. m.address % n) (note_before notes x j (omega (arith, to, fits)))) ∙ e);
 }
 
-module _ (heads : List ℕ) (notes : List Note) (b : ℕ) (x : Note) (below : b < length heads) (here : x.address % length heads ≡ b) (was : x.earlier ≡ get_or heads b 0) (old : IsLinked heads notes) where
+module _ (heads : List ℕ) (notes : List SlotNote) (b : ℕ) (x : SlotNote) (below : b < length heads) (here : x.address % length heads ≡ b) (was : x.earlier ≡ get_or heads b 0) (old : IsLinked heads notes) where
   top_here : IsLast (length heads) (notes ++ x ∷ []) b (length notes + 1) (length (notes ++ x ∷ []))
   top_here = record {
     within = omega (arith, longer notes x);

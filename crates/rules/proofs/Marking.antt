@@ -6,8 +6,8 @@ use Rattle.std.proofs.lemmas.Bool.{cases_eq, cases_lt, cases_Bool, or_cases, and
 use Rattle.std.proofs.lemmas.List.{get_or-set_same, get_or-set_other, length-set, get_or-replicate, get_or_past, length-replicate}
 use Rattle.rules.specs.declared.input.Input.{Input}
 use Rattle.rules.specs.declared.input.Input.TheVariants.{Whole, Element}
-use Rattle.rules.specs.declared.many.Index.{Index}
-use Rattle.rules.specs.declared.places.Note.{Note}
+use Rattle.rules.specs.declared.many_inputs.InputIndex.{InputIndex}
+use Rattle.rules.specs.declared.subscribers.SlotNote.{SlotNote}
 use Rattle.rules.specs.Inputs.{covers}
 use Rattle.rules.specs.Places.{Noted, Grows, IsAt, is_at}
 use Rattle.rules.specs.Many.{input_at, is_known, left_of, left_in, known_in, knows, AreNoted, IsFresh, IsIndexed, Marks}
@@ -81,7 +81,7 @@ any_left p (i ∷ rest) known h =
     ]
 
 -- the same where there may be no index
-pub any_left_in : (p : Input → Bool) (is : List Input) (index : Option Index) → list_any p (left_in is index) ≡ true → IsSomewhere p is (known_in index)
+pub any_left_in : (p : Input → Bool) (is : List Input) (index : Option InputIndex) → list_any p (left_in is index) ≡ true → IsSomewhere p is (known_in index)
 any_left_in p is None h = any_left p is (λ k. false) (subst (λ js. list_any p js ≡ true) (sym (left_all is (λ k. false) (λ k. refl))) h)
 any_left_in p is (Some index) h = any_left p is (is_known index) h
 
@@ -93,10 +93,10 @@ none_true n k =
     ]
 
 -- with a new index all are left
-pub fresh_left : (is : List Input) (index : Index) → IsFresh is index → left_of is (is_known index) ≡ is
+pub fresh_left : (is : List Input) (index : InputIndex) → IsFresh is index → left_of is (is_known index) ≡ is
 fresh_left is index new = left_all is (is_known index) (λ k. rw new.known (none_true (length is) k))
 
-pub fresh_indexed : (is : List Input) (index : Index) → IsFresh is index → IsIndexed is index
+pub fresh_indexed : (is : List Input) (index : InputIndex) → IsFresh is index → IsIndexed is index
 fresh_indexed is index new = record {
   size = ap length new.known ∙ length-replicate (length is) false;
   left = new.left ∙ sym (ap length (fresh_left is index new));
@@ -105,18 +105,18 @@ fresh_indexed is index new = record {
 }
 
 -- of a list whose index is new, if it has one, all are left
-pub of_list : (is : List Input) (index : Option Index) → IfSome index (IsFresh is) → left_in is index ≡ is
+pub of_list : (is : List Input) (index : Option InputIndex) → IfSome index (IsFresh is) → left_in is index ≡ is
 of_list is None new = refl
 of_list is (Some index) new = fresh_left is index new
 
-pub of_indexed : (is : List Input) (index : Option Index) → IfSome index (IsFresh is) → IfSome index (IsIndexed is)
+pub of_indexed : (is : List Input) (index : Option InputIndex) → IfSome index (IsFresh is) → IfSome index (IsIndexed is)
 of_indexed is None new = tt
 of_indexed is (Some index) new = fresh_indexed is index new
 
-pub marks_none : (i : Input) (is : List Input) (index : Index) → index.left ≡ length (left_of is (is_known index)) → Marks i is index index
+pub marks_none : (i : Input) (is : List Input) (index : InputIndex) → index.left ≡ length (left_of is (is_known index)) → Marks i is index index
 marks_none i is index left = record { places = refl; size = refl; left = left; kept = λ k h. h; only = λ k h. inl h }
 
-pub marks_on : (i : Input) (is : List Input) (a b c : Index) → Marks i is a b → Marks i is b c → Marks i is a c
+pub marks_on : (i : Input) (is : List Input) (a b c : InputIndex) → Marks i is a b → Marks i is b c → Marks i is a c
 marks_on i is a b c g h = record {
   places = h.places ∙ g.places;
   size = h.size ∙ g.size;
@@ -168,14 +168,14 @@ slot_noted is known old new at slot g was now k below left a h =
     ]
 
 -- where it is noted for all places, it is noted for all inputs that are left
-pub left_noted : (is : List Input) (index : Option Index) (notes : List Note) (end slot : ℕ) → length is ≤ end
+pub left_noted : (is : List Input) (index : Option InputIndex) (notes : List SlotNote) (end slot : ℕ) → length is ≤ end
     → ((k : ℕ) → k < end → known_in index k ≡ false → (a : ℕ) → is_at a (input_at is k) ≡ true → IsAt notes a slot)
     → (a : ℕ) → list_any (is_at a) (left_in is index) ≡ true → IsAt notes a slot
 left_noted is index notes end slot fits all a h =
     let s = any_left_in (is_at a) is index h in all s.at (omega (arith, s.below, fits)) s.left a s.passes
 
 -- one more is marked
-pub one_marked : (i : Input) (is : List Input) (old new : Index) (at : ℕ) → at < length is → is_known old at ≡ false → covers i (input_at is at) ≡ true
+pub one_marked : (i : Input) (is : List Input) (old new : InputIndex) (at : ℕ) → at < length is → is_known old at ≡ false → covers i (input_at is at) ≡ true
     → length old.known.items ≡ length is → old.left ≡ length (left_of is (is_known old))
     → new.places ≡ old.places → new.left ≡ old.left - 1 → new.known.items ≡ set old.known.items at true → Marks i is old new
 one_marked i is old new at below was hit size left same fewer now =
@@ -196,7 +196,7 @@ one_marked i is old new at below was hit size left same fewer now =
     }
 
 -- an index that has learnt all that an input covers
-pub learnt_indexed : (i : Input) (is : List Input) (old marked new : Index) → IsIndexed is old → Marks i is old marked
+pub learnt_indexed : (i : Input) (is : List Input) (old marked new : InputIndex) → IsIndexed is old → Marks i is old marked
     → ((k : ℕ) → k < length is → covers i (input_at is k) ≡ true → is_known marked k ≡ true) → new ≡ record marked { last = Some i } → IsIndexed is new
 learnt_indexed i is old marked new before marks all same = rw same (record {
   size = marks.size ∙ before.size;
@@ -206,7 +206,7 @@ learnt_indexed i is old marked new before marks all same = rw same (record {
 })
 
 -- where all that an input covers are known, it takes nothing out
-pub none_marked : (i : Input) (is : List Input) (index : Index) → IsIndexed is index → knows index.last i ≡ true
+pub none_marked : (i : Input) (is : List Input) (index : InputIndex) → IsIndexed is index → knows index.last i ≡ true
     → left_of is (is_known index) ≡ filter (λ j. not (covers i j)) (left_of is (is_known index))
 none_marked i is index indexed h =
     left_marked (covers i) is (is_known index) (is_known index) (λ k e. e) (λ k e. inl e)

@@ -7,7 +7,7 @@ use Rattle.std.proofs.lemmas.List.Folds.{list_any_more}
 use Rattle.std.proofs.lemmas.List.Sums.{sum_by-cons}
 use Rattle.rules.specs.declared.input.Input.{Input}
 use Rattle.rules.specs.declared.input.Input.TheVariants.{Whole, Element}
-use Rattle.rules.specs.declared.places.Note.{Note}
+use Rattle.rules.specs.declared.subscribers.SlotNote.{SlotNote}
 use Rattle.rules.specs.Inputs.{covers}
 use Rattle.rules.specs.Waiting.{Waiting, is_ready, with_known}
 use Rattle.rules.specs.Slots.{after_slot, unless_item, is_idle, AllBusy, IsSettled, Shrinks}
@@ -30,7 +30,7 @@ pub grows_none : (a : Noted) → Grows a a
 grows_none a = record { notes = λ n k p. p; strays = λ k p. p; place = refl }
 
 -- who is noted at both addresses of an input is noted wherever those are that miss it
-pub input_noted : (i : Input) (notes : List Note) (k : ℕ) → IsAt notes (address i) k → IsAt notes (datum i) k → (a : ℕ) → is_at a i ≡ true → IsAt notes a k
+pub input_noted : (i : Input) (notes : List SlotNote) (k : ℕ) → IsAt notes (address i) k → IsAt notes (datum i) k → (a : ℕ) → is_at a i ≡ true → IsAt notes a k
 input_noted i notes k first second a h =
     elim (or_cases (address i == a) (datum i == a) h) [
       | inl e ↦ subst (λ m. IsAt notes m k) (nat_sound (address i) a e) first

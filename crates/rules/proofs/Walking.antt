@@ -1,13 +1,13 @@
 -- A walk along a list, which takes notes out of it.
 use Rattle.std.proofs.Common.{arith, ◌≡◌, ◌≢◌, ◌⊎◌, inl, inr, ℕ, ◌-◌, ◌<◌, ◌%◌, false, List, length, get_or, Option, None, sym, ap, subst, ◌∙◌, Contains}
 use Rattle.std.proofs.lemmas.Bool.{cases_eq, cases_lt}
-use Rattle.rules.specs.declared.places.Note.{Note}
+use Rattle.rules.specs.declared.subscribers.SlotNote.{SlotNote}
 use Rattle.rules.specs.Waiting.{Waiting}
 use Rattle.rules.specs.Places.{Noted, IsAllBut, IsNoted, IsAt, IsLast, no_slot, note_at, slot_needs}
 use Rattle.rules.proofs.Noting.{true_false}
 
 -- the slot is noted at the address, with a number below `end`
-pub record IsBelow (end : ℕ) (notes : List Note) (a k : ℕ) : Type 0 where
+pub record IsBelow (end : ℕ) (notes : List SlotNote) (a k : ℕ) : Type 0 where
   pub number : ℕ
   pub below : number < end
   pub address : (note_at notes number).address ≡ a
@@ -15,7 +15,7 @@ pub record IsBelow (end : ℕ) (notes : List Note) (a k : ℕ) : Type 0 where
   pub real : k ≢ no_slot
 
 -- behind the last note of a list no slot is noted at its address
-pub walk_start : (n : ℕ) (notes : List Note) (a next k : ℕ) → IsLast n notes (a % n) next (length notes) → IsAt notes a k → IsBelow next notes a k
+pub walk_start : (n : ℕ) (notes : List SlotNote) (a next k : ℕ) → IsLast n notes (a % n) next (length notes) → IsAt notes a k → IsBelow next notes a k
 walk_start n notes a next k last at =
     elim (cases_lt at.number next) as (λ _. IsBelow next notes a k) [
       | inl below ↦ record { number = at.number; below = below; address = at.address; slot = at.slot; real = at.real }
@@ -23,7 +23,7 @@ walk_start n notes a next k last at =
     ]
 
 -- what is noted below a note is noted by this one, or below the note that it leads to
-pub walk_step : (old new : Noted) (a next k : ℕ) (x : Note) → x ≡ note_at old.notes (next - 1) → 0 < next → (note_at old.notes (next - 1)).address % old.lists ≡ a % old.lists
+pub walk_step : (old new : Noted) (a next k : ℕ) (x : SlotNote) → x ≡ note_at old.notes (next - 1) → 0 < next → (note_at old.notes (next - 1)).address % old.lists ≡ a % old.lists
     → IsLast old.lists old.notes (x.address % old.lists) x.earlier (next - 1) → IsAllBut old new (next - 1)
     → IsBelow next old.notes a k → ((x.address ≡ a) × (k ≡ x.slot)) ⊎ IsBelow x.earlier new.notes a k
 walk_step old new a next k x same positive last link all b =
@@ -44,7 +44,7 @@ walk_step old new a next k x same positive last link all b =
     ]
 
 -- the note that it leads to is of the same list
-pub walk_last : (old new : Noted) (a next : ℕ) (x : Note) → x ≡ note_at old.notes (next - 1) → (note_at old.notes (next - 1)).address % old.lists ≡ a % old.lists
+pub walk_last : (old new : Noted) (a next : ℕ) (x : SlotNote) → x ≡ note_at old.notes (next - 1) → (note_at old.notes (next - 1)).address % old.lists ≡ a % old.lists
     → IsLast old.lists old.notes (x.address % old.lists) x.earlier (next - 1) → IsAllBut old new (next - 1)
     → 0 < x.earlier → (note_at new.notes (x.earlier - 1)).address % new.lists ≡ a % new.lists
 walk_last old new a next x same last link all positive =

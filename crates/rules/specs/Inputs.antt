@@ -1,9 +1,10 @@
--- What becomes known with an input.
+-- Which inputs become known with an input.
 use Rattle.std.specs.Prelude.{Bool, false, ◌==◌, ◌&&◌}
 use Rattle.rules.specs.declared.input.Input.{Input}
 use Rattle.rules.specs.declared.input.Input.TheVariants.{Whole, Element}
 
--- once i is known, so is j: they are the same, or i is a closed array and j one of its elements; elements are told by their marks
+-- j is known once i is: they are equal, or i is a closed array and j one of its elements. Elements are distinguished by
+-- their marks.
 abbrev pub covers : Input → Input → Bool
 covers (Whole a) (Whole b) = a == b
 covers (Whole a) (Element b k) = a == b

@@ -1,9 +1,9 @@
--- Where the items that wait for an input are found.
+-- The index of waiting items by input.
 use Rattle.std.specs.Prelude.{◌≡◌, ◌≢◌, ◌⊎◌, ℕ, ◌+◌, ◌-◌, ◌*◌, ◌<◌, ◌≤◌, ◌%◌, ◌^◌, ◌==◌, ◌||◌, Bool, true, false, List, length, Option, Some, None, slice_index_or, Contains}
 use Rattle.std.specs.List.{list_any}
 use Rattle.rules.specs.declared.input.Input.{Input}
 use Rattle.rules.specs.declared.input.Input.TheVariants.{Whole, Element}
-use Rattle.rules.specs.declared.places.Note.{Note}
+use Rattle.rules.specs.declared.subscribers.SlotNote.{SlotNote}
 use Rattle.slab.specs.Slab.{Slab, slab_len}
 use Rattle.rules.specs.Slots.{AllBusy}
 use Rattle.rules.specs.Waiting.{Waiting}
@@ -13,12 +13,12 @@ abbrev pub datum : Input → ℕ
 datum (Whole d) = d % 2 ^ 32
 datum (Element d k) = d % 2 ^ 32
 
--- the number under which those that wait for an input are noted
+-- the address at which items that wait for the input are noted
 abbrev pub address : Input → ℕ
 address (Whole d) = d % 2 ^ 32
 address (Element d k) = (d * 11400714819323198485 % 2 ^ 64 + k) % 2 ^ 64 % 2 ^ 32
 
--- who misses the input is noted at this address
+-- an item that misses the input is noted at this address
 abbrev pub is_at : ℕ → Input → Bool
 is_at a i = (address i == a) || (datum i == a)
 
@@ -31,52 +31,52 @@ abbrev pub slot_needs : ℕ → Option Waiting → Bool
 slot_needs a None = false
 slot_needs a (Some w) = needs a w
 
--- a note of nothing
-abbrev pub blank : Note
+-- an empty note
+abbrev pub blank : SlotNote
 blank = record { address = 0; slot = 0; earlier = 0 }
 
--- the note of this number
-abbrev pub note_at : List Note → ℕ → Note
+-- the note with this number
+abbrev pub note_at : List SlotNote → ℕ → SlotNote
 note_at notes i = slice_index_or notes i blank
 
--- the slot of a note that is in no list any more
+-- the slot of a note that was unlinked from its list
 abbrev pub no_slot : ℕ
 no_slot = 4294967295
 
 -- the slot is noted at the address
-pub record IsAt (notes : List Note) (a k : ℕ) : Type 0 where
+pub record IsAt (notes : List SlotNote) (a k : ℕ) : Type 0 where
   pub number : ℕ
   pub below : number < length notes
   pub address : (note_at notes number).address ≡ a
   pub slot : (note_at notes number).slot ≡ k
   pub real : k ≢ no_slot
 
--- of n lists, the notes of a slot in list b with numbers below `end` are below c, and right below it is a note of the list
-pub record IsLast (n : ℕ) (notes : List Note) (b c end : ℕ) : Type 0 where
+-- Of n lists, and below `end`: all notes of a slot in list b are below c. Note c - 1, if any, is in the list.
+pub record IsLast (n : ℕ) (notes : List SlotNote) (b c end : ℕ) : Type 0 where
   pub within : c ≤ end
   pub last : 0 < c → (note_at notes (c - 1)).address % n ≡ b
   pub others : (j : ℕ) → c ≤ j → j < end → (note_at notes j).slot ≢ no_slot → (note_at notes j).address % n ≢ b
 
--- each list is found from its head, and on from each note
-pub record IsLinked (heads : List ℕ) (notes : List Note) : Type 0 where
+-- each list is reachable from its head, and from each note on
+pub record IsLinked (heads : List ℕ) (notes : List SlotNote) : Type 0 where
   pub tops : (b : ℕ) → b < length heads → IsLast (length heads) notes b (slice_index_or heads b 0) (length notes)
   pub links : (i : ℕ) → i < length notes → IsLast (length heads) notes ((note_at notes i).address % length heads) (note_at notes i).earlier i
   pub none : length heads ≡ 0 → length notes ≡ 0
 
--- what is noted in so many lists, the slots that are to be looked at for each input, and for how many of them there is place
+-- the notes in this number of lists, the slots that are visited for each input, and the maximum number of those
 pub record Noted : Type 0 where
   pub lists : ℕ
-  pub notes : List Note
+  pub notes : List SlotNote
   pub strays : List ℕ
   pub place : ℕ
 
--- as much is noted, and there is place for as much
+-- no slot is noted less than before, and the maximum number of strays is the same
 pub record Grows (old new : Noted) : Type 0 where
   pub notes : (a k : ℕ) → IsAt old.notes a k → IsAt new.notes a k
   pub strays : (k : ℕ) → Contains old.strays k → Contains new.strays k
   pub place : new.place ≡ old.place
 
--- each note but that of this number notes the slot that it did
+-- each note but the one with this number has the slot that it had
 pub record IsAllBut (old new : Noted) (number : ℕ) : Type 0 where
   pub lists : new.lists ≡ old.lists
   pub strays : new.strays ≡ old.strays
@@ -85,7 +85,7 @@ pub record IsAllBut (old new : Noted) (number : ℕ) : Type 0 where
   pub addresses : (j : ℕ) → (note_at new.notes j).address ≡ (note_at old.notes j).address
   pub slots : (j : ℕ) → j ≢ number → (note_at new.notes j).slot ≡ (note_at old.notes j).slot
 
--- what lies in the slot is noted wherever it is to be, or the slot is a stray
+-- the item in the slot is noted at all its addresses, or the slot is a stray
 abbrev pub IsFound : Noted → ℕ → Option Waiting → Type 0
 IsFound places k o = Contains places.strays k ⊎ ((a : ℕ) → slot_needs a o ≡ true → IsAt places.notes a k)
 
@@ -93,7 +93,8 @@ IsFound places k o = Contains places.strays k ⊎ ((a : ℕ) → slot_needs a o 
 abbrev pub IsNoted : Noted → List (Option Waiting) → Type 0
 IsNoted places slots = (k : ℕ) → IsFound places k (slice_index_or slots k None)
 
--- there are so many slots at least, and place for as many strays, and each item in them misses something and is found
+-- There are at least this number of slots, and capacity for as many strays. Each item in them misses some input and is
+-- found.
 pub record IsKept (waiters : Slab Waiting) (slots : ℕ) (places : Noted) : Type 0 where
   pub used : slab_len waiters ≤ slots
   pub has_place : slots ≤ waiters.capacity

@@ -1,29 +1,29 @@
--- The places of a slab in which items wait.
+-- The slots of a slab of waiting items.
 use Rattle.std.specs.Prelude.{◌≡◌, ◌⊎◌, ℕ, ◌==◌, Bool, false, if◌then◌else◌, List, [], ◌∷◌, ◌++◌, filter_map, Option, Some, None, slice_index_or, IsPermutation}
 use Rattle.rules.specs.declared.input.Input.{Input}
 use Rattle.rules.specs.Waiting.{Waiting, is_ready, with_known, after_known, still_waiting, woken}
 
--- what a slot holds once the input is known
+-- the contents of a slot after the input is known
 abbrev pub after_slot : Input → Option Waiting → Option Waiting
 after_slot i None = None
 after_slot i (Some w) = after_known i w
 
--- what a slot holds once the item is forgotten
+-- the contents of a slot after the item is forgotten
 abbrev pub unless_item : ℕ → Option Waiting → Option Waiting
 unless_item x None = None
 unless_item x (Some w) = if w.item == x then None else Some w
 
--- the item of a slot, if this was its last input
+-- the item of a slot, if this was its last missing input
 abbrev pub told : Input → Option Waiting → List ℕ
 told i None = []
 told i (Some w) = if is_ready (with_known i w) then w.item ∷ [] else []
 
--- an item lies in the slot that misses nothing
+-- the slot holds an item that misses nothing
 abbrev pub is_idle : Option Waiting → Bool
 is_idle None = false
 is_idle (Some w) = is_ready w
 
--- no item lies in a slot that misses nothing
+-- no slot holds an item that misses nothing
 abbrev pub AllBusy : List (Option Waiting) → Type 0
 AllBusy slots = (k : ℕ) → is_idle (slice_index_or slots k None) ≡ false
 
@@ -35,11 +35,11 @@ present slots = filter_map (λ slot. slot) slots
 abbrev pub IsSettled : (Option Waiting → Option Waiting) → List (Option Waiting) → ℕ → Type 0
 IsSettled f slots k = f (slice_index_or slots k None) ≡ slice_index_or slots k None
 
--- each slot is as it was, or was changed by f
+-- each slot is unchanged, or was changed by f
 abbrev pub Shrinks : (Option Waiting → Option Waiting) → List (Option Waiting) → List (Option Waiting) → Type 0
 Shrinks f old new = (k : ℕ) → (slice_index_or new k None ≡ slice_index_or old k None) ⊎ (slice_index_or new k None ≡ f (slice_index_or old k None))
 
--- some items have learnt of the input, and those whose last it was have been told to a list and are gone
+-- Some items have been updated for the input. Those whose last missing input it was are removed and appended to a list.
 pub record Learnt (i : Input) (old new : List (Option Waiting)) (list longer : List ℕ) : Type 0 where
   pub said : List ℕ
   pub is : longer ≡ list ++ said

@@ -1,17 +1,17 @@
-//! What an item waits for.
+//! Inputs: what an item can wait for.
 ghost use Rattle.std.specs.Prelude.{◌≡◌, ◌%◌, ◌^◌};
 ghost use Rattle.rules.specs.Inputs.{covers};
 ghost use Rattle.rules.specs.Places.{address, datum, is_at};
 
-// Lays the elements of one array far from those of another.
+// Multiplier (2^64 divided by the golden ratio) that hashes the elements of one array far from those of another.
 const SPREAD: u64 = 11_400_714_819_323_198_485;
 
-/// What can become known.
+/// An input of an item: something that can become known.
 #[derive(Debug, Drop)]
 pub enum Input {
     /// A datum as a whole: a scalar that is stored, or an array that is closed.
     Whole(u64),
-    /// An element of an array under a key of this mark.
+    /// An element of an array, under a key with this mark.
     Element(u64, u64),
 }
 
@@ -22,7 +22,7 @@ impl Default for Input {
 }
 
 impl Input {
-    /// Whether the other is known once this one is. An array that is closed makes each of its elements known.
+    /// Returns true if `other` is known once this input is known. A closed array makes each of its elements known.
     pub fn covers(&self, other: &Input) -> bool
         ensures { result ≡ covers self.now other.now }
     {
@@ -34,7 +34,7 @@ impl Input {
         }
     }
 
-    /// The same.
+    /// Returns a copy of the input.
     pub(crate) fn same(&self) -> Input
         ensures { result ≡ self.now }
     {
@@ -44,7 +44,8 @@ impl Input {
         }
     }
 
-    /// The number in whose list those that wait for it are noted. It has 32 bits: inputs may share it.
+    /// Returns the address at which items that wait for this input are noted. It has 32 bits, so inputs may share an
+    /// address.
     pub(crate) fn address(&self) -> u32
         ensures { result ≡ address self.now }
     {
@@ -54,7 +55,7 @@ impl Input {
         }
     }
 
-    /// The low 32 bits of the number of its datum.
+    /// Returns the low 32 bits of the number of the datum.
     pub(crate) fn datum(&self) -> u32
         ensures { result ≡ datum self.now }
     {
@@ -64,7 +65,8 @@ impl Input {
         }
     }
 
-    /// Whether those that wait for it are noted at this address.
+    /// Returns true if items that wait for this input are noted at this address. It is the address of the input or of
+    /// its datum.
     pub(crate) fn is_at(&self, address: u32) -> bool
         ensures { result ≡ is_at address self.now }
     {
@@ -72,7 +74,7 @@ impl Input {
     }
 }
 
-// The low 32 bits.
+// Returns the low 32 bits.
 fn low(n: u64) -> u32
     ensures { result ≡ n % 2 ^ 32 }
 {

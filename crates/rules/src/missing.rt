@@ -1,4 +1,4 @@
-//! What an item misses, in few words.
+//! The missing inputs of an item, in a compact representation.
 ghost use Rattle.std.specs.Prelude.{◌≡◌, ◌≢◌, ◌<◌, List, [], ◌∷◌, ◌==◌, not, length, filter};
 ghost use Rattle.rules.specs.declared.input.Input.{Input};
 ghost use Rattle.rules.specs.declared.input.Input.{Input as AnInput};
@@ -7,12 +7,12 @@ ghost use Rattle.rules.specs.Inputs.{covers};
 ghost use Rattle.rules.specs.Missing.{inputs_in, inputs_of};
 
 use crate::input::Input;
-use crate::many::Many;
+use crate::many_inputs::ManyInputs;
 use smallvec::SmallVec;
 use std::alloc::Global;
 
-/// The inputs that an item misses, in their order: one or two in as few words as that takes, a datum by its number and an element by
-/// those of its array and its mark, and more in a list.
+/// The missing inputs of an item, in order. One or two are stored inline, without a tag per input; more are stored in a
+/// list. A datum is its number, and an element is the number of its array and its mark.
 #[derive(Drop)]
 pub enum Missing {
     Nothing,
@@ -22,19 +22,19 @@ pub enum Missing {
     WholeAndElement(u64, u64, u64),
     ElementAndWhole(u64, u64, u64),
     TwoElements(u64, u64, u64, u64),
-    More(Many),
+    More(ManyInputs),
 }
 
-/// The inputs, by how many there are.
+/// The missing inputs, by their number.
 #[derive(Drop)]
-pub enum Listed<'a> {
+pub enum InputCount<'a> {
     Nothing,
     One(Input),
     Two(Input, Input),
-    More(&'a Many),
+    More(&'a ManyInputs),
 }
 
-/// One input.
+/// Creates the representation of one input.
 #[inline(always)]
 fn one(input: &Input) -> Missing
     ensures { inputs_in result ≡ input.now ∷ [] }
@@ -45,7 +45,7 @@ fn one(input: &Input) -> Missing
     }
 }
 
-/// Two inputs.
+/// Creates the representation of two inputs.
 #[inline(always)]
 fn two(first: &Input, second: &Input) -> Missing
     ensures { inputs_in result ≡ first.now ∷ second.now ∷ [] }
@@ -58,20 +58,20 @@ fn two(first: &Input, second: &Input) -> Missing
     }
 }
 
-/// More than two inputs, which lie in an allocation.
+/// Creates the representation of more than two inputs, which are in an allocation.
 fn more(alloc: Global, inputs: SmallVec<Input, 2>) -> Missing
     requires { 2 < length inputs.items }
     ensures { inputs_in result ≡ inputs.items }
 {
     match inputs.into_vec() {
-        Ok(list) => Missing::More(Many::of(alloc, list)),
+        Ok(list) => Missing::More(ManyInputs::of(alloc, list)),
         Err(_) => unreachable!(),
     }
 }
 
-/// What is left of one input.
+/// Returns what is missing of one input once `input` is known.
 #[inline(always)]
-fn left_of_one(input: &Input, only: &Input) -> Missing
+fn remaining_of_one(input: &Input, only: &Input) -> Missing
     ensures { inputs_in result ≡ filter (λ j. not (covers input.now j)) (only.now ∷ []) }
 {
     if input.covers(only) {
@@ -81,9 +81,9 @@ fn left_of_one(input: &Input, only: &Input) -> Missing
     }
 }
 
-/// What is left of two inputs.
+/// Returns what is missing of two inputs once `input` is known.
 #[inline(always)]
-fn left_of_two(input: &Input, first: &Input, second: &Input) -> Missing
+fn remaining_of_two(input: &Input, first: &Input, second: &Input) -> Missing
     ensures { inputs_in result ≡ filter (λ j. not (covers input.now j)) (first.now ∷ second.now ∷ []) }
 {
     match (input.covers(first), input.covers(second)) {
@@ -109,7 +109,7 @@ impl Missing {
         }
     }
 
-    /// Whether there is none.
+    /// Returns true if no input is missing.
     pub fn is_nothing(&self) -> bool
         ensures { result ≡ (length (inputs_in self.now) == 0) }
     {
@@ -120,7 +120,7 @@ impl Missing {
         }
     }
 
-    /// How many there are.
+    /// Returns the number of missing inputs.
     pub fn len(&self) -> usize
         ensures { result ≡ length (inputs_in self.now) }
     {
@@ -132,33 +132,33 @@ impl Missing {
         }
     }
 
-    /// The inputs, by how many there are.
+    /// Returns the missing inputs, by their number.
     #[inline(always)]
-    pub fn listed(&self) -> Listed<'_>
+    pub fn listed(&self) -> InputCount<'_>
         ensures { inputs_of result ≡ inputs_in self.now }
     {
         match self {
-            Missing::Nothing => Listed::Nothing,
-            Missing::OneWhole(a) => Listed::One(Input::Whole(*a)),
-            Missing::OneElement(a, k) => Listed::One(Input::Element(*a, *k)),
-            Missing::TwoWholes(a, b) => Listed::Two(Input::Whole(*a), Input::Whole(*b)),
-            Missing::WholeAndElement(a, b, l) => Listed::Two(
+            Missing::Nothing => InputCount::Nothing,
+            Missing::OneWhole(a) => InputCount::One(Input::Whole(*a)),
+            Missing::OneElement(a, k) => InputCount::One(Input::Element(*a, *k)),
+            Missing::TwoWholes(a, b) => InputCount::Two(Input::Whole(*a), Input::Whole(*b)),
+            Missing::WholeAndElement(a, b, l) => InputCount::Two(
                 Input::Whole(*a),
                 Input::Element(*b, *l),
             ),
-            Missing::ElementAndWhole(a, k, b) => Listed::Two(
+            Missing::ElementAndWhole(a, k, b) => InputCount::Two(
                 Input::Element(*a, *k),
                 Input::Whole(*b),
             ),
-            Missing::TwoElements(a, k, b, l) => Listed::Two(
+            Missing::TwoElements(a, k, b, l) => InputCount::Two(
                 Input::Element(*a, *k),
                 Input::Element(*b, *l),
             ),
-            Missing::More(many) => Listed::More(many),
+            Missing::More(many) => InputCount::More(many),
         }
     }
 
-    /// What is left of up to two inputs.
+    /// Returns what is missing of at most two inputs once `input` is known.
     #[inline(always)]
     fn left(&self, input: &Input) -> Missing
         requires { (many : List AnInput) → self.now ≢ More many }
@@ -166,23 +166,27 @@ impl Missing {
     {
         match self {
             Missing::Nothing => Missing::Nothing,
-            Missing::OneWhole(a) => left_of_one(input, &Input::Whole(*a)),
-            Missing::OneElement(a, k) => left_of_one(input, &Input::Element(*a, *k)),
-            Missing::TwoWholes(a, b) => left_of_two(input, &Input::Whole(*a), &Input::Whole(*b)),
+            Missing::OneWhole(a) => remaining_of_one(input, &Input::Whole(*a)),
+            Missing::OneElement(a, k) => remaining_of_one(input, &Input::Element(*a, *k)),
+            Missing::TwoWholes(a, b) => remaining_of_two(
+                input,
+                &Input::Whole(*a),
+                &Input::Whole(*b),
+            ),
             Missing::WholeAndElement(a, b, l) => {
-                left_of_two(input, &Input::Whole(*a), &Input::Element(*b, *l))
+                remaining_of_two(input, &Input::Whole(*a), &Input::Element(*b, *l))
             }
             Missing::ElementAndWhole(a, k, b) => {
-                left_of_two(input, &Input::Element(*a, *k), &Input::Whole(*b))
+                remaining_of_two(input, &Input::Element(*a, *k), &Input::Whole(*b))
             }
             Missing::TwoElements(a, k, b, l) => {
-                left_of_two(input, &Input::Element(*a, *k), &Input::Element(*b, *l))
+                remaining_of_two(input, &Input::Element(*a, *k), &Input::Element(*b, *l))
             }
             Missing::More(_) => unreachable!(),
         }
     }
 
-    /// Takes out what is known with this input.
+    /// Removes the missing inputs that this input covers.
     pub fn learn(&mut self, input: &Input)
         ensures { inputs_in self.new ≡ filter (λ j. not (covers input.now j)) (inputs_in self.old) }
     {

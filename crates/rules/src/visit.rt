@@ -1,4 +1,4 @@
-//! What the items of some slots learn or lose.
+//! Updates of waiting items, slot by slot: inputs that become known, and items that are removed.
 ghost use Rattle.std.specs.Prelude.{◌≡◌, ◌⊎◌, ℕ, ◌+◌, ◌≤◌, ◌++◌, Contains, slice_set, vec_len, vec_capacity};
 ghost use Rattle.slab.specs.Slab.{get, slab_len};
 ghost use Rattle.rules.specs.Slots.{after_slot, unless_item, told, present, IsSettled, Shrinks, Learnt};
@@ -6,11 +6,12 @@ ghost use Rattle.rules.specs.Waiting.{without_item};
 ghost use Rattle.rules.specs.Places.{address, IsAt, IsNoted};
 
 use crate::input::Input;
-use crate::places::Places;
+use crate::subscribers::Subscribers;
 use crate::waiter::Waiter;
 use slab::Slab;
 
-/// Lets the item of a slot learn what is known, if there is one. Where nothing is missing any more it leaves.
+/// Removes the inputs that `input` covers from the item of a slot, if there is one. An item with no missing input left
+/// is removed, and its number is appended to `out`.
 #[inline(always)]
 pub fn visit(waiters: &mut Slab<Waiter>, slot: usize, input: &Input, out: &mut Vec<u64>)
     requires { slab_len waiters.old + vec_len out.old ≤ vec_capacity out.old }
@@ -47,11 +48,11 @@ pub fn visit_listed(waiters: &mut Slab<Waiter>, slots: &[usize], input: &Input, 
     }
 }
 
-/// Visits each slot that is noted at the input's address, and takes those notes out of its list that are no longer needed. The
-/// answer tells how many notes of other addresses were passed.
+/// Visits each slot noted at the address of the input, and unlinks the notes on the way that are no longer needed.
+/// Returns the number of notes of other addresses that were passed.
 pub fn visit_noted(
     waiters: &mut Slab<Waiter>,
-    places: &mut Places,
+    places: &mut Subscribers,
     input: &Input,
     out: &mut Vec<u64>,
 ) -> usize
@@ -87,7 +88,7 @@ pub fn visit_noted(
     passed
 }
 
-/// Takes out the item of a slot, if it is this one.
+/// Removes the item of a slot, if it has this number.
 pub fn leave(waiters: &mut Slab<Waiter>, slot: usize, item: u64)
     ensures slots { waiters.new.slots ≡ slice_set waiters.old.slots slot (unless_item item (get waiters.old slot)) }
     ensures fewer { slab_len waiters.new ≤ slab_len waiters.old }
@@ -101,7 +102,7 @@ pub fn leave(waiters: &mut Slab<Waiter>, slot: usize, item: u64)
     }
 }
 
-/// Takes the item out of each slot that it lies in.
+/// Removes the item with this number from each slot that holds it.
 pub fn leave_all(waiters: &mut Slab<Waiter>, item: u64)
     ensures others { without_item item (present waiters.new.slots) ≡ without_item item (present waiters.old.slots) }
     ensures settled { (k : ℕ) → IsSettled (unless_item item) waiters.new.slots k }

@@ -1,16 +1,16 @@
-//! An item that waits.
+//! Waiters: items that wait, each with its missing inputs.
 ghost use Rattle.std.specs.Prelude.{◌≡◌, ◌==◌, true, length};
 ghost use Rattle.rules.specs.Missing.{inputs_of};
 ghost use Rattle.rules.specs.Waiting.{with_known};
 ghost use Rattle.rules.specs.Places.{needs};
 
 use crate::input::Input;
-use crate::missing::{Listed, Missing};
+use crate::missing::{InputCount, Missing};
 use smallvec::SmallVec;
 use std::alloc::Global;
 use std::marker::Model;
 
-/// An item with the inputs that it still misses.
+/// A waiting item with the inputs that it still misses.
 #[derive(Drop)]
 pub struct Waiter {
     item: u64,
@@ -42,41 +42,41 @@ impl Waiter {
         self.item
     }
 
-    /// How many inputs it waits for.
+    /// Returns the number of missing inputs.
     pub fn count(&self) -> usize
         ensures { result ≡ length self.now.missing }
     {
         self.missing.len()
     }
 
-    /// What it waits for.
+    /// Returns the missing inputs.
     #[inline(always)]
-    pub fn missing(&self) -> Listed<'_>
+    pub fn missing(&self) -> InputCount<'_>
         ensures { inputs_of result ≡ self.now.missing }
     {
         self.missing.listed()
     }
 
-    /// False only where it is not to be noted at this address.
+    /// Returns false only if the item need not be noted at this address.
     pub fn may_need(&self, address: u32) -> bool
         ensures { needs address self.now ≡ true → result ≡ true }
     {
         match self.missing() {
-            Listed::Nothing => false,
-            Listed::One(only) => only.is_at(address),
-            Listed::Two(first, second) => first.is_at(address) || second.is_at(address),
-            Listed::More(many) => many.may_be_at(address),
+            InputCount::Nothing => false,
+            InputCount::One(only) => only.is_at(address),
+            InputCount::Two(first, second) => first.is_at(address) || second.is_at(address),
+            InputCount::More(many) => many.may_be_at(address),
         }
     }
 
-    /// Whether nothing is missing any more.
+    /// Returns true if no input is missing.
     pub fn is_ready(&self) -> bool
         ensures { result ≡ (length self.now.missing == 0) }
     {
         self.missing.is_nothing()
     }
 
-    /// Takes out what is known with this input.
+    /// Removes the missing inputs that this input covers.
     pub fn learn(&mut self, input: &Input)
         ensures { self.new ≡ with_known input.now self.old }
     {

@@ -1,4 +1,4 @@
--- What standard output shows: the bytes that it took, and how many of its writes have failed.
+-- The bytes that standard output received, and the number of its failed writes.
 use Rattle.std.specs.Prelude.{ℕ, List}
 use Rattle.host_system.specs.Streams as Streams
 use Rattle.swt.specs.declared.output.Output.{Output}

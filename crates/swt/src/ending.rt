@@ -1,62 +1,68 @@
-//! What is said of how a command ended.
+//! Explanation of how a command ended.
 
 use crate::explain::{explain_blocked, explain_fault, explain_meaning};
-use crate::kept::Kept;
-use crate::left::follow;
-use crate::output::Tail;
-use crate::progress::Teller;
-use crate::troubles::{
+use crate::failures::{
     explain_count, explain_same_file, explain_trace, explain_unread, explain_unwritten,
 };
+use crate::output::LastLine;
+use crate::progress::ProgressReporter;
+use crate::source_cache::SourceCache;
+use crate::trace_replay::follow;
 use explain_faults::limits::{add_limit_of_steps, add_limit_of_trace};
 use std::alloc::{AllocError, Global};
 use std::io::{Error, Write};
 use swt_arguments::line::Line;
 use swt_status::status::Status;
 
-/// A command that has ended: its line and its status, what is known of its run, and why standard output failed, where it did.
+/// Result of a command: its line, its status, the progress of its run, and the error of standard output, if any.
 #[derive(Clone, Copy, Drop)]
-pub struct Ended<'e, 'o, 't> {
+pub struct CommandResult<'e, 'o, 't> {
     pub line: &'e Line,
-    /// Whether each blocked statement is told.
+    /// Whether every blocked statement is reported.
     pub all: bool,
     pub status: u8,
-    pub teller: &'e Teller<'t>,
-    pub tail: &'o Tail,
+    pub reporter: &'e ProgressReporter<'t>,
+    pub tail: &'o LastLine,
     pub unprinted: Option<&'o Error>,
 }
 
-impl Ended<'_, '_, '_> {
-    /// Whether it ended with this status.
+impl CommandResult<'_, '_, '_> {
+    /// Returns true if the command ended with this status.
     fn is(self, status: Status) -> bool {
         self.status == status.number()
     }
 
-    /// Whether it ended so that there is something to be said.
+    /// Returns true if there may be something to explain: a check with warnings, or any end but success and an
+    /// allocation failure.
     fn is_told(self) -> bool {
         self.is_checked() || !self.is(Status::Done) && !self.is(Status::Memory)
     }
 
-    /// Whether its files were checked, and all are accepted.
+    /// Returns true if the files were checked and all are accepted.
     fn is_checked(self) -> bool {
         self.is(Status::Done) && matches!(self.line, Line::Check { .. })
     }
 }
 
-/// Says on standard error what is to be said of a command that ended so: of refusals, of what is odd in a script, of blocked statements, of
-/// faults, of a limit, and of what could not be done, with the reason why a call on a file failed, where one did. Where memory was refused
-/// for it, that is said, once, and the status stays.
-pub fn explain_ending(kept: &mut Kept<'_>, ended: Ended<'_, '_, '_>, reason: Option<&Error>) {
+/// Explains the result of a command on standard error: refusals, warnings, blocked statements, faults, a limit, and
+/// failed operations. `reason` is the error of the last failed call on a file.
+///
+/// If an allocation fails, this is reported once, and the status does not change.
+pub fn explain_ending(
+    kept: &mut SourceCache<'_>,
+    ended: CommandResult<'_, '_, '_>,
+    reason: Option<&Error>,
+) {
     let rt = kept.runtime();
-    if ended.is_told() && say_ending(rt, kept, ended, reason).is_err() {
+    if ended.is_told() && write_ending(rt, kept, ended, reason).is_err() {
         let _ = eprintln!(rt; "swt: no memory");
     }
 }
 
-fn say_ending(
+fn write_ending(
     rt: &HostRuntime,
-    kept: &mut Kept<'_>,
-    ended: Ended<'_, '_, '_>,
+    kept: &mut SourceCache<'_>,
+    ended: CommandResult<'_, '_, '_>,
     reason: Option<&Error>,
 ) -> Result<(), AllocError> {
     if ended.is(Status::Refused) || ended.is_checked() {
@@ -64,7 +70,7 @@ fn say_ending(
     } else if !kept.tells_json() {
         let mut text = Vec::new(rt.alloc());
         add_end(rt.alloc(), kept, ended, reason, &mut text)?;
-        // Where this can't be written, the status says enough.
+        // If this cannot be written, the status is enough.
         let _ = rt.stderr().write_all(text.as_slice());
     }
     if kept.lacks() {
@@ -74,11 +80,11 @@ fn say_ending(
     }
 }
 
-/// Adds what is to be said of a command whose script is not refused.
+/// Appends the explanation of a command whose script is not refused.
 fn add_end(
     alloc: Global,
-    kept: &Kept<'_>,
-    ended: Ended<'_, '_, '_>,
+    kept: &SourceCache<'_>,
+    ended: CommandResult<'_, '_, '_>,
     reason: Option<&Error>,
     text: &mut Vec<u8>,
 ) -> Result<(), AllocError> {
@@ -91,11 +97,11 @@ fn add_end(
     }
 }
 
-/// Adds why a file could not be read or written, or a trace is none.
+/// Appends why a file could not be read or written, or why a trace is invalid.
 fn add_trouble(
     alloc: Global,
-    kept: &Kept<'_>,
-    ended: Ended<'_, '_, '_>,
+    kept: &SourceCache<'_>,
+    ended: CommandResult<'_, '_, '_>,
     reason: Option<&Error>,
     text: &mut Vec<u8>,
 ) -> Result<(), AllocError> {
@@ -124,11 +130,12 @@ fn add_trouble(
     }
 }
 
-/// Adds what is to be said of a command on a script that is accepted, which ended in a fault, with blocked statements, or at a limit.
+/// Appends the explanation of a command on an accepted script that ended in a fault, with blocked statements, or at a
+/// limit.
 fn add_ending(
     alloc: Global,
-    kept: &Kept<'_>,
-    ended: Ended<'_, '_, '_>,
+    kept: &SourceCache<'_>,
+    ended: CommandResult<'_, '_, '_>,
     text: &mut Vec<u8>,
 ) -> Result<(), AllocError> {
     let Some((name, script)) = kept.first() else {
@@ -152,11 +159,11 @@ fn add_ending(
     }
 }
 
-/// About how many events a run had, by what was noted of it or by the lines of the trace that is the second file: not more than these.
-fn events_of(kept: &Kept<'_>, ended: Ended<'_, '_, '_>) -> usize {
+/// Returns a lower bound on the number of events of a run, or the number of lines of the trace in the second file.
+fn events_of(kept: &SourceCache<'_>, ended: CommandResult<'_, '_, '_>) -> usize {
     match kept.second() {
         Some(trace) => lines_in(trace),
-        None => ended.teller.events(),
+        None => ended.reporter.events(),
     }
 }
 
@@ -170,18 +177,18 @@ fn lines_in(text: &[u8]) -> usize {
     count
 }
 
-/// Adds what was left to be done where a run met its limit, or behind the end of the trace that is the second file.
+/// Appends the number of items left when a run met its limit, or at the end of the trace in the second file.
 fn explain_limit(
     alloc: Global,
-    kept: &Kept<'_>,
-    ended: Ended<'_, '_, '_>,
+    kept: &SourceCache<'_>,
+    ended: CommandResult<'_, '_, '_>,
     text: &mut Vec<u8>,
 ) -> Result<(), AllocError> {
     let Some((name, script)) = kept.first() else {
         return Ok(());
     };
     let Some(trace) = kept.second() else {
-        return add_limit_of_steps(text, name, ended.teller.left());
+        return add_limit_of_steps(text, name, ended.reporter.left());
     };
     match follow(alloc, script, trace)? {
         Some(followed) => add_limit_of_trace(text, name, followed.left),

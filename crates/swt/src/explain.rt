@@ -1,43 +1,43 @@
-//! What is said of blocked statements and faults, and of an end at a limit, where that is wanted.
+//! Explanations from the meaning of a script: blocked statements, faults, and ends at a limit.
 
 use compile::compile::read;
 use compile::fault::CompileFault;
 use explain_blocked::blocked::add_all_blocked;
+use explain_blocked::context::ExplainContext;
 use explain_blocked::index::ScriptIndex;
-use explain_blocked::scene::Scene;
-use explain_blocked::writers::Writers;
-use explain_faults::extent::{known_before, known_for, known_whole, room_for};
+use explain_blocked::writers::WriterIndex;
+use explain_faults::extent::{known_before, known_for, known_whole, limits_for};
 use explain_faults::faults::{add_all_faults, add_printed_fault};
 use explain_faults::limits::{add_limit_of_rounds, add_too_large};
-use explain_faults::printed::Printed;
-use explain_text::lines::Lines;
+use explain_faults::printed::PrintedFault;
+use explain_text::line_index::LineIndex;
 use flow::script::Flow;
 use meaning::rounds;
-use meaning_openings::fault::MeaningFault;
+use meaning_openings::fault::MeaningError;
 use meaning_outcomes::knowledge::Knowledge;
 use std::alloc::{AllocError, Global};
 
-/// What is told of a script.
+/// The part of a script's meaning to explain.
 #[derive(Clone, Copy, Drop)]
 enum Topic<'p> {
-    /// All that is known of it, with the limit where so many rounds were not enough, and with each blocked statement or in short.
+    /// The whole meaning within this limit of rounds, and whether every blocked statement is reported.
     Meaning(u32, bool),
-    /// The blocked statements of a run of so many events, each or in short.
+    /// The blocked statements of a run of this many events, and whether every one is reported.
     Blocked(usize, bool),
-    /// The fault that a run of so many events has printed.
-    Fault(usize, &'p Printed),
+    /// The printed fault of a run of this many events.
+    Fault(usize, &'p PrintedFault),
 }
 
-/// A script: its file's name, its bytes, and its statements.
+/// A script: its file name, its text, and its flow.
 #[derive(Clone, Copy, Drop)]
-struct Script<'s> {
+struct ScriptSource<'s> {
     file: &'s str,
     text: &'s [u8],
     flow: &'s Flow<Global>,
 }
 
-/// Adds what is said of a script whose meaning was worked out in so many rounds at most: its blocked statements, its faults, and the limit
-/// where that was met. Nothing of a script that is refused.
+/// Appends the explanation of the meaning of a script: its blocked statements, its faults, and the limit if it was
+/// reached. The meaning is computed in at most `limit` rounds. Appends nothing for a refused script.
 pub fn explain_meaning(
     alloc: Global,
     file: &str,
@@ -49,7 +49,8 @@ pub fn explain_meaning(
     explain(alloc, file, text, Topic::Meaning(limit, all), out)
 }
 
-/// Adds what is said of a script that was run, with so many events, and ended blocked: of the blocked statements of its meaning.
+/// Appends the explanation of the blocked statements of a script whose run of `events` events ended blocked. They are
+/// those of its meaning.
 pub fn explain_blocked(
     alloc: Global,
     file: &str,
@@ -61,7 +62,8 @@ pub fn explain_blocked(
     explain(alloc, file, text, Topic::Blocked(events, all), out)
 }
 
-/// Adds what is said of a script whose run, with so many events, ended with the fault that is the last of what was printed.
+/// Appends the explanation of the fault in which a run of `events` events ended. It is the last line of the printed
+/// text.
 pub fn explain_fault(
     alloc: Global,
     file: &str,
@@ -70,13 +72,13 @@ pub fn explain_fault(
     printed: &[u8],
     out: &mut Vec<u8>,
 ) -> Result<(), AllocError> {
-    match Printed::read(alloc, printed)? {
+    match PrintedFault::read(alloc, printed)? {
         Some(fault) => explain(alloc, file, text, Topic::Fault(events, &fault), out),
         None => Ok(()),
     }
 }
 
-/// Adds what is told of a script, and nothing of one that is refused.
+/// Appends the explanation of a topic. Appends nothing for a refused script.
 fn explain(
     alloc: Global,
     file: &str,
@@ -86,7 +88,7 @@ fn explain(
 ) -> Result<(), AllocError> {
     match read(alloc, alloc, text) {
         Ok(flow) => {
-            let script = Script {
+            let script = ScriptSource {
                 file,
                 text,
                 flow: &flow,
@@ -100,37 +102,38 @@ fn explain(
 
 fn explain_script(
     alloc: Global,
-    script: Script<'_>,
+    script: ScriptSource<'_>,
     topic: Topic<'_>,
     out: &mut Vec<u8>,
 ) -> Result<(), AllocError> {
     match known_of(alloc, script.flow, topic) {
         Ok(known) => explain_known(alloc, script, &known, topic, out),
-        Err(MeaningFault::TooLarge) => explain_large(alloc, script, topic, out),
-        Err(MeaningFault::Memory) => Err(AllocError),
+        Err(MeaningError::TooLarge) => explain_large(alloc, script, topic, out),
+        Err(MeaningError::Memory) => Err(AllocError),
     }
 }
 
-/// What has to be known of the statements for what is told.
+/// Computes the facts that the explanation of the topic needs.
 fn known_of(
     alloc: Global,
     flow: &Flow<Global>,
     topic: Topic<'_>,
-) -> Result<Knowledge, MeaningFault> {
+) -> Result<Knowledge, MeaningError> {
     match topic {
         Topic::Meaning(limit, _) => {
             let known = rounds(alloc, flow, limit)?;
             Ok(known)
         }
-        Topic::Blocked(events, _) => known_whole(room_for(alloc, events), flow),
-        Topic::Fault(events, fault) => known_for(room_for(alloc, events), flow, fault),
+        Topic::Blocked(events, _) => known_whole(limits_for(alloc, events), flow),
+        Topic::Fault(events, fault) => known_for(limits_for(alloc, events), flow, fault),
     }
 }
 
-/// Adds what is told of a script whose meaning is too large to be worked out: of a fault its place and its rule.
+/// Appends the explanation for a script whose meaning is too large to compute. For a fault, its position and rule are
+/// reported.
 fn explain_large(
     alloc: Global,
-    script: Script<'_>,
+    script: ScriptSource<'_>,
     topic: Topic<'_>,
     out: &mut Vec<u8>,
 ) -> Result<(), AllocError> {
@@ -143,7 +146,7 @@ fn explain_large(
 
 fn explain_known(
     alloc: Global,
-    script: Script<'_>,
+    script: ScriptSource<'_>,
     known: &Knowledge,
     topic: Topic<'_>,
     out: &mut Vec<u8>,
@@ -154,40 +157,40 @@ fn explain_known(
 
 fn explain_indexed(
     alloc: Global,
-    script: Script<'_>,
+    script: ScriptSource<'_>,
     known: &Knowledge,
     index: &ScriptIndex<'_, Global>,
     topic: Topic<'_>,
     out: &mut Vec<u8>,
 ) -> Result<(), AllocError> {
-    let writers = Writers::new(alloc, known, index)?;
-    let lines = Lines::of(alloc, script.text)?;
-    let scene = Scene {
+    let writers = WriterIndex::new(alloc, known, index)?;
+    let lines = LineIndex::of(alloc, script.text)?;
+    let context = ExplainContext {
         alloc,
         lines: &lines,
         index,
         known,
         writers: &writers,
     };
-    add_told(&scene, script.file, topic, out)
+    add_told(&context, script.file, topic, out)
 }
 
 fn add_told(
-    scene: &Scene<'_, '_, Global>,
+    context: &ExplainContext<'_, '_, Global>,
     file: &str,
     topic: Topic<'_>,
     out: &mut Vec<u8>,
 ) -> Result<(), AllocError> {
     match topic {
-        Topic::Blocked(_, all) => add_all_blocked(scene, out, file, all),
-        Topic::Fault(_, fault) => add_printed_fault(scene, out, file, fault),
+        Topic::Blocked(_, all) => add_all_blocked(context, out, file, all),
+        Topic::Fault(_, fault) => add_printed_fault(context, out, file, fault),
         Topic::Meaning(limit, all) => {
-            add_all_blocked(scene, out, file, all)?;
-            add_all_faults(scene, out, file)?;
-            if scene.known.finished {
+            add_all_blocked(context, out, file, all)?;
+            add_all_faults(context, out, file)?;
+            if context.known.finished {
                 return Ok(());
             }
-            add_limit_of_rounds(out, file, limit as usize, scene.known.stuck.len())
+            add_limit_of_rounds(out, file, limit as usize, context.known.stuck.len())
         }
     }
 }

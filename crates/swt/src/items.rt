@@ -1,73 +1,75 @@
-//! The items of a run: which entry each is of and in which block, which have ended, and what they have stored.
+//! The items of a run: the entry and block of each, whether it has ended, and the scalars stored.
 
-use board_chunks::{are_left, chunk_of};
-use board_compute::outcome::{Computed, Outcome};
+use board_effects::loop_chunks::{are_left, chunk_of};
+use board_work::outcome::{ControlResult, Outcome};
 use std::alloc::{AllocError, Global};
 use std::collections::HashMap;
 use task_code::code::Code;
 use task_code::entry::{Act, Argument, Entry, Loop, Name, Need, Owned};
 use values::map::Map;
-use values::range::Range;
+use values::range::IntRange;
 use values::value::{Scalar, Value};
 
-/// The greatest whole number, and so the greatest key of a turn.
+/// The largest integer, and so the largest key of a turn.
 const GREATEST: u64 = 9_223_372_036_854_775_807;
 
-/// An item: its entry, but of the script's opening, its block, and from which chunk of turns on it opens them.
+/// An item: its entry, or `None` for the item that opens the script, its block, and the first chunk of turns that it
+/// opens.
 #[derive(Clone, Copy, Drop)]
-pub struct Item {
+pub struct TrackedItem {
     pub entry: Option<u32>,
     pub block: usize,
     chunk: usize,
     is_over: bool,
 }
 
-/// A block's instance: the one around it, which calls it where it is of a function, and the entry of that call.
+/// An instance of a block: the enclosing instance, or the caller's if the block is of a function, and the entry of that
+/// call.
 #[derive(Clone, Copy, Drop)]
-struct Block {
+struct BlockInstance {
     outer: usize,
     call: Option<u32>,
 }
 
-/// Where a variable is: a block's instance and a node, or nowhere since it is a literal.
+/// Location of a variable: an instance of a block and a node, or none since it is a literal.
 #[derive(Clone, Copy, PartialEq, Eq, Debug, Drop)]
-pub enum Home {
+pub enum VariableLocation {
     Of(usize, u32),
     Literal,
     Nowhere,
 }
 
-/// What a call gives for a parameter of its function: a name seen from a block, or a literal.
+/// The argument of a call for a parameter: a name resolved from a block, or a literal.
 #[derive(Clone, Copy, Drop)]
-enum Given {
+enum ParameterBinding {
     Name(usize, Name),
     Literal,
     Nothing,
 }
 
-/// The items and blocks of a run, and its scalars. Items are numbered from 1 on, as they are opened.
+/// The items, blocks and scalars of a run. Items are numbered from 1, in the order in which they are opened.
 #[derive(Drop)]
-pub struct Items {
+pub struct ItemTable {
     alloc: Global,
-    items: Vec<Item>,
-    blocks: Vec<Block>,
+    items: Vec<TrackedItem>,
+    blocks: Vec<BlockInstance>,
     stored: HashMap<(usize, u32), Scalar>,
 }
 
-impl Items {
-    /// Before all events: the item that opens the script.
-    pub fn new(alloc: Global) -> Result<Items, AllocError> {
-        let mut items = Items {
+impl ItemTable {
+    /// Creates the table before all events, with the item that opens the script.
+    pub fn new(alloc: Global) -> Result<ItemTable, AllocError> {
+        let mut items = ItemTable {
             alloc,
             items: Vec::new(alloc),
             blocks: Vec::new(alloc),
             stored: HashMap::new(alloc),
         };
-        items.blocks.push(Block {
+        items.blocks.push(BlockInstance {
             outer: 0,
             call: None,
         })?;
-        items.items.push(Item {
+        items.items.push(TrackedItem {
             entry: None,
             block: 0,
             chunk: 0,
@@ -76,18 +78,18 @@ impl Items {
         Ok(items)
     }
 
-    /// The item of a number.
-    pub fn item(&self, number: u64) -> Option<Item> {
+    /// Returns the item of this number.
+    pub fn item(&self, number: u64) -> Option<TrackedItem> {
         let place = usize::try_from(number).ok()?.checked_sub(1)?;
         self.items.get(place).copied()
     }
 
-    /// The entry of an item.
+    /// Returns the entry of an item.
     pub fn entry_of<'c>(&self, code: &'c Code, number: u64) -> Option<&'c Entry> {
         code.entry(self.item(number)?.entry?)
     }
 
-    /// Does what an item does that ends with this outcome and without a fault.
+    /// Applies the end of an item with this outcome and without a fault.
     pub fn end(&mut self, code: &Code, number: u64, outcome: &Outcome) -> Result<(), AllocError> {
         let Some(item) = self.item(number) else {
             return Ok(());
@@ -116,16 +118,16 @@ impl Items {
         }
     }
 
-    /// Stores what a cell or a scalar's assignment has come to.
+    /// Stores the value of a cell or of an assigned scalar.
     fn end_leaf(
         &mut self,
         code: &Code,
-        item: Item,
+        item: TrackedItem,
         entry: &Entry,
         scalar: &Scalar,
     ) -> Result<(), AllocError> {
         match &entry.act {
-            Act::Cell(_) => self.store(Home::Of(item.block, entry.node), scalar),
+            Act::Cell(_) => self.store(VariableLocation::Of(item.block, entry.node), scalar),
             Act::Set(name, _) => {
                 let place = self.place(code, item.block, *name);
                 self.store(place, scalar)
@@ -138,44 +140,44 @@ impl Items {
     fn end_control(
         &mut self,
         code: &Code,
-        item: Item,
+        item: TrackedItem,
         entry: &Entry,
-        computed: &Computed,
+        computed: &ControlResult,
     ) -> Result<(), AllocError> {
         match (&entry.act, computed) {
-            (Act::Read, Computed::Gives(scalar)) => {
-                self.store(Home::Of(item.block, entry.node), scalar)
+            (Act::Read, ControlResult::Gives(scalar)) => {
+                self.store(VariableLocation::Of(item.block, entry.node), scalar)
             }
             (Act::Call { body, .. }, _) => self.open_inside(code, item.block, item.entry, *body),
             (Act::Wait(_, body), _) => self.open(code, item.block, *body),
-            (Act::If(_, then, _), Computed::Takes(true)) => {
+            (Act::If(_, then, _), ControlResult::Takes(true)) => {
                 self.open_inside(code, item.block, None, *then)
             }
-            (Act::If(_, _, Some(other)), Computed::Takes(false)) => {
+            (Act::If(_, _, Some(other)), ControlResult::Takes(false)) => {
                 self.open_inside(code, item.block, None, *other)
             }
-            (Act::Range(_, _, _, turns), Computed::Counts(range)) => {
+            (Act::Range(_, _, _, turns), ControlResult::Counts(range)) => {
                 self.open_range(code, item, *turns, range)
             }
-            (Act::Each(turns), Computed::Goes(map)) => self.open_map(code, item, *turns, map),
+            (Act::Each(turns), ControlResult::Goes(map)) => self.open_map(code, item, *turns, map),
             _ => Ok(()),
         }
     }
 
-    fn store(&mut self, place: Home, scalar: &Scalar) -> Result<(), AllocError> {
-        if let Home::Of(block, node) = place {
+    fn store(&mut self, place: VariableLocation, scalar: &Scalar) -> Result<(), AllocError> {
+        if let VariableLocation::Of(block, node) = place {
             self.stored.insert((block, node), scalar.share()?)?;
         }
         Ok(())
     }
 
-    /// Adds the items of a body in a block.
+    /// Appends the items of a body in a block.
     fn open(&mut self, code: &Code, block: usize, body: u32) -> Result<(), AllocError> {
         let Some(body) = code.body(body) else {
             return Ok(());
         };
         for entry in &body.entries {
-            self.items.push(Item {
+            self.items.push(TrackedItem {
                 entry: Some(*entry),
                 block,
                 chunk: 0,
@@ -185,7 +187,7 @@ impl Items {
         Ok(())
     }
 
-    /// Adds a block inside of another one, with the items of its body.
+    /// Appends a nested block with the items of its body.
     fn open_inside(
         &mut self,
         code: &Code,
@@ -194,17 +196,17 @@ impl Items {
         body: u32,
     ) -> Result<(), AllocError> {
         let block = self.blocks.len();
-        self.blocks.push(Block { outer, call })?;
+        self.blocks.push(BlockInstance { outer, call })?;
         self.open(code, block, body)
     }
 
-    /// Adds the turns of a chunk of a range.
+    /// Appends the turns of a chunk of a range.
     fn open_range(
         &mut self,
         code: &Code,
-        item: Item,
+        item: TrackedItem,
         turns: Loop,
-        range: &Range,
+        range: &IntRange,
     ) -> Result<(), AllocError> {
         let (first, end) = chunk_of(item.chunk, range.count);
         for turn in first..end {
@@ -217,11 +219,11 @@ impl Items {
         self.go_on(item, are_left(end, range.count))
     }
 
-    /// Adds the turns of a chunk of an array's elements.
+    /// Appends the turns of a chunk of an array's elements.
     fn open_map(
         &mut self,
         code: &Code,
-        item: Item,
+        item: TrackedItem,
         turns: Loop,
         map: &Map,
     ) -> Result<(), AllocError> {
@@ -239,23 +241,23 @@ impl Items {
     fn open_turn(
         &mut self,
         code: &Code,
-        item: Item,
+        item: TrackedItem,
         turns: Loop,
         value: &Scalar,
         key: &Scalar,
     ) -> Result<(), AllocError> {
         let block = self.blocks.len();
-        self.store(Home::Of(block, turns.value), value)?;
+        self.store(VariableLocation::Of(block, turns.value), value)?;
         if let Some(node) = turns.turn {
-            self.store(Home::Of(block, node), key)?;
+            self.store(VariableLocation::Of(block, node), key)?;
         }
         self.open_inside(code, item.block, None, turns.body)
     }
 
-    /// Adds the item that opens the turns that are left, where some are.
-    fn go_on(&mut self, item: Item, are_left: bool) -> Result<(), AllocError> {
+    /// Appends the item that opens the remaining turns, if there are any.
+    fn go_on(&mut self, item: TrackedItem, are_left: bool) -> Result<(), AllocError> {
         if are_left {
-            self.items.push(Item {
+            self.items.push(TrackedItem {
                 entry: item.entry,
                 block: item.block,
                 chunk: item.chunk.saturating_add(1),
@@ -266,29 +268,29 @@ impl Items {
     }
 }
 
-impl Items {
-    /// Where the variable of a name is, seen from a block.
-    pub fn place(&self, code: &Code, block: usize, name: Name) -> Home {
+impl ItemTable {
+    /// Returns the location of the variable that a name refers to from a block.
+    pub fn place(&self, code: &Code, block: usize, name: Name) -> VariableLocation {
         let mut block = block;
         let mut name = name;
         for _ in 0..self.blocks.len() {
             let inside = self.outer(block, name.up);
             match name.owned {
-                Owned::Local(variable) => return Home::Of(inside, variable.node),
+                Owned::Local(variable) => return VariableLocation::Of(inside, variable.node),
                 Owned::Parameter(place, _) => match self.given(code, inside, place) {
-                    Given::Name(outer, given) => {
+                    ParameterBinding::Name(outer, given) => {
                         block = outer;
                         name = given;
                     }
-                    Given::Literal => return Home::Literal,
-                    Given::Nothing => return Home::Nowhere,
+                    ParameterBinding::Literal => return VariableLocation::Literal,
+                    ParameterBinding::Nothing => return VariableLocation::Nowhere,
                 },
             }
         }
-        Home::Nowhere
+        VariableLocation::Nowhere
     }
 
-    /// The block so many steps further out.
+    /// Returns the block `up` levels further out.
     fn outer(&self, block: usize, up: usize) -> usize {
         let mut block = block;
         for _ in 0..up {
@@ -300,10 +302,10 @@ impl Items {
         block
     }
 
-    /// What the call that opened a function's block gives for a parameter.
-    fn given(&self, code: &Code, block: usize, place: usize) -> Given {
+    /// Returns the argument for a parameter in the call that opened a function's block.
+    fn given(&self, code: &Code, block: usize, place: usize) -> ParameterBinding {
         let Some(found) = self.blocks.get(block) else {
-            return Given::Nothing;
+            return ParameterBinding::Nothing;
         };
         match call_in(code, found.call) {
             Some(
@@ -313,11 +315,11 @@ impl Items {
                     ..
                 },
             ) => given_among(found.outer, inputs.as_slice(), outputs.as_slice(), place),
-            _ => Given::Nothing,
+            _ => ParameterBinding::Nothing,
         }
     }
 
-    /// The entry of the call that opened the function around a block.
+    /// Returns the entry of the call that opened the function around a block.
     pub fn call_around(&self, block: usize) -> Option<u32> {
         let mut block = block;
         for _ in 0..self.blocks.len() {
@@ -330,15 +332,15 @@ impl Items {
         None
     }
 
-    /// The scalar that is stored at a place.
-    pub fn scalar(&self, place: Home) -> Option<&Scalar> {
+    /// Returns the scalar stored at a location.
+    pub fn scalar(&self, place: VariableLocation) -> Option<&Scalar> {
         match place {
-            Home::Of(block, node) => self.stored.get(&(block, node)),
+            VariableLocation::Of(block, node) => self.stored.get(&(block, node)),
             _ => None,
         }
     }
 
-    /// Those needs of an item that are not known.
+    /// Returns the needs of an item that are not known.
     pub fn missing<'c>(&self, code: &'c Code, number: u64) -> Result<Vec<&'c Need>, AllocError> {
         let mut missing = Vec::new(self.alloc);
         let Some(item) = self.item(number) else {
@@ -355,7 +357,8 @@ impl Items {
         Ok(missing)
     }
 
-    /// Whether what an entry in a block waits for is known; an element that is there only where its array is closed.
+    /// Returns true if a need of an entry in a block is known. An absent element counts as known once its array is
+    /// closed.
     fn is_known(&self, code: &Code, block: usize, need: &Need) -> bool {
         match need {
             Need::Stored(name) => self.is_stored(self.place(code, block, *name)),
@@ -368,12 +371,12 @@ impl Items {
         }
     }
 
-    fn is_stored(&self, place: Home) -> bool {
-        place == Home::Literal || self.scalar(place).is_some()
+    fn is_stored(&self, place: VariableLocation) -> bool {
+        place == VariableLocation::Literal || self.scalar(place).is_some()
     }
 
-    /// Whether no item that has not ended may write there.
-    fn is_closed(&self, code: &Code, place: Home) -> bool {
+    /// Returns true if no item that has not ended may write at the location.
+    fn is_closed(&self, code: &Code, place: VariableLocation) -> bool {
         for item in &self.items {
             if !item.is_over && self.may_write(code, item, place) {
                 return false;
@@ -382,7 +385,7 @@ impl Items {
         true
     }
 
-    fn may_write(&self, code: &Code, item: &Item, place: Home) -> bool {
+    fn may_write(&self, code: &Code, item: &TrackedItem, place: VariableLocation) -> bool {
         match entry_in(code, item.entry) {
             Some(entry) => {
                 for name in &entry.writes {
@@ -396,8 +399,8 @@ impl Items {
         }
     }
 
-    /// The number of the item, of those that have not ended, that stores at a place what it works out for its own statement.
-    pub fn maker(&self, code: &Code, place: Home) -> Option<u64> {
+    /// Returns the number of the item that has not ended and computes the value at this location for its own statement.
+    pub fn maker(&self, code: &Code, place: VariableLocation) -> Option<u64> {
         for i in 0..self.items.len() {
             let item = &self.items[i];
             if !item.is_over && makes(code, item, place) {
@@ -412,29 +415,34 @@ fn entry_in(code: &Code, number: Option<u32>) -> Option<&Entry> {
     code.entry(number?)
 }
 
-/// What an entry does that is a call.
+/// Returns the action of the entry of a call.
 fn call_in(code: &Code, number: Option<u32>) -> Option<&Act> {
     Some(&entry_in(code, number)?.act)
 }
 
-/// The input or output of a call at a place among the inputs and the outputs behind them.
-fn given_among(outer: usize, inputs: &[Argument], outputs: &[Name], place: usize) -> Given {
+/// Returns the argument at an index among the inputs followed by the outputs.
+fn given_among(
+    outer: usize,
+    inputs: &[Argument],
+    outputs: &[Name],
+    place: usize,
+) -> ParameterBinding {
     match inputs.get(place) {
-        Some(Argument::Named(name)) => Given::Name(outer, *name),
-        Some(Argument::Fixed(_)) => Given::Literal,
+        Some(Argument::Named(name)) => ParameterBinding::Name(outer, *name),
+        Some(Argument::Fixed(_)) => ParameterBinding::Literal,
         None => match outputs.get(place.saturating_sub(inputs.len())) {
-            Some(name) => Given::Name(outer, *name),
-            None => Given::Nothing,
+            Some(name) => ParameterBinding::Name(outer, *name),
+            None => ParameterBinding::Nothing,
         },
     }
 }
 
-/// Whether an item stores a cell or an element that was read at a place.
-fn makes(code: &Code, item: &Item, place: Home) -> bool {
+/// Returns true if an item stores a cell, or an element that it reads, at the location.
+fn makes(code: &Code, item: &TrackedItem, place: VariableLocation) -> bool {
     match entry_in(code, item.entry) {
         Some(entry) => {
             matches!(&entry.act, Act::Cell(_) | Act::Read)
-                && place == Home::Of(item.block, entry.node)
+                && place == VariableLocation::Of(item.block, entry.node)
         }
         None => false,
     }

@@ -1,4 +1,4 @@
-//! `swt`: checks, explains and runs scripts of a profile of Swift/T. Called without words it says how it is called.
+//! The program `swt`: checks, explains and runs scripts of a profile of Swift/T. Without arguments it prints its usage.
 #![tactic(auto)]
 
 ghost use Rattle.std.specs.Prelude.{◌≡◌, ◌<◌, ◌⊎◌, []};
@@ -6,64 +6,64 @@ ghost use Rattle.host.specs.Events.{asked, changes, inputs, links, reads};
 ghost use Rattle.swt_arguments.specs.declared.fault.LineFault.TheVariants.{Usage};
 ghost use Rattle.swt_command.specs.Sinks.{Given, held};
 ghost use Rattle.swt_command.specs.Troubles.{trouble_line};
-ghost use Rattle.swt_status.specs.declared.trouble.Trouble.TheVariants.{Memory};
+ghost use Rattle.swt_status.specs.declared.failure.CommandFailure.TheVariants.{Memory};
 ghost use Rattle.swt_process.specs.Ends.{Ends};
 ghost use Rattle.swt_process.specs.Process.{IsProcess};
 ghost use Rattle.swt.specs.Keepers.{events_of};
 ghost use Rattle.swt.specs.Outputs.{failures_of, taken_of};
 ghost use Rattle.host_system.specs.Streams as Streams;
 
+mod caching_host;
 mod ending;
 mod explain;
-mod foreign;
+mod failures;
 mod items;
-mod keeper;
-mod kept;
-mod left;
+mod non_utf8;
 mod output;
 mod progress;
+mod source_cache;
+mod trace_replay;
 mod tracking;
-mod troubles;
 mod waiting;
 
-use crate::ending::Ended;
-use crate::foreign::say_foreign;
-use crate::keeper::Keeper;
+use crate::caching_host::CachingHost;
+use crate::ending::CommandResult;
+use crate::non_utf8::write_foreign;
 use crate::output::Output;
-use crate::progress::Teller;
+use crate::progress::ProgressReporter;
 use host::Stream;
 use host_system::stream::Standard;
 use std::alloc::AllocError;
 use std::process::{self, ExitCode};
 use std::sync::Wait;
 use std::thread::Threads;
-use swt_arguments::complaint::first_wrong;
+use swt_arguments::argument_error::first_wrong;
 use swt_arguments::fault::LineFault;
 use swt_arguments::line::Line;
 use swt_arguments::nearest::meant;
 use swt_arguments::request::Request;
 use swt_arguments::word::Word;
-use swt_command::trouble::tell;
+use swt_command::trouble::write_failure;
 use swt_process::program::program;
 use swt_process::words::read_words;
+use swt_status::failure::CommandFailure;
 use swt_status::status::Status;
-use swt_status::trouble::Trouble;
 
 fn main(rt: HostRuntime) -> ExitCode {
     let mut out = Output::new(&rt);
     let mut err = Standard::new(&rt, Stream::Error);
-    let (status, _host) = obey(&rt, &rt, Keeper::new(&rt), &mut out, &mut err);
+    let (status, _host) = obey(&rt, &rt, CachingHost::new(&rt), &mut out, &mut err);
     ExitCode::from(status)
 }
 
-/// Does what the words of the command line ask for. The answer is the status of the process, and the system.
+/// Executes the request of the command-line words. Returns the exit status and the system.
 fn obey<'r, R: Threads + Wait + Sync>(
     rt: &'r HostRuntime,
     threads: &R,
-    host: Keeper<'r>,
+    host: CachingHost<'r>,
     out: &mut Output<'r>,
     err: &mut Standard<'r>,
-) -> (u8, Keeper<'r>)
+) -> (u8, CachingHost<'r>)
     requires none { events_of host ≡ [] }
     requires out { failures_of out.old < u64.MAX }
     requires err { Streams.failures_of err.old < u64.MAX }
@@ -83,15 +83,15 @@ fn obey<'r, R: Threads + Wait + Sync>(
     }
 }
 
-/// Does what is asked for, and then says what is to be said of its end.
+/// Runs the command of the request, then explains its result if requested.
 fn perform<'r, R: Threads + Wait + Sync>(
     rt: &'r HostRuntime,
     threads: &R,
-    host: Keeper<'r>,
+    host: CachingHost<'r>,
     request: &Request,
     out: &mut Output<'r>,
     err: &mut Standard<'r>,
-) -> (u8, Keeper<'r>)
+) -> (u8, CachingHost<'r>)
     requires reads { reads (events_of host) ≡ [] }
     requires links { links (events_of host) ≡ [] }
     requires inputs { inputs (events_of host) ≡ [] }
@@ -106,17 +106,17 @@ fn perform<'r, R: Threads + Wait + Sync>(
 {
     let mut host = host;
     let line = &request.line;
-    let teller = Teller::new(rt, request.progress, most_steps(line));
+    let reporter = ProgressReporter::new(rt, request.progress, most_steps(line));
     host.want(request);
     out.want(request.explain);
     let number = process::id(rt.process());
-    let (status, mut host) = program(threads, rt.alloc(), host, number, line, &teller, out, err);
+    let (status, mut host) = program(threads, rt.alloc(), host, number, line, &reporter, out, err);
     if request.explain || request.json {
-        host.explain(Ended {
+        host.explain(CommandResult {
             line,
             all: request.all,
             status,
-            teller: &teller,
+            reporter: &reporter,
             tail: out.tail(),
             unprinted: out.reason(),
         });
@@ -124,7 +124,7 @@ fn perform<'r, R: Threads + Wait + Sync>(
     (status, host)
 }
 
-/// The most events that the line's run may have.
+/// Returns the maximum number of events of the line's run.
 fn most_steps(line: &Line) -> u32 {
     match line {
         Line::Run { steps, .. } => *steps,
@@ -132,7 +132,7 @@ fn most_steps(line: &Line) -> u32 {
     }
 }
 
-/// Says why the words are no request, and gives the status of that.
+/// Reports why the words are not a request, and returns the status.
 fn decline(rt: &HostRuntime, words: &[Word], fault: LineFault, err: &mut Standard<'_>) -> u8
     requires { Streams.failures_of err.old < u64.MAX }
     ensures { ((result ≡ 2) × (fault ≡ Usage)) ⊎ ((result ≡ 6)
@@ -140,32 +140,34 @@ fn decline(rt: &HostRuntime, words: &[Word], fault: LineFault, err: &mut Standar
         (held (Streams.taken_of err.new) (Streams.failures_of err.new))) }
 {
     match fault {
-        LineFault::Usage => match say_usage(rt, words) {
+        LineFault::Usage => match write_usage(rt, words) {
             Ok(()) => Status::Usage.number(),
-            Err(AllocError) => say_no_memory(err),
+            Err(AllocError) => write_no_memory(err),
         },
-        LineFault::Memory => say_no_memory(err),
+        LineFault::Memory => write_no_memory(err),
     }
 }
 
-/// Says that memory was refused, and gives the status of that.
-fn say_no_memory(err: &mut Standard<'_>) -> u8
+/// Reports an allocation failure, and returns the status.
+fn write_no_memory(err: &mut Standard<'_>) -> u8
     requires { Streams.failures_of err.old < u64.MAX }
     ensures six { result ≡ 6 }
     ensures said { Given (held (Streams.taken_of err.old) (Streams.failures_of err.old)) (trouble_line Memory [])
         (held (Streams.taken_of err.new) (Streams.failures_of err.new)) }
 {
-    let _ = tell(Trouble::Memory, "", err);
+    let _ = write_failure(CommandFailure::Memory, "", err);
     Status::Memory.number()
 }
 
-/// Says which of the words is wrong, and which was meant. Where there are no words, or they ask for help, it says how the program is called;
-/// of words that could not be read it says which is no UTF-8.
-fn say_usage(rt: &HostRuntime, words: &[Word]) -> Result<(), AllocError> {
-    if words.is_empty() && say_foreign(rt)? {
+/// Reports the first wrong word, and the command or option that was probably meant.
+///
+/// Without words, or if they ask for help, the usage is printed. If the words could not be read, the first that is not
+/// valid UTF-8 is reported.
+fn write_usage(rt: &HostRuntime, words: &[Word]) -> Result<(), AllocError> {
+    if words.is_empty() && write_foreign(rt)? {
         return Ok(());
     }
-    // Where this can't be written, the status says enough.
+    // If this cannot be written, the status is enough.
     let Some(wrong) = first_wrong(words) else {
         let _ = eprintln!(rt; "{}", LineFault::Usage);
         return Ok(());

@@ -1,4 +1,4 @@
-//! Standard output, of which the last line is kept where that is wanted.
+//! Standard output that keeps its last line.
 ghost use Rattle.std.specs.Prelude.{◌≡◌, []};
 
 use host::Stream;
@@ -7,21 +7,21 @@ use std::alloc::AllocError;
 use std::io::Error;
 use values::sink::{Sink, SinkFault};
 
-/// The last line of a text that comes in pieces, with the byte that ends it.
+/// The last line of a text that arrives in pieces, including its newline.
 #[derive(Drop)]
-pub struct Tail {
+pub struct LastLine {
     wanted: bool,
     bytes: Vec<u8>,
-    /// Memory for it was refused.
+    /// Whether an allocation for the line failed.
     lacks: bool,
 }
 
-impl Tail {
-    /// The last line.
+impl LastLine {
+    /// Returns the last line.
     ///
     /// # Errors
     ///
-    /// `AllocError` where memory for it was refused.
+    /// Returns `AllocError` if an allocation for the line failed.
     pub fn line(&self) -> Result<&[u8], AllocError> {
         if self.lacks {
             Err(AllocError)
@@ -30,7 +30,7 @@ impl Tail {
         }
     }
 
-    /// Takes a piece.
+    /// Updates the last line with the next piece of the text.
     fn keep(&mut self, piece: &[u8]) {
         if !self.wanted || self.lacks || piece.is_empty() {
             return;
@@ -43,7 +43,7 @@ impl Tail {
         }
     }
 
-    /// Adds a piece, or the last line that begins in it.
+    /// Appends a piece, or replaces the line by the last line that begins in the piece.
     fn add(&mut self, piece: &[u8]) -> Result<(), AllocError> {
         match line_in(piece) {
             Some(line) => {
@@ -55,7 +55,7 @@ impl Tail {
     }
 }
 
-/// The last line that begins in a piece behind the end of another, if any.
+/// Returns the last line that begins in a piece after the end of another, if any.
 fn line_in(piece: &[u8]) -> Option<&[u8]> {
     let mut begin = 0;
     for place in 0..piece.len() {
@@ -66,24 +66,24 @@ fn line_in(piece: &[u8]) -> Option<&[u8]> {
     if begin > 0 { piece.get(begin..) } else { None }
 }
 
-/// Standard output, and the last line that went to it.
+/// Standard output, together with the last line written to it.
 #[derive(Drop)]
 pub struct Output<'r> {
     stream: Standard<'r>,
-    tail: Tail,
+    tail: LastLine,
 }
 
 impl<'r> Output<'r> {
     ghost use Rattle.swt.specs.Outputs.{failures_of, taken_of};
 
-    /// Keeps nothing.
+    /// Creates the output. The last line is not kept until `want` is called.
     pub fn new(rt: &'r HostRuntime) -> Output<'r>
         ensures taken { taken_of result ≡ [] }
         ensures failures { failures_of result ≡ 0 }
     {
         Output {
             stream: Standard::new(rt, Stream::Out),
-            tail: Tail {
+            tail: LastLine {
                 wanted: false,
                 bytes: Vec::new(rt.alloc()),
                 lacks: false,
@@ -91,7 +91,7 @@ impl<'r> Output<'r> {
         }
     }
 
-    /// Keeps the last line from now on, where that is wanted.
+    /// Sets whether the last line is kept.
     pub fn want(&mut self, wanted: bool)
         ensures taken { taken_of self.new ≡ taken_of self.old }
         ensures failures { failures_of self.new ≡ failures_of self.old }
@@ -99,12 +99,12 @@ impl<'r> Output<'r> {
         self.tail.wanted = wanted;
     }
 
-    /// The last line that was kept.
-    pub fn tail(&self) -> &Tail {
+    /// Returns the last line that was kept.
+    pub fn tail(&self) -> &LastLine {
         &self.tail
     }
 
-    /// Why the last write that failed did, where one failed.
+    /// Returns the error of the last failed write, if any.
     pub fn reason(&self) -> Option<&Error> {
         self.stream.reason()
     }

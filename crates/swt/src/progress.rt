@@ -1,36 +1,36 @@
-//! How far a run or a meaning is, said once a second, and what was left to be done where a run was cut off.
+//! Progress of a run or of the rounds of a meaning, reported once a second.
 
 use board_work::work::{Done, Work};
-use explain_faults::limits::Left;
-use meaning::watch::{Rounds, Watch};
+use explain_faults::limits::LimitCounts;
+use meaning::observer::{RoundObserver, RoundProgress};
 use std::alloc::AllocError;
 use std::sync::atomic::{AtomicU64, Ordering};
 use std::time::Instant;
-use workers::job::{Gate, Progress};
+use workers::gate::{Gate, Progress};
 
-/// Computes each item at once, and says once a second on standard error how far the run or the meaning is, where that is wanted. It keeps what
-/// is left to be done at the limit.
+/// A gate and round observer that computes each item at once. If requested, it reports the progress once a second on
+/// standard error. It also keeps the number of items left at the limit.
 #[derive(Drop)]
-pub struct Teller<'a> {
+pub struct ProgressReporter<'a> {
     rt: &'a HostRuntime,
-    /// When it began, where it is to be said how far it is.
+    /// Start time, if progress is reported.
     start: Option<Instant>,
-    /// In how many of the seconds since then it was said.
+    /// The last second since the start in which progress was reported.
     told: AtomicU64,
-    /// How many events the run may have.
+    /// Maximum number of events of the run.
     limit: usize,
-    /// More than half of the events that were noted.
+    /// A lower bound on the number of noted events, more than half of them.
     events: AtomicU64,
-    /// How many items can begin behind the limit, and how many run.
+    /// Numbers of enabled items and of running items at the limit.
     ready: AtomicU64,
     running: AtomicU64,
 }
 
-impl Teller<'_> {
-    /// Says it from now on, if it is wanted and there is a clock.
-    pub fn new(rt: &HostRuntime, wanted: bool, limit: u32) -> Teller<'_> {
+impl ProgressReporter<'_> {
+    /// Creates a reporter. It reports progress if this is requested and the system has a clock.
+    pub fn new(rt: &HostRuntime, wanted: bool, limit: u32) -> ProgressReporter<'_> {
         let start = if wanted { Instant::now(rt).ok() } else { None };
-        Teller {
+        ProgressReporter {
             rt,
             start,
             told: AtomicU64::new(0),
@@ -41,21 +41,22 @@ impl Teller<'_> {
         }
     }
 
-    /// About how many events the run had: not more, and more than half.
+    /// Returns a lower bound on the number of events of the run, more than half of them.
     pub fn events(&self) -> usize {
         self.events.load(Ordering::SeqCst) as usize
     }
 
-    /// What was left to be done at the limit, where the run met it.
-    pub fn left(&self) -> Left {
-        Left {
+    /// Returns the numbers of items left at the limit, if the run met it.
+    pub fn left(&self) -> LimitCounts {
+        LimitCounts {
             events: self.limit,
             ready: self.ready.load(Ordering::SeqCst) as usize,
             running: self.running.load(Ordering::SeqCst) as usize,
         }
     }
 
-    /// The second that has begun, if it is to be said how far it is and nothing was said in it: from now on something was.
+    /// Returns the current second and marks it as reported, if progress is requested and has not been reported in this
+    /// second.
     fn next_second(&self) -> Option<u64> {
         let start = self.start.as_ref()?;
         let second = start.elapsed(self.rt).ok()?.as_secs();
@@ -68,7 +69,7 @@ impl Teller<'_> {
         if is_new { Some(second) } else { None }
     }
 
-    /// Says it, in the second of the run that has begun.
+    /// Reports the progress of a run in this second.
     fn tell(&self, second: u64, progress: Progress) {
         let Progress {
             events,
@@ -77,25 +78,25 @@ impl Teller<'_> {
             waiting,
             lines,
         } = progress;
-        // Where this can't be written, the run goes on.
+        // If this cannot be written, the run continues.
         let _ = eprintln!(self.rt;
             "swt: {second} s: {events} events, {lines} lines; items: {ready} ready, {running} running, {waiting} waiting"
         );
     }
 }
 
-impl Gate for Teller<'_> {
+impl Gate for ProgressReporter<'_> {
     fn pass(&self, _worker: u8, work: Work) -> Result<Done, (Work, AllocError)> {
         work.compute()
     }
 
     fn note(&self, progress: Progress) {
         let events = progress.events as u64;
-        // It is written as often as it doubles: all threads read it.
+        // The count is stored only when it doubles, since all threads read it.
         if events / 2 >= self.events.load(Ordering::SeqCst) {
             self.events.store(events, Ordering::SeqCst);
         }
-        // Behind the last event that is allowed all notes are the same.
+        // After the last allowed event all notes are equal.
         if progress.events >= self.limit {
             self.ready.store(progress.ready, Ordering::SeqCst);
             self.running.store(progress.running, Ordering::SeqCst);
@@ -106,11 +107,11 @@ impl Gate for Teller<'_> {
     }
 }
 
-impl Watch for Teller<'_> {
-    fn learn(&self, rounds: Rounds) {
+impl RoundObserver for ProgressReporter<'_> {
+    fn learn(&self, rounds: RoundProgress) {
         if let Some(second) = self.next_second() {
-            let Rounds { done, live } = rounds;
-            // Where this can't be written, the rounds go on.
+            let RoundProgress { done, live } = rounds;
+            // If this cannot be written, the rounds continue.
             let _ = eprintln!(self.rt; "swt: {second} s: {done} rounds, {live} statements live");
         }
     }

@@ -1,49 +1,56 @@
-//! Of which statement the item is whose event is no step, and what it waits for.
+//! The statement of the item of an invalid event, and the inputs that the item waits for.
 
 ghost use Rattle.board.specs.Board.{IsWorker};
 
-use crate::items::Items;
-use crate::waiting::{View, say_waits};
+use crate::items::ItemTable;
+use crate::waiting::{ItemContext, write_waits};
 use board::Board;
-use board::refusal::Refusal;
+use board::refusal::BoardRefusal;
 use board_program::program::Program;
 use board_work::work::{Done, Work};
 use compile::compile::{compile, read};
 use compile::fault::CompileFault;
 use explain_blocked::index::ScriptIndex;
-use explain_faults::traces::{NoStep, WhyNot};
-use explain_text::lines::Lines;
+use explain_faults::traces::{InvalidEvent, InvalidReason};
+use explain_text::line_index::LineIndex;
 use explain_text::position::position_of;
 use explain_text::words::add_place;
 use std::alloc::{AllocError, Global};
-use swt_trace::fault::TraceFault;
+use swt_trace::fault::TraceError;
 use swt_trace::read::read_trace;
 use task_code::code::Code;
 use task_code::event::Event;
 
-/// A script and a trace of it: the file's name and bytes, the bytes of the trace, and how many events of it are steps.
+/// A script and its trace: the file name and text, the bytes of the trace, and the number of its valid events.
 #[derive(Clone, Copy, Drop)]
-pub struct Traced<'s> {
+pub struct TracedScript<'s> {
     pub file: &'s str,
     pub text: &'s [u8],
     pub trace: &'s [u8],
     pub count: usize,
 }
 
-/// Words on an item: where its statement stands, and what it waits for. Nothing where there is nothing to be said.
+/// Text about an item: the position of its statement, and the inputs it waits for. Empty if there is nothing to report.
 #[derive(Drop)]
-pub struct Words {
+pub struct ItemText {
     pub statement: Vec<u8>,
     pub waits: Vec<u8>,
 }
 
-/// Words on the item of the first event that is no step.
-pub fn words_on(alloc: Global, script: Traced<'_>, refused: NoStep) -> Result<Words, AllocError> {
-    let mut words = Words {
+/// Returns the text about the item of the first invalid event.
+pub fn words_on(
+    alloc: Global,
+    script: TracedScript<'_>,
+    refused: InvalidEvent,
+) -> Result<ItemText, AllocError> {
+    let mut words = ItemText {
         statement: Vec::new(alloc),
         waits: Vec::new(alloc),
     };
-    if matches!(refused.why, WhyNot::Absent | WhyNot::Faulty) {
+    if matches!(
+        refused.why,
+        InvalidReason::UnknownItem | InvalidReason::AfterFault
+    ) {
         return Ok(words);
     }
     let code = match compile(alloc, alloc, script.text) {
@@ -52,22 +59,22 @@ pub fn words_on(alloc: Global, script: Traced<'_>, refused: NoStep) -> Result<Wo
         Err(_) => return Ok(words),
     };
     let mut board = Board::new(alloc, Program::new(alloc, code)?, u32::MAX)?;
-    let mut items = Items::new(alloc)?;
+    let mut items = ItemTable::new(alloc)?;
     take_all(alloc, &mut board, &mut items, script)?;
     add_words(alloc, &board, &items, script, refused, &mut words)?;
     Ok(words)
 }
 
-/// Does those events of a trace that are steps.
+/// Applies the valid events of a trace.
 fn take_all(
     alloc: Global,
     board: &mut Board,
-    items: &mut Items,
-    script: Traced<'_>,
+    items: &mut ItemTable,
+    script: TracedScript<'_>,
 ) -> Result<(), AllocError> {
     let events = match read_trace(alloc, script.trace) {
         Ok(told) => told.events,
-        Err(TraceFault::Memory) => return Err(AllocError),
+        Err(TraceError::Memory) => return Err(AllocError),
         Err(_) => return Ok(()),
     };
     for i in 0..script.count {
@@ -79,8 +86,8 @@ fn take_all(
     Ok(())
 }
 
-/// Does what an event says, which is a step.
-fn take(board: &mut Board, items: &mut Items, event: Event) -> Result<(), AllocError> {
+/// Applies a valid event.
+fn take(board: &mut Board, items: &mut ItemTable, event: Event) -> Result<(), AllocError> {
     match event {
         Event::Begin { worker, item } if worker < 64 => match board.begin(worker, item) {
             Ok(work) => {
@@ -101,14 +108,19 @@ fn take(board: &mut Board, items: &mut Items, event: Event) -> Result<(), AllocE
     }
 }
 
-fn none_but_memory(refusal: Refusal) -> Result<(), AllocError> {
+fn none_but_memory(refusal: BoardRefusal) -> Result<(), AllocError> {
     match refusal {
-        Refusal::Memory => Err(AllocError),
+        BoardRefusal::Memory => Err(AllocError),
         _ => Ok(()),
     }
 }
 
-fn compute(board: &mut Board, items: &mut Items, worker: u8, work: Work) -> Result<(), AllocError>
+fn compute(
+    board: &mut Board,
+    items: &mut ItemTable,
+    worker: u8,
+    work: Work,
+) -> Result<(), AllocError>
     requires { IsWorker worker }
 {
     match work.compute() {
@@ -120,8 +132,8 @@ fn compute(board: &mut Board, items: &mut Items, worker: u8, work: Work) -> Resu
     }
 }
 
-/// Ends an item, also among those that are followed, where that meets no fault.
-fn end(board: &mut Board, items: &mut Items, worker: u8, done: Done) -> Result<(), AllocError>
+/// Ends an item on the board, and also in the table unless it meets a fault.
+fn end(board: &mut Board, items: &mut ItemTable, worker: u8, done: Done) -> Result<(), AllocError>
     requires { IsWorker worker }
 {
     let number = done.item();
@@ -136,14 +148,14 @@ fn end(board: &mut Board, items: &mut Items, worker: u8, done: Done) -> Result<(
     }
 }
 
-/// Adds the words on an item, where it is followed as the board has it.
+/// Appends the text about an item, if the table agrees with the board about it.
 fn add_words(
     alloc: Global,
     board: &Board,
-    items: &Items,
-    script: Traced<'_>,
-    refused: NoStep,
-    words: &mut Words,
+    items: &ItemTable,
+    script: TracedScript<'_>,
+    refused: InvalidEvent,
+    words: &mut ItemText,
 ) -> Result<(), AllocError> {
     let Some(entry) = items.entry_of(board.code(), refused.item) else {
         return Ok(());
@@ -159,7 +171,7 @@ fn add_words(
         script.file,
         position_of(script.text, at),
     )?;
-    if refused.why == WhyNot::Waits {
+    if refused.why == InvalidReason::ItemWaiting {
         let code = board.code();
         add_waits(
             alloc,
@@ -178,22 +190,22 @@ fn add_waits(
     alloc: Global,
     text: &[u8],
     code: &Code,
-    items: &Items,
+    items: &ItemTable,
     number: u64,
     out: &mut Vec<u8>,
 ) -> Result<(), AllocError> {
     match read(alloc, alloc, text) {
         Ok(flow) => {
             let index = ScriptIndex::new(alloc, &flow)?;
-            let lines = Lines::of(alloc, text)?;
-            let view = View {
+            let lines = LineIndex::of(alloc, text)?;
+            let view = ItemContext {
                 alloc,
                 lines: &lines,
                 index: &index,
                 code,
                 items,
             };
-            say_waits(&view, out, number)
+            write_waits(&view, out, number)
         }
         Err(CompileFault::Memory) => Err(AllocError),
         Err(_) => Ok(()),

@@ -20,7 +20,7 @@ use Rattle.clap.specs.declared.error.kind.ErrorKind.TheVariants as kind
 use Rattle.swt_arguments.specs.declared.command.Command.{Command}
 use Rattle.swt_arguments.specs.declared.command.Command.TheVariants.{Check, Mean, Code, Run, Replay}
 use Rattle.swt_arguments.specs.Commands.{has_option, options_of}
-use Rattle.swt_numbers.specs.Numbers.{number_given}
+use Rattle.swt_arguments.specs.Numbers.{number_given}
 use Rattle.swt_arguments.specs.Words.{Answers, well_formed, files_in, input_once, only, written, values_of}
 use Rattle.swt_arguments.specs.Lines.{command_line, formed_line, run_line}
 use Rattle.swt_arguments.specs.Reader.{Holds, IsRead, files_given, values_given, refusal, app_with, is_plain}

@@ -15,7 +15,7 @@ command_of w =
     else (if bytes_eq w (codes "replay") then Some Replay
     else None))))
 
--- the options of a command that have a value
+-- the options of a command with a value
 abbrev pub options_of : Command → List (List ℕ)
 options_of Mean = codes "--rounds" ∷ []
 options_of Run = codes "--engines" ∷ codes "--workers" ∷ codes "--steps" ∷ codes "--trace" ∷ []
@@ -23,11 +23,11 @@ options_of Check = []
 options_of Code = []
 options_of Replay = []
 
--- the options by which a command explains, in short or all
+-- the options that request an explanation, in short or in full
 abbrev pub explain_flags : List (List ℕ)
 explain_flags = codes "--explain" ∷ codes "--explain=all" ∷ []
 
--- the options of a command that have no value
+-- the options of a command without a value
 abbrev pub flags_of : Command → List (List ℕ)
 flags_of Code = codes "--dot" ∷ explain_flags
 flags_of Check = codes "--json" ∷ explain_flags
@@ -35,7 +35,7 @@ flags_of Mean = codes "--progress" ∷ explain_flags
 flags_of Run = codes "--progress" ∷ explain_flags
 flags_of Replay = explain_flags
 
--- whether a word is an option of the command that has no value
+-- whether a word is an option of the command without a value
 abbrev pub is_flag : Command → List ℕ → Bool
 is_flag c w = list_any (bytes_eq w) (flags_of c)
 

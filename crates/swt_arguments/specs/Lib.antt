@@ -3,3 +3,4 @@ pub mod Words
 pub mod Lines
 pub mod Requests
 pub mod Reader
+pub mod Numbers

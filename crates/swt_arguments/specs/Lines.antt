@@ -1,10 +1,10 @@
--- The line that the words behind a command give.
+-- The line that the words after a command form.
 use Rattle.std.specs.Prelude.{ℕ, ◌≤◌, List, [], ◌∷◌, ◌++◌, ◌&&◌, false, Option, Some, None, option_and_then, if◌then◌else◌, codes}
 use Rattle.swt_arguments.specs.declared.command.Command.{Command}
 use Rattle.swt_arguments.specs.declared.command.Command.TheVariants as command
 use Rattle.swt_arguments.specs.declared.line.Line.{Line}
 use Rattle.swt_arguments.specs.declared.line.Line.TheVariants.{Check, Mean, Code, Run, Replay}
-use Rattle.swt_numbers.specs.Numbers.{number_given}
+use Rattle.swt_arguments.specs.Numbers.{number_given}
 use Rattle.swt_arguments.specs.Words.{well_formed, files_in, flag_given, input_once, values_of, only, written}
 
 -- `check`, with one or more files
@@ -12,7 +12,7 @@ abbrev pub check_line : List (List ℕ) → Option Line
 check_line [] = None
 check_line (f ∷ fs) = Some (Check (f ∷ fs))
 
--- `mean`, with its file and the rounds that were given
+-- `mean`, with its file and the number of rounds
 abbrev pub mean_line : List (List ℕ) → List (List ℕ) → Option Line
 mean_line files rounds =
     option_and_then (λ file.
@@ -20,11 +20,11 @@ mean_line files rounds =
     (number_given 1 4294967295 1000000 rounds))
     (only files)
 
--- `code`, with its file, and as a graph where `--dot` is given
+-- `code`, with its file, and as a drawing if `--dot` is given
 abbrev pub code_line : List (List ℕ) → ℕ → Option Line
 code_line files dots = option_and_then (λ file. option_and_then (λ dot. Some (Code file dot)) (flag_given dots)) (only files)
 
--- `run`, with its file, and what was given for the engines, the workers, the steps and the trace
+-- `run`, with its file and the values of the engines, the workers, the steps and the trace
 abbrev pub run_line : List (List ℕ) → List (List ℕ) → List (List ℕ) → List (List ℕ) → List (List ℕ) → Option Line
 run_line files engines workers steps trace =
     option_and_then (λ file.
@@ -45,7 +45,7 @@ replay_line (f ∷ []) = None
 replay_line (f ∷ t ∷ []) = Some (Replay f t)
 replay_line (f ∷ t ∷ u ∷ ws) = None
 
--- a command with the words behind it, its files, and so many options that have no value
+-- a command with the words after it, its files, and the number of its options without a value
 abbrev pub command_line : Command → List (List ℕ) → List (List ℕ) → ℕ → Option Line
 command_line command.Check ws files flags = check_line files
 command_line command.Mean ws files flags = mean_line files (values_of (codes "--rounds") false ws)
@@ -54,12 +54,13 @@ command_line command.Run ws files flags = run_line files (values_of (codes "--en
     (values_of (codes "--steps") false ws) (values_of (codes "--trace") false ws)
 command_line command.Replay ws files flags = replay_line files
 
--- the same with these words and the files behind them, where the words are well formed and standard input is named once at most
+-- the line of these words followed by these files, if the words are well formed and standard input is named at most
+-- once
 abbrev pub formed_line : Command → List (List ℕ) → List (List ℕ) → ℕ → Option Line
 formed_line c ws behind flags =
     if well_formed c false ws && input_once (files_in false ws ++ behind) then command_line c ws (files_in false ws ++ behind) flags else None
 
--- the files that a line names to be read, in order
+-- the input files of a line, in order
 abbrev pub files_of : Line → List (List ℕ)
 files_of (Check files) = files
 files_of (Mean file rounds) = file ∷ []

@@ -1,5 +1,5 @@
--- What the words behind the program's name ask for: a line, whether it is to be explained, in short or all, whether it shows how far it is, and whether it tells
--- refusals as JSON.
+-- The request of the words after the program's name: a line, and whether to explain, in short or in full, to show
+-- progress, and to report refusals as JSON.
 use Rattle.std.specs.Prelude.{ℕ, Bool, true, false, List, [], ◌∷◌, Option, Some, None, codes, option_and_then}
 use Rattle.swt_arguments.specs.declared.command.Command.{Command}
 use Rattle.swt_arguments.specs.declared.command.Command.TheVariants.{Check, Mean, Code, Run, Replay}
@@ -8,21 +8,21 @@ use Rattle.swt_arguments.specs.Commands.{command_of}
 use Rattle.swt_arguments.specs.Lines.{formed_line}
 use Rattle.swt_arguments.specs.Words.{all_divided, before_dashes, behind_dashes, flag_given, often, unflagged}
 
--- whether one of two options is given, and none where both are
+-- whether one of two options is given, or none if both are
 abbrev pub one_given : Bool → Bool → Option Bool
 one_given false given = Some given
 one_given true false = Some true
 one_given true true = None
 
--- whether each blocked statement is to be explained, with these words behind a command
+-- whether every blocked statement is to be explained, with these words after a command
 abbrev pub all_given : List (List ℕ) → Option Bool
 all_given ws = flag_given (often (codes "--explain=all") ws)
 
--- whether a command is to explain, in short or all
+-- whether a command is to explain, in short or in full
 abbrev pub explain_given : List (List ℕ) → Option Bool
 explain_given ws = option_and_then (λ short. option_and_then (one_given short) (all_given ws)) (flag_given (often (codes "--explain") ws))
 
--- whether it is to show how far it is; a run does, and a meaning that is worked out
+-- whether to show progress, for `run` and `mean` only
 abbrev pub progress_given : Command → List (List ℕ) → Option Bool
 progress_given Check ws = Some false
 progress_given Mean ws = flag_given (often (codes "--progress") ws)
@@ -30,7 +30,7 @@ progress_given Code ws = Some false
 progress_given Run ws = flag_given (often (codes "--progress") ws)
 progress_given Replay ws = Some false
 
--- whether it is to tell refusals as JSON; only a check does
+-- whether to report refusals as JSON, for `check` only
 abbrev pub json_given : Command → List (List ℕ) → Option Bool
 json_given Check ws = flag_given (often (codes "--json") ws)
 json_given Mean ws = Some false
@@ -38,7 +38,7 @@ json_given Code ws = Some false
 json_given Run ws = Some false
 json_given Replay ws = Some false
 
--- a command with these options and files behind it, and behind those more files
+-- a command with its options and files, followed by more files
 abbrev pub request_with : Command → List (List ℕ) → List (List ℕ) → Option Request
 request_with c ws behind =
     option_and_then (λ line.
@@ -52,11 +52,11 @@ request_with c ws behind =
     (explain_given ws))
     (formed_line c (all_divided c (unflagged c ws)) behind (often (codes "--dot") ws))
 
--- a command with these words behind it
+-- a command with these words after it
 abbrev pub behind_command : Command → List (List ℕ) → Option Request
 behind_command c ws = request_with c (before_dashes ws) (behind_dashes ws)
 
--- the words behind the program's name
+-- the words after the program's name
 abbrev pub request_of : List (List ℕ) → Option Request
 request_of [] = None
 request_of (w ∷ ws) = option_and_then (λ c. behind_command c ws) (command_of w)

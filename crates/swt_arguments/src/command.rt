@@ -1,4 +1,4 @@
-//! The commands.
+//! The commands and their options.
 ghost use Rattle.std.specs.Prelude.{◌≡◌, Some};
 ghost use Rattle.std.specs.List.{list_any};
 ghost use Rattle.std.specs.Str.{bytes_eq};
@@ -6,10 +6,10 @@ ghost use Rattle.swt_arguments.specs.Commands.{command_of, explain_flags, has_op
 
 use crate::words::is;
 
-/// What the program is told to do.
+/// A command of the program.
 #[derive(Clone, Copy, PartialEq, Eq, Debug, Drop)]
 pub enum Command {
-    /// Says of each file whether it is accepted.
+    /// Reports whether each file is accepted.
     Check,
     /// Prints the meaning of a script.
     Mean,
@@ -17,12 +17,12 @@ pub enum Command {
     Code,
     /// Runs a script.
     Run,
-    /// Reports the run that a trace is of.
+    /// Replays a trace and reports the run.
     Replay,
 }
 
 impl Command {
-    /// The command of this name.
+    /// Returns the command of this name.
     pub fn of(word: &str) -> Option<Command>
         ensures { result ≡ command_of word.now }
     {
@@ -41,7 +41,7 @@ impl Command {
         }
     }
 
-    /// Whether a word is an option of the command that has no value.
+    /// Returns true if a word is an option of the command without a value.
     pub fn is_flag(self, word: &str) -> bool
         ensures { result ≡ is_flag self word.now }
     {
@@ -53,7 +53,7 @@ impl Command {
         }
     }
 
-    /// Whether a word is an option of the command that has a value.
+    /// Returns true if a word is an option of the command with a value.
     pub fn has_option(self, word: &str) -> bool
         ensures { result ≡ has_option self word.now }
     {
@@ -69,7 +69,7 @@ impl Command {
         }
     }
 
-    /// Its name.
+    /// Returns the name of the command.
     pub fn name(self) -> &'static str
         ensures { command_of result.now ≡ Some self }
     {
@@ -82,7 +82,7 @@ impl Command {
         }
     }
 
-    /// Its options, those with a value first.
+    /// Returns the options of the command, those with a value first.
     pub fn options(self) -> &'static [&'static str] {
         match self {
             Command::Check => &["--explain", "--json"],
@@ -100,7 +100,7 @@ impl Command {
         }
     }
 
-    /// What it wants behind it, in words.
+    /// Returns the message that states which files the command needs.
     pub fn wanted(self) -> &'static str {
         match self {
             Command::Check => "check wants one file or more",
@@ -112,7 +112,7 @@ impl Command {
     }
 }
 
-/// Whether a word asks for what is explained, in short or all of it.
+/// Returns true if a word is `--explain` or `--explain=all`.
 pub(crate) fn explains(word: &str) -> bool
     ensures { result ≡ list_any (bytes_eq word.now) explain_flags }
 {

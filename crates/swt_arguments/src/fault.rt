@@ -1,17 +1,17 @@
-//! Why a command line was not read.
+//! Errors of reading a command line.
 ghost use Rattle.std.specs.Prelude.{◌≡◌};
 
 use clap::error::ErrorKind;
 use std::alloc::{AllocError, AllocFailed};
 use thiserror::Error;
 
-/// Why a command line was not read.
+/// Why a command line could not be read.
 #[derive(Clone, Copy, PartialEq, Eq, Debug, Drop, Error)]
 pub enum LineFault {
-    /// The words are no command, or they call for help. The text tells how each command is written.
+    /// The words are not a command, or ask for help. The text is the usage of all commands.
     #[error("usage: swt check FILE.. [--explain] [--json]\n       swt mean FILE [--rounds N] [--explain] [--progress]\n       swt code FILE [--dot] [--explain]\n       swt run FILE [--engines N] [--workers N] [--steps N] [--trace FILE] [--explain] [--progress]\n       swt replay FILE TRACE [--explain]\n\ncheck   says of each file whether it is accepted, or the rule that it breaks and where\nmean    prints what the script means, worked out without running it\ncode    lists the code that the script becomes\nrun     runs the script\nreplay  runs the events of a trace again\n\n--rounds N      so many rounds at most: 1 to 4294967295, or 1000000\n--dot           draws the code, as text for dot\n--engines N     threads that open what the script opens: 1 to 63, or 1\n--workers N     threads that compute and print: 1 to 63, or 3; at most 64 of both\n--steps N       so many starts and ends of tasks at most: 0 to 4294967295, or 10000000\n--trace FILE    writes what the run did, for replay; never over the script\n--explain       says on standard error what each refusal, fault and blocked statement means\n--explain=all   the same, and tells each blocked statement, in the order of the lines printed\n--json          says on standard error what each refusal means, as lines of JSON\n--progress      says once a second on standard error how far a run or a meaning is\n--              each word behind it is a file\n-               as a file that is read: standard input\n\nThe status is\n0  accepted, or run to its end with nothing blocked\n1  a script is refused\n2  the words are no command, or ask for more than 64 engines and workers\n3  the script met a fault\n4  statements are blocked: what they wait for never comes\n5  the limit of steps or rounds was met\n6  memory ran out\n7  a file could not be read or written, or is no trace of the script")]
     Usage,
-    /// Memory that was asked for was refused.
+    /// An allocation failed.
     #[error("no memory")]
     Memory,
 }

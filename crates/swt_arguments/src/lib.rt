@@ -1,17 +1,22 @@
-//! The command line of `swt`, read.
+//! Parser of the command line of `swt`.
 //!
-//! `Request::read` takes the words behind the program's own name and gives the command that they are, with its files and
-//! numbers, whether it is to explain and whether it shows how far it is, or `LineFault::Usage`, whose text is the usage. An
-//! option is a word that begins with a dash and has more behind it; its value is the word behind it, or what stands behind
-//! its `=`. Options and files stand in any order; behind a word `--` stand files alone, and the file `-` is standard input.
-//! The words behind the command are read by `clap`, but for those that it would take in ways of its own.
+//! `Request::read` takes the words after the program's own name. It returns the command with its files, numbers and
+//! flags, or `LineFault::Usage`, whose text is the usage.
+//!
+//! An option is a word that begins with a dash and is longer than one character. Its value is the following word, or
+//! the text after its `=`. Options and files may be mixed. All words after a word `--` are files, and the file `-` is
+//! standard input.
+//!
+//! The words after the command are read by `clap`. Words that `clap` would interpret differently are split or refused
+//! before.
 #![tactic(auto)]
 
+pub mod argument_error;
 pub mod command;
-pub mod complaint;
 pub mod fault;
 pub mod line;
 pub mod nearest;
+pub mod option_number;
 mod reading;
 pub mod request;
 pub mod word;

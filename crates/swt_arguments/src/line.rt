@@ -1,6 +1,6 @@
 //! A command with its files and numbers.
 ghost use Rattle.std.specs.Prelude.{◌≡◌, ◌≤◌, ◌++◌, [], ◌∷◌, codes, IfOk};
-ghost use Rattle.swt_numbers.specs.Numbers.{number_given};
+ghost use Rattle.swt_arguments.specs.Numbers.{number_given};
 ghost use Rattle.swt_arguments.specs.Words.{Answers};
 ghost use Rattle.swt_arguments.specs.Reader.{files_given, values_given};
 ghost use Rattle.swt_arguments.specs.Lines.{formed_line, check_line, mean_line, code_line, run_line, replay_line, files_of, IsInRange};
@@ -13,7 +13,7 @@ use clap::ArgMatches;
 use std::alloc::{AllocError, Global};
 use std::marker::Model;
 
-/// The files of a line, in the order in which they were written.
+/// The files of a line, in command-line order.
 #[derive(Drop)]
 pub struct Files {
     names: Vec<Word>,
@@ -38,21 +38,21 @@ impl Files {
 /// A command with its files and numbers.
 #[derive(Drop)]
 pub enum Line {
-    /// Says of each file whether it is accepted.
+    /// Reports whether each file is accepted.
     Check {
         files: Files,
     },
-    /// Prints the meaning of a script, worked out in so many rounds at most.
+    /// Prints the meaning of a script, computed in at most `rounds` rounds.
     Mean {
         file: Word,
         rounds: u32,
     },
-    /// Lists a script's code, or draws it, as text for `dot`.
+    /// Lists a script's code. With `dot`, draws it in the language of `dot` instead.
     Code {
         file: Word,
         dot: bool,
     },
-    /// Runs a script for so many events at most, and writes its trace where a file is named for it.
+    /// Runs a script for at most `steps` events, and writes its trace if a file for it is named.
     Run {
         file: Word,
         engines: u8,
@@ -60,7 +60,7 @@ pub enum Line {
         steps: u32,
         trace: Option<Word>,
     },
-    /// Reports the run of a script that a trace is of.
+    /// Replays a trace of a script and reports the run.
     Replay {
         file: Word,
         trace: Word,
@@ -68,7 +68,7 @@ pub enum Line {
 }
 
 impl Line {
-    /// The files that the line names to be read, in order.
+    /// Returns the input files of the line, in order.
     pub fn files(&self, alloc: Global) -> Result<Vec<Word>, AllocError>
         ensures { IfOk result (λ files. files.items ≡ files_of self.now) }
     {
@@ -104,7 +104,8 @@ fn copies(alloc: Global, words: &[Word]) -> Result<Vec<Word>, AllocError>
     Ok(copies)
 }
 
-/// The line of a command with these words behind it, behind them these files, and so many options that have no value.
+/// Parses the line of a command. `words` are its options and files, `behind` the files after `--`, and `flags` counts
+/// the occurrences of `--dot`.
 pub fn read(
     alloc: Global,
     command: Command,
@@ -129,7 +130,7 @@ pub fn read(
     }
 }
 
-/// The files among the words that were read, and these behind them.
+/// Returns the files among the parsed words, followed by the files after `--`.
 fn all_files(alloc: Global, matches: &ArgMatches, behind: &[Word]) -> Result<Vec<Word>, AllocError>
     ensures { IfOk result (λ files. files.items ≡ files_given matches.now ++ behind.now) }
 {
@@ -177,8 +178,8 @@ fn read_run(alloc: Global, files: &[Word], matches: &ArgMatches) -> Result<Line,
     ensures in_range { IfOk result IsInRange }
 {
     let file = words::only(alloc, files)?;
-    let engines = seats(matches, "--engines", 1)?;
-    let workers = seats(matches, "--workers", 3)?;
+    let engines = thread_count(matches, "--engines", 1)?;
+    let workers = thread_count(matches, "--workers", 3)?;
     let steps = number(matches, "--steps", 0, u32::MAX, 10_000_000)?;
     let trace = words::written(alloc, matches.get_str("--trace"))?;
     Ok(Line::Run {
@@ -203,7 +204,7 @@ fn read_replay(alloc: Global, files: &[Word]) -> Result<Line, LineFault>
     }
 }
 
-/// The number of an option, of 32 bits.
+/// Returns the number given for an option, or its default. `Usage` if the value is not a number in the range.
 fn number(
     matches: &ArgMatches,
     option: &str,
@@ -216,17 +217,19 @@ fn number(
     ensures value { Answers (number_given least most default (values_given matches.now option.now)) result }
     ensures within { IfOk result (λ n. (least ≤ n) × (n ≤ most)) }
 {
-    swt_numbers::number(matches.get_str(option), least, most, default).ok_or(LineFault::Usage)
+    crate::option_number::number(matches.get_str(option), least, most, default).ok_or(
+        LineFault::Usage,
+    )
 }
 
-/// The number of engines or of workers, from 1 to 63.
-fn seats(matches: &ArgMatches, option: &str, default: u8) -> Result<u8, LineFault>
+/// Returns the number of engines or of workers, from 1 to 63, or its default.
+fn thread_count(matches: &ArgMatches, option: &str, default: u8) -> Result<u8, LineFault>
     requires least { 1 ≤ default }
     requires most { default ≤ 63 }
     ensures value { Answers (number_given 1 63 default (values_given matches.now option.now)) result }
     ensures within { IfOk result (λ n. (1 ≤ n) × (n ≤ 63)) }
 {
-    match swt_numbers::number(matches.get_str(option), 1, 63, default as u32) {
+    match crate::option_number::number(matches.get_str(option), 1, 63, default as u32) {
         Some(n) => Ok(n as u8),
         None => Err(LineFault::Usage),
     }

@@ -1,4 +1,4 @@
-//! The words behind a command, read by `clap`.
+//! Parsing of the words after a command with `clap`.
 ghost use Rattle.std.specs.Prelude.{◌≡◌, [], ◌∷◌, IfOk, Some, codes, drop, map, false};
 ghost use Rattle.std.specs.List.{list_all};
 ghost use Rattle.clap.specs.Words.{app_of, with_rule};
@@ -12,8 +12,12 @@ use crate::word::Word;
 use clap::{Arg, ArgAction, ArgMatches};
 use std::alloc::{AllocError, Global};
 
-/// The files and the values of options among the words. `Usage` where a word is an option that the command lacks, or an
-/// option has no value behind it or stands twice.
+/// Parses the files and the option values among the words.
+///
+/// # Errors
+///
+/// Returns `Usage` if a word is an option that the command lacks, or if an option has no value or is repeated. Returns
+/// `Memory` if an allocation fails.
 pub fn read<'a>(
     alloc: Global,
     command: Command,
@@ -33,8 +37,11 @@ fn are_plain(words: &[Word]) -> bool
     words.iter().all(is_plain)
 }
 
-/// Whether the word is a plain one: one that begins with a dash and is longer begins with two, has more behind them, and has
-/// no `=`. Of other words `clap` takes what stands behind `--` for files, and `--option=value` for both.
+/// Returns true if the word is plain: `clap` reads it as the specifications of this crate do.
+///
+/// A word of one byte, or one without a leading dash, is plain. Any other word is plain only if it begins with two
+/// dashes, is longer than these, and has no `=`. `clap` would read a word `--` as the start of files, and split
+/// `--option=value`.
 fn is_plain(word: &Word) -> bool
     ensures { result ≡ is_plain word.now }
 {
@@ -45,7 +52,7 @@ fn is_plain(word: &Word) -> bool
     }
 }
 
-/// What `clap` is told of a command: its options, and that files stand among them.
+/// Creates the `clap` reader of a command: its options, mixed with files.
 fn reader<'a>(alloc: Global, command: Command) -> Result<clap::Command<'a>, AllocError>
     ensures { IfOk result (λ reader. app_of reader ≡ app_with (options_of command)) }
 {
@@ -56,7 +63,7 @@ fn reader<'a>(alloc: Global, command: Command) -> Result<clap::Command<'a>, Allo
     }
 }
 
-/// The reader of files alone.
+/// Creates a reader without options, for files alone.
 fn bare<'a>(alloc: Global) -> Result<clap::Command<'a>, AllocError>
     ensures { IfOk result (λ reader. app_of reader ≡ app_with (options_of Check)) }
 {
@@ -67,30 +74,30 @@ fn bare<'a>(alloc: Global) -> Result<clap::Command<'a>, AllocError>
         .arg(files)
 }
 
-/// The reader of `mean`.
+/// Creates the reader of `mean`.
 fn mean_reader<'a>(alloc: Global) -> Result<clap::Command<'a>, AllocError>
     ensures { IfOk result (λ reader. app_of reader ≡ app_with (options_of Mean)) }
 {
     with_option(alloc, bare(alloc)?, "--rounds", "rounds")
 }
 
-/// The reader of `run`.
+/// Creates the reader of `run`.
 fn run_reader<'a>(alloc: Global) -> Result<clap::Command<'a>, AllocError>
     ensures { IfOk result (λ reader. app_of reader ≡ app_with (options_of Run)) }
 {
-    let steps = with_option(alloc, seats_reader(alloc)?, "--steps", "steps")?;
+    let steps = with_option(alloc, thread_options(alloc)?, "--steps", "steps")?;
     with_option(alloc, steps, "--trace", "trace")
 }
 
-/// The reader of engines and workers.
-fn seats_reader<'a>(alloc: Global) -> Result<clap::Command<'a>, AllocError>
+/// Creates a reader with the options for engines and workers.
+fn thread_options<'a>(alloc: Global) -> Result<clap::Command<'a>, AllocError>
     ensures { IfOk result (λ reader. app_of reader ≡ app_with (codes "--engines" ∷ codes "--workers" ∷ [])) }
 {
     let engines = with_option(alloc, bare(alloc)?, "--engines", "engines")?;
     with_option(alloc, engines, "--workers", "workers")
 }
 
-/// The reader with one more option, of one value; `long` is its name behind the dashes. It may be used once.
+/// Adds an option with one value, which may be used once. `long` is its name without the dashes.
 fn with_option<'a>(
     alloc: Global,
     reader: clap::Command<'a>,
@@ -104,7 +111,7 @@ fn with_option<'a>(
     reader.arg(Arg::new(alloc, name).long(long))
 }
 
-/// The files, in order.
+/// Returns the files, in order.
 pub fn files(alloc: Global, matches: &ArgMatches) -> Result<Vec<Word>, AllocError>
     ensures { IfOk result (λ files. files.items ≡ files_given matches.now) }
 {

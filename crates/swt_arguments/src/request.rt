@@ -1,4 +1,4 @@
-//! The command line, read.
+//! A parsed command line.
 ghost use Rattle.std.specs.Prelude.{◌≡◌, [], ◌∷◌, codes, IfOk, MatchOption};
 ghost use Rattle.swt_arguments.specs.Lines.{formed_line, IsInRange};
 ghost use Rattle.swt_arguments.specs.Requests.{all_given, behind_command, explain_given, json_given, one_given, progress_given, request_of, request_with};
@@ -11,22 +11,26 @@ use crate::word::Word;
 use crate::words::{self, is};
 use std::alloc::{AllocError, Global};
 
-/// What the program is asked for.
+/// The request that a command line makes of the program.
 #[derive(Drop)]
 pub struct Request {
     pub line: Line,
-    /// Whether refusals, faults and blocked statements are to be explained.
+    /// Whether to explain refusals, faults and blocked statements.
     pub explain: bool,
-    /// Whether each blocked statement is.
+    /// Whether to explain every blocked statement.
     pub all: bool,
-    /// Whether a run, or a meaning that is worked out, is to show how far it is.
+    /// Whether to show the progress of a run or of the computation of a meaning.
     pub progress: bool,
-    /// Whether refusals are to be told as JSON.
+    /// Whether to report refusals as JSON.
     pub json: bool,
 }
 
 impl Request {
-    /// What the words ask for, without the program's own name. `Usage` where they are no request.
+    /// Parses the words after the program's own name.
+    ///
+    /// # Errors
+    ///
+    /// Returns `Usage` if the words are not a request, or `Memory` if an allocation fails.
     pub fn read(alloc: Global, words: &[Word]) -> Result<Request, LineFault>
         ensures request { Answers (request_of words.now) result }
         ensures in_range { IfOk result (λ request. IsInRange request.line) }
@@ -49,7 +53,7 @@ fn read_command(alloc: Global, command: Command, words: &[Word]) -> Result<Reque
     read_parts(alloc, command, options.as_slice(), behind_dashes(words))
 }
 
-/// The request of a command with these options and files behind it, and behind those more files.
+/// Parses the request of a command from its options and files and the files after `--`.
 fn read_parts(
     alloc: Global,
     command: Command,
@@ -73,7 +77,7 @@ fn read_parts(
     })
 }
 
-/// The line of a command with these words behind it, and behind them these files.
+/// Parses the line of a command from its options and files and the files after `--`.
 fn read_line(
     alloc: Global,
     command: Command,
@@ -95,7 +99,7 @@ fn read_line(
     )
 }
 
-/// The words in front of the first `--`.
+/// Returns the words before the first `--`.
 fn before_dashes(alloc: Global, words: &[Word]) -> Result<Vec<Word>, AllocError>
     ensures { IfOk result (λ before. before.items ≡ before_dashes words.now) }
 {
@@ -109,7 +113,7 @@ fn before_dashes(alloc: Global, words: &[Word]) -> Result<Vec<Word>, AllocError>
     Ok(before)
 }
 
-/// The words behind the first `--`.
+/// Returns the words after the first `--`.
 fn behind_dashes(words: &[Word]) -> &[Word]
     ensures { result.now ≡ behind_dashes words.now }
 {
@@ -120,7 +124,7 @@ fn behind_dashes(words: &[Word]) -> &[Word]
     }
 }
 
-/// The words, with each value in a word of its own.
+/// Splits each `--option=value` into two words.
 fn all_divided(alloc: Global, command: Command, words: &[Word]) -> Result<Vec<Word>, AllocError>
     ensures { IfOk result (λ parts. parts.items ≡ all_divided command words.now) }
 {
@@ -137,7 +141,7 @@ fn all_divided(alloc: Global, command: Command, words: &[Word]) -> Result<Vec<Wo
     Ok(parts)
 }
 
-/// The option and the value of a word that is `--option=value`.
+/// Splits a word `--option=value` into the option and the value.
 pub(crate) fn divided<'a>(command: Command, word: &'a str) -> Option<(&'a str, &'a str)>
     ensures { MatchOption result (divided command word.entry.now ≡ word.entry.now ∷ [])
         (λ parts. divided command word.entry.now ≡ parts.0.now ∷ parts.1.now ∷ []) }
@@ -153,7 +157,7 @@ pub(crate) fn divided<'a>(command: Command, word: &'a str) -> Option<(&'a str, &
     }
 }
 
-/// The words but for the options that have no value.
+/// Returns the words without the options that have no value.
 fn unflagged(alloc: Global, command: Command, words: &[Word]) -> Result<Vec<Word>, AllocError>
     ensures { IfOk result (λ others. others.items ≡ unflagged command words.now) }
 {
@@ -166,7 +170,7 @@ fn unflagged(alloc: Global, command: Command, words: &[Word]) -> Result<Vec<Word
     Ok(others)
 }
 
-/// Whether it is to explain, in short or all, with these words behind the command.
+/// Returns true if `--explain` or `--explain=all` is given. `Usage` if an option is repeated or both are given.
 fn explains(words: &[Word]) -> Result<bool, LineFault>
     ensures { Answers (explain_given words.now) result }
 {
@@ -175,14 +179,14 @@ fn explains(words: &[Word]) -> Result<bool, LineFault>
     one_given(short, all)
 }
 
-/// Whether it is to explain each blocked statement.
+/// Returns true if `--explain=all` is given. `Usage` if it is repeated.
 fn explains_all(words: &[Word]) -> Result<bool, LineFault>
     ensures { Answers (all_given words.now) result }
 {
     words::flag(words::often("--explain=all", words))
 }
 
-/// Whether one of two options is given. `Usage` where both are.
+/// Returns true if one of two options is given. `Usage` if both are.
 fn one_given(given: bool, other: bool) -> Result<bool, LineFault>
     ensures { Answers (one_given given other) result }
 {
@@ -192,7 +196,7 @@ fn one_given(given: bool, other: bool) -> Result<bool, LineFault>
     Ok(given || other)
 }
 
-/// Whether it is to show how far it is.
+/// Returns true if `--progress` is given to `run` or `mean`. `Usage` if it is repeated.
 fn shows_progress(command: Command, words: &[Word]) -> Result<bool, LineFault>
     ensures { Answers (progress_given command words.now) result }
 {
@@ -202,7 +206,7 @@ fn shows_progress(command: Command, words: &[Word]) -> Result<bool, LineFault>
     }
 }
 
-/// Whether it is to tell refusals as JSON.
+/// Returns true if `--json` is given to `check`. `Usage` if it is repeated.
 fn tells_json(command: Command, words: &[Word]) -> Result<bool, LineFault>
     ensures { Answers (json_given command words.now) result }
 {

@@ -7,7 +7,7 @@ use std::alloc::{AllocError, Global};
 use std::convert::AsStr;
 use std::marker::Model;
 
-/// A word of a command line, of any characters.
+/// A word of a command line, with any characters.
 #[derive(Drop)]
 pub struct Word {
     text: String,
@@ -45,7 +45,7 @@ impl Word {
         self.text.as_str()
     }
 
-    /// Whether the word stands for standard input, where it is a file that is read.
+    /// Returns true if the word denotes standard input when used as an input file.
     pub fn is_standard_input(&self) -> bool
         ensures { result ≡ is_standard_input self.now }
     {

@@ -1,4 +1,4 @@
-//! What an option without a value gives, the only file, the file to be written, and whether a word is another.
+//! Tests and conversions of words: flags, the only file, the output file, and equality.
 ghost use Rattle.std.specs.Prelude.{◌≡◌, option_map, option_to_list};
 ghost use Rattle.std.specs.Str.{bytes_eq};
 ghost use Rattle.swt_arguments.specs.Words.{flag_given, input_once, often, only, written, Answers};
@@ -7,7 +7,7 @@ use crate::fault::LineFault;
 use crate::word::Word;
 use std::alloc::Global;
 
-/// Whether an option without a value is given, where it stands so often. `Usage` where it stands twice.
+/// Converts the number of occurrences of an option without a value. `Usage` if it is repeated.
 pub fn flag(often: usize) -> Result<bool, LineFault>
     ensures { Answers (flag_given often) result }
 {
@@ -18,7 +18,7 @@ pub fn flag(often: usize) -> Result<bool, LineFault>
     }
 }
 
-/// The only file. `Usage` where there is none, or another.
+/// Returns a copy of the only file. `Usage` if there is not exactly one.
 pub fn only(alloc: Global, files: &[Word]) -> Result<Word, LineFault>
     ensures { Answers (only files.now) result }
 {
@@ -28,7 +28,7 @@ pub fn only(alloc: Global, files: &[Word]) -> Result<Word, LineFault>
     }
 }
 
-/// The file to be written, where one is named. `Usage` where it is `-`.
+/// Returns a copy of the name of the output file, if one is given. `Usage` if it is `-`.
 pub fn written(alloc: Global, text: Option<&str>) -> Result<Option<Word>, LineFault>
     ensures { Answers (written (option_to_list (option_map (λ t. t.now) text.entry))) result }
 {
@@ -43,7 +43,7 @@ pub fn written(alloc: Global, text: Option<&str>) -> Result<Option<Word>, LineFa
     }
 }
 
-/// How often an option stands among the words.
+/// Counts the occurrences of an option among the words.
 pub fn often(option: &str, words: &[Word]) -> usize
     ensures { result ≡ often option.now words.now }
 {
@@ -56,14 +56,14 @@ pub fn often(option: &str, words: &[Word]) -> usize
     count
 }
 
-/// Whether standard input is named once at most.
+/// Returns true if standard input is named at most once.
 pub fn input_once(files: &[Word]) -> bool
     ensures { result ≡ input_once files.now }
 {
     often("-", files) <= 1
 }
 
-/// Whether a word is this one.
+/// Returns true if two words are equal.
 pub fn is(word: &str, other: &str) -> bool
     ensures { result ≡ bytes_eq word.now other.now }
 {

@@ -3,7 +3,7 @@ use Rattle.std.proofs.Common.{◌≡◌, ◌∙◌, sym, ap, refl, subst, inl, i
 use Rattle.std.specs.Prelude.{is_some, slice_get}
 use Rattle.task_code.specs.Code.{Code}
 use Rattle.paths.specs.declared.faults.Fault.{Fault}
-use Rattle.paths.specs.declared.statements.Statement.{Statement}
+use Rattle.paths.specs.declared.statements.StatementInstance.{StatementInstance}
 use Rattle.board_runs.specs.declared.report.End.{End}
 use Rattle.board_runs.specs.declared.report.End.TheVariants as Was
 use Rattle.swt_arguments.specs.declared.line.Line.{Line}
@@ -13,9 +13,9 @@ use Rattle.swt_status.specs.Verdicts.{Verdict}
 use Rattle.swt_status.specs.declared.status.Status.{Status}
 use Rattle.swt_status.specs.declared.status.Status.TheVariants as Ends
 use Rattle.swt_status.specs.Statuses.{end_status, number_of}
-use Rattle.swt_status.specs.declared.stop.Stop.{Stop}
-use Rattle.swt_status.specs.declared.trouble.Trouble.{Trouble}
-use Rattle.swt_status.specs.declared.trouble.Trouble.TheVariants as Is
+use Rattle.swt_status.specs.declared.stop.CommandStop.{CommandStop}
+use Rattle.swt_status.specs.declared.failure.CommandFailure.{CommandFailure}
+use Rattle.swt_status.specs.declared.failure.CommandFailure.TheVariants as Is
 use Rattle.swt_status.specs.Troubles.{trouble_status}
 use Rattle.swt_status.specs.Traces.{StopsAtTrace}
 use Rattle.swt_command.specs.Causes.{AsksBadly, SomeRefused}
@@ -33,7 +33,7 @@ IsCause n = (n ≡ 1) ⊎ (n ≡ 2)
 
 -- TROUBLE
 
-refused_only : (t : Trouble) → number_of (trouble_status t) ≡ 1 → (r : Refusal) × (t ≡ Is.Refused r)
+refused_only : (t : CommandFailure) → number_of (trouble_status t) ≡ 1 → (r : Refusal) × (t ≡ Is.Refused r)
 refused_only Is.Unread e = absurd (omega (arith, e))
 refused_only (Is.Refused r) e = (r, refl)
 refused_only (Is.BadLine n) e = absurd (omega (arith, e))
@@ -46,7 +46,7 @@ refused_only Is.Memory e = absurd (omega (arith, e))
 refused_only Is.Unprinted e = absurd (omega (arith, e))
 refused_only Is.Untraced e = absurd (omega (arith, e))
 
-usage_only : (t : Trouble) → number_of (trouble_status t) ≡ 2 → t ≡ Is.BadCount
+usage_only : (t : CommandFailure) → number_of (trouble_status t) ≡ 2 → t ≡ Is.BadCount
 usage_only Is.Unread e = absurd (omega (arith, e))
 usage_only (Is.Refused r) e = absurd (omega (arith, e))
 usage_only (Is.BadLine n) e = absurd (omega (arith, e))
@@ -61,10 +61,10 @@ usage_only Is.Untraced e = absurd (omega (arith, e))
 
 -- STATUSES OF COMMANDS THAT DID NOT STOP
 
-mean_is_none : (bs : List Statement) (fs : List Fault) (enough : Bool) (s : Status) → s ≡ status_by bs fs enough → IsCause (number_of s) → ⊥
+mean_is_none : (bs : List StatementInstance) (fs : List Fault) (enough : Bool) (s : Status) → s ≡ status_by bs fs enough → IsCause (number_of s) → ⊥
 mean_is_none bs fs enough s e h = by bs fs enough (subst (λ (x : Status). IsCause (number_of x)) e h)
   where
-    by : (bs : List Statement) (fs : List Fault) (enough : Bool) → IsCause (number_of (status_by bs fs enough)) → ⊥
+    by : (bs : List StatementInstance) (fs : List Fault) (enough : Bool) → IsCause (number_of (status_by bs fs enough)) → ⊥
     by bs fs false (inl h) = omega (arith, h)
     by bs fs false (inr h) = omega (arith, h)
     by bs (f ∷ fs) true (inl h) = omega (arith, h)
@@ -74,10 +74,10 @@ mean_is_none bs fs enough s e h = by bs fs enough (subst (λ (x : Status). IsCau
     by [] [] true (inl h) = omega (arith, h)
     by [] [] true (inr h) = omega (arith, h)
 
-end_is_none : (end : End) (bs : List Statement) (s : Status) → s ≡ end_status end bs → IsCause (number_of s) → ⊥
+end_is_none : (end : End) (bs : List StatementInstance) (s : Status) → s ≡ end_status end bs → IsCause (number_of s) → ⊥
 end_is_none end bs s e h = by end bs (subst (λ (x : Status). IsCause (number_of x)) e h)
   where
-    by : (end : End) (bs : List Statement) → IsCause (number_of (end_status end bs)) → ⊥
+    by : (end : End) (bs : List StatementInstance) → IsCause (number_of (end_status end bs)) → ⊥
     by (Was.Fault f) bs (inl h) = omega (arith, h)
     by (Was.Fault f) bs (inr h) = omega (arith, h)
     by Was.Quiet [] (inl h) = omega (arith, h)
@@ -110,47 +110,47 @@ no_refused_trace : (source : Option (List ℕ)) (code : Code) (r : Refusal) → 
 no_refused_trace None code r h = h
 no_refused_trace (Some bytes) code r h = h
 
-check_refused : (names : List (List ℕ)) (files : Files) (done : Result Status Stop) (out new : Held) → Checks names files done out new → number_of (status_of done) ≡ 1 → SomeRefused files
+check_refused : (names : List (List ℕ)) (files : Files) (done : Result Status CommandStop) (out new : Held) → Checks names files done out new → number_of (status_of done) ≡ 1 → SomeRefused files
 check_refused names files (Ok status) out new d e =
     let k = refused_place d.0 (ap number_of (sym d.3) ∙ e) in
     let v = d.2.verdicts k.0 (Some k.1) k.2 in
     (k.0, k.1, v.0, v.1, v.2)
 check_refused names files (Err stop) out new d e =
     let k = refused_only stop.trouble e in
-    absurd (not_by_refusal (name_at names stop.place) (source_of files stop.place) k.0 d.3.0 new (subst (λ (t : Trouble). StopsBy (name_at names stop.place) (source_of files stop.place) t d.3.0 new) k.1 d.3.2))
+    absurd (not_by_refusal (name_at names stop.place) (source_of files stop.place) k.0 d.3.0 new (subst (λ (t : CommandFailure). StopsBy (name_at names stop.place) (source_of files stop.place) t d.3.0 new) k.1 d.3.2))
 
-mean_refused : (files : Files) (limit : ℕ) (done : Result Status Stop) (out new : Held) → Means files limit done out new → number_of (status_of done) ≡ 1 → SomeRefused files
+mean_refused : (files : Files) (limit : ℕ) (done : Result Status CommandStop) (out new : Held) → Means files limit done out new → number_of (status_of done) ≡ 1 → SomeRefused files
 mean_refused files limit (Ok status) out new d e = let m = d.1.2 in absurd (mean_is_none m.told.blocked.items m.told.faults.items m.told.enough status m.status_is (inl e))
 mean_refused files limit (Err stop) out new d e =
     let k = refused_only stop.trouble e in
-    let h = (subst (λ (t : Trouble). StopsMean files limit t out new) k.1 d.1).0 in
+    let h = (subst (λ (t : CommandFailure). StopsMean files limit t out new) k.1 d.1).0 in
     (0, k.0, h.0, h.1, h.2)
 
-run_refused : (files : Files) (engines workers steps : ℕ) (wanted : Bool) (done : Result Status Stop) (out out_new trace trace_new : Held) → Runs files engines workers steps wanted done out out_new trace trace_new
+run_refused : (files : Files) (engines workers steps : ℕ) (wanted : Bool) (done : Result Status CommandStop) (out out_new trace trace_new : Held) → Runs files engines workers steps wanted done out out_new trace trace_new
     → number_of (status_of done) ≡ 1 → SomeRefused files
 run_refused files engines workers steps wanted (Ok status) out out_new trace trace_new d e = absurd (end_is_none d.0.end d.0.blocked.items status d.2 (inl e))
 run_refused files engines workers steps wanted (Err stop) out out_new trace trace_new d e =
     let k = refused_only stop.trouble e in
-    at_file files k.0 (subst (λ (t : Trouble). StopsRun files engines workers steps wanted t out out_new trace trace_new) k.1 d.1).0
+    at_file files k.0 (subst (λ (t : CommandFailure). StopsRun files engines workers steps wanted t out out_new trace trace_new) k.1 d.1).0
 
 replay_stop_refused : (files : Files) (place : ℕ) (r : Refusal) (out new : Held) → StopsReplay files place (Is.Refused r) out new → SomeRefused files
 replay_stop_refused files zero r out new h = at_file files r h.0
 replay_stop_refused files (suc zero) r out new h = absurd (no_refused_trace (source_of files 1) h.0.0 r h.0.2)
 replay_stop_refused files (suc (suc n)) r out new h = absurd h.0
 
-replay_refused : (files : Files) (done : Result Status Stop) (out new : Held) → Replays files done out new → number_of (status_of done) ≡ 1 → SomeRefused files
+replay_refused : (files : Files) (done : Result Status CommandStop) (out new : Held) → Replays files done out new → number_of (status_of done) ≡ 1 → SomeRefused files
 replay_refused files (Ok status) out new d e = absurd (end_is_none d.0.end d.0.blocked.items status d.2 (inl e))
 replay_refused files (Err stop) out new d e =
     let k = refused_only stop.trouble e in
-    replay_stop_refused files stop.place k.0 out new (subst (λ (t : Trouble). StopsReplay files stop.place t out new) k.1 d)
+    replay_stop_refused files stop.place k.0 out new (subst (λ (t : CommandFailure). StopsReplay files stop.place t out new) k.1 d)
 
-listing_refused : (files : Files) (done : Result Status Stop) (out new : Held) → Lists files done out new → number_of (status_of done) ≡ 1 → SomeRefused files
+listing_refused : (files : Files) (done : Result Status CommandStop) (out new : Held) → Lists files done out new → number_of (status_of done) ≡ 1 → SomeRefused files
 listing_refused files (Ok status) out new d e = let z : number_of Ends.Done ≡ 1 = ap number_of (sym d.0) ∙ e in absurd (omega (arith, z))
 listing_refused files (Err stop) out new d e =
     let k = refused_only stop.trouble e in
-    at_file files k.0 (subst (λ (t : Trouble). StopsListing files t out new) k.1 d.1).0
+    at_file files k.0 (subst (λ (t : CommandFailure). StopsListing files t out new) k.1 d.1).0
 
-does_refused : (line : Line) (files : Files) (done : Result Status Stop) (out out_new trace trace_new : Held) → Does line files done out out_new trace trace_new → number_of (status_of done) ≡ 1 → SomeRefused files
+does_refused : (line : Line) (files : Files) (done : Result Status CommandStop) (out out_new trace trace_new : Held) → Does line files done out out_new trace trace_new → number_of (status_of done) ≡ 1 → SomeRefused files
 does_refused (Lines.Check names) files done out out_new trace trace_new d e = check_refused names files done out out_new d.0 e
 does_refused (Lines.Mean file rounds) files done out out_new trace trace_new d e = mean_refused files rounds done out out_new d.0 e
 does_refused (Lines.Code file dot) files done out out_new trace trace_new d e = listing_refused files done out out_new d.0 e
@@ -162,26 +162,26 @@ refused_tells line files out out_new err err_new trace trace_new number o e = do
 
 -- USAGE
 
-not_by_usage : (name : List ℕ) (source : Option (List ℕ)) (t : Trouble) (mid new : Held) → t ≡ Is.BadCount → StopsBy name source t mid new → ⊥
-not_by_usage name None t mid new e h = subst (λ (x : Trouble). StopsBy name None x mid new) e h
-not_by_usage name (Some src) t mid new e h = subst (λ (x : Trouble). StopsBy name (Some src) x mid new) e h
+not_by_usage : (name : List ℕ) (source : Option (List ℕ)) (t : CommandFailure) (mid new : Held) → t ≡ Is.BadCount → StopsBy name source t mid new → ⊥
+not_by_usage name None t mid new e h = subst (λ (x : CommandFailure). StopsBy name None x mid new) e h
+not_by_usage name (Some src) t mid new e h = subst (λ (x : CommandFailure). StopsBy name (Some src) x mid new) e h
 
-check_usage : (names : List (List ℕ)) (files : Files) (done : Result Status Stop) (out new : Held) → Checks names files done out new → number_of (status_of done) ≡ 2 → ⊥
+check_usage : (names : List (List ℕ)) (files : Files) (done : Result Status CommandStop) (out new : Held) → Checks names files done out new → number_of (status_of done) ≡ 2 → ⊥
 check_usage names files (Ok status) out new d e = check_is_no_usage d.0 (ap number_of (sym d.3) ∙ e)
 check_usage names files (Err stop) out new d e = not_by_usage (name_at names stop.place) (source_of files stop.place) stop.trouble d.3.0 new (usage_only stop.trouble e) d.3.2
 
-mean_usage : (files : Files) (limit : ℕ) (done : Result Status Stop) (out new : Held) → Means files limit done out new → number_of (status_of done) ≡ 2 → ⊥
+mean_usage : (files : Files) (limit : ℕ) (done : Result Status CommandStop) (out new : Held) → Means files limit done out new → number_of (status_of done) ≡ 2 → ⊥
 mean_usage files limit (Ok status) out new d e = let m = d.1.2 in mean_is_none m.told.blocked.items m.told.faults.items m.told.enough status m.status_is (inr e)
-mean_usage files limit (Err stop) out new d e = (subst (λ (t : Trouble). StopsMean files limit t out new) (usage_only stop.trouble e) d.1).0.2
+mean_usage files limit (Err stop) out new d e = (subst (λ (t : CommandFailure). StopsMean files limit t out new) (usage_only stop.trouble e) d.1).0.2
 
-listing_usage : (files : Files) (done : Result Status Stop) (out new : Held) → Lists files done out new → number_of (status_of done) ≡ 2 → ⊥
+listing_usage : (files : Files) (done : Result Status CommandStop) (out new : Held) → Lists files done out new → number_of (status_of done) ≡ 2 → ⊥
 listing_usage files (Ok status) out new d e = let z : number_of Ends.Done ≡ 2 = ap number_of (sym d.0) ∙ e in omega (arith, z)
-listing_usage files (Err stop) out new d e = (subst (λ (t : Trouble). StopsListing files t out new) (usage_only stop.trouble e) d.1).0.2
+listing_usage files (Err stop) out new d e = (subst (λ (t : CommandFailure). StopsListing files t out new) (usage_only stop.trouble e) d.1).0.2
 
-run_usage : (files : Files) (engines workers steps : ℕ) (wanted : Bool) (done : Result Status Stop) (out out_new trace trace_new : Held) → Runs files engines workers steps wanted done out out_new trace trace_new
+run_usage : (files : Files) (engines workers steps : ℕ) (wanted : Bool) (done : Result Status CommandStop) (out out_new trace trace_new : Held) → Runs files engines workers steps wanted done out out_new trace trace_new
     → number_of (status_of done) ≡ 2 → IsBadCount engines workers
 run_usage files engines workers steps wanted (Ok status) out out_new trace trace_new d e = absurd (end_is_none d.0.end d.0.blocked.items status d.2 (inr e))
-run_usage files engines workers steps wanted (Err stop) out out_new trace trace_new d e = (subst (λ (t : Trouble). StopsRun files engines workers steps wanted t out out_new trace trace_new) (usage_only stop.trouble e) d.1).0.2
+run_usage files engines workers steps wanted (Err stop) out out_new trace trace_new d e = (subst (λ (t : CommandFailure). StopsRun files engines workers steps wanted t out out_new trace trace_new) (usage_only stop.trouble e) d.1).0.2
 
 no_usage_trace : (source : Option (List ℕ)) (code : Code) → StopsAtTrace source code Is.BadCount → ⊥
 no_usage_trace None code h = h
@@ -192,11 +192,11 @@ bad_count_replay files zero out new h = h.0.2
 bad_count_replay files (suc zero) out new h = no_usage_trace (source_of files 1) h.0.0 h.0.2
 bad_count_replay files (suc (suc n)) out new h = h.0
 
-replay_usage : (files : Files) (done : Result Status Stop) (out new : Held) → Replays files done out new → number_of (status_of done) ≡ 2 → ⊥
+replay_usage : (files : Files) (done : Result Status CommandStop) (out new : Held) → Replays files done out new → number_of (status_of done) ≡ 2 → ⊥
 replay_usage files (Ok status) out new d e = end_is_none d.0.end d.0.blocked.items status d.2 (inr e)
-replay_usage files (Err stop) out new d e = bad_count_replay files stop.place out new (subst (λ (t : Trouble). StopsReplay files stop.place t out new) (usage_only stop.trouble e) d)
+replay_usage files (Err stop) out new d e = bad_count_replay files stop.place out new (subst (λ (t : CommandFailure). StopsReplay files stop.place t out new) (usage_only stop.trouble e) d)
 
-does_usage : (line : Line) (files : Files) (done : Result Status Stop) (out out_new trace trace_new : Held) → Does line files done out out_new trace trace_new → number_of (status_of done) ≡ 2 → AsksBadly line
+does_usage : (line : Line) (files : Files) (done : Result Status CommandStop) (out out_new trace trace_new : Held) → Does line files done out out_new trace trace_new → number_of (status_of done) ≡ 2 → AsksBadly line
 does_usage (Lines.Check names) files done out out_new trace trace_new d e = check_usage names files done out out_new d.0 e
 does_usage (Lines.Mean file rounds) files done out out_new trace trace_new d e = mean_usage files rounds done out out_new d.0 e
 does_usage (Lines.Code file dot) files done out out_new trace trace_new d e = listing_usage files done out out_new d.0 e

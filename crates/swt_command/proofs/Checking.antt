@@ -5,7 +5,7 @@ use Rattle.swt_status.specs.declared.refusal.Refusal.{Refusal}
 use Rattle.swt_status.specs.Verdicts.{Verdict}
 use Rattle.swt_status.specs.declared.status.Status.{Status}
 use Rattle.swt_status.specs.declared.status.Status.TheVariants as Ends
-use Rattle.swt_status.specs.declared.trouble.Trouble.{Trouble}
+use Rattle.swt_status.specs.declared.failure.CommandFailure.{CommandFailure}
 use Rattle.swt_command.specs.Checks.{AreVerdicts, Checks, HasVerdict, IsSaid, Judged, StopsBy, after, check_status, verdict_line, verdict_lines}
 use Rattle.swt_command.specs.Files.{Files, name_at, source_of}
 use Rattle.swt_command.specs.Sinks.{Held, Took}
@@ -100,6 +100,6 @@ pub at_last : (names : List (List ℕ)) (files : Files) (place : ℕ) (status : 
     → Checks names files (Ok status) out new
 at_last names files place status out new s e = (s.verdicts, s.count ∙ e, s.judged, s.status_is)
 
-pub at_stop : (names : List (List ℕ)) (files : Files) (place : ℕ) (status : Status) (trouble : Trouble) (out mid new : Held) → SoFar names files place status out mid → place < length names
+pub at_stop : (names : List (List ℕ)) (files : Files) (place : ℕ) (status : Status) (trouble : CommandFailure) (out mid new : Held) → SoFar names files place status out mid → place < length names
     → StopsBy (name_at names place) (source_of files place) trouble mid new → Checks names files (Err (record { place = place; trouble = trouble })) out new
 at_stop names files place status trouble out mid new s l by = (s.verdicts, s.count, l, (mid, s.judged, by))

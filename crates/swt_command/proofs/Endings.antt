@@ -4,7 +4,7 @@ use Rattle.std.proofs.lemmas.Option.{slice_get-get_or}
 use Rattle.std.specs.Prelude.{slice_get}
 use Rattle.dataflow.specs.System.{In}
 use Rattle.paths.specs.declared.faults.Fault.{Fault}
-use Rattle.paths.specs.declared.statements.Statement.{Statement}
+use Rattle.paths.specs.declared.statements.StatementInstance.{StatementInstance}
 use Rattle.board_runs.specs.declared.report.End.{End}
 use Rattle.board_runs.specs.declared.report.End.TheVariants as Was
 use Rattle.board_runs.specs.declared.report.Report.{Report}
@@ -13,11 +13,11 @@ use Rattle.swt_arguments.specs.declared.line.Line.TheVariants as Lines
 use Rattle.swt_status.specs.Verdicts.{Verdict}
 use Rattle.swt_status.specs.declared.status.Status.{Status}
 use Rattle.swt_status.specs.Statuses.{end_status, number_of, report_status}
-use Rattle.swt_status.specs.declared.stop.Stop.{Stop}
+use Rattle.swt_status.specs.declared.stop.CommandStop.{CommandStop}
 use Rattle.swt_status.specs.Troubles.{trouble_status}
-use Rattle.swt_status.specs.declared.trouble.Trouble.{Trouble}
-use Rattle.swt_status.specs.declared.trouble.Trouble.TheVariants as Is
-use Rattle.swt_command.specs.declared.told.Told.{Told}
+use Rattle.swt_status.specs.declared.failure.CommandFailure.{CommandFailure}
+use Rattle.swt_status.specs.declared.failure.CommandFailure.TheVariants as Is
+use Rattle.swt_command.specs.declared.meaning_summary.MeaningSummary.{MeaningSummary}
 use Rattle.swt_command.specs.Causes.{Accepted, AtLimit, Informed, IsDone, LeftBlocked, MetFault, Reported}
 use Rattle.swt_command.specs.Checks.{HasVerdict, Judged, check_status}
 use Rattle.swt_command.specs.Files.{Files}
@@ -30,7 +30,7 @@ use Rattle.swt_command.specs.Sinks.{Held, Took}
 abbrev pub IsEnd : ℕ → Type 0
 IsEnd n = (n ≡ 0) ⊎ ((2 < n) × (n < 6))
 
-not_stopped : (t : Trouble) → IsEnd (number_of (trouble_status t)) → ⊥
+not_stopped : (t : CommandFailure) → IsEnd (number_of (trouble_status t)) → ⊥
 not_stopped Is.Unread (inl e) = omega (arith, e)
 not_stopped Is.Unread (inr h) = omega (arith, h.1)
 not_stopped (Is.Refused r) (inl e) = omega (arith, e)
@@ -58,7 +58,7 @@ not_stopped Is.Untraced (inr h) = omega (arith, h.1)
 module _ (line : Line) (files : Files) (out new : Held) (n : ℕ) where
   data Ended : Type 0 where
     reported : (r : Report) → Reported line files r out new → n ≡ number_of (report_status r) → Ended
-    informed : (t : Told) → Informed line files t out new → n ≡ number_of (mean_status t) → Ended
+    informed : (t : MeaningSummary) → Informed line files t out new → n ≡ number_of (mean_status t) → Ended
     accepted : n ≡ 0 → Accepted line files → Ended
 
 all_accepted : (vs : List Verdict) → IsEnd (number_of (check_status vs)) → (number_of (check_status vs) ≡ 0) × ((place : ℕ) (v : Verdict) → slice_get vs place ≡ Some v → v ≡ None)
@@ -78,7 +78,7 @@ accepted_at names files vs out new j all place l =
     subst (λ (v : Verdict). HasVerdict files place v) (all place (get_or vs place None) e) (j.verdicts place (get_or vs place None) e)
 
 -- a command that is not stopped has printed a report, a meaning, or the word on scripts
-ended : (line : Line) (files : Files) (done : Result Status Stop) (out out_new trace trace_new : Held) → Does line files done out out_new trace trace_new → IsEnd (number_of (status_of done))
+ended : (line : Line) (files : Files) (done : Result Status CommandStop) (out out_new trace trace_new : Held) → Does line files done out out_new trace trace_new → IsEnd (number_of (status_of done))
     → Ended line files out out_new (number_of (status_of done))
 ended (Lines.Check names) files (Ok status) out out_new trace trace_new d h =
     let k = all_accepted d.0.0 (subst (λ (s : Status). IsEnd (number_of s)) d.0.3 h) in
@@ -94,49 +94,49 @@ ended line files (Err stop) out out_new trace trace_new d h = absurd (not_stoppe
 
 -- BY THE NUMBER
 
-end_done : (end : End) (bs : List Statement) → number_of (end_status end bs) ≡ 0 → (end ≡ Was.Quiet) × (bs ≡ [])
+end_done : (end : End) (bs : List StatementInstance) → number_of (end_status end bs) ≡ 0 → (end ≡ Was.Quiet) × (bs ≡ [])
 end_done (Was.Fault f) bs e = absurd (omega (arith, e))
 end_done Was.Quiet [] e = (refl, refl)
 end_done Was.Quiet (b ∷ bs) e = absurd (omega (arith, e))
 end_done Was.Limit bs e = absurd (omega (arith, e))
 
-end_fault : (end : End) (bs : List Statement) → number_of (end_status end bs) ≡ 3 → (f : Fault) × (end ≡ Was.Fault f)
+end_fault : (end : End) (bs : List StatementInstance) → number_of (end_status end bs) ≡ 3 → (f : Fault) × (end ≡ Was.Fault f)
 end_fault (Was.Fault f) bs e = (f, refl)
 end_fault Was.Quiet [] e = absurd (omega (arith, e))
 end_fault Was.Quiet (b ∷ bs) e = absurd (omega (arith, e))
 end_fault Was.Limit bs e = absurd (omega (arith, e))
 
-end_blocked : (end : End) (bs : List Statement) → number_of (end_status end bs) ≡ 4 → (b : Statement) × (end ≡ Was.Quiet) × In b bs
+end_blocked : (end : End) (bs : List StatementInstance) → number_of (end_status end bs) ≡ 4 → (b : StatementInstance) × (end ≡ Was.Quiet) × In b bs
 end_blocked (Was.Fault f) bs e = absurd (omega (arith, e))
 end_blocked Was.Quiet [] e = absurd (omega (arith, e))
 end_blocked Was.Quiet (b ∷ bs) e = (b, refl, inl refl)
 end_blocked Was.Limit bs e = absurd (omega (arith, e))
 
-end_limit : (end : End) (bs : List Statement) → number_of (end_status end bs) ≡ 5 → end ≡ Was.Limit
+end_limit : (end : End) (bs : List StatementInstance) → number_of (end_status end bs) ≡ 5 → end ≡ Was.Limit
 end_limit (Was.Fault f) bs e = absurd (omega (arith, e))
 end_limit Was.Quiet [] e = absurd (omega (arith, e))
 end_limit Was.Quiet (b ∷ bs) e = absurd (omega (arith, e))
 end_limit Was.Limit bs e = refl
 
-told_done : (bs : List Statement) (fs : List Fault) (enough : Bool) → number_of (status_by bs fs enough) ≡ 0 → (enough ≡ true) × (fs ≡ []) × (bs ≡ [])
+told_done : (bs : List StatementInstance) (fs : List Fault) (enough : Bool) → number_of (status_by bs fs enough) ≡ 0 → (enough ≡ true) × (fs ≡ []) × (bs ≡ [])
 told_done bs fs false e = absurd (omega (arith, e))
 told_done bs (f ∷ fs) true e = absurd (omega (arith, e))
 told_done (b ∷ bs) [] true e = absurd (omega (arith, e))
 told_done [] [] true e = (refl, refl, refl)
 
-told_fault : (bs : List Statement) (fs : List Fault) (enough : Bool) → number_of (status_by bs fs enough) ≡ 3 → (f : Fault) × (enough ≡ true) × In f fs
+told_fault : (bs : List StatementInstance) (fs : List Fault) (enough : Bool) → number_of (status_by bs fs enough) ≡ 3 → (f : Fault) × (enough ≡ true) × In f fs
 told_fault bs fs false e = absurd (omega (arith, e))
 told_fault bs (f ∷ fs) true e = (f, refl, inl refl)
 told_fault (b ∷ bs) [] true e = absurd (omega (arith, e))
 told_fault [] [] true e = absurd (omega (arith, e))
 
-told_blocked : (bs : List Statement) (fs : List Fault) (enough : Bool) → number_of (status_by bs fs enough) ≡ 4 → (b : Statement) × (enough ≡ true) × (fs ≡ []) × In b bs
+told_blocked : (bs : List StatementInstance) (fs : List Fault) (enough : Bool) → number_of (status_by bs fs enough) ≡ 4 → (b : StatementInstance) × (enough ≡ true) × (fs ≡ []) × In b bs
 told_blocked bs fs false e = absurd (omega (arith, e))
 told_blocked bs (f ∷ fs) true e = absurd (omega (arith, e))
 told_blocked (b ∷ bs) [] true e = (b, refl, refl, inl refl)
 told_blocked [] [] true e = absurd (omega (arith, e))
 
-told_limit : (bs : List Statement) (fs : List Fault) (enough : Bool) → number_of (status_by bs fs enough) ≡ 5 → enough ≡ false
+told_limit : (bs : List StatementInstance) (fs : List Fault) (enough : Bool) → number_of (status_by bs fs enough) ≡ 5 → enough ≡ false
 told_limit bs fs false e = refl
 told_limit bs (f ∷ fs) true e = absurd (omega (arith, e))
 told_limit (b ∷ bs) [] true e = absurd (omega (arith, e))

@@ -4,7 +4,7 @@ use Rattle.std.proofs.lemmas.Option.{slice_get-get_or}
 use Rattle.std.specs.Prelude.{is_some}
 use Rattle.task_code.specs.Code.{Code as ScriptCode}
 use Rattle.paths.specs.declared.faults.Fault.{Fault}
-use Rattle.paths.specs.declared.statements.Statement.{Statement}
+use Rattle.paths.specs.declared.statements.StatementInstance.{StatementInstance}
 use Rattle.board_runs.specs.declared.report.End.{End}
 use Rattle.board_runs.specs.declared.report.End.TheVariants as Was
 use Rattle.board_runs.specs.declared.report.Report.{Report}
@@ -17,9 +17,9 @@ use Rattle.swt_status.specs.declared.refusal.Refusal.{Refusal}
 use Rattle.swt_status.specs.Verdicts.{Verdict}
 use Rattle.swt_status.specs.declared.status.Status.{Status}
 use Rattle.swt_status.specs.Statuses.{end_status, number_of}
-use Rattle.swt_status.specs.declared.stop.Stop.{Stop}
-use Rattle.swt_status.specs.declared.trouble.Trouble.{Trouble}
-use Rattle.swt_status.specs.declared.trouble.Trouble.TheVariants as Is
+use Rattle.swt_status.specs.declared.stop.CommandStop.{CommandStop}
+use Rattle.swt_status.specs.declared.failure.CommandFailure.{CommandFailure}
+use Rattle.swt_status.specs.declared.failure.CommandFailure.TheVariants as Is
 use Rattle.swt_status.specs.Troubles.{trouble_status}
 use Rattle.swt_status.specs.Traces.{StopsAtTrace}
 use Rattle.swt_command.specs.Causes.{HasFailed, IsReplay, IsRun, LacksMemory, PrintedBefore, no_run, no_thread, no_trace, stranger, unprinted, unread, untraced, wrong_end}
@@ -34,13 +34,13 @@ use Rattle.swt_command.specs.Troubles.{trouble_line}
 
 -- COMMANDS THAT ARE NOT STOPPED
 
-end_below : (end : End) (bs : List Statement) → number_of (end_status end bs) < 6
+end_below : (end : End) (bs : List StatementInstance) → number_of (end_status end bs) < 6
 end_below (Was.Fault f) bs = omega arith
 end_below Was.Quiet [] = omega arith
 end_below Was.Quiet (b ∷ bs) = omega arith
 end_below Was.Limit bs = omega arith
 
-told_below : (bs : List Statement) (fs : List Fault) (enough : Bool) → number_of (status_by bs fs enough) < 6
+told_below : (bs : List StatementInstance) (fs : List Fault) (enough : Bool) → number_of (status_by bs fs enough) < 6
 told_below bs fs false = omega arith
 told_below bs (f ∷ fs) true = omega arith
 told_below (b ∷ bs) [] true = omega arith
@@ -110,7 +110,7 @@ over (Lines.Replay file events) files status out out_new trace trace_new d = rec
 
 module _ (line : Line) (files : Files) where
   -- why, where the first file can be read
-  data Behind : Trouble → Type 0 where
+  data Behind : CommandFailure → Type 0 where
     not_read : (place : ℕ) → place < length (files_of line) → source_of files place ≡ None → Behind Is.Unread
     refused : (r : Refusal) → Behind (Is.Refused r)
     bad_line : (bytes : List ℕ) (n : ℕ) → IsReplay line → source_of files 1 ≡ Some bytes → IsFirstBad bytes n → Behind (Is.BadLine n)
@@ -122,17 +122,17 @@ module _ (line : Line) (files : Files) where
     lacking : Behind Is.Memory
 
   -- why it is stopped but by a write
-  data Reason : Trouble → Type 0 where
+  data Reason : CommandFailure → Type 0 where
     at_first : source_of files 0 ≡ None → Reason Is.Unread
-    behind : {t : Trouble} → (source_of files 0 ≡ None → ⊥) → Behind t → Reason t
+    behind : {t : CommandFailure} → (source_of files 0 ≡ None → ⊥) → Behind t → Reason t
 
   -- so it was stopped
-  data Halted (t : Trouble) (out out_new trace trace_new : Held) : Type 0 where
+  data Halted (t : CommandFailure) (out out_new trace trace_new : Held) : Type 0 where
     lost : t ≡ Is.Unprinted → out.failures < out_new.failures → Halted t out out_new trace trace_new
     lost_trace : t ≡ Is.Untraced → trace.failures < trace_new.failures → Halted t out out_new trace trace_new
     kept : Reason t → PrintedBefore line files out out_new → out_new.failures ≡ out.failures → Kept trace trace_new → Halted t out out_new trace trace_new
 
-  at_file : (t : Trouble) → StopsAt files 0 t → Reason t
+  at_file : (t : CommandFailure) → StopsAt files 0 t → Reason t
   at_file Is.Unread h = at_first h
   at_file (Is.Refused r) h = behind (readable h.1) (refused r)
   at_file (Is.BadLine n) h = absurd h.2
@@ -147,7 +147,7 @@ module _ (line : Line) (files : Files) where
 
 -- MEAN AND CODE
 
-mean_stop : (file : List ℕ) (files : Files) (rounds limit : ℕ) (out new trace trace_new : Held) → Kept trace trace_new → (t : Trouble) → StopsMean files limit t out new
+mean_stop : (file : List ℕ) (files : Files) (rounds limit : ℕ) (out new trace trace_new : Held) → Kept trace trace_new → (t : CommandFailure) → StopsMean files limit t out new
     → Halted (Lines.Mean file rounds) files t out new trace trace_new
 mean_stop file files rounds limit out new trace trace_new k Is.Unread h = kept (at_file (Lines.Mean file rounds) files Is.Unread h.0) h.1 (same h.1) k
 mean_stop file files rounds limit out new trace trace_new k (Is.Refused r) h = kept (at_file (Lines.Mean file rounds) files (Is.Refused r) h.0) h.1 (same h.1) k
@@ -161,7 +161,7 @@ mean_stop file files rounds limit out new trace trace_new k Is.Memory h = kept (
 mean_stop file files rounds limit out new trace trace_new k Is.Unprinted h = lost refl h.3.1
 mean_stop file files rounds limit out new trace trace_new k Is.Untraced h = kept (at_file (Lines.Mean file rounds) files Is.Untraced h.0) h.1 (same h.1) k
 
-listing_stop : (file : List ℕ) (files : Files) (dot : Bool) (out new trace trace_new : Held) → Kept trace trace_new → (t : Trouble) → StopsListing files t out new
+listing_stop : (file : List ℕ) (files : Files) (dot : Bool) (out new trace trace_new : Held) → Kept trace trace_new → (t : CommandFailure) → StopsListing files t out new
     → Halted (Lines.Code file dot) files t out new trace trace_new
 listing_stop file files dot out new trace trace_new k Is.Unread h = kept (at_file (Lines.Code file dot) files Is.Unread h.0) h.1 (same h.1) k
 listing_stop file files dot out new trace trace_new k (Is.Refused r) h = kept (at_file (Lines.Code file dot) files (Is.Refused r) h.0) h.1 (same h.1) k
@@ -178,7 +178,7 @@ listing_stop file files dot out new trace trace_new k Is.Untraced h = kept (at_f
 -- RUN
 
 module _ (file : List ℕ) (files : Files) (engines workers steps : ℕ) (wanted : Option (List ℕ)) where
-  before_run : (t : Trouble) → StopsBeforeRun files engines workers t → Reason (Lines.Run file engines workers steps wanted) files t
+  before_run : (t : CommandFailure) → StopsBeforeRun files engines workers t → Reason (Lines.Run file engines workers steps wanted) files t
   before_run Is.Unread h = at_file (Lines.Run file engines workers steps wanted) files Is.Unread h
   before_run (Is.Refused r) h = at_file (Lines.Run file engines workers steps wanted) files (Is.Refused r) h
   before_run (Is.BadLine n) h = at_file (Lines.Run file engines workers steps wanted) files (Is.BadLine n) h
@@ -191,7 +191,7 @@ module _ (file : List ℕ) (files : Files) (engines workers steps : ℕ) (wanted
   before_run Is.Unprinted h = at_file (Lines.Run file engines workers steps wanted) files Is.Unprinted h
   before_run Is.Untraced h = at_file (Lines.Run file engines workers steps wanted) files Is.Untraced h
 
-  run_stop : (out new trace trace_new : Held) (t : Trouble) → StopsRun files engines workers steps (is_some wanted) t out new trace trace_new
+  run_stop : (out new trace trace_new : Held) (t : CommandFailure) → StopsRun files engines workers steps (is_some wanted) t out new trace trace_new
       → Halted (Lines.Run file engines workers steps wanted) files t out new trace trace_new
   run_stop out new trace trace_new Is.Unread h = kept (before_run Is.Unread h.0) h.1 (same h.1) h.2
   run_stop out new trace trace_new (Is.Refused r) h = kept (before_run (Is.Refused r) h.0) h.1 (same h.1) h.2
@@ -208,7 +208,7 @@ module _ (file : List ℕ) (files : Files) (engines workers steps : ℕ) (wanted
 -- REPLAY
 
 module _ (file events : List ℕ) (files : Files) where
-  at_trace : (code : ScriptCode) → HasCode files 0 code → (source : Option (List ℕ)) → source_of files 1 ≡ source → (t : Trouble) → StopsAtTrace source code t → Behind (Lines.Replay file events) files t
+  at_trace : (code : ScriptCode) → HasCode files 0 code → (source : Option (List ℕ)) → source_of files 1 ≡ source → (t : CommandFailure) → StopsAtTrace source code t → Behind (Lines.Replay file events) files t
   at_trace code has None e Is.Unread h = not_read 1 (omega arith) e
   at_trace code has None e (Is.Refused r) h = absurd h
   at_trace code has None e (Is.BadLine n) h = absurd h
@@ -232,12 +232,12 @@ module _ (file events : List ℕ) (files : Files) where
   at_trace code has (Some bytes) e Is.Unprinted h = absurd h
   at_trace code has (Some bytes) e Is.Untraced h = absurd h
 
-  before_replay : (place : ℕ) (t : Trouble) → StopsBeforeReplay files place t → Reason (Lines.Replay file events) files t
+  before_replay : (place : ℕ) (t : CommandFailure) → StopsBeforeReplay files place t → Reason (Lines.Replay file events) files t
   before_replay zero t h = at_file (Lines.Replay file events) files t h
   before_replay (suc zero) t h = behind (readable h.1.1) (at_trace h.0 h.1 (source_of files 1) refl t h.2)
   before_replay (suc (suc place)) t h = absurd h
 
-  replay_stop : (out new trace trace_new : Held) → Kept trace trace_new → (place : ℕ) (t : Trouble) → StopsReplay files place t out new → Halted (Lines.Replay file events) files t out new trace trace_new
+  replay_stop : (out new trace trace_new : Held) → Kept trace trace_new → (place : ℕ) (t : CommandFailure) → StopsReplay files place t out new → Halted (Lines.Replay file events) files t out new trace trace_new
   replay_stop out new trace trace_new k place Is.Unread h = kept (before_replay place Is.Unread h.0) h.1 (same h.1) k
   replay_stop out new trace trace_new k place (Is.Refused r) h = kept (before_replay place (Is.Refused r) h.0) h.1 (same h.1) k
   replay_stop out new trace trace_new k place (Is.BadLine n) h = kept (before_replay place (Is.BadLine n) h.0) h.1 (same h.1) k
@@ -267,10 +267,10 @@ module _ (names : List (List ℕ)) (files : Files) (vs : List Verdict) (out mid 
       by [] j e = readable e z
       by (v ∷ vs) j e = judged_first names files (v ∷ vs) out mid j (omega arith) z
 
-  check_kept : {t : Trouble} → Reason (Lines.Check names) files t → Kept mid new → Halted (Lines.Check names) files t out new trace trace_new
+  check_kept : {t : CommandFailure} → Reason (Lines.Check names) files t → Kept mid new → Halted (Lines.Check names) files t out new trace trace_new
   check_kept r h = kept r (vs, l, subst (λ (x : Held). Judged names files vs out x) (sym h) j) (same h ∙ j.printed.1) k
 
-  check_stop : (name : List ℕ) (source : Option (List ℕ)) → source_of files (length vs) ≡ source → (t : Trouble) → StopsBy name source t mid new → Halted (Lines.Check names) files t out new trace trace_new
+  check_stop : (name : List ℕ) (source : Option (List ℕ)) → source_of files (length vs) ≡ source → (t : CommandFailure) → StopsBy name source t mid new → Halted (Lines.Check names) files t out new trace trace_new
   check_stop name None e Is.Unread h = check_kept (unread_here e) h
   check_stop name None e (Is.Refused r) h = absurd h
   check_stop name None e (Is.BadLine n) h = absurd h
@@ -294,7 +294,7 @@ module _ (names : List (List ℕ)) (files : Files) (vs : List Verdict) (out mid 
   check_stop name (Some src) e Is.Unprinted h = lost refl (subst (λ (n : ℕ). n < new.failures) j.printed.1 h.2.1)
   check_stop name (Some src) e Is.Untraced h = absurd h
 
-halted : (line : Line) (files : Files) (stop : Stop) (out new trace trace_new : Held) → Does line files (Err stop) out new trace trace_new → Halted line files stop.trouble out new trace trace_new
+halted : (line : Line) (files : Files) (stop : CommandStop) (out new trace trace_new : Held) → Does line files (Err stop) out new trace trace_new → Halted line files stop.trouble out new trace trace_new
 halted (Lines.Check names) files stop out new trace trace_new d =
     let vs = d.0.0 in
     let mid = d.0.3.0 in
@@ -307,13 +307,13 @@ halted (Lines.Replay file events) files stop out new trace trace_new d = replay_
 -- BY THE NUMBER
 
 module _ (line : Line) (files : Files) (out out_new err err_new trace trace_new : Held) where
-  lacks : (t : Trouble) (name : List ℕ) → number_of (trouble_status t) ≡ 6 → Given err (trouble_line t name) err_new → Halted line files t out out_new trace trace_new
+  lacks : (t : CommandFailure) (name : List ℕ) → number_of (trouble_status t) ≡ 6 → Given err (trouble_line t name) err_new → Halted line files t out out_new trace trace_new
       → LacksMemory line files out out_new err err_new trace trace_new
-  lacks t name e says (lost is l) = let z : number_of (trouble_status Is.Unprinted) ≡ 6 = ap (λ (x : Trouble). number_of (trouble_status x)) (sym is) ∙ e in absurd (omega (arith, z))
-  lacks t name e says (lost_trace is l) = let z : number_of (trouble_status Is.Untraced) ≡ 6 = ap (λ (x : Trouble). number_of (trouble_status x)) (sym is) ∙ e in absurd (omega (arith, z))
+  lacks t name e says (lost is l) = let z : number_of (trouble_status Is.Unprinted) ≡ 6 = ap (λ (x : CommandFailure). number_of (trouble_status x)) (sym is) ∙ e in absurd (omega (arith, z))
+  lacks t name e says (lost_trace is l) = let z : number_of (trouble_status Is.Untraced) ≡ 6 = ap (λ (x : CommandFailure). number_of (trouble_status x)) (sym is) ∙ e in absurd (omega (arith, z))
   lacks t name e says (kept r printed same traced) = by r e says
     where
-      behind_by : {t : Trouble} → Behind line files t → number_of (trouble_status t) ≡ 6 → Given err (trouble_line t name) err_new → LacksMemory line files out out_new err err_new trace trace_new
+      behind_by : {t : CommandFailure} → Behind line files t → number_of (trouble_status t) ≡ 6 → Given err (trouble_line t name) err_new → LacksMemory line files out out_new err err_new trace trace_new
       behind_by (not_read place l z) e says = absurd (omega (arith, e))
       behind_by (refused r) e says = absurd (omega (arith, e))
       behind_by (bad_line bytes n is z b) e says = absurd (omega (arith, e))
@@ -324,17 +324,17 @@ module _ (line : Line) (files : Files) (out out_new err err_new trace trace_new 
       behind_by (miscounted code is has) e says = absurd (omega (arith, e))
       behind_by lacking e says = (printed, says, traced)
 
-      by : {t : Trouble} → Reason line files t → number_of (trouble_status t) ≡ 6 → Given err (trouble_line t name) err_new → LacksMemory line files out out_new err err_new trace trace_new
+      by : {t : CommandFailure} → Reason line files t → number_of (trouble_status t) ≡ 6 → Given err (trouble_line t name) err_new → LacksMemory line files out out_new err err_new trace trace_new
       by (at_first z) e says = absurd (omega (arith, e))
       by (behind first b) e says = behind_by b e says
 
-  fails : (t : Trouble) (name : List ℕ) → 0 < length (files_of line) → number_of (trouble_status t) ≡ 7 → Given err (trouble_line t name) err_new → Halted line files t out out_new trace trace_new
+  fails : (t : CommandFailure) (name : List ℕ) → 0 < length (files_of line) → number_of (trouble_status t) ≡ 7 → Given err (trouble_line t name) err_new → Halted line files t out out_new trace trace_new
       → HasFailed line files out out_new err err_new trace trace_new
   fails t name some e says (lost is l) = unprinted l
   fails t name some e says (lost_trace is l) = untraced l
   fails t name some e says (kept r printed same traced) = by r e says
     where
-      behind_by : {t : Trouble} → Behind line files t → number_of (trouble_status t) ≡ 7 → Given err (trouble_line t name) err_new → HasFailed line files out out_new err err_new trace trace_new
+      behind_by : {t : CommandFailure} → Behind line files t → number_of (trouble_status t) ≡ 7 → Given err (trouble_line t name) err_new → HasFailed line files out out_new err err_new trace trace_new
       behind_by (not_read place l z) e says = unread place l z
       behind_by (refused r) e says = absurd (omega (arith, e))
       behind_by (bad_line bytes n is z b) e says = no_trace bytes n is z b
@@ -345,12 +345,12 @@ module _ (line : Line) (files : Files) (out out_new err err_new trace trace_new 
       behind_by (miscounted code is has) e says = stranger code is has (printed, says, traced)
       behind_by lacking e says = absurd (omega (arith, e))
 
-      by : {t : Trouble} → Reason line files t → number_of (trouble_status t) ≡ 7 → Given err (trouble_line t name) err_new → HasFailed line files out out_new err err_new trace trace_new
+      by : {t : CommandFailure} → Reason line files t → number_of (trouble_status t) ≡ 7 → Given err (trouble_line t name) err_new → HasFailed line files out out_new err err_new trace trace_new
       by (at_first z) e says = unread 0 some z
       by (behind first b) e says = behind_by b e says
 
 -- a command that is stopped reads some file
-reads_some : (line : Line) (files : Files) (stop : Stop) (out new trace trace_new : Held) → Does line files (Err stop) out new trace trace_new → 0 < length (files_of line)
+reads_some : (line : Line) (files : Files) (stop : CommandStop) (out new trace trace_new : Held) → Does line files (Err stop) out new trace trace_new → 0 < length (files_of line)
 reads_some (Lines.Check names) files stop out new trace trace_new d = omega (arith, d.0.2)
 reads_some (Lines.Mean file rounds) files stop out new trace trace_new d = omega arith
 reads_some (Lines.Code file dot) files stop out new trace trace_new d = omega arith
@@ -361,7 +361,7 @@ pub memory_tells : (line : Line) (files : Files) (out out_new err err_new trace 
     → LacksMemory line files out out_new err err_new trace trace_new
 memory_tells line files out out_new err err_new trace trace_new number o e = by o.ended o.does o.says (sym o.number_is ∙ e)
   where
-    by : (done : Result Status Stop) → Does line files done out out_new trace trace_new → Says line done err err_new → number_of (status_of done) ≡ 6 → LacksMemory line files out out_new err err_new trace trace_new
+    by : (done : Result Status CommandStop) → Does line files done out out_new trace trace_new → Says line done err err_new → number_of (status_of done) ≡ 6 → LacksMemory line files out out_new err err_new trace trace_new
     by (Ok status) d s e = let k = over line files status out out_new trace trace_new d in absurd (omega (arith, k.low, e))
     by (Err stop) d s e = lacks line files out out_new err err_new trace trace_new stop.trouble (name_at (files_of line) stop.place) e s (halted line files stop out out_new trace trace_new d)
 
@@ -369,7 +369,7 @@ pub failed_tells : (line : Line) (files : Files) (out out_new err err_new trace 
     → HasFailed line files out out_new err err_new trace trace_new
 failed_tells line files out out_new err err_new trace trace_new number o e = by o.ended o.does o.says (sym o.number_is ∙ e)
   where
-    by : (done : Result Status Stop) → Does line files done out out_new trace trace_new → Says line done err err_new → number_of (status_of done) ≡ 7 → HasFailed line files out out_new err err_new trace trace_new
+    by : (done : Result Status CommandStop) → Does line files done out out_new trace trace_new → Says line done err err_new → number_of (status_of done) ≡ 7 → HasFailed line files out out_new err err_new trace trace_new
     by (Ok status) d s e = let k = over line files status out out_new trace trace_new d in absurd (omega (arith, k.low, e))
     by (Err stop) d s e =
         fails line files out out_new err err_new trace trace_new stop.trouble (name_at (files_of line) stop.place) (reads_some line files stop out out_new trace trace_new d) e s
@@ -383,12 +383,12 @@ writes_tell line files out out_new err err_new trace trace_new number o h = o.nu
     neither a b (inl l) = omega (arith, a, l)
     neither a b (inr l) = omega (arith, b, l)
 
-    halt : (t : Trouble) → Halted line files t out out_new trace trace_new → number_of (trouble_status t) ≡ 7
-    halt t (lost is l) = ap (λ (x : Trouble). number_of (trouble_status x)) is
-    halt t (lost_trace is l) = ap (λ (x : Trouble). number_of (trouble_status x)) is
+    halt : (t : CommandFailure) → Halted line files t out out_new trace trace_new → number_of (trouble_status t) ≡ 7
+    halt t (lost is l) = ap (λ (x : CommandFailure). number_of (trouble_status x)) is
+    halt t (lost_trace is l) = ap (λ (x : CommandFailure). number_of (trouble_status x)) is
     halt t (kept r printed a b) = absurd (neither a (same b) h)
 
-    by : (done : Result Status Stop) → Does line files done out out_new trace trace_new → number_of (status_of done) ≡ 7
+    by : (done : Result Status CommandStop) → Does line files done out out_new trace trace_new → number_of (status_of done) ≡ 7
     by (Ok status) d = let k = over line files status out out_new trace trace_new d in absurd (neither k.out_same k.trace_same h)
     by (Err stop) d = halt stop.trouble (halted line files stop out out_new trace trace_new d)
 
@@ -396,15 +396,15 @@ pub unread_tells : (line : Line) (files : Files) (out out_new err err_new trace 
     → 0 < length (files_of line) → source_of files 0 ≡ None → number ≡ 7
 unread_tells line files out out_new err err_new trace trace_new number o some none_there = o.number_is ∙ by o.ended o.does
   where
-    reason : {t : Trouble} → Reason line files t → number_of (trouble_status t) ≡ 7
+    reason : {t : CommandFailure} → Reason line files t → number_of (trouble_status t) ≡ 7
     reason (at_first z) = refl
     reason (behind first b) = absurd (first none_there)
 
-    halt : (t : Trouble) → Halted line files t out out_new trace trace_new → number_of (trouble_status t) ≡ 7
-    halt t (lost is l) = ap (λ (x : Trouble). number_of (trouble_status x)) is
-    halt t (lost_trace is l) = ap (λ (x : Trouble). number_of (trouble_status x)) is
+    halt : (t : CommandFailure) → Halted line files t out out_new trace trace_new → number_of (trouble_status t) ≡ 7
+    halt t (lost is l) = ap (λ (x : CommandFailure). number_of (trouble_status x)) is
+    halt t (lost_trace is l) = ap (λ (x : CommandFailure). number_of (trouble_status x)) is
     halt t (kept r printed a b) = reason r
 
-    by : (done : Result Status Stop) → Does line files done out out_new trace trace_new → number_of (status_of done) ≡ 7
+    by : (done : Result Status CommandStop) → Does line files done out out_new trace trace_new → number_of (status_of done) ≡ 7
     by (Ok status) d = let k = over line files status out out_new trace trace_new d in absurd (k.first some none_there)
     by (Err stop) d = halt stop.trouble (halted line files stop out out_new trace trace_new d)

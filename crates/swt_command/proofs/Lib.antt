@@ -10,3 +10,6 @@ pub mod Refused
 pub mod Reported
 pub mod Sinks
 pub mod Stops
+mod Alike
+mod Texts
+mod ReplayPrinted

@@ -7,9 +7,9 @@ use Rattle.headline.specs.Headline.{script_fault, script_path}
 use Rattle.board.specs.Blocked.{path_of}
 use Rattle.board_effects.specs.Effects.{kind_of_fault}
 use Rattle.paths.specs.declared.faults.Fault.{Fault}
-use Rattle.paths.specs.declared.statements.Statement.{Statement}
+use Rattle.paths.specs.declared.statements.StatementInstance.{StatementInstance}
 use Rattle.swt_arguments.specs.declared.line.Line.TheVariants.{Mean}
-use Rattle.swt_command.specs.declared.told.Told.{Told}
+use Rattle.swt_command.specs.declared.meaning_summary.MeaningSummary.{MeaningSummary}
 use Rattle.swt_command.specs.Causes.{Informed, IsDone, LeftBlocked, MetFault}
 use Rattle.swt_command.specs.Files.{Files}
 use Rattle.swt_command.specs.Means.{AreEnough, AreOutcomes, IsMeaning, IsTold, PrintsMeaning}
@@ -19,7 +19,7 @@ use Rattle.swt_command.proofs.Endings.{blocked_tells, done_tells, fault_tells}
 use Rattle.swt_command.proofs.Enough.{Same, enough, other_way, same_blocked, same_faults, same_lines}
 
 -- the outcomes are those of any knowledge that is the same
-outcomes : (s : Core) (K L : Knowledge) → Same K L → (lines : List (List ℕ)) (bs : List Statement) (fs : List Fault) → AreOutcomes s K lines bs fs → AreOutcomes s L lines bs fs
+outcomes : (s : Core) (K L : Knowledge) → Same K L → (lines : List (List ℕ)) (bs : List StatementInstance) (fs : List Fault) → AreOutcomes s K lines bs fs → AreOutcomes s L lines bs fs
 outcomes s K L e lines bs fs x = record {
   lines_are = same_lines K L e lines x.lines_are;
   lines_in_order = x.lines_in_order;
@@ -31,13 +31,13 @@ outcomes s K L e lines bs fs x = record {
   all_faults = λ kind at path h. x.all_faults kind at path (same_faults L K (other_way K L e) kind at path h);
 }
 
-pub told_meant : (s : Core) (limit : ℕ) (t : Told) → IsTold s limit t → t.enough ≡ true → IsMeaning s t
+pub told_meant : (s : Core) (limit : ℕ) (t : MeaningSummary) → IsTold s limit t → t.enough ≡ true → IsMeaning s t
 told_meant s limit t told is =
     let finished = (subst (λ (x : Bool). AreEnough s told.rounds limit x) is told.are_enough).0 in
     outcomes s (Known s told.rounds) (Meaning s) (enough s told.rounds finished) t.lines.items t.blocked.items t.faults.items told.are_known
 
 module _ (file : List ℕ) (rounds : ℕ) (files : Files) (out new : Held) where
-  whole : (t : Told) → Informed (Mean file rounds) files t out new → t.enough ≡ true → PrintsMeaning files rounds out new
+  whole : (t : MeaningSummary) → Informed (Mean file rounds) files t out new → t.enough ≡ true → PrintsMeaning files rounds out new
   whole t is known = (is.0.0, is.0.1, (t, told_meant is.0.0 rounds t is.0.2 known, known, is.1))
 
   when_done : IsDone (Mean file rounds) files out new → PrintsMeaning files rounds out new

@@ -19,7 +19,7 @@ use Rattle.board_effects.specs.Effects.{kind_of_fault}
 use Rattle.paths.specs.declared.faults.Fault.{Fault}
 use Rattle.paths.specs.declared.faults.FaultKind.{FaultKind}
 use Rattle.paths.specs.declared.faults.FaultKind.TheVariants as Kind
-use Rattle.paths.specs.declared.statements.Statement.{Statement}
+use Rattle.paths.specs.declared.statements.StatementInstance.{StatementInstance}
 use Rattle.paths.specs.declared.steps.Step.{Step}
 use Rattle.paths.specs.Order.{fault_below, fault_number, path_below, same_path, same_statement, statement_below}
 use Rattle.paths.proofs.Orders.{path_order}
@@ -31,7 +31,7 @@ use Rattle.meaning_outcomes.specs.Lists.{IsInOrder}
 use Rattle.meaning_outcomes.specs.Read.{AreBlocked, AreFaults}
 use Rattle.meaning_outcomes.specs.Read as read
 use Rattle.meaning_outcomes.proofs.Steps.{turned}
-use Rattle.swt_command.specs.declared.told.Told.{Told}
+use Rattle.swt_command.specs.declared.meaning_summary.MeaningSummary.{MeaningSummary}
 use Rattle.swt_command.specs.Means.{AreEnough, AreKnown, InFaultOrder, IsTold, behind_it, fault_before}
 
 -- a path's steps, as the script's
@@ -39,7 +39,7 @@ pairs : (p : List Step) → script_path (path_view p) ≡ map meant.step_view p
 pairs [] = refl
 pairs (x ∷ p) = ap (λ (zs : Path). (x.offset, x.key) ∷ zs) (pairs p)
 
-path_is : (b : Statement) → script_path (path_of b) ≡ read.path_of b
+path_is : (b : StatementInstance) → script_path (path_of b) ≡ read.path_of b
 path_is b = turned (λ (s : Places.Step). (s.offset, s.key)) (path_view b.path.items) ∙ ap (λ (zs : Path). reverse zs) (pairs b.path.items)
 
 same_paths : (p q : List Step) → same_path p q ≡ true → reverse (path_view p) ≡ reverse (path_view q)
@@ -47,14 +47,14 @@ same_paths p q h = ap (λ (z : List Step). reverse (path_view z)) (path_order.is
 
 -- STATEMENTS
 
-before_of : (a b : Statement) → statement_below a b ≡ true → comes_before a b
+before_of : (a b : StatementInstance) → statement_below a b ≡ true → comes_before a b
 before_of a b h = by (or_cases (path_below a.path.items b.path.items) (same_path a.path.items b.path.items && nat_lt a.at b.at) h)
   where
     by : (path_below a.path.items b.path.items ≡ true) ⊎ ((same_path a.path.items b.path.items && nat_lt a.at b.at) ≡ true) → comes_before a b
     by (inl l) = inl l
     by (inr m) = let r = and_parts (same_path a.path.items b.path.items) (nat_lt a.at b.at) m in inr (same_paths a.path.items b.path.items r.0, r.1)
 
-in_order : (bs : List Statement) → IsInOrder statement_below bs → InTextOrder bs
+in_order : (bs : List StatementInstance) → IsInOrder statement_below bs → InTextOrder bs
 in_order [] o = tt
 in_order (b ∷ bs) o = (λ d h. before_of b d (o.0 d (from_in d bs h)), in_order bs o.1)
 
@@ -94,7 +94,7 @@ enough_of : (s : Core) (k : Knowledge) (limit : ℕ) → IsKnowledgeOf s k → k
 enough_of s k limit o within exact true e = (o.finished e, within)
 enough_of s k limit o within exact false e = (o.unfinished e, exact e)
 
-known_of : (s : Core) (n : ℕ) (lines : List (List ℕ)) (blocked : List Statement) (faults : List Fault) → Lines (Known s n) lines → IsSorted (slice_cmp nat_cmp) lines
+known_of : (s : Core) (n : ℕ) (lines : List (List ℕ)) (blocked : List StatementInstance) (faults : List Fault) → Lines (Known s n) lines → IsSorted (slice_cmp nat_cmp) lines
     → AreBlocked s (Known s n) blocked → AreFaults (Known s n) faults → AreKnown s n lines blocked faults
 known_of s n lines blocked faults are sorted lb lf = record {
   lines_are = are;
@@ -108,7 +108,7 @@ known_of s n lines blocked faults are sorted lb lf = record {
   all_faults = λ kind at path h. (let c = lf.all kind at path h in (c.0, to_in c.1, same_kind (c.0).kind ∙ c.2, c.3, path_is (c.0).statement ∙ c.4));
 }
 
-pub told_is : (s : Core) (k : Knowledge) (limit : ℕ) (t : Told) → IsKnowledgeOf s k → k.rounds ≤ limit → (k.finished ≡ false → k.rounds ≡ limit) → Lines (Known s k.rounds) t.lines.items
+pub told_is : (s : Core) (k : Knowledge) (limit : ℕ) (t : MeaningSummary) → IsKnowledgeOf s k → k.rounds ≤ limit → (k.finished ≡ false → k.rounds ≡ limit) → Lines (Known s k.rounds) t.lines.items
     → IsSorted (slice_cmp nat_cmp) t.lines.items → AreBlocked s (Known s k.rounds) t.blocked.items → AreFaults (Known s k.rounds) t.faults.items → k.finished ≡ t.enough → IsTold s limit t
 told_is s k limit t o within exact are sorted lb lf enough = record {
   rounds = k.rounds;

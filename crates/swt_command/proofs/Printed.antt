@@ -3,7 +3,7 @@ use Rattle.std.proofs.Common.{◌≡◌, ◌∙◌, sym, ap, refl, inl, inr, ◌
 use Rattle.std.specs.Prelude.{Bool, is_some}
 use Rattle.language.specs.Resolved.{core}
 use Rattle.task_code.specs.Code.{Code}
-use Rattle.paths.specs.declared.statements.Statement.{Statement}
+use Rattle.paths.specs.declared.statements.StatementInstance.{StatementInstance}
 use Rattle.board_runs.specs.declared.report.End.{End}
 use Rattle.board_runs.specs.declared.report.End.TheVariants as Was
 use Rattle.board_runs.specs.declared.report.Report.{Report}
@@ -13,9 +13,9 @@ use Rattle.swt_arguments.specs.declared.line.Line.TheVariants as Lines
 use Rattle.swt_arguments.specs.declared.line.Line.TheVariants.{Run, Replay}
 use Rattle.swt_status.specs.declared.status.Status.{Status}
 use Rattle.swt_status.specs.Statuses.{end_status, number_of}
-use Rattle.swt_status.specs.declared.stop.Stop.{Stop}
-use Rattle.swt_status.specs.declared.trouble.Trouble.{Trouble}
-use Rattle.swt_status.specs.declared.trouble.Trouble.TheVariants as Is
+use Rattle.swt_status.specs.declared.stop.CommandStop.{CommandStop}
+use Rattle.swt_status.specs.declared.failure.CommandFailure.{CommandFailure}
+use Rattle.swt_status.specs.declared.failure.CommandFailure.TheVariants as Is
 use Rattle.swt_status.specs.Troubles.{trouble_status}
 use Rattle.swt_command.specs.Causes.{Reported}
 use Rattle.swt_command.specs.Files.{Files, HasCode}
@@ -33,13 +33,13 @@ is_none_of : (n k : ℕ) → n ≡ k → (k ≡ 0 → ⊥) → (k ≡ 4 → ⊥)
 is_none_of n k e zero four (inl h) = zero (sym e ∙ h)
 is_none_of n k e zero four (inr h) = four (sym e ∙ h)
 
-quiet_end : (e : End) (blocked : List Statement) (n : ℕ) → n ≡ number_of (end_status e blocked) → IsQuiet n → e ≡ Was.Quiet
+quiet_end : (e : End) (blocked : List StatementInstance) (n : ℕ) → n ≡ number_of (end_status e blocked) → IsQuiet n → e ≡ Was.Quiet
 quiet_end (Was.Fault f) blocked n is h = absurd (is_none_of n 3 is (λ x. omega (arith, x)) (λ x. omega (arith, x)) h)
 quiet_end Was.Quiet [] n is h = refl
 quiet_end Was.Quiet (b ∷ bs) n is h = refl
 quiet_end Was.Limit blocked n is h = absurd (is_none_of n 5 is (λ x. omega (arith, x)) (λ x. omega (arith, x)) h)
 
-not_stopped : (t : Trouble) (n : ℕ) → n ≡ number_of (trouble_status t) → IsQuiet n → ⊥
+not_stopped : (t : CommandFailure) (n : ℕ) → n ≡ number_of (trouble_status t) → IsQuiet n → ⊥
 not_stopped Is.Unread n is h = is_none_of n 7 is (λ x. omega (arith, x)) (λ x. omega (arith, x)) h
 not_stopped Is.NoThread n is h = is_none_of n 7 is (λ x. omega (arith, x)) (λ x. omega (arith, x)) h
 not_stopped Is.Stranger n is h = is_none_of n 7 is (λ x. omega (arith, x)) (λ x. omega (arith, x)) h
@@ -56,7 +56,7 @@ whole_printed : (files : Files) (code : Code) (r : Report) (out new : Held) → 
 whole_printed files code r out new (src, read, w) reports took quiet =
     (core w.table w.tree, (src, read, record { table = w.table; tree = w.tree; accepted = w.accepted; is = refl }), (r, quiet, whole_report src code r w reports quiet, took))
 
-run_done : (files : Files) (engines workers steps : ℕ) (wanted : Bool) (done : Result Status Stop) (out out_new trace trace_new : Held) (n : ℕ) → Runs files engines workers steps wanted done out out_new trace trace_new
+run_done : (files : Files) (engines workers steps : ℕ) (wanted : Bool) (done : Result Status CommandStop) (out out_new trace trace_new : Held) (n : ℕ) → Runs files engines workers steps wanted done out out_new trace trace_new
     → n ≡ number_of (status_of done) → IsQuiet n → PrintsWhole files out out_new
 run_done files engines workers steps wanted (Ok status) out out_new trace trace_new n d is h =
     whole_printed files d.1.0 d.0 out out_new d.1.1 (of_threads d.1.0 steps engines workers d.0 d.1.3.0 d.1.3.1) d.3 (quiet_end d.0.end d.0.blocked.items n (is ∙ ap number_of d.2) h)
@@ -67,7 +67,7 @@ pub run_prints : (file : List ℕ) (engines workers steps : ℕ) (wanted : Optio
 run_prints file engines workers steps wanted files out out_new err err_new trace trace_new number o h =
     run_done files engines workers steps (is_some wanted) o.ended out out_new trace trace_new number o.does o.number_is h
 
-replay_done : (files : Files) (done : Result Status Stop) (out out_new : Held) (n : ℕ) → Replays files done out out_new → n ≡ number_of (status_of done) → IsQuiet n → PrintsWhole files out out_new
+replay_done : (files : Files) (done : Result Status CommandStop) (out out_new : Held) (n : ℕ) → Replays files done out out_new → n ≡ number_of (status_of done) → IsQuiet n → PrintsWhole files out out_new
 replay_done files (Ok status) out out_new n d is h =
     whole_printed files d.1.0 d.0 out out_new d.1.1 (of_one d.1.0 _ d.0 d.1.2.2.reports) d.3 (quiet_end d.0.end d.0.blocked.items n (is ∙ ap number_of d.2) h)
 replay_done files (Err stop) out out_new n d is h = absurd (not_stopped stop.trouble n is h)

@@ -55,9 +55,9 @@ one_more C (x ∷ events) e first old new (mid, here, rest) step = (mid, here, o
 -- a run by engines and workers is a run
 pub is_run : (C : Code) (engines workers : ℕ) (events : List Event) (n : ℕ) (st : CodeState) → RunsTo C engines workers events n st → Run C events st
 is_run C e k _ _ _ nothing = refl
-is_run C e k _ _ _ (begins {events = events} {news = n} {w = w} {number = i} {old = old} {new = new} runs step item there is place newly) = one_more C events (Begin w i) (start (code_system C)) old new (is_run C e k events n old runs) step
-is_run C e k _ _ _ (ends {events = events} {news = n} {w = w} {number = i} {old = old} {new = new} runs step theirs newly) = one_more C events (Over w i) (start (code_system C)) old new (is_run C e k events n old runs) step
-is_run C e k _ _ _ (gives_back {events = events} {news = n} {w = w} {number = i} {old = old} {new = new} runs step theirs newly) = one_more C events (Back w i) (start (code_system C)) old new (is_run C e k events n old runs) step
+is_run C e k _ _ _ (begins {events = events} {enabled = n} {w = w} {number = i} {old = old} {new = new} runs step item there is place newly) = one_more C events (Begin w i) (start (code_system C)) old new (is_run C e k events n old runs) step
+is_run C e k _ _ _ (ends {events = events} {enabled = n} {w = w} {number = i} {old = old} {new = new} runs step theirs newly) = one_more C events (Over w i) (start (code_system C)) old new (is_run C e k events n old runs) step
+is_run C e k _ _ _ (gives_back {events = events} {enabled = n} {w = w} {number = i} {old = old} {new = new} runs step theirs newly) = one_more C events (Back w i) (start (code_system C)) old new (is_run C e k events n old runs) step
 
 pub of_threads : (code : Code) (limit engines workers : ℕ) (r : Report) (p : PoolCount) → IsReport code limit engines workers r p → IsOfRun code r
 of_threads code limit engines workers r p t =

@@ -1,9 +1,9 @@
--- What the status of a process alone tells.
+-- The causes that the status of a process alone identifies.
 use Rattle.std.specs.Prelude.{◌≡◌, ◌⊎◌, ℕ, ◌<◌, true, false, List, [], length, Some, None}
 use Rattle.dataflow.specs.System.{In}
 use Rattle.task_code.specs.Code.{Code as ScriptCode}
 use Rattle.paths.specs.declared.faults.Fault.{Fault}
-use Rattle.paths.specs.declared.statements.Statement.{Statement}
+use Rattle.paths.specs.declared.statements.StatementInstance.{StatementInstance}
 use Rattle.board_runs.specs.declared.report.End.TheVariants as Was
 use Rattle.board_runs.specs.declared.report.Report.{Report}
 use Rattle.swt_arguments.specs.Lines.{files_of}
@@ -14,9 +14,9 @@ use Rattle.swt_trace.specs.Report.{ReportText}
 use Rattle.swt_trace.specs.Trace.{IsFirstBad}
 use Rattle.swt_status.specs.declared.refusal.Refusal.{Refusal}
 use Rattle.swt_status.specs.Verdicts.{IsRefusal, Verdict}
-use Rattle.swt_status.specs.declared.trouble.Trouble.{Trouble}
-use Rattle.swt_status.specs.declared.trouble.Trouble.TheVariants as Is
-use Rattle.swt_command.specs.declared.told.Told.{Told}
+use Rattle.swt_status.specs.declared.failure.CommandFailure.{CommandFailure}
+use Rattle.swt_status.specs.declared.failure.CommandFailure.TheVariants as Is
+use Rattle.swt_command.specs.declared.meaning_summary.MeaningSummary.{MeaningSummary}
 use Rattle.swt_command.specs.Checks.{Judged}
 use Rattle.swt_command.specs.Files.{Files, HasCode, source_of}
 use Rattle.swt_command.specs.Listings.{IsAcceptedAt}
@@ -29,7 +29,7 @@ use Rattle.swt_command.specs.Troubles.{trouble_line}
 abbrev pub SomeRefused : Files → Type 0
 SomeRefused files = (place : ℕ) × (r : Refusal) × (src : List ℕ) × (source_of files place ≡ Some src) × IsRefusal src r
 
--- the line asks for no engine, for no worker, or for more of both than there may be
+-- the line requests no engine, no worker, or more of both than allowed
 abbrev pub AsksBadly : Line → Type 0
 AsksBadly (Check names) = ⊥
 AsksBadly (Mean file rounds) = ⊥
@@ -37,61 +37,61 @@ AsksBadly (Code file dot) = ⊥
 AsksBadly (Run file engines workers steps wanted) = IsBadCount engines workers
 AsksBadly (Replay file events) = ⊥
 
--- WHAT WAS PRINTED WHOLE
+-- OUTPUT THAT IS COMPLETE
 
--- this is the report of a run of the script, or of the events of a trace
+-- the report of a run of the script, or of the events of a trace, was printed
 abbrev pub Reported : Line → Files → Report → (out new : Held) → Type 0
 Reported (Run file engines workers steps wanted) files r out new = Ran files engines workers steps r × Took out (ReportText r) new
 Reported (Replay file events) files r out new = Replayed files r × Took out (ReportText r) new
 Reported _ files r out new = ⊥
 
--- this is told of the script
-abbrev pub Informed : Line → Files → Told → (out new : Held) → Type 0
+-- the summary of the script was printed
+abbrev pub Informed : Line → Files → MeaningSummary → (out new : Held) → Type 0
 Informed (Mean file rounds) files t out new = ToldOf files rounds t × Took out (mean_text t rounds) new
 Informed _ files t out new = ⊥
 
--- each of the files is a script
+-- every file is an accepted script
 abbrev pub Accepted : Line → Files → Type 0
 Accepted (Check names) files = (place : ℕ) → place < length names → IsAcceptedAt files place
 Accepted (Code file dot) files = IsAcceptedAt files 0
 Accepted _ files = ⊥
 
--- HOW A COMMAND ENDED THAT WAS NOT STOPPED
+-- ENDS OF COMMANDS THAT WERE NOT STOPPED
 
--- quiet with nothing blocked, without a fault and with nothing blocked, or with scripts alone
+-- a quiet run with nothing blocked, a complete meaning with no fault and nothing blocked, or accepted files
 abbrev pub IsDone : Line → Files → (out new : Held) → Type 0
 IsDone line files out new =
     ((r : Report) × Reported line files r out new × (r.end ≡ Was.Quiet) × (r.blocked.items ≡ []))
-    ⊎ (((t : Told) × Informed line files t out new × (t.enough ≡ true) × (t.faults.items ≡ []) × (t.blocked.items ≡ []))
+    ⊎ (((t : MeaningSummary) × Informed line files t out new × (t.enough ≡ true) × (t.faults.items ≡ []) × (t.blocked.items ≡ []))
     ⊎ Accepted line files)
 
--- in a fault of the run, or with one of the script
+-- a run that ended in a fault, or a complete meaning with a fault
 abbrev pub MetFault : Line → Files → (out new : Held) → Type 0
 MetFault line files out new =
     ((r : Report) × (f : Fault) × Reported line files r out new × (r.end ≡ Was.Fault f))
-    ⊎ ((t : Told) × (f : Fault) × Informed line files t out new × (t.enough ≡ true) × In f t.faults.items)
+    ⊎ ((t : MeaningSummary) × (f : Fault) × Informed line files t out new × (t.enough ≡ true) × In f t.faults.items)
 
--- quiet, or without a fault, with a blocked statement
+-- a quiet run, or a complete meaning without a fault, with a blocked statement
 abbrev pub LeftBlocked : Line → Files → (out new : Held) → Type 0
 LeftBlocked line files out new =
-    ((r : Report) × (b : Statement) × Reported line files r out new × (r.end ≡ Was.Quiet) × In b r.blocked.items)
-    ⊎ ((t : Told) × (b : Statement) × Informed line files t out new × (t.enough ≡ true) × (t.faults.items ≡ []) × In b t.blocked.items)
+    ((r : Report) × (b : StatementInstance) × Reported line files r out new × (r.end ≡ Was.Quiet) × In b r.blocked.items)
+    ⊎ ((t : MeaningSummary) × (b : StatementInstance) × Informed line files t out new × (t.enough ≡ true) × (t.faults.items ≡ []) × In b t.blocked.items)
 
--- behind as many events as were allowed, or as many rounds, which were not enough
+-- the limit of events was reached, or the limit of rounds, which were not enough
 abbrev pub AtLimit : Line → Files → (out new : Held) → Type 0
 AtLimit line files out new =
     ((r : Report) × Reported line files r out new × (r.end ≡ Was.Limit))
-    ⊎ ((t : Told) × Informed line files t out new × (t.enough ≡ false))
+    ⊎ ((t : MeaningSummary) × Informed line files t out new × (t.enough ≡ false))
 
--- WHY A COMMAND WAS STOPPED
+-- CAUSES OF STOPPED COMMANDS
 
--- nothing was printed, but by `check` a line for each of the files before
+-- nothing was printed, except the lines of the preceding files by `check`
 abbrev pub PrintedBefore : Line → Files → (out new : Held) → Type 0
 PrintedBefore (Check names) files out new = (vs : List Verdict) × (length vs < length names) × Judged names files vs out new
 PrintedBefore _ files out new = Kept out new
 
--- this trouble was said, whose line names no file, with nothing else printed and nothing traced
-abbrev pub Stopped : Trouble → Line → Files → (out out_new err err_new trace trace_new : Held) → Type 0
+-- the message of this failure, which names no file, was written; nothing else was printed and nothing traced
+abbrev pub Stopped : CommandFailure → Line → Files → (out out_new err err_new trace trace_new : Held) → Type 0
 Stopped trouble line files out out_new err err_new trace trace_new =
     PrintedBefore line files out out_new × Given err (trouble_line trouble []) err_new × Kept trace trace_new
 
@@ -104,11 +104,12 @@ IsReplay (Replay file events) = Unit {0}
 IsReplay _ = ⊥
 
 module _ (line : Line) (files : Files) (out out_new err err_new trace trace_new : Held) where
-  -- it was stopped for want of memory
+  -- the command was stopped by an allocation failure
   abbrev pub LacksMemory : Type 0
   LacksMemory = Stopped Is.Memory line files out out_new err err_new trace trace_new
 
-  -- a file cannot be read, the second is no trace, none of a run of the script or one that names another end than that run has, a write failed, a thread could not be started, or the counts of threads are not what the board shows
+  -- a file cannot be read, a write failed, a thread could not be started, or the thread counts contradict the board; or
+  -- the second file is not a trace, not a trace of the script, or one with another end than that run
   pub data HasFailed : Type 0 where
     unread : (place : ℕ) → place < length (files_of line) → source_of files place ≡ None → HasFailed
     no_trace : (bytes : List ℕ) (n : ℕ) → IsReplay line → source_of files 1 ≡ Some bytes → IsFirstBad bytes n → HasFailed

@@ -8,3 +8,4 @@ pub mod Owes
 pub mod Runs
 pub mod Sinks
 pub mod Troubles
+pub mod Same

@@ -1,8 +1,8 @@
--- What a sink was given.
+-- The bytes that a sink received.
 use Rattle.std.specs.Prelude.{◌≡◌, ◌⊎◌, ℕ, ◌<◌, List, ◌++◌, Result, Ok, Err}
 use Rattle.values.specs.Sinks.{Beginning}
 
--- what a sink has taken, and how many of its writes have failed
+-- the bytes that a sink has taken, and the number of its failed writes
 pub record Held : Type 0 where
   pub bytes : List ℕ
   pub failures : ℕ
@@ -18,15 +18,15 @@ Kept old new = new ≡ old
 abbrev pub Took : Held → List ℕ → Held → Type 0
 Took old text new = (new.bytes ≡ old.bytes ++ text) × (new.failures ≡ old.failures)
 
--- a write failed: of the text a beginning was taken
+-- a write failed, and a prefix of the text was taken
 abbrev pub Lost : Held → List ℕ → Held → Type 0
 Lost old text new = Beginning old.bytes text new.bytes × (old.failures < new.failures)
 
--- it was taken whole exactly where the answer says so
+-- the text was taken whole exactly if the result is Ok
 abbrev pub Writes : {T E : Type 0} → Result T E → Held → List ℕ → Held → Type 0
 Writes (Ok x) old text new = Took old text new
 Writes (Err e) old text new = Lost old text new
 
--- it was taken whole, or a write failed
+-- the text was taken whole, or a write failed
 abbrev pub Given : Held → List ℕ → Held → Type 0
 Given old text new = Took old text new ⊎ Lost old text new

@@ -1,4 +1,4 @@
--- What is said of trouble on standard error, and the trouble that a refusal or a run without a report is.
+-- The error messages of failures, and the failures of refusals and of runs without a report.
 use Rattle.std.specs.Prelude.{ℕ, List, ◌++◌, Option, Some, None, codes}
 use Rattle.std.specs.Fmt.{decimal}
 use Rattle.swt_trace.specs.Report.{text_line}
@@ -6,11 +6,11 @@ use Rattle.workers.specs.declared.fault.RunFault.{RunFault}
 use Rattle.workers.specs.declared.fault.RunFault.TheVariants as Run
 use Rattle.swt_status.specs.declared.refusal.Refusal.{Refusal}
 use Rattle.swt_status.specs.Names.{refusal_text}
-use Rattle.swt_status.specs.declared.trouble.Trouble.{Trouble}
-use Rattle.swt_status.specs.declared.trouble.Trouble.TheVariants as Is
+use Rattle.swt_status.specs.declared.failure.CommandFailure.{CommandFailure}
+use Rattle.swt_status.specs.declared.failure.CommandFailure.TheVariants as Is
 
--- the line, where the trouble is with a file of this name
-abbrev pub trouble_line : Trouble → List ℕ → List ℕ
+-- the message of a failure at a file of this name
+abbrev pub trouble_line : CommandFailure → List ℕ → List ℕ
 trouble_line Is.Unread file = text_line (codes "swt: cannot read " ++ file)
 trouble_line (Is.Refused r) file = text_line (codes "swt: refused " ++ refusal_text r)
 trouble_line (Is.BadLine n) file = text_line (codes "swt: T1 BadLine " ++ decimal n)
@@ -23,13 +23,13 @@ trouble_line Is.Memory file = text_line (codes "swt: no memory")
 trouble_line Is.Unprinted file = text_line (codes "swt: cannot write")
 trouble_line Is.Untraced file = text_line (codes "swt: cannot write")
 
--- the trouble with a script that is refused so; without a refusal memory was wanting
-abbrev pub trouble_of : Option Refusal → Trouble
+-- the failure of a refused script; without a refusal an allocation failed
+abbrev pub trouble_of : Option Refusal → CommandFailure
 trouble_of None = Is.Memory
 trouble_of (Some r) = Is.Refused r
 
--- the trouble with a run that gives no report
-abbrev pub run_trouble : RunFault → Trouble
+-- the failure of a run without a report
+abbrev pub run_trouble : RunFault → CommandFailure
 run_trouble Run.BadCount = Is.BadCount
 run_trouble Run.Stranger = Is.Stranger
 run_trouble Run.Spawn = Is.NoThread

@@ -1,9 +1,10 @@
-//! The arena that the trees of scripts lie in.
+//! Release of the arena that holds syntax trees.
 
 use bumpalo::Bump;
 use std::alloc::Global;
 
-/// Gives up all that lay in an arena. Where that is refused, because something was left in it, a new arena takes its place.
+/// Releases all allocations of an arena. If the arena refuses to reset because a value still lies in it, a new arena
+/// replaces it.
 pub(crate) fn empty(alloc: Global, arena: &mut Bump) {
     if arena.reset().is_err() {
         *arena = Bump::new(alloc);

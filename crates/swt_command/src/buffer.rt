@@ -1,15 +1,15 @@
-//! A sink in memory.
+//! An in-memory sink.
 ghost use Rattle.std.specs.Prelude.{◌≡◌, []};
 
 use std::alloc::Global;
 use values::sink::{Sink, SinkFault};
 
-/// A sink that keeps what it is given.
+/// A sink that keeps all bytes written to it.
 #[derive(Drop)]
 pub struct Buffer {
-    /// What it was given.
+    /// Bytes written so far.
     pub bytes: Vec<u8>,
-    /// How many writes failed, for want of memory.
+    /// Number of writes that failed because an allocation failed.
     pub failures: u64,
 }
 
@@ -24,7 +24,7 @@ impl Buffer {
         }
     }
 
-    /// What it was given.
+    /// Returns the bytes written so far.
     pub fn bytes(&self) -> &[u8]
         ensures { result.now ≡ self.now.bytes.items }
     {

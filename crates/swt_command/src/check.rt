@@ -1,4 +1,4 @@
-//! Whether files are accepted.
+//! The command `check`: reports whether each file is accepted.
 ghost use Rattle.std.specs.Prelude.{◌≡◌, ◌<◌, ◌++◌, length, Ok, Err, IfOk, MatchResult};
 ghost use Rattle.swt_command.specs.Checks.{Checks, IsSaid, StopsBy, after, verdict_line, verdict_text};
 ghost use Rattle.swt_command.specs.Files.{contents, source_of};
@@ -11,28 +11,30 @@ use arrayvec::ArrayString;
 use bumpalo::Bump;
 use std::alloc::Global;
 use swt_arguments::word::Word;
+use swt_status::failure::CommandFailure;
 use swt_status::refusal::Refusal;
 use swt_status::status::Status;
-use swt_status::stop::Stop;
-use swt_status::trouble::Trouble;
+use swt_status::stop::CommandStop;
 use swt_status::verdict::verdict;
 use values::sink::{Sink, SinkFault};
 
-/// The most bytes of what is said of a file behind its name: `: refused ` and a refusal.
+/// Maximum length in bytes of a verdict after the file name: `: refused ` and a refusal.
 const LONGEST_VERDICT: usize = 80;
 
-/// Says of each file whether it is accepted, up to one that ends it. The tree of each lies in the arena, which is empty behind it.
+/// Writes the verdict of each file, in order, and stops at the first file that fails. The syntax tree of each file lies
+/// in the arena, which is emptied after each file.
 ///
 /// # Errors
 ///
-/// The first file that could not be read, for which memory was refused, or whose line could not be written.
-pub fn check<O: Sink>(
+/// Returns `CommandStop` for the first file that cannot be read, for which an allocation fails, or whose line cannot be
+/// written.
+pub fn check_files<O: Sink>(
     alloc: Global,
     arena: &mut Bump,
     names: &[Word],
     files: &[Option<Vec<u8>>],
     out: &mut O,
-) -> Result<Status, Stop>
+) -> Result<Status, CommandStop>
     requires { O.failures out.old < u64.MAX }
     ensures { Checks names.now (contents files.now) result (held (O.taken out.old) (O.failures out.old))
         (held (O.taken out.new) (O.failures out.new)) }
@@ -41,14 +43,14 @@ pub fn check<O: Sink>(
     for place in 0..names.len() {
         match check_file(alloc, arena, names[place].as_str(), files, place, out) {
             Ok(refusal) => status = after(refusal, status),
-            Err(trouble) => return Err(Stop { place, trouble }),
+            Err(trouble) => return Err(CommandStop { place, trouble }),
         }
         empty(alloc, arena);
     }
     Ok(status)
 }
 
-/// The status behind a file of which this is said.
+/// Returns the status after a file with this verdict.
 pub fn after(refusal: Option<Refusal>, status: Status) -> Status
     ensures { result ≡ after refusal status }
 {
@@ -58,11 +60,13 @@ pub fn after(refusal: Option<Refusal>, status: Status) -> Status
     }
 }
 
-/// Says whether the file of a place is accepted, and gives its refusal. Its tree lies in the arena until the answer.
+/// Writes the verdict of one file and returns its refusal, or `None` if it is accepted. The syntax tree stays in the
+/// arena.
 ///
 /// # Errors
 ///
-/// `Unread`, `Memory`, or `Unprinted` where the line could not be written.
+/// Returns `Unread` if the file could not be read, `Memory` if an allocation fails, or `Unprinted` if the line cannot
+/// be written.
 pub fn check_file<O: Sink>(
     alloc: Global,
     arena: &Bump,
@@ -70,7 +74,7 @@ pub fn check_file<O: Sink>(
     files: &[Option<Vec<u8>>],
     place: usize,
     out: &mut O,
-) -> Result<Option<Refusal>, Trouble>
+) -> Result<Option<Refusal>, CommandFailure>
     requires { O.failures out.old < u64.MAX }
     ensures { MatchResult result
         (λ refusal. IsSaid name.now (contents files.now) place refusal (held (O.taken out.old) (O.failures out.old))
@@ -79,18 +83,18 @@ pub fn check_file<O: Sink>(
         (held (O.taken out.new) (O.failures out.new))) }
 {
     let Ok(source) = source(files, place) else {
-        return Err(Trouble::Unread);
+        return Err(CommandFailure::Unread);
     };
     let Ok(refusal) = verdict(alloc, arena, source) else {
-        return Err(Trouble::Memory);
+        return Err(CommandFailure::Memory);
     };
     match write_verdict(name, refusal, out) {
         Ok(()) => Ok(refusal),
-        Err(SinkFault) => Err(Trouble::Unprinted),
+        Err(SinkFault) => Err(CommandFailure::Unprinted),
     }
 }
 
-/// Writes a file's line.
+/// Writes the verdict line of a file.
 fn write_verdict<O: Sink>(
     name: &str,
     refusal: Option<Refusal>,
@@ -108,7 +112,7 @@ fn write_verdict<O: Sink>(
     )
 }
 
-/// What is said of a file behind its name.
+/// Returns the text of a verdict, which follows the file name.
 fn text_of(refusal: Option<Refusal>) -> ArrayString<LONGEST_VERDICT>
     ensures { result.bytes ≡ verdict_text refusal }
 {

@@ -1,4 +1,4 @@
-//! The listing of a script's code, and its drawing.
+//! The command `code`: prints the listing of a script's code, or its drawing.
 ghost use Rattle.std.specs.Prelude.{◌<◌, ◌≡◌, MatchResult};
 ghost use Rattle.swt_command.specs.Files.{StopsAt, contents};
 ghost use Rattle.swt_command.specs.Listings.{IsAcceptedAt, Lists};
@@ -7,23 +7,25 @@ ghost use Rattle.swt_command.specs.Sinks.{held};
 use crate::scripts::{drawing_of, listing_of};
 use bumpalo::Bump;
 use std::alloc::Global;
+use swt_status::failure::CommandFailure;
 use swt_status::status::Status;
-use swt_status::stop::Stop;
-use swt_status::trouble::Trouble;
+use swt_status::stop::CommandStop;
 use values::sink::{Sink, SinkFault, write_all};
 
-/// Prints the listing of the code of the first file's script, or, where `dot` holds, the same drawn, as text for `dot`.
+/// Prints the listing of the code of the first file's script. With `dot`, prints its drawing in the language of `dot`
+/// instead.
 ///
 /// # Errors
 ///
-/// The script could not be read or was refused, memory was refused, or the text could not be written.
+/// Returns `CommandStop` if the script cannot be read or is refused, an allocation fails, or the text cannot be
+/// written.
 pub fn code<O: Sink>(
     alloc: Global,
     arena: &Bump,
     files: &[Option<Vec<u8>>],
     dot: bool,
     out: &mut O,
-) -> Result<Status, Stop>
+) -> Result<Status, CommandStop>
     requires { O.failures out.old < u64.MAX }
     ensures { Lists (contents files.now) result (held (O.taken out.old) (O.failures out.old))
         (held (O.taken out.new) (O.failures out.new)) }
@@ -31,24 +33,24 @@ pub fn code<O: Sink>(
     let text = text_of(alloc, arena, files, dot)?;
     match write_all(out, text.as_slice()) {
         Ok(()) => Ok(Status::Done),
-        Err(SinkFault) => Err(Stop {
+        Err(SinkFault) => Err(CommandStop {
             place: 0,
-            trouble: Trouble::Unprinted,
+            trouble: CommandFailure::Unprinted,
         }),
     }
 }
 
-/// The listing of the code of the first file's script, or its drawing.
+/// Returns the listing of the code of the first file's script, or its drawing.
 ///
 /// # Errors
 ///
-/// `Unread`, `Refused` or `Memory`.
+/// Returns `Unread`, `Refused` or `Memory`.
 fn text_of(
     alloc: Global,
     arena: &Bump,
     files: &[Option<Vec<u8>>],
     dot: bool,
-) -> Result<Vec<u8>, Stop>
+) -> Result<Vec<u8>, CommandStop>
     ensures { MatchResult result (λ text. IsAcceptedAt (contents files.now) 0)
         (λ stop. (stop.place ≡ 0) × StopsAt (contents files.now) 0 stop.trouble) }
 {

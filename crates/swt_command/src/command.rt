@@ -1,34 +1,36 @@
-//! The commands.
+//! The entry point of all commands.
 ghost use Rattle.std.specs.Prelude.{◌≡◌, ◌<◌, ◌∷◌, []};
 ghost use Rattle.swt_arguments.specs.Lines.{files_of};
 ghost use Rattle.swt_command.specs.Files.{contents, name_at};
 ghost use Rattle.swt_command.specs.Owes.{Does, Owes};
 ghost use Rattle.swt_command.specs.Sinks.{held};
 
-use crate::check::check;
+use crate::check::check_files;
 use crate::code::code;
 use crate::mean::mean;
 use crate::run::{replay, run};
-use crate::trouble::tell;
+use crate::trouble::write_failure;
 use bumpalo::Bump;
-use meaning::watch::Watch;
+use meaning::observer::RoundObserver;
 use std::alloc::Global;
 use std::sync::Wait;
 use std::thread::Threads;
 use swt_arguments::line::Line;
 use swt_arguments::word::Word;
 use swt_status::status::Status;
-use swt_status::stop::Stop;
+use swt_status::stop::CommandStop;
 use values::sink::Sink;
-use workers::job::Gate;
+use workers::gate::Gate;
 
-/// Does the line's command on the bytes of the files that it names to be read, one for each in order, and none for one that
-/// cannot be read. The answer is the status of the process.
+/// Runs the command of the line on its input files and returns the exit status of the process. `files` holds the bytes
+/// of each input file of the line, in order, or `None` for a file that could not be read.
 ///
-/// What the command prints goes to `out`, what it says of its failure to `err`, and the trace of a run, where the line wants
-/// one, to `trace`. Trees of scripts lie in the arena. A write to `err` that fails changes no status. `rt` starts the threads of a run and waits for them; what its
-/// tasks do is computed by the gate, which also learns how far the run is, or how far the rounds are by which a meaning is worked out.
-pub fn command<R: Threads + Wait + Sync, G: Gate + Watch, O: Sink, E: Sink, S: Sink>(
+/// Output goes to `out`, and the error message of a failed command to `err`. The trace of a run goes to `trace` if the
+/// line requests one. Syntax trees lie in the arena. A failed write to `err` does not change the status.
+///
+/// `rt` starts the threads of a run and waits for them. The gate computes the tasks of a run. It also receives the
+/// progress of the run, or of the rounds in which a meaning is computed.
+pub fn command<R: Threads + Wait + Sync, G: Gate + RoundObserver, O: Sink, E: Sink, S: Sink>(
     rt: &R,
     alloc: Global,
     arena: &mut Bump,
@@ -50,14 +52,14 @@ pub fn command<R: Threads + Wait + Sync, G: Gate + Watch, O: Sink, E: Sink, S: S
     match perform(rt, alloc, arena, line, files, gate, out, trace) {
         Ok(status) => status.number(),
         Err(stop) => {
-            let _ = tell(stop.trouble, name_of(line, stop.place), err);
+            let _ = write_failure(stop.trouble, name_of(line, stop.place), err);
             stop.trouble.status().number()
         }
     }
 }
 
-/// Does the line's command.
-fn perform<R: Threads + Wait + Sync, G: Gate + Watch, O: Sink, S: Sink>(
+/// Runs the command of the line.
+fn perform<R: Threads + Wait + Sync, G: Gate + RoundObserver, O: Sink, S: Sink>(
     rt: &R,
     alloc: Global,
     arena: &mut Bump,
@@ -66,7 +68,7 @@ fn perform<R: Threads + Wait + Sync, G: Gate + Watch, O: Sink, S: Sink>(
     gate: &G,
     out: &mut O,
     trace: &mut S,
-) -> Result<Status, Stop>
+) -> Result<Status, CommandStop>
     requires out { O.failures out.old < u64.MAX }
     requires trace { S.failures trace.old < u64.MAX }
     ensures { Does line.now (contents files.now) result
@@ -74,7 +76,7 @@ fn perform<R: Threads + Wait + Sync, G: Gate + Watch, O: Sink, S: Sink>(
         (held (S.taken trace.old) (S.failures trace.old)) (held (S.taken trace.new) (S.failures trace.new)) }
 {
     match line {
-        Line::Check { files: names } => check(alloc, arena, names.as_slice(), files, out),
+        Line::Check { files: names } => check_files(alloc, arena, names.as_slice(), files, out),
         Line::Mean { rounds, .. } => mean(alloc, arena, files, gate, *rounds, out),
         Line::Run {
             engines,
@@ -93,7 +95,7 @@ fn perform<R: Threads + Wait + Sync, G: Gate + Watch, O: Sink, S: Sink>(
     }
 }
 
-/// The name of the file of a place, among those that the line names to be read, and no text where there is none.
+/// Returns the name of the input file at this index, or the empty string if there is none.
 fn name_of(line: &Line, place: usize) -> &str
     ensures { result.now ≡ name_at (files_of line.now) place }
 {
@@ -115,7 +117,7 @@ fn name_of(line: &Line, place: usize) -> &str
     }
 }
 
-/// The name of the file of a place, where there is one file.
+/// Returns the name of the only input file if the index is 0, else the empty string.
 fn first_of(file: &Word, place: usize) -> &str
     ensures { result.now ≡ name_at (file.now ∷ []) place }
 {

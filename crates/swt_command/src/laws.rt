@@ -1,4 +1,4 @@
-//! What a run and what it prints owe to the script.
+//! Theorems about reports, printed output and statuses.
 ghost use Rattle.std.specs.Prelude.{◌≡◌, ◌⊎◌, ◌↔◌, ℕ, ◌<◌, true, List, length, Option, None};
 ghost use Rattle.language.specs.Core.{Core};
 ghost use Rattle.language.specs.Facts.{Fact};
@@ -17,16 +17,17 @@ ghost use Rattle.swt_arguments.specs.declared.line.Line.{Line};
 ghost use Rattle.swt_arguments.specs.declared.line.Line.TheVariants.{Mean, Run, Replay};
 ghost use Rattle.swt_command.specs.Causes.{AsksBadly, AtLimit, HasFailed, IsDone, LacksMemory, LeftBlocked, MetFault, Reported, SomeRefused};
 ghost use Rattle.swt_command.specs.Files.{Files, source_of};
-ghost use Rattle.swt_command.specs.declared.told.Told.{Told};
+ghost use Rattle.swt_command.specs.declared.meaning_summary.MeaningSummary.{MeaningSummary};
 ghost use Rattle.swt_command.specs.Means.{IsMeaning, IsTold, PrintsMeaning};
 ghost use Rattle.swt_command.specs.OneThread.{IsMeantBy, IsScriptFault, IsWhole, PrintsWhole};
 ghost use Rattle.swt_command.specs.Owes.{Owes};
 ghost use Rattle.swt_command.specs.Sinks.{Held};
 
-/// A report of a run of a script's code, whoever made it, by whatever choices. One that ends quiet shows that the script has
-/// no fault, and has exactly its lines, in some order, and exactly its blocked statements, in the order of texts. Of a script
-/// that writes no key twice the lines of every report are a part of the script's, and the fault of one that ends in a fault is
-/// among the script's.
+/// Proves that every report of a run of compiled code agrees with the meaning of its script, for any scheduling.
+///
+/// A report that ends quiet shows that the script has no fault. It has exactly the script's lines, in some order, and
+/// exactly its blocked statements, in text order. If the script writes no key twice, the lines of every report are a
+/// part of the script's lines. A fault in which a run of such a script ends is then among the script's faults.
 pub fn reports_are_meant()
     ensures quiet { (src : List ℕ) (code : Code) (limit : ℕ) (r : Report) (w : IsCompiled src code) → Reports code limit r → r.end ≡ Ends.Quiet
         → IsWhole (core w.table w.tree) r }
@@ -37,8 +38,7 @@ pub fn reports_are_meant()
         → IsScriptFault (core w.table w.tree) f }
 {}
 
-/// A command that ran or replayed a script and ended with status 0 or 4 has printed all that the script means, and nothing
-/// else.
+/// Proves that `run` or `replay` with status 0 or 4 has printed all that the script means, and nothing else.
 pub fn runs_print_the_meaning()
     ensures run { (file : List ℕ) (engines workers steps : ℕ) (wanted : Option (List ℕ)) (files : Files)
         (out out_new err err_new trace trace_new : Held) (number : ℕ)
@@ -48,29 +48,40 @@ pub fn runs_print_the_meaning()
         → Owes (Replay file events) files out out_new err err_new trace trace_new number → (number ≡ 0) ⊎ (number ≡ 4) → PrintsWhole files out out_new }
 {}
 
-/// A report that a command printed is meant by the script of its first file, whatever the status: where it ends quiet it is
-/// whole, and where the script writes no key twice its lines are a part of the script's, and its fault is among the script's.
+/// Proves that every printed report agrees with the meaning of the script of the first file, for any status.
+///
+/// A report that ends quiet is complete. If the script writes no key twice, the lines are a part of the script's lines,
+/// and the fault is among its faults.
 pub fn printed_reports_are_meant()
     ensures { (line : Line) (files : Files) (r : Report) (out new : Held) → Reported line files r out new → IsMeantBy files r }
 {}
 
-/// Where one more round of a script adds nothing, what is known is all that the script means.
+/// Proves that the facts known after n rounds are the whole meaning of a script if one more round adds none.
 pub fn enough_is_meant()
     ensures { (s : Core) (n : ℕ) → IsFinished s n → (f : Fact) → Meaning s f ↔ Known s n f }
 {}
 
-/// `mean` that ended with status 0, 3 or 4 has printed all that the script means, its faults among it, and nothing else.
+/// Proves that `mean` with status 0, 3 or 4 has printed all that the script means, including its faults, and nothing
+/// else.
 pub fn mean_prints_the_meaning()
-    ensures told { (s : Core) (limit : ℕ) (t : Told) → IsTold s limit t → t.enough ≡ true → IsMeaning s t }
+    ensures told { (s : Core) (limit : ℕ) (t : MeaningSummary) → IsTold s limit t → t.enough ≡ true → IsMeaning s t }
     ensures printed { (file : List ℕ) (rounds : ℕ) (files : Files) (out out_new err err_new trace trace_new : Held) (number : ℕ)
         → Owes (Mean file rounds) files out out_new err err_new trace trace_new number → (number ≡ 0) ⊎ ((number ≡ 3) ⊎ (number ≡ 4))
         → PrintsMeaning files rounds out out_new }
 {}
 
-/// The number that `command` answers tells its cause: 0 that all is done, 1 that the text of a file is refused, 2 that the line asks for
-/// engines and workers that there cannot be, 3 that there is a fault, 4 that statements are blocked, 5 that there were as many
-/// events or rounds as were allowed, 6 that it was stopped for want of memory, 7 that a file, a trace, a write or a thread
-/// failed. It is 7 wherever a write of what is printed or traced failed, and wherever the first file cannot be read.
+/// Proves that each status of `command` identifies its cause.
+///
+/// - 0: the command is done.
+/// - 1: the text of a file is refused.
+/// - 2: the line requests impossible numbers of engines and workers.
+/// - 3: there is a fault.
+/// - 4: statements are blocked.
+/// - 5: the limit of events or rounds is reached.
+/// - 6: an allocation failed.
+/// - 7: a file, a trace, a write or a thread failed.
+///
+/// The status is always 7 if a write of output or of the trace failed, or if the first file cannot be read.
 pub fn statuses_tell()
     ensures refused { (line : Line) (files : Files) (out out_new err err_new trace trace_new : Held) (number : ℕ)
         → Owes line files out out_new err err_new trace trace_new number → number ≡ 1 → SomeRefused files }

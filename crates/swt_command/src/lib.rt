@@ -1,4 +1,6 @@
-//! The commands of `swt`: what each does with the bytes of its files, what it writes, and the status that it ends with.
+//! The commands of `swt`, as functions from file contents to output and exit status.
+//!
+//! Files are read and standard streams are written by the caller; this crate receives bytes and writes to sinks.
 #![tactic(auto)]
 
 mod arena;
@@ -6,11 +8,12 @@ pub mod buffer;
 pub mod check;
 mod code;
 pub mod command;
-pub mod direct;
 pub mod laws;
 mod mean;
+pub mod meaning_summary;
 mod parts;
+pub mod replay_laws;
 mod run;
 pub mod scripts;
-pub mod told;
 pub mod trouble;
+pub mod unobserved;

@@ -1,4 +1,4 @@
-//! What a script means.
+//! The command `mean`: prints the meaning of a script.
 ghost use Rattle.std.specs.Prelude.{◌≡◌, ◌<◌, ◌++◌, MatchResult, OnOk, OnErr};
 ghost use Rattle.std.specs.List.{flat_map};
 ghost use Rattle.values.specs.Sinks.{Beginning};
@@ -7,30 +7,31 @@ ghost use Rattle.swt_command.specs.Files.{contents};
 ghost use Rattle.swt_command.specs.Means.{Means, cut_line, known_text, mean_status, mean_text};
 ghost use Rattle.swt_command.specs.Sinks.{Writes, held};
 
-use crate::told::{Told, worked_out};
+use crate::meaning_summary::{MeaningSummary, worked_out};
 use board::Fault;
 use bumpalo::Bump;
-use meaning::watch::Watch;
+use meaning::observer::RoundObserver;
 use std::alloc::Global;
+use swt_status::failure::CommandFailure;
 use swt_status::status::Status;
-use swt_status::stop::Stop;
-use swt_status::trouble::Trouble;
+use swt_status::stop::CommandStop;
 use swt_trace::report::{write_blocked, write_fault, write_limit, write_lines};
 use values::sink::{Sink, SinkFault};
 
-/// Prints what the script means, worked out in so many rounds at most, which are watched.
+/// Prints the meaning of the first file's script, computed in at most `limit` rounds. `watch` observes the rounds.
 ///
 /// # Errors
 ///
-/// The script could not be read or was refused, memory was refused, or the text could not be written.
-pub fn mean<W: Watch, O: Sink>(
+/// Returns `CommandStop` if the script cannot be read or is refused, an allocation fails, or the text cannot be
+/// written.
+pub fn mean<W: RoundObserver, O: Sink>(
     alloc: Global,
     arena: &Bump,
     files: &[Option<Vec<u8>>],
     watch: &W,
     limit: u32,
     out: &mut O,
-) -> Result<Status, Stop>
+) -> Result<Status, CommandStop>
     requires { O.failures out.old < u64.MAX }
     ensures { Means (contents files.now) limit result (held (O.taken out.old) (O.failures out.old))
         (held (O.taken out.new) (O.failures out.new)) }
@@ -38,15 +39,15 @@ pub fn mean<W: Watch, O: Sink>(
     let told = worked_out(alloc, arena, files, watch, limit)?;
     match write_told(&told, limit, out) {
         Ok(()) => Ok(status_of(&told)),
-        Err(SinkFault) => Err(Stop {
+        Err(SinkFault) => Err(CommandStop {
             place: 0,
-            trouble: Trouble::Unprinted,
+            trouble: CommandFailure::Unprinted,
         }),
     }
 }
 
-/// The status that comes with what was told.
-fn status_of(told: &Told) -> Status
+/// Returns the status for a summary.
+fn status_of(told: &MeaningSummary) -> Status
     ensures { result ≡ mean_status told.now }
 {
     if !told.enough {
@@ -60,8 +61,8 @@ fn status_of(told: &Told) -> Status
     }
 }
 
-/// Writes what was told, and the line of the limit where the rounds were not enough.
-fn write_told<W: Sink>(told: &Told, limit: u32, sink: &mut W) -> Result<(), SinkFault>
+/// Writes a summary, and the limit line if the rounds were not enough.
+fn write_told<W: Sink>(told: &MeaningSummary, limit: u32, sink: &mut W) -> Result<(), SinkFault>
     requires { W.failures sink.old < u64.MAX }
     ensures { Writes result (held (W.taken sink.old) (W.failures sink.old)) (mean_text told.now limit) (held (W.taken sink.new) (W.failures sink.new)) }
 {
@@ -70,8 +71,8 @@ fn write_told<W: Sink>(told: &Told, limit: u32, sink: &mut W) -> Result<(), Sink
     write_cut(told.enough, limit, sink)
 }
 
-/// Writes the lines, and then the blocked statements.
-fn write_known<W: Sink>(told: &Told, sink: &mut W) -> Result<(), SinkFault>
+/// Writes the lines, then the blocked statements.
+fn write_known<W: Sink>(told: &MeaningSummary, sink: &mut W) -> Result<(), SinkFault>
     requires { W.failures sink.old < u64.MAX }
     ensures { Writes result (held (W.taken sink.old) (W.failures sink.old)) (known_text told.now) (held (W.taken sink.new) (W.failures sink.new)) }
 {
@@ -79,7 +80,7 @@ fn write_known<W: Sink>(told: &Told, sink: &mut W) -> Result<(), SinkFault>
     write_blocked(&told.blocked, sink)
 }
 
-/// Writes a line for each fault.
+/// Writes one line for each fault.
 fn write_faults<W: Sink>(faults: &Vec<Fault>, sink: &mut W) -> Result<(), SinkFault>
     requires { W.failures sink.old < u64.MAX }
     ensures ok { OnOk result (W.taken sink.new ≡ W.taken sink.old ++ flat_map fault_line faults.now.items) }
@@ -93,7 +94,7 @@ fn write_faults<W: Sink>(faults: &Vec<Fault>, sink: &mut W) -> Result<(), SinkFa
     Ok(())
 }
 
-/// Writes the line of the limit, where the rounds were not enough.
+/// Writes the limit line if the rounds were not enough.
 fn write_cut<W: Sink>(enough: bool, limit: u32, sink: &mut W) -> Result<(), SinkFault>
     requires { W.failures sink.old < u64.MAX }
     ensures { Writes result (held (W.taken sink.old) (W.failures sink.old)) (cut_line enough limit) (held (W.taken sink.new) (W.failures sink.new)) }

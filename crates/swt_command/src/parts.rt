@@ -1,14 +1,14 @@
-//! Lines that are written in parts.
+//! Writing of a line in three parts.
 ghost use Rattle.std.specs.Prelude.{◌<◌, ◌++◌};
 ghost use Rattle.swt_command.specs.Sinks.{Writes, held};
 
 use values::sink::{Sink, SinkFault, write_all};
 
-/// Writes three parts, one behind the other.
+/// Writes three parts, one after the other.
 ///
 /// # Errors
 ///
-/// `SinkFault` where a write failed. The sink then has a beginning of the three.
+/// Returns `SinkFault` if a write fails. The sink then has received a prefix of the three parts.
 pub fn write_parts<W: Sink>(
     sink: &mut W,
     first: &[u8],

@@ -1,4 +1,4 @@
-//! The files and the scripts that a command reads.
+//! Access to input files, and compilation of the script in the first.
 ghost use Rattle.std.specs.Prelude.{◌≡◌, Some, None, MatchResult};
 ghost use Rattle.swt_status.specs.Names.{refusal_of};
 ghost use Rattle.swt_command.specs.Listings.{IsAcceptedAt};
@@ -10,35 +10,35 @@ use bumpalo::Bump;
 use compile::compile::{compile, drawn, listed};
 use compile::fault::CompileFault;
 use std::alloc::Global;
+use swt_status::failure::CommandFailure;
 use swt_status::refusal::Refusal;
-use swt_status::stop::Stop;
-use swt_status::trouble::Trouble;
+use swt_status::stop::CommandStop;
 use task_code::code::Code;
 
-/// The bytes of the file of a place.
+/// Returns the bytes of the input file at this index.
 ///
 /// # Errors
 ///
-/// `Unread` where it could not be read.
-pub fn source(files: &[Option<Vec<u8>>], place: usize) -> Result<&[u8], Stop>
+/// Returns `Unread` if the file could not be read.
+pub fn source(files: &[Option<Vec<u8>>], place: usize) -> Result<&[u8], CommandStop>
     ensures { MatchResult result (λ src. source_of (contents files.now) place ≡ Some src.now)
-        (λ stop. (stop.place ≡ place) × (stop.trouble ≡ Trouble.Unread) × (source_of (contents files.now) place ≡ None)) }
+        (λ stop. (stop.place ≡ place) × (stop.trouble ≡ CommandFailure.Unread) × (source_of (contents files.now) place ≡ None)) }
 {
     match files.get(place) {
         Some(Some(bytes)) => Ok(bytes.as_slice()),
-        _ => Err(Stop {
+        _ => Err(CommandStop {
             place,
-            trouble: Trouble::Unread,
+            trouble: CommandFailure::Unread,
         }),
     }
 }
 
-/// The code of the first file's script. Its tree lies in the arena until the answer.
+/// Compiles the first file's script. Its syntax tree stays in the arena.
 ///
 /// # Errors
 ///
-/// `Unread`, `Refused` or `Memory`.
-pub fn code_of(alloc: Global, arena: &Bump, files: &[Option<Vec<u8>>]) -> Result<Code, Stop>
+/// Returns `Unread`, `Refused` or `Memory`.
+pub fn code_of(alloc: Global, arena: &Bump, files: &[Option<Vec<u8>>]) -> Result<Code, CommandStop>
     ensures { MatchResult result (HasCode (contents files.now) 0)
         (λ stop. (stop.place ≡ 0) × StopsAt (contents files.now) 0 stop.trouble) }
 {
@@ -49,31 +49,40 @@ pub fn code_of(alloc: Global, arena: &Bump, files: &[Option<Vec<u8>>]) -> Result
     }
 }
 
-/// The same with all that is worked out of it once.
+/// Compiles the first file's script and builds its program: the code and its precomputed tables. The syntax tree stays
+/// in the arena.
 ///
 /// # Errors
 ///
-/// `Unread`, `Refused` or `Memory`.
-pub fn program_of(alloc: Global, arena: &Bump, files: &[Option<Vec<u8>>]) -> Result<Program, Stop>
+/// Returns `Unread`, `Refused` or `Memory`.
+pub fn program_of(
+    alloc: Global,
+    arena: &Bump,
+    files: &[Option<Vec<u8>>],
+) -> Result<Program, CommandStop>
     ensures { MatchResult result (HasCode (contents files.now) 0)
         (λ stop. (stop.place ≡ 0) × StopsAt (contents files.now) 0 stop.trouble) }
 {
     let code = code_of(alloc, arena, files)?;
     match Program::new(alloc, code) {
         Ok(program) => Ok(program),
-        Err(_refused) => Err(Stop {
+        Err(_refused) => Err(CommandStop {
             place: 0,
-            trouble: Trouble::Memory,
+            trouble: CommandFailure::Memory,
         }),
     }
 }
 
-/// The listing of the code of the first file's script. Its tree lies in the arena until the answer.
+/// Compiles the first file's script and returns the listing of its code. The syntax tree stays in the arena.
 ///
 /// # Errors
 ///
-/// `Unread`, `Refused` or `Memory`.
-pub fn listing_of(alloc: Global, arena: &Bump, files: &[Option<Vec<u8>>]) -> Result<Vec<u8>, Stop>
+/// Returns `Unread`, `Refused` or `Memory`.
+pub fn listing_of(
+    alloc: Global,
+    arena: &Bump,
+    files: &[Option<Vec<u8>>],
+) -> Result<Vec<u8>, CommandStop>
     ensures { MatchResult result (λ text. IsAcceptedAt (contents files.now) 0)
         (λ stop. (stop.place ≡ 0) × StopsAt (contents files.now) 0 stop.trouble) }
 {
@@ -84,12 +93,16 @@ pub fn listing_of(alloc: Global, arena: &Bump, files: &[Option<Vec<u8>>]) -> Res
     }
 }
 
-/// The code of the first file's script, drawn. Its tree lies in the arena until the answer.
+/// Compiles the first file's script and returns the drawing of its code. The syntax tree stays in the arena.
 ///
 /// # Errors
 ///
-/// `Unread`, `Refused` or `Memory`.
-pub fn drawing_of(alloc: Global, arena: &Bump, files: &[Option<Vec<u8>>]) -> Result<Vec<u8>, Stop>
+/// Returns `Unread`, `Refused` or `Memory`.
+pub fn drawing_of(
+    alloc: Global,
+    arena: &Bump,
+    files: &[Option<Vec<u8>>],
+) -> Result<Vec<u8>, CommandStop>
     ensures { MatchResult result (λ text. IsAcceptedAt (contents files.now) 0)
         (λ stop. (stop.place ≡ 0) × StopsAt (contents files.now) 0 stop.trouble) }
 {
@@ -100,14 +113,14 @@ pub fn drawing_of(alloc: Global, arena: &Bump, files: &[Option<Vec<u8>>]) -> Res
     }
 }
 
-/// A stop at the first file, for this reason.
-pub(crate) fn at_script(fault: CompileFault) -> Stop
+/// Converts a fault of the compiler into a stop at the first file.
+pub(crate) fn at_script(fault: CompileFault) -> CommandStop
     ensures place { result.place ≡ 0 }
     ensures trouble { result.trouble ≡ trouble_of (refusal_of fault) }
 {
     let trouble = match Refusal::of(fault) {
-        Some(refusal) => Trouble::Refused(refusal),
-        None => Trouble::Memory,
+        Some(refusal) => CommandFailure::Refused(refusal),
+        None => CommandFailure::Memory,
     };
-    Stop { place: 0, trouble }
+    CommandStop { place: 0, trouble }
 }

@@ -1,27 +1,31 @@
-//! What is said of what ends a command before its end.
+//! Error messages of commands that fail.
 ghost use Rattle.std.specs.Prelude.{◌<◌, ◌++◌};
 ghost use Rattle.swt_command.specs.Sinks.{Writes, held};
 ghost use Rattle.swt_command.specs.Troubles.{trouble_line};
 
 use crate::parts::write_parts;
 use itoa::Buffer;
-use swt_status::trouble::Trouble;
+use swt_status::failure::CommandFailure;
 use values::sink::{Sink, SinkFault};
 
-/// Says what ended the command, of the file of this name.
+/// Writes the error message for a failure. `file` is the name of the file at which the command stopped.
 ///
 /// # Errors
 ///
-/// `SinkFault` where a write failed. The sink then has a beginning of the line.
-pub fn tell<E: Sink>(trouble: Trouble, file: &str, err: &mut E) -> Result<(), SinkFault>
+/// Returns `SinkFault` if a write fails. The sink then has received a prefix of the line.
+pub fn write_failure<E: Sink>(
+    trouble: CommandFailure,
+    file: &str,
+    err: &mut E,
+) -> Result<(), SinkFault>
     requires { E.failures err.old < u64.MAX }
     ensures { Writes result (held (E.taken err.old) (E.failures err.old)) (trouble_line trouble file.now)
         (held (E.taken err.new) (E.failures err.new)) }
 {
     let mut buffer = Buffer::new();
     match trouble {
-        Trouble::Unread => write_parts(err, b"swt: cannot read ", file.as_bytes(), b"\n"),
-        Trouble::Refused(refusal) => {
+        CommandFailure::Unread => write_parts(err, b"swt: cannot read ", file.as_bytes(), b"\n"),
+        CommandFailure::Refused(refusal) => {
             write_parts(
                 err,
                 b"swt: refused ",
@@ -29,7 +33,7 @@ pub fn tell<E: Sink>(trouble: Trouble, file: &str, err: &mut E) -> Result<(), Si
                 b"\n",
             )
         }
-        Trouble::BadLine(line) => {
+        CommandFailure::BadLine(line) => {
             write_parts(
                 err,
                 b"swt: T1 BadLine ",
@@ -37,7 +41,7 @@ pub fn tell<E: Sink>(trouble: Trouble, file: &str, err: &mut E) -> Result<(), Si
                 b"\n",
             )
         }
-        Trouble::NotARun(line) => {
+        CommandFailure::NotARun(line) => {
             write_parts(
                 err,
                 b"swt: T2 NotARun ",
@@ -45,7 +49,7 @@ pub fn tell<E: Sink>(trouble: Trouble, file: &str, err: &mut E) -> Result<(), Si
                 b"\n",
             )
         }
-        Trouble::WrongEnd(line) => {
+        CommandFailure::WrongEnd(line) => {
             write_parts(
                 err,
                 b"swt: T3 WrongEnd ",
@@ -53,11 +57,11 @@ pub fn tell<E: Sink>(trouble: Trouble, file: &str, err: &mut E) -> Result<(), Si
                 b"\n",
             )
         }
-        Trouble::BadCount => write_parts(err, b"swt: ", b"bad count", b"\n"),
-        Trouble::NoThread => write_parts(err, b"swt: ", b"no thread", b"\n"),
-        Trouble::Stranger => write_parts(err, b"swt: ", b"stranger", b"\n"),
-        Trouble::Memory => write_parts(err, b"swt: ", b"no memory", b"\n"),
-        Trouble::Unprinted => write_parts(err, b"swt: ", b"cannot write", b"\n"),
-        Trouble::Untraced => write_parts(err, b"swt: ", b"cannot write", b"\n"),
+        CommandFailure::BadCount => write_parts(err, b"swt: ", b"bad count", b"\n"),
+        CommandFailure::NoThread => write_parts(err, b"swt: ", b"no thread", b"\n"),
+        CommandFailure::Stranger => write_parts(err, b"swt: ", b"stranger", b"\n"),
+        CommandFailure::Memory => write_parts(err, b"swt: ", b"no memory", b"\n"),
+        CommandFailure::Unprinted => write_parts(err, b"swt: ", b"cannot write", b"\n"),
+        CommandFailure::Untraced => write_parts(err, b"swt: ", b"cannot write", b"\n"),
     }
 }

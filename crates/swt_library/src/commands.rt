@@ -9,14 +9,14 @@ use std::alloc::Global;
 use std::sync::Wait;
 use std::thread::Threads;
 use swt_arguments::line::Line;
-use swt_command::direct::Direct;
+use swt_command::unobserved::Unobserved;
 use values::sink::Sink;
 
-/// Does the line's command on the bytes of the files that it names to be read, one for each in order, and none for one that cannot be read.
-/// The answer is the status of a process.
+/// Runs the command of the line on its input files and returns the exit status of a process. `files` holds the bytes of
+/// each input file of the line, in order, or `None` for a file that could not be read.
 ///
-/// What the command prints goes to `out`, what it says of its failure to `err`, and the trace of a run, where the line wants one, to `trace`. A
-/// write to `err` that fails changes no status.
+/// Output goes to `out`, and the error message of a failed command to `err`. The trace of a run goes to `trace` if the
+/// line requests one. A failed write to `err` does not change the status.
 pub fn command<R: Threads + Wait + Sync, O: Sink, E: Sink, S: Sink>(
     rt: &R,
     alloc: Global,
@@ -35,5 +35,15 @@ pub fn command<R: Threads + Wait + Sync, O: Sink, E: Sink, S: Sink>(
         (held (S.taken trace.old) (S.failures trace.old)) (held (S.taken trace.new) (S.failures trace.new)) result }
 {
     let mut arena = Bump::new(alloc);
-    swt_command::command::command(rt, alloc, &mut arena, line, files, &Direct, out, err, trace)
+    swt_command::command::command(
+        rt,
+        alloc,
+        &mut arena,
+        line,
+        files,
+        &Unobserved,
+        out,
+        err,
+        trace,
+    )
 }

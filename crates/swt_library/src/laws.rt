@@ -1,4 +1,6 @@
-//! What the stages give, one after another. Nothing here runs: the function has an empty body, and its contract is a law.
+//! Theorem that the contracts of consecutive stages fit together.
+//!
+//! Nothing here runs: the function has an empty body, and its contract is a law.
 ghost use Rattle.std.specs.Prelude.{◌≡◌, ◌++◌, ℕ, List, map};
 ghost use Rattle.compile.specs.Accepted.{IsAccepted};
 ghost use Rattle.constant_fold.specs.Folded.{folded_tree};
@@ -13,7 +15,8 @@ ghost use Rattle.lowering.specs.Shapes.{flagged, function_declarations, kinds_of
 ghost use Rattle.wait_merge.specs.Merged.{IsMerged};
 ghost use Rattle.swt_library.specs.Stages.{IsOfScript};
 
-/// What `fold`, `lower` and `merge` owe of an accepted script is what `rights` asks for: the merged flow is that of the fold of a script.
+/// Proves that the output of `fold`, `lower` and `merge` satisfies the precondition of `rights` for an accepted script.
+/// The merged flow is the flow of the folded script.
 pub fn merged_flows_are_of_scripts<A>()
     ensures { (src : List ℕ) (t : Table) (tree folded : Tree) (lowered merged : Flow A) → IsAccepted src t tree
         → folded ≡ folded_tree tree

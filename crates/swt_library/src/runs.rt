@@ -1,4 +1,4 @@
-//! Runs of code: on a board, on one thread, on many threads, and again by a trace.
+//! Runs of code: step by step on a board, on one thread, on many threads, and as a replay of a trace.
 ghost use Rattle.std.specs.Prelude.{◌≡◌, ◌<◌, ◌+◌, ◌⊎◌, ◌↔◌, ℕ, Err, IfOk, IfErr};
 ghost use Rattle.board.specs.Board.{Seen};
 ghost use Rattle.board_runs.specs.Report.{Reports, Tells};
@@ -9,7 +9,7 @@ ghost use Rattle.swt_trace.specs.Replay.{IsFirstNoStep, IsTraceOf, IsWrongEnd, R
 ghost use Rattle.swt_trace.specs.Trace.{IsFirstBad};
 ghost use Rattle.workers.specs.Reports.{IsReport};
 
-use crate::scripts::Code;
+use crate::scripts::CompiledScript;
 use board::board::Board;
 use board_runs::report::Report;
 pub use board_runs::report::report_of;
@@ -18,30 +18,32 @@ use std::sync::Wait;
 use std::thread::Threads;
 use swt_trace::fault::ReplayFault;
 use workers::fault::RunFault;
-use workers::job::Gate;
+use workers::gate::Gate;
 use workers::run::{self, PoolCount};
 
-/// A board over the code, before any event, which accepts so many events at most.
+/// Creates a board for the code, before any event. It accepts at most `limit` events.
 ///
 /// # Errors
 ///
-/// Want of memory alone.
-pub fn new_board(alloc: Global, code: Code, limit: u32) -> Result<Board, AllocError>
+/// Returns `AllocError` if an allocation fails. There is no other error.
+pub fn new_board(alloc: Global, code: CompiledScript, limit: u32) -> Result<Board, AllocError>
     ensures { IfOk result (λ board. board ≡ starts code.program limit) }
 {
-    let Code { program, text: _ } = code;
+    let CompiledScript { program, text: _ } = code;
     Board::new(alloc, program, limit)
 }
 
-/// Runs the code in one thread, up to its end or to so many events. Of the items that can begin each turn takes the one that the next choice
-/// names, counted round their list, and the first once the choices have run out.
+/// Runs the code on one thread, to its end or for at most `limit` events.
+///
+/// At each step, the next choice selects one of the enabled items, modulo their number. Once the choices are exhausted,
+/// the first enabled item is selected.
 ///
 /// # Errors
 ///
-/// Want of memory alone.
+/// Returns `AllocError` if an allocation fails. There is no other error.
 pub fn run_one(
     alloc: Global,
-    code: &Code,
+    code: &CompiledScript,
     choices: &[u32],
     limit: u32,
 ) -> Result<Report, AllocError>
@@ -51,17 +53,17 @@ pub fn run_one(
     board_runs::one::run_one(alloc, &code.program, choices, limit)
 }
 
-/// Runs the code on threads: engines run control items, workers leaf items. At most `limit` events happen. What an item does is computed by
-/// the gate.
+/// Runs the code on threads for at most `limit` events. Engines run control items, workers run leaf items, and the gate
+/// computes the items.
 ///
 /// # Errors
 ///
-/// `BadCount` exactly where there is no engine, no worker or more than 64 of both; `Spawn` where a thread could not be started; `Stranger` where
-/// the threads' counts are not what the board shows; `Memory`.
+/// Returns `BadCount` exactly if there is no engine, no worker or more than 64 of both. Returns `Spawn` if a thread
+/// cannot be started, `Stranger` if the thread counts contradict the board, and `Memory` if an allocation fails.
 pub fn run_threads<R: Threads + Wait + Sync, G: Gate>(
     rt: &R,
     alloc: Global,
-    code: &Code,
+    code: &CompiledScript,
     engines: u8,
     workers: u8,
     limit: u32,
@@ -74,14 +76,15 @@ pub fn run_threads<R: Threads + Wait + Sync, G: Gate>(
     run::run_threads(rt, alloc, &code.program, engines, workers, limit, gate)
 }
 
-/// Runs the events of a trace on the code, and reports that run. Its limit is the number of events.
+/// Replays the events of a trace on the code and returns the report of that run. Its limit is the number of events.
 ///
-/// The trace of a report of a run of the code, whoever made it, gives a report that tells the same, want of memory aside.
+/// For the trace of any report of a run of the code, the result is a report of the same content, unless an allocation
+/// fails.
 ///
 /// # Errors
 ///
-/// `BadLine`, `NotARun` or `WrongEnd` with the number of a line; or `Memory`.
-pub fn replay(alloc: Global, code: &Code, trace: &[u8]) -> Result<Report, ReplayFault>
+/// Returns `BadLine`, `NotARun` or `WrongEnd` with a line number, or `Memory`.
+pub fn replay(alloc: Global, code: &CompiledScript, trace: &[u8]) -> Result<Report, ReplayFault>
     ensures report { IfOk result (ReplaysTo code.now.program trace.now) }
     ensures bad { IfErr result (λ fault. (n : ℕ) → fault ≡ ReplayFault.BadLine n → IsFirstBad trace.now n) }
     ensures no_step { IfErr result (λ fault. (n : ℕ) → fault ≡ ReplayFault.NotARun n → IsFirstNoStep code.now.program trace.now n) }

@@ -1,4 +1,4 @@
-//! Scripts as code.
+//! Compilation of scripts to code.
 ghost use Rattle.std.specs.Prelude.{◌≡◌, ◌<◌, ◌++◌, IfOk, IfErr, OnOk, OnErr};
 ghost use Rattle.compile.specs.Accepted.{IsUnfit};
 ghost use Rattle.compile.specs.Compiled.{IsCompiled};
@@ -9,38 +9,38 @@ use board_program::program::Program;
 use compile::compile::with_flow;
 use compile::fault::CompileFault;
 use std::alloc::{AllocError, Allocator, Global};
-use swt_trace::fault::WriteFault;
+use swt_trace::fault::WriteError;
 use values::sink::{Sink, write_all};
 
-/// A script's code, with the tables that a run works out of it and the text of its listing. It borrows no tree.
+/// The code of a script, with its precomputed tables and the text of its listing. It does not borrow a syntax tree.
 #[derive(Drop)]
-pub struct Code {
+pub struct CompiledScript {
     pub program: Program,
     pub text: Vec<u8>,
 }
 
-impl Code {
-    /// The same code. Its entries are shared; its listing is copied.
+impl CompiledScript {
+    /// Creates a copy of the code. The entries are shared; the listing is copied.
     ///
     /// # Errors
     ///
-    /// `AllocError` where memory that was asked for was refused.
-    pub fn copy(&self) -> Result<Code, AllocError>
+    /// Returns `AllocError` if an allocation fails.
+    pub fn copy(&self) -> Result<CompiledScript, AllocError>
         ensures program { IfOk result (λ code. code.program ≡ self.now.program) }
         ensures text { IfOk result (λ code. code.text.items ≡ self.now.text.items) }
     {
         let alloc = *self.text.allocator();
         let program = self.program.share()?;
         let text = Vec::from_slice(alloc, self.text.as_slice())?;
-        Ok(Code { program, text })
+        Ok(CompiledScript { program, text })
     }
 
-    /// Writes the listing: the code's bodies, and the entries of each.
+    /// Writes the listing: the bodies of the code, and the entries of each.
     ///
     /// # Errors
     ///
-    /// `Write` where a write failed. The sink then has what it had before and a beginning of the listing.
-    pub fn listing<W: Sink>(&self, sink: &mut W) -> Result<(), WriteFault>
+    /// Returns `Write` if a write fails. The sink has then received a prefix of the listing.
+    pub fn listing<W: Sink>(&self, sink: &mut W) -> Result<(), WriteError>
         requires { W.failures sink.old < u64.MAX }
         ensures ok { OnOk result (W.taken sink.new ≡ W.taken sink.old ++ self.now.text.items) }
         ensures err { OnErr result (Beginning (W.taken sink.old) self.now.text.items (W.taken sink.new)) }
@@ -52,16 +52,16 @@ impl Code {
     }
 }
 
-/// The code of a script. Trees and flows lie in `alloc` on the way, and the code in the machine's memory.
+/// Compiles a script. Syntax trees and flows are allocated in `alloc`, and the code in `machine`.
 ///
 /// # Errors
 ///
-/// The refusal of the first step that refuses the script, or want of memory.
+/// Returns the refusal of the first stage that refuses the script, or `Memory` if an allocation fails.
 pub fn compile<A: Allocator + Clone>(
     machine: Global,
     alloc: A,
     src: &[u8],
-) -> Result<Code, CompileFault>
+) -> Result<CompiledScript, CompileFault>
     ensures code { IfOk result (λ code. IsCompiled src.now code.program) }
     ensures unfit { IfErr result (λ fault. IsUnfit src.now fault) }
 {

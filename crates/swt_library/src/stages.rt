@@ -1,4 +1,4 @@
-//! The stages from a script's tree to its code and to its meaning, each by itself.
+//! The individual stages from the syntax tree of a script to its code and to its meaning.
 ghost use Rattle.std.specs.Prelude.{◌≡◌, ◌≢◌, ◌≤◌, ◌++◌, [], ℕ, List, Some, false, map, IfOk, IfErr};
 ghost use Rattle.assign_check.specs.Breaks.{Breaks, IsTyped};
 ghost use Rattle.assign_check.specs.Faults as faults;
@@ -17,7 +17,7 @@ ghost use Rattle.syntax_trees.specs.View.{tree_of};
 ghost use Rattle.types.specs.Typed.{table_of};
 ghost use Rattle.swt_library.specs.Stages.{IsOfScript};
 
-use crate::scripts::Code;
+use crate::scripts::CompiledScript;
 use assign_check::fault::AssignFault;
 use board_program::program::Program;
 use code_listing::text::listing;
@@ -30,22 +30,23 @@ use std::alloc::{AllocError, Allocator, Global};
 pub use syntax::parser::parse;
 use syntax_trees::tree::Script;
 use task_code::code;
-pub use types::check as check_types;
+pub use types::check;
 use types::typed::Typed;
 pub use wait_merge::merge;
 
-/// The answer of `check_single` where no rule is broken. There is nothing in it to be read: the table of types tells what names are.
+/// Evidence that `check_single` accepted a script. It has no content: what names refer to is in the table of types.
 #[derive(Clone, Copy, Debug, PartialEq, Eq, Drop)]
 pub struct Single;
 
-/// Whether a script is singly assigned, by what the check of its types found out of its names.
+/// Checks single assignment of a script, given the names resolved by the type check.
 ///
-/// The clauses that speak of rules and of single assignment are of a script that is well typed by that table, with its nodes numbered in
-/// reading order; the others of every script.
+/// The clauses about rules and single assignment assume that the script is well typed by that table, with its nodes
+/// numbered in reading order. The other clauses hold for every script.
 ///
 /// # Errors
 ///
-/// The broken rule whose place begins first, and at one place the one of the smallest number; or `Memory`.
+/// Returns the broken rule whose position begins first, and of several at one position the one with the smallest
+/// number. Returns `Memory` if an allocation fails.
 pub fn check_single<A: Allocator>(
     alloc: Global,
     script: &Script<A>,
@@ -68,11 +69,11 @@ pub fn check_single<A: Allocator>(
     }
 }
 
-/// The flow of a script that is singly assigned, in memory of this allocator.
+/// Lowers a singly assigned script to its flow, allocated in `alloc`.
 ///
 /// # Errors
 ///
-/// Want of memory alone.
+/// Returns `AllocError` if an allocation fails. There is no other error.
 pub fn lower<A: Allocator + Clone>(
     alloc: A,
     script: &Script<A>,
@@ -87,11 +88,12 @@ pub fn lower<A: Allocator + Clone>(
     lowering::lower(alloc, script, typed)
 }
 
-/// The flow of an accepted script, folded, lowered and merged, with its code, in which each entry has its rights.
+/// Emits the code of the flow of an accepted script, including the rights of each entry. The flow must be folded,
+/// lowered and merged.
 ///
 /// # Errors
 ///
-/// Want of memory alone.
+/// Returns `AllocError` if an allocation fails. There is no other error.
 pub fn rights<A: Allocator>(machine: Global, flow: Flow<A>) -> Result<Compiled<A>, AllocError>
     requires { IsOfScript flow }
     ensures flow { IfOk result (λ counted. counted.flow ≡ flow) }
@@ -107,25 +109,29 @@ pub fn rights<A: Allocator>(machine: Global, flow: Flow<A>) -> Result<Compiled<A
     }
 }
 
-/// The code of a flow whose entries have their rights, with its tables and its listing.
+/// Creates the script's code from emitted code, with its tables and its listing.
 ///
 /// # Errors
 ///
-/// Want of memory alone.
-pub fn emit<A: Allocator>(machine: Global, counted: &Compiled<A>) -> Result<Code, AllocError>
+/// Returns `AllocError` if an allocation fails. There is no other error.
+pub fn emit<A: Allocator>(
+    machine: Global,
+    counted: &Compiled<A>,
+) -> Result<CompiledScript, AllocError>
     ensures { IfOk result (λ code. code.program ≡ counted.now.code) }
 {
     let text = listing(machine, &counted.flow, &counted.code)?;
     let copy = counted.code.copy()?;
     let program = Program::new(machine, copy)?;
-    Ok(Code { program, text })
+    Ok(CompiledScript { program, text })
 }
 
-/// What is known of a script after so many rounds as add something, or after `limit` rounds.
+/// Computes the facts about a script that are known after `limit` rounds, or after fewer if no further round adds a
+/// fact.
 ///
 /// # Errors
 ///
-/// Want of memory alone.
+/// Returns `AllocError` if an allocation fails. There is no other error.
 pub fn rounds<A: Allocator + Clone>(
     machine: Global,
     script: &Script<A>,

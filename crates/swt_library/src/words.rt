@@ -1,4 +1,4 @@
-//! Command lines.
+//! Parsing of command lines.
 ghost use Rattle.std.specs.Prelude.{◌≡◌, map, IfOk};
 ghost use Rattle.std.specs.String.{string_bytes};
 ghost use Rattle.swt_arguments.specs.Lines.{IsInRange};
@@ -11,11 +11,12 @@ use swt_arguments::line::Line;
 use swt_arguments::request::Request;
 use swt_arguments::word::Word;
 
-/// The line that the words give, without the program's own name. What they ask for beside it, as an explanation, is for the program.
+/// Parses the line from the words after the program's own name. Other requests in the words, such as an explanation,
+/// are ignored; they concern the program.
 ///
 /// # Errors
 ///
-/// `Usage` where they are no line, or a call for help; or `Memory`.
+/// Returns `Usage` if the words are not a line or ask for help, or `Memory` if an allocation fails.
 #[tactic(auto, using(crate::proofs::Lines::line_given, crate::proofs::Lines::line_refused))]
 pub fn read(alloc: Global, words: Vec<String>) -> Result<Line, LineFault>
     ensures line { Answers (line_of (map string_bytes words.items)) result }
@@ -26,7 +27,7 @@ pub fn read(alloc: Global, words: Vec<String>) -> Result<Line, LineFault>
     Ok(request.line)
 }
 
-/// The texts as words.
+/// Converts texts to words.
 fn as_words(alloc: Global, texts: Vec<String>) -> Result<Vec<Word>, AllocError>
     ensures { IfOk result (λ words. words.items ≡ map string_bytes texts.items) }
 {

@@ -2,16 +2,16 @@
 use Rattle.std.proofs.Common.{◌≡◌, ◌∙◌, sym, ap, refl, inl, inr, subst, ℕ, ◌<◌, Bool, List, [], ◌∷◌, arith, Result, Ok, Err, true, false}
 use Rattle.host.specs.Events.{Event, given, replaced}
 use Rattle.host.specs.Traces.{IsKept}
-use Rattle.paths.specs.declared.statements.Statement.{Statement}
+use Rattle.paths.specs.declared.statements.StatementInstance.{StatementInstance}
 use Rattle.board_runs.specs.declared.report.End.{End}
 use Rattle.board_runs.specs.declared.report.End.TheVariants as Was
 use Rattle.swt_arguments.specs.declared.line.Line.{Line}
 use Rattle.swt_arguments.specs.declared.line.Line.TheVariants.{Check, Mean, Code, Run, Replay}
 use Rattle.swt_status.specs.declared.status.Status.{Status}
 use Rattle.swt_status.specs.Statuses.{end_status, number_of}
-use Rattle.swt_status.specs.declared.stop.Stop.{Stop}
-use Rattle.swt_status.specs.declared.trouble.Trouble.{Trouble}
-use Rattle.swt_status.specs.declared.trouble.Trouble.TheVariants as Is
+use Rattle.swt_status.specs.declared.stop.CommandStop.{CommandStop}
+use Rattle.swt_status.specs.declared.failure.CommandFailure.{CommandFailure}
+use Rattle.swt_status.specs.declared.failure.CommandFailure.TheVariants as Is
 use Rattle.swt_status.specs.Troubles.{trouble_status}
 use Rattle.swt_command.specs.Files.{Files}
 use Rattle.swt_command.specs.Owes.{Does, Owes, Says, status_of}
@@ -24,7 +24,7 @@ use Rattle.std.proofs.lemmas.Bool.{both_ways}
 -- WHAT IS SAID
 
 -- no trouble ends a command with the number of a report
-never : (t : Trouble) → is_reported (number_of (trouble_status t)) ≡ true → ⊥
+never : (t : CommandFailure) → is_reported (number_of (trouble_status t)) ≡ true → ⊥
 never Is.Unread e = cc
 never (Is.Refused r) e = cc
 never (Is.BadLine n) e = cc
@@ -37,7 +37,7 @@ never Is.Memory e = cc
 never Is.Unprinted e = cc
 never Is.Untraced e = cc
 
-says_nothing : (line : Line) (ended : Result Status Stop) (err new : Held) → is_reported (number_of (status_of ended)) ≡ true → Says line ended err new → Kept err new
+says_nothing : (line : Line) (ended : Result Status CommandStop) (err new : Held) → is_reported (number_of (status_of ended)) ≡ true → Says line ended err new → Kept err new
 says_nothing line (Ok status) err new e s = s
 says_nothing line (Err stop) err new e s = absurd (never stop.trouble e)
 
@@ -49,7 +49,7 @@ quiet {line = line} {err = err} {err_new = err_new} o e = says_nothing line o.en
 -- WHAT IS TRACED
 
 -- a report comes with such a number
-end_reported : (end : End) (bs : List Statement) → is_reported (number_of (end_status end bs)) ≡ true
+end_reported : (end : End) (bs : List StatementInstance) → is_reported (number_of (end_status end bs)) ≡ true
 end_reported (Was.Fault f) bs = refl
 end_reported Was.Quiet [] = refl
 end_reported Was.Quiet (b ∷ bs) = refl
@@ -59,7 +59,7 @@ no_failure : (trace new : Held) (text : List ℕ) → trace.failures ≡ 0 → n
 no_failure trace new text e f l = omega (arith, e, f, l.1)
 
 -- a run that stopped has left the trace as it was, unless a write of it failed
-run_stop : (files : Files) (engines workers steps : ℕ) (wanted : Bool) (t : Trouble) (out out_new trace new : Held) → StopsRun files engines workers steps wanted t out out_new trace new
+run_stop : (files : Files) (engines workers steps : ℕ) (wanted : Bool) (t : CommandFailure) (out out_new trace new : Held) → StopsRun files engines workers steps wanted t out out_new trace new
     → trace.failures ≡ 0 → new.failures ≡ 0 → Kept trace new
 run_stop files engines workers steps wanted Is.Unread out out_new trace new h e f = h.2
 run_stop files engines workers steps wanted (Is.Refused r) out out_new trace new h e f = h.2
@@ -73,13 +73,13 @@ run_stop files engines workers steps wanted Is.Memory out out_new trace new h e 
 run_stop files engines workers steps wanted Is.Unprinted out out_new trace new h e f = h.3
 run_stop files engines workers steps wanted Is.Untraced out out_new trace new h e f = absurd (no_failure trace new _ e f h.4)
 
-run_traces : (files : Files) (engines workers steps : ℕ) (wanted : Bool) (ended : Result Status Stop) (out out_new trace new : Held) → Runs files engines workers steps wanted ended out out_new trace new
+run_traces : (files : Files) (engines workers steps : ℕ) (wanted : Bool) (ended : Result Status CommandStop) (out out_new trace new : Held) → Runs files engines workers steps wanted ended out out_new trace new
     → (is_reported (number_of (status_of ended)) ≡ true → ⊥) → trace.failures ≡ 0 → new.failures ≡ 0 → Kept trace new
 run_traces files engines workers steps wanted (Ok status) out out_new trace new d n e f =
     absurd (n (subst (λ (s : Status). is_reported (number_of s) ≡ true) (sym d.2) (end_reported d.0.end d.0.blocked.items)))
 run_traces files engines workers steps wanted (Err stop) out out_new trace new d n e f = run_stop files engines workers steps wanted stop.trouble out out_new trace new d.1 e f
 
-does_nothing : (line : Line) (files : Files) (ended : Result Status Stop) (out out_new trace new : Held) → Does line files ended out out_new trace new
+does_nothing : (line : Line) (files : Files) (ended : Result Status CommandStop) (out out_new trace new : Held) → Does line files ended out out_new trace new
     → (is_reported (number_of (status_of ended)) ≡ true → ⊥) → trace.failures ≡ 0 → new.failures ≡ 0 → Kept trace new
 does_nothing (Check names) files ended out out_new trace new d n e f = d.1
 does_nothing (Mean file rounds) files ended out out_new trace new d n e f = d.1

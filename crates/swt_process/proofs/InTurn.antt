@@ -7,8 +7,8 @@ use Rattle.swt_status.specs.Statuses.{number_of}
 use Rattle.swt_status.specs.Verdicts.{Verdict}
 use Rattle.swt_status.specs.declared.status.Status.{Status}
 use Rattle.swt_status.specs.declared.status.Status.TheVariants as Ends
-use Rattle.swt_status.specs.declared.stop.Stop.{Stop}
-use Rattle.swt_status.specs.declared.trouble.Trouble.{Trouble}
+use Rattle.swt_status.specs.declared.stop.CommandStop.{CommandStop}
+use Rattle.swt_status.specs.declared.failure.CommandFailure.{CommandFailure}
 use Rattle.swt_command.specs.Checks.{Checks, HasVerdict, IsSaid, StopsBy, after}
 use Rattle.swt_command.specs.Files.{Files, name_at, source_of}
 use Rattle.swt_command.specs.Owes.{Says, status_of}
@@ -78,7 +78,7 @@ at_next names before now place status v d name out mid new j l n c =
       judged = Checking.at_next names files place status v out mid new (so_far names j.files r.bytes place status out mid j.judged) l said;
     }
 
-pub at_stop : (names : List (List ℕ)) (before now : List Read) (place : ℕ) (status : Status) (trouble : Trouble) (d name : List ℕ) (out mid new : Held) → Judging names before place status out mid
+pub at_stop : (names : List (List ℕ)) (before now : List Read) (place : ℕ) (status : Status) (trouble : CommandFailure) (d name : List ℕ) (out mid new : Held) → Judging names before place status out mid
     → place < length names → name ≡ get_or names place d → IsChecked name before now (Err trouble) mid new → ChecksEach names now (Err (record { place = place; trouble = trouble })) out new
 at_stop names before now place status trouble d name out mid new j l n c =
     let r = c.0 in let files = j.files ++ r.bytes ∷ [] in
@@ -101,7 +101,7 @@ at_stop names before now place status trouble d name out mid new j l n c =
 -- HOW IT ENDS
 
 -- a check that has done so with each file, and said why it stopped, was done as its line is to be
-pub check_ran : (names : List (List ℕ)) (h : List Event) (ended : Result Status Stop) (out new err err_new : Held) (number : ℕ) → ChecksEach names (reads h) ended out new → Says (Check names) ended err err_new
+pub check_ran : (names : List (List ℕ)) (h : List Event) (ended : Result Status CommandStop) (out new err err_new : Held) (number : ℕ) → ChecksEach names (reads h) ended out new → Says (Check names) ended err err_new
     → number ≡ number_of (status_of ended) → links h ≡ [] → changes h ≡ [] → Ran (Check names) h out new err err_new number
 check_ran names h ended out new err err_new number c s n l e = record {
   files = files ended c;
@@ -117,14 +117,14 @@ check_ran names h ended out new err err_new number c s n l e = record {
   };
 }
   where
-    files : (ended : Result Status Stop) → ChecksEach names (reads h) ended out new → Files
+    files : (ended : Result Status CommandStop) → ChecksEach names (reads h) ended out new → Files
     files (Ok status) c = c.0
     files (Err stop) c = c.0
 
-    checks : (ended : Result Status Stop) (c : ChecksEach names (reads h) ended out new) → Checks names (files ended c) ended out new
+    checks : (ended : Result Status CommandStop) (c : ChecksEach names (reads h) ended out new) → Checks names (files ended c) ended out new
     checks (Ok status) c = c.2
     checks (Err stop) c = c.2
 
-    read : (ended : Result Status Stop) (c : ChecksEach names (reads h) ended out new) → number ≡ number_of (status_of ended) → HasRead (Check names) (files ended c) number (reads h)
+    read : (ended : Result Status CommandStop) (c : ChecksEach names (reads h) ended out new) → number ≡ number_of (status_of ended) → HasRead (Check names) (files ended c) number (reads h)
     read (Ok status) c n = inl c.1
     read (Err stop) c n = inr (subst (λ (k : ℕ). EndsReading names c.0 k (reads h)) (sym n) c.1)

@@ -1,4 +1,4 @@
-//! Files that are checked one after another.
+//! The command `check`, with one file in memory at a time.
 ghost use Rattle.std.specs.Prelude.{◌≡◌, ◌<◌, [], OnOk};
 ghost use Rattle.host.specs.Events.{asked, changes, inputs, links, reads};
 ghost use Rattle.swt_arguments.specs.declared.line.Line.TheVariants.{Check};
@@ -15,15 +15,16 @@ use host::reading::read_file;
 use std::alloc::{AllocError, Global};
 use swt_arguments::word::Word;
 use swt_command::check::{after, check_file};
-use swt_command::trouble::tell;
+use swt_command::trouble::write_failure;
+use swt_status::failure::CommandFailure;
 use swt_status::refusal::Refusal;
 use swt_status::status::Status;
-use swt_status::stop::Stop;
-use swt_status::trouble::Trouble;
+use swt_status::stop::CommandStop;
 use values::sink::Sink;
 
-/// Reads each file and says whether it is accepted, up to one that ends it; says why it stops there; and keeps the bytes of one at a time.
-/// The answer is the status of the process.
+/// Reads and checks each file, in order, and stops at the first that fails. Returns the exit status of the process.
+///
+/// Only one file is kept in memory at a time. If a file fails, the error message is written to `err`.
 pub fn check_files<H: Host, O: Sink, E: Sink>(
     host: &mut H,
     alloc: Global,
@@ -45,13 +46,13 @@ pub fn check_files<H: Host, O: Sink, E: Sink>(
     match check_each(host, alloc, names, out) {
         Ok(status) => status.number(),
         Err(stop) => {
-            let _ = tell(stop.trouble, name_at(names, stop.place), err);
+            let _ = write_failure(stop.trouble, name_at(names, stop.place), err);
             stop.trouble.status().number()
         }
     }
 }
 
-/// The name of a place, and no text where there is none.
+/// Returns the file name at this index, or the empty string if there is none.
 fn name_at(names: &[Word], place: usize) -> &str
     ensures { result.now ≡ name_at names.now place }
 {
@@ -61,17 +62,18 @@ fn name_at(names: &[Word], place: usize) -> &str
     }
 }
 
-/// Reads each file and says whether it is accepted.
+/// Reads each file and writes its verdict.
 ///
 /// # Errors
 ///
-/// The first file that could not be read, for which memory was refused, or whose line could not be written.
+/// Returns `CommandStop` for the first file that cannot be read, for which an allocation fails, or whose line cannot be
+/// written.
 fn check_each<H: Host, O: Sink>(
     host: &mut H,
     alloc: Global,
     names: &[Word],
     out: &mut O,
-) -> Result<Status, Stop>
+) -> Result<Status, CommandStop>
     requires reads { reads (H.history host.old) ≡ [] }
     requires inputs { inputs (H.history host.old) ≡ [] }
     requires out { O.failures out.old < u64.MAX }
@@ -86,24 +88,27 @@ fn check_each<H: Host, O: Sink>(
     for place in 0..names.len() {
         match check_next(host, alloc, &mut known, names[place].as_str(), out) {
             Ok(refusal) => status = after(refusal, status),
-            Err(trouble) => return Err(Stop { place, trouble }),
+            Err(trouble) => return Err(CommandStop { place, trouble }),
         }
     }
     Ok(status)
 }
 
-/// Reads the file of this name, says whether it is accepted, and gives its refusal.
+/// Reads the file of this name, writes its verdict, and returns its refusal, or `None` if it is accepted.
+///
+/// The identity of a file that could be opened is appended to `known`.
 ///
 /// # Errors
 ///
-/// `Unread`, `Memory`, or `Unprinted` where the line could not be written.
+/// Returns `Unread` if the file cannot be read, `Memory` if an allocation fails, or `Unprinted` if the line cannot be
+/// written.
 fn check_next<H: Host, O: Sink>(
     host: &mut H,
     alloc: Global,
     known: &mut Vec<Identity>,
     name: &str,
     out: &mut O,
-) -> Result<Option<Refusal>, Trouble>
+) -> Result<Option<Refusal>, CommandFailure>
     requires known { known.old.items ≡ inputs (H.history host.old) }
     requires out { O.failures out.old < u64.MAX }
     ensures checked { IsChecked name.now (reads (H.history host.old)) (reads (H.history host.new)) result
@@ -115,7 +120,7 @@ fn check_next<H: Host, O: Sink>(
 {
     let file = match read_file(host, alloc, known, name, MAX_SOURCE) {
         Ok(file) => file,
-        Err(AllocError) => return Err(Trouble::Memory),
+        Err(AllocError) => return Err(CommandFailure::Memory),
     };
     let arena = Bump::new(alloc);
     let files = [file];

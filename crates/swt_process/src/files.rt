@@ -1,4 +1,4 @@
-//! Reading the files of a line.
+//! Reading of the input files of a line.
 ghost use Rattle.std.specs.Prelude.{◌≡◌, ◌<◌, [], reverse, IfOk, OnOk};
 ghost use Rattle.host.specs.Events.{asked, changes, inputs, links, reads};
 ghost use Rattle.swt_command.specs.Files.{contents};
@@ -11,10 +11,11 @@ use std::alloc::{AllocError, Global};
 use swt_arguments::line::Line;
 use swt_arguments::word::Word;
 
-/// The most bytes that a script may have.
+/// Maximum size of a script in bytes.
 pub const MAX_SOURCE: usize = 1_048_576;
 
-/// How many bytes of the file of a place are read at most, but for one more.
+/// Returns the maximum size in bytes of the input file at this index. One byte more is read, so that a larger file is
+/// detected.
 fn most_at(line: &Line, place: usize) -> usize
     ensures most { result ≡ most_at line.now place }
     ensures within { result < u64.MAX }
@@ -31,12 +32,13 @@ fn most_at(line: &Line, place: usize) -> usize
     }
 }
 
-/// The bytes of each of the line's files, which have these names, in order, and none for one that cannot be read. Each is opened once.
-/// Which files they are is added to `known`.
+/// Reads the input files of the line, in order. The result holds `None` for a file that cannot be read.
+///
+/// Each file is opened once. The identities of the opened files are appended to `known`.
 ///
 /// # Errors
 ///
-/// `AllocError` where memory that was asked for was refused.
+/// Returns `AllocError` if an allocation fails.
 pub fn read_files<H: Host>(
     host: &mut H,
     alloc: Global,

@@ -1,4 +1,6 @@
-//! From the words of a command line, and what the machine gives, to what it is given and the status of the process.
+//! A process of `swt`, from its command-line words to its exit status, on any machine that implements `Host`.
+//!
+//! It reads the input files, runs the command of `swt_command`, and moves a trace to its final name.
 #![tactic(auto)]
 
 pub mod each;

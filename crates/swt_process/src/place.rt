@@ -1,4 +1,4 @@
-//! Where a trace is to stand.
+//! File names of a trace: the final name and the temporary name.
 ghost use Rattle.std.specs.Prelude.{◌≡◌, [], map, option_map, option_to_list, string_bytes, IfOk};
 ghost use Rattle.host.specs.Events.{asked, changes, inputs, links, reads};
 ghost use Rattle.swt_process.specs.Places.{name_of, place_of, trace_of};
@@ -8,7 +8,7 @@ use itoa::Buffer;
 use std::alloc::{AllocError, Global};
 use swt_arguments::line::Line;
 
-/// The name that the line has for a trace.
+/// Returns the name that the line gives for the trace.
 fn trace_of(line: &Line) -> Option<&str>
     ensures { option_map (λ name. name.now) result ≡ trace_of line.now }
 {
@@ -21,12 +21,12 @@ fn trace_of(line: &Line) -> Option<&str>
     }
 }
 
-/// Where the line's trace is to stand: at the name that its name leads to through links, or at its own where that leads nowhere. It is
-/// empty where the line wants no trace.
+/// Returns the final name of the line's trace: its name with links resolved, or the name itself if it cannot be
+/// resolved. The result is empty if the line requests no trace.
 ///
 /// # Errors
 ///
-/// `AllocError` where memory that was asked for was refused.
+/// Returns `AllocError` if an allocation fails.
 pub fn find_place<H: Host>(host: &mut H, alloc: Global, line: &Line) -> Result<String, AllocError>
     requires none { links (H.history host.old) ≡ [] }
     ensures place { IfOk result (λ place. string_bytes place ≡ place_of (trace_of line.now) (links (H.history host.new))) }
@@ -45,11 +45,12 @@ pub fn find_place<H: Host>(host: &mut H, alloc: Global, line: &Line) -> Result<S
     }
 }
 
-/// A name beside that one, which no other process uses at this time: with the number of this one.
+/// Returns a temporary name next to `place`. It contains the number of this process, so that no other current process
+/// uses it.
 ///
 /// # Errors
 ///
-/// `AllocError` where memory that was asked for was refused.
+/// Returns `AllocError` if an allocation fails.
 pub fn name_beside(alloc: Global, place: &str, process: u32) -> Result<String, AllocError> {
     let mut name = String::from_str(alloc, place)?;
     let mut buffer = Buffer::new();

@@ -1,4 +1,4 @@
-//! The program, from a line on.
+//! The program, from a parsed line to the exit status.
 ghost use Rattle.std.specs.Prelude.{◌≡◌, ◌<◌, [], map, option_to_list, reverse, string_bytes, IfOk};
 ghost use Rattle.host.specs.Events.{asked, changes, inputs, links, reads};
 ghost use Rattle.swt_arguments.specs.Lines.{files_of};
@@ -15,32 +15,32 @@ use crate::traced::with_trace;
 use bumpalo::Bump;
 use host::Host;
 use host::identity::Identity;
-use meaning::watch::Watch;
+use meaning::observer::RoundObserver;
 use std::alloc::{AllocError, Global};
 use std::marker::Brand;
 use std::sync::Wait;
 use std::thread::Threads;
 use swt_arguments::line::Line;
-use swt_command::trouble::tell;
-use swt_status::trouble::Trouble;
+use swt_command::trouble::write_failure;
+use swt_status::failure::CommandFailure;
 use values::sink::Sink;
-use workers::job::Gate;
+use workers::gate::Gate;
 
-/// What a command is done on: the bytes of its files and which files these are, where its trace is to stand, and a name beside that.
-struct Input {
+/// Input of a command: the bytes and identities of its files, and the final and temporary names of its trace.
+struct CommandInput {
     files: Vec<Option<Vec<u8>>>,
     known: Vec<Identity>,
     place: String,
     beside: String,
 }
 
-/// Reads each file of the line, and lays by what its trace needs.
+/// Reads each input file of the line, and finds the names of its trace.
 fn read<H: Host>(
     alloc: Global,
     host: &mut H,
     process: u32,
     line: &Line,
-) -> Result<Input, AllocError>
+) -> Result<CommandInput, AllocError>
     requires reads { reads (H.history host.old) ≡ [] }
     requires links { links (H.history host.old) ≡ [] }
     requires inputs { inputs (H.history host.old) ≡ [] }
@@ -57,7 +57,7 @@ fn read<H: Host>(
     let files = read_files(host, alloc, &mut known, line, names.as_slice())?;
     let place = find_place(host, alloc, line)?;
     let beside = name_beside(alloc, place.as_str(), process)?;
-    Ok(Input {
+    Ok(CommandInput {
         files,
         known,
         place,
@@ -65,12 +65,13 @@ fn read<H: Host>(
     })
 }
 
-/// Does what the line asks for. The answer is the status of the process, and the machine. `process` is the number of this process among
-/// those of the machine.
+/// Runs the command of the line. Returns the exit status and the machine. `process` is the number of this process on
+/// the machine.
 ///
-/// The files of a check are read, checked and told in turn, so that no more than one is kept. Of any other command all files are read, its
-/// command is done with one arena for all trees, and its trace gets its place.
-pub fn program<R: Threads + Wait + Sync, G: Gate + Watch, H: Host + Drop, O: Sink, E: Sink>(
+/// The files of `check` are read, checked and reported one after the other, so that only one is in memory. For any
+/// other command all files are read first. It then runs with one arena for all syntax trees, and its trace is moved to
+/// its final name.
+pub fn program<R: Threads + Wait + Sync, G: Gate + RoundObserver, H: Host + Drop, O: Sink, E: Sink>(
     rt: &R,
     alloc: Global,
     host: H,
@@ -97,12 +98,18 @@ pub fn program<R: Threads + Wait + Sync, G: Gate + Watch, H: Host + Drop, O: Sin
             let status = check_files(&mut host, alloc, files.as_slice(), out, err);
             (status, host)
         }
-        _ => on_files(rt, alloc, host, process, line, gate, out, err),
+        _ => run_on_files(rt, alloc, host, process, line, gate, out, err),
     }
 }
 
-/// The same for a command whose files are read first.
-fn on_files<R: Threads + Wait + Sync, G: Gate + Watch, H: Host + Drop, O: Sink, E: Sink>(
+/// Runs a command other than `check`, whose files are all read first.
+fn run_on_files<
+    R: Threads + Wait + Sync,
+    G: Gate + RoundObserver,
+    H: Host + Drop,
+    O: Sink,
+    E: Sink,
+>(
     rt: &R,
     alloc: Global,
     host: H,
@@ -126,7 +133,7 @@ fn on_files<R: Threads + Wait + Sync, G: Gate + Watch, H: Host + Drop, O: Sink, 
     let mut host = host;
     match read(alloc, &mut host, process, line) {
         Ok(input) => {
-            let Input {
+            let CommandInput {
                 files,
                 known,
                 place,
@@ -149,8 +156,8 @@ fn on_files<R: Threads + Wait + Sync, G: Gate + Watch, H: Host + Drop, O: Sink, 
             )
         }
         Err(AllocError) => {
-            let _ = tell(Trouble::Memory, "", err);
-            (Trouble::Memory.status().number(), host)
+            let _ = write_failure(CommandFailure::Memory, "", err);
+            (CommandFailure::Memory.status().number(), host)
         }
     }
 }

@@ -1,4 +1,4 @@
-//! A command with the file of its trace.
+//! Execution of a command together with the file of its trace.
 ghost use Rattle.std.specs.Prelude.{◌≡◌, ◌<◌, [], true, string_bytes};
 ghost use Rattle.host.specs.Events.{changes, inputs, is_safe, learnt};
 ghost use Rattle.swt_command.specs.Files.{contents};
@@ -8,31 +8,35 @@ ghost use Rattle.swt_process.specs.Ends.{Did, is_reported};
 use bumpalo::Bump;
 use host::Host;
 use host::identity::Identity;
-use host::trace::{Past, TraceFile};
-use meaning::watch::Watch;
+use host::trace::{TraceContext, TraceFile};
+use meaning::observer::RoundObserver;
 use std::alloc::Global;
 use std::sync::Wait;
 use std::thread::Threads;
 use swt_arguments::line::Line;
 use swt_command::command::command;
-use swt_command::trouble::tell;
-use swt_status::trouble::Trouble;
+use swt_command::trouble::write_failure;
+use swt_status::failure::CommandFailure;
 use values::sink::Sink;
-use workers::job::Gate;
+use workers::gate::Gate;
 
-/// Whether a command that ends with this number has done what it was to do, and said nothing on standard error.
+/// Returns true if a command with this status accepted its script or printed its whole report, and wrote nothing to
+/// standard error.
 fn is_reported(number: u8) -> bool
     ensures { result ≡ is_reported number }
 {
     number == 0 || number == 3 || number == 4 || number == 5
 }
 
-/// Does the line's command on these bytes, with a trace that is to stand at the place. The answer is the status and the machine.
+/// Runs the command of the line on these bytes, with a trace for the name `place`. Returns the exit status and the
+/// machine.
+///
+/// If a complete trace cannot be moved to its name, the error is reported and the status is that of `Untraced`.
 pub fn with_trace<
     R: Threads + Wait + Sync,
-    G: Gate + Watch,
+    G: Gate + RoundObserver,
     H: Host + Drop,
-    K: Past,
+    K: TraceContext,
     O: Sink,
     E: Sink,
 >(
@@ -68,9 +72,9 @@ pub fn with_trace<
         return (status, host);
     }
     if is_reported(status) {
-        let _ = tell(Trouble::Untraced, "", err);
-        return (Trouble::Untraced.status().number(), host);
+        let _ = write_failure(CommandFailure::Untraced, "", err);
+        return (CommandFailure::Untraced.status().number(), host);
     }
-    // Of a command that stopped there is no trace to be kept.
+    // A command that failed has no trace to keep.
     (status, host)
 }

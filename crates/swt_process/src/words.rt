@@ -1,22 +1,22 @@
-//! The words of the command line.
+//! Reading of the command-line words.
 ghost use Rattle.std.specs.Prelude.{◌≡◌, [], Some, None, IfErr, IfOk, OnErr};
 ghost use Rattle.host.specs.Events.{asked, changes, inputs, links, reads};
 ghost use Rattle.swt_process.specs.Process.{requested};
 
-use host::{ArgumentFault, Host};
+use host::{CommandLineError, Host};
 use std::alloc::Global;
 use swt_arguments::fault::LineFault;
 use swt_arguments::request::Request;
 use swt_arguments::word::Word;
 
-/// More words than a command line has.
+/// Bound on the number of words, larger than any command line.
 const MOST_WORDS: u32 = 16_777_216;
 
-/// What the words of the command line ask for.
+/// Reads the words of the command line and returns their request.
 ///
 /// # Errors
 ///
-/// `Usage` where they are no request or no texts, and `Memory` where memory that was asked for was refused.
+/// Returns `Usage` if the words are not a request or not text, and `Memory` if an allocation fails.
 pub fn read_request<H: Host>(host: &mut H, alloc: Global) -> Result<Request, LineFault>
     requires { H.history host.old ≡ [] }
     ensures request { IfOk result (λ request. requested (H.history host.new) ≡ Some request) }
@@ -30,11 +30,11 @@ pub fn read_request<H: Host>(host: &mut H, alloc: Global) -> Result<Request, Lin
     Request::read(alloc, all.as_slice())
 }
 
-/// The words of the command line.
+/// Reads the words of the command line.
 ///
 /// # Errors
 ///
-/// `Usage` where a word is no text, and `Memory` where memory that was asked for was refused.
+/// Returns `Usage` if a word is not text or the bound is reached, and `Memory` if an allocation fails.
 pub fn read_words<H: Host>(host: &mut H, alloc: Global) -> Result<Vec<Word>, LineFault>
     requires { H.history host.old ≡ [] }
     ensures words { IfOk result (λ all. asked (H.history host.new) ≡ Some all.items) }
@@ -49,8 +49,8 @@ pub fn read_words<H: Host>(host: &mut H, alloc: Global) -> Result<Vec<Word>, Lin
         match host.argument() {
             Ok(Some(word)) => all.push(Word::new(word))?,
             Ok(None) => return Ok(all),
-            Err(ArgumentFault::NoText) => return Err(LineFault::Usage),
-            Err(ArgumentFault::Memory) => return Err(LineFault::Memory),
+            Err(CommandLineError::NoText) => return Err(LineFault::Usage),
+            Err(CommandLineError::Memory) => return Err(LineFault::Memory),
         }
     }
     Err(LineFault::Usage)

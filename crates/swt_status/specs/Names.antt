@@ -1,4 +1,4 @@
--- How a refusal is shown: its number, its name and its place.
+-- The printed form of a refusal: its number, its name and its span.
 use Rattle.std.specs.Prelude.{ℕ, List, ◌∷◌, ◌++◌, Option, option_map, codes}
 use Rattle.std.specs.Fmt.{decimal}
 use Rattle.compile.specs.declared.fault.CompileFault.{CompileFault}
@@ -6,7 +6,7 @@ use Rattle.compile.specs.FaultNames.{fault_name}
 use Rattle.compile.specs.Places.{span_of}
 use Rattle.swt_status.specs.declared.refusal.Refusal.{Refusal}
 
--- the refusal that a fault is; a fault without a place is none
+-- the refusal for a fault of the compiler; a fault without a span has none
 abbrev pub refusal_of : CompileFault → Option Refusal
 refusal_of fault = option_map (λ at. record { fault = fault; at = at }) (span_of fault)
 

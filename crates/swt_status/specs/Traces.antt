@@ -1,13 +1,14 @@
--- Why a command stops at a trace.
+-- The reasons why a command stops at a trace.
 use Rattle.std.specs.Prelude.{ℕ, List, Option, Some, None}
 use Rattle.task_code.specs.Code.{Code}
 use Rattle.swt_trace.specs.Replay.{IsFirstNoStep, IsWrongEnd}
 use Rattle.swt_trace.specs.Trace.{IsFirstBad}
-use Rattle.swt_status.specs.declared.trouble.Trouble.{Trouble}
-use Rattle.swt_status.specs.declared.trouble.Trouble.TheVariants as Is
+use Rattle.swt_status.specs.declared.failure.CommandFailure.{CommandFailure}
+use Rattle.swt_status.specs.declared.failure.CommandFailure.TheVariants as Is
 
--- the trace cannot be read, or is none, or has an event that is no step of the code, or names another end than that of its run; or memory was refused
-abbrev pub StopsAtTrace : Option (List ℕ) → Code → Trouble → Type 0
+-- the trace cannot be read, or violates the grammar, or has an event that is not a step of the code, or names a
+-- different end than its run has; or an allocation failed
+abbrev pub StopsAtTrace : Option (List ℕ) → Code → CommandFailure → Type 0
 StopsAtTrace None code Is.Unread = Unit {0}
 StopsAtTrace (Some bytes) code (Is.BadLine n) = IsFirstBad bytes n
 StopsAtTrace (Some bytes) code (Is.NotARun n) = IsFirstNoStep code bytes n

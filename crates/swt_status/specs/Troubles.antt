@@ -1,10 +1,10 @@
--- The status that trouble ends a command with.
+-- The status with which a failure ends a command.
 use Rattle.swt_status.specs.declared.status.Status.{Status}
 use Rattle.swt_status.specs.declared.status.Status.TheVariants as Ends
-use Rattle.swt_status.specs.declared.trouble.Trouble.{Trouble}
-use Rattle.swt_status.specs.declared.trouble.Trouble.TheVariants as Is
+use Rattle.swt_status.specs.declared.failure.CommandFailure.{CommandFailure}
+use Rattle.swt_status.specs.declared.failure.CommandFailure.TheVariants as Is
 
-abbrev pub trouble_status : Trouble → Status
+abbrev pub trouble_status : CommandFailure → Status
 trouble_status Is.Unread = Ends.Failed
 trouble_status (Is.Refused r) = Ends.Refused
 trouble_status (Is.BadLine n) = Ends.Failed

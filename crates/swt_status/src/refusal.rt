@@ -1,4 +1,4 @@
-//! Why a script is refused, and how that is shown.
+//! The refusal of a script, as it is printed.
 ghost use Rattle.std.specs.Prelude.{◌≡◌};
 ghost use Rattle.swt_status.specs.Names.{refusal_of, refusal_text};
 
@@ -7,10 +7,10 @@ use compile::fault::CompileFault;
 use itoa::Buffer;
 use lexer::token::Span;
 
-/// The most bytes of a refusal: a name of twenty, two numbers of at most twenty digits, and two spaces.
+/// Maximum number of bytes of a refusal: a name of 20, two numbers of at most 20 digits, and two spaces.
 pub const LONGEST_REFUSAL: usize = 64;
 
-/// A refusal with its place.
+/// A refusal with its span.
 #[derive(Clone, Copy, PartialEq, Eq, Debug)]
 pub struct Refusal {
     pub fault: CompileFault,
@@ -18,7 +18,7 @@ pub struct Refusal {
 }
 
 impl Refusal {
-    /// The refusal that a fault is. Want of memory is none.
+    /// Converts a fault of the compiler. Returns `None` for a fault without a span, which is an allocation failure.
     pub fn of(fault: CompileFault) -> Option<Refusal>
         ensures { result ≡ refusal_of fault }
     {
@@ -28,7 +28,7 @@ impl Refusal {
         }
     }
 
-    /// Its number, its name and its place, as `S1 AssignedTwice 11 12`.
+    /// Returns the number, the name and the span, such as `S1 AssignedTwice 11 12`.
     pub fn text(self) -> ArrayString<LONGEST_REFUSAL>
         ensures { result.bytes ≡ refusal_text self }
     {

@@ -1,32 +1,33 @@
-//! How a command ends.
+//! Statuses of commands and their exit codes.
 ghost use Rattle.std.specs.Prelude.{◌≡◌};
 ghost use Rattle.swt_status.specs.Statuses.{number_of, report_status};
 
 use board_runs::report::{End, Report};
 
-/// How a command ended.
+/// The status with which a command ended.
 #[derive(Clone, Copy, PartialEq, Eq, Debug, Drop)]
 pub enum Status {
     /// The run was quiet with nothing blocked, or the script was accepted.
     Done,
     /// A script was refused.
     Refused,
-    /// The words were no command, or they asked for too many engines and workers.
+    /// The arguments were not a command, or requested no engine, no worker, or more than 64 of both together.
     Usage,
-    /// The run met a fault.
+    /// The run had a fault.
     Fault,
     /// The run was quiet, with blocked statements.
     Blocked,
     /// The run was cut off at its limit.
     Limit,
-    /// Memory that was asked for was refused.
+    /// An allocation failed.
     Memory,
-    /// A file could not be read, or a text could not be written.
+    /// A file, a trace or a write failed, a thread could not be started, or the counts of threads differ from the
+    /// board.
     Failed,
 }
 
 impl Status {
-    /// The status of the process.
+    /// Returns the exit code of the process.
     pub fn number(self) -> u8
         ensures { result ≡ number_of self }
     {
@@ -43,7 +44,7 @@ impl Status {
     }
 }
 
-/// The status that a run's end comes with.
+/// Returns the status for the end of a run.
 pub fn status_of(report: &Report) -> Status
     ensures { result ≡ report_status report.now }
 {

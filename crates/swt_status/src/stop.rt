@@ -1,11 +1,11 @@
-//! Where a command stops.
+//! Failures with the file at which a command stopped.
 
-use crate::trouble::Trouble;
+use crate::failure::CommandFailure;
 
-/// What ended a command, and at which of the files that its line names to be read.
+/// A failure that ended a command, and the input file at which it occurred.
 #[derive(Clone, Copy, PartialEq, Eq, Debug)]
-pub struct Stop {
-    /// The place of the file, counted from 0.
+pub struct CommandStop {
+    /// The position of the file among the files that the command line names to be read, counted from 0.
     pub place: usize,
-    pub trouble: Trouble,
+    pub trouble: CommandFailure,
 }

@@ -1,44 +1,44 @@
-//! The run that a trace is of.
+//! Replay of a trace for a command.
 ghost use Rattle.std.specs.Prelude.{◌≡◌, Some, MatchResult};
 ghost use Rattle.swt_trace.specs.Replay.{ReplaysTo};
 ghost use Rattle.swt_status.specs.Traces.{StopsAtTrace};
 
-use crate::stop::Stop;
-use crate::trouble::Trouble;
+use crate::failure::CommandFailure;
+use crate::stop::CommandStop;
 use board_runs::report::Report;
 use std::alloc::Global;
 use swt_trace::fault::ReplayFault;
 use swt_trace::replay::replay;
 use task_code::code::Code;
 
-/// The report of the events of a trace, run again on the code.
+/// Runs the events of a trace again on the code, and returns the report.
 ///
 /// # Errors
 ///
-/// The stop at the trace, which is the second file: `BadLine` with the number of the first line that is none of a trace,
-/// `NotARun` with that of the first line whose event is no step, `WrongEnd` with that of the last line where it names another end, or
-/// `Memory`.
-pub fn report_of_trace(alloc: Global, code: &Code, trace: &[u8]) -> Result<Report, Stop>
+/// Returns a stop at the trace, which is the second file. `BadLine` has the number of the first line that violates
+/// the grammar, and `NotARun` that of the first line whose event is not a step. `WrongEnd` has the number of the last
+/// line, if it names a different end. The failure is `Memory` if an allocation fails.
+pub fn report_of_trace(alloc: Global, code: &Code, trace: &[u8]) -> Result<Report, CommandStop>
     ensures { MatchResult result (ReplaysTo code.now trace.now)
         (λ stop. (stop.place ≡ 1) × StopsAtTrace (Some trace.now) code.now stop.trouble) }
 {
     match replay(alloc, code, trace) {
         Ok(report) => Ok(report),
-        Err(ReplayFault::BadLine(line)) => Err(Stop {
+        Err(ReplayFault::BadLine(line)) => Err(CommandStop {
             place: 1,
-            trouble: Trouble::BadLine(line),
+            trouble: CommandFailure::BadLine(line),
         }),
-        Err(ReplayFault::NotARun(line)) => Err(Stop {
+        Err(ReplayFault::NotARun(line)) => Err(CommandStop {
             place: 1,
-            trouble: Trouble::NotARun(line),
+            trouble: CommandFailure::NotARun(line),
         }),
-        Err(ReplayFault::WrongEnd(line)) => Err(Stop {
+        Err(ReplayFault::WrongEnd(line)) => Err(CommandStop {
             place: 1,
-            trouble: Trouble::WrongEnd(line),
+            trouble: CommandFailure::WrongEnd(line),
         }),
-        Err(ReplayFault::Memory) => Err(Stop {
+        Err(ReplayFault::Memory) => Err(CommandStop {
             place: 1,
-            trouble: Trouble::Memory,
+            trouble: CommandFailure::Memory,
         }),
     }
 }

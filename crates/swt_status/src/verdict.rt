@@ -1,16 +1,17 @@
-//! Whether a text is accepted.
+//! The check whether a text is accepted as a script.
 ghost use Rattle.std.specs.Prelude.{IfOk};
 ghost use Rattle.swt_status.specs.Verdicts.{IsVerdict};
 
 use crate::refusal::Refusal;
-use compile::check::check;
+use compile::check::check_text;
 use std::alloc::{AllocError, Allocator, Global};
 
-/// The refusal of a text, and none where it is accepted. Its tree lies in `alloc` until the answer.
+/// Returns the refusal of a text, or `None` if it is accepted. The syntax tree is kept in `alloc` during the call
+/// only.
 ///
 /// # Errors
 ///
-/// `AllocError` where memory that was asked for was refused.
+/// Returns `AllocError` if an allocation fails.
 pub fn verdict<A: Allocator + Clone>(
     machine: Global,
     alloc: A,
@@ -18,7 +19,7 @@ pub fn verdict<A: Allocator + Clone>(
 ) -> Result<Option<Refusal>, AllocError>
     ensures { IfOk result (IsVerdict source.now) }
 {
-    match check(machine, alloc, source) {
+    match check_text(machine, alloc, source) {
         Ok(()) => Ok(None),
         Err(fault) => match Refusal::of(fault) {
             Some(refusal) => Ok(Some(refusal)),

@@ -20,8 +20,8 @@ use Rattle.board_runs.specs.Report.{Reports}
 use Rattle.board_runs.specs.Same.{SameEnd, SameReport}
 use Rattle.board_runs.proofs.Alike.{step_too}
 use Rattle.board_runs.proofs.Told.{told}
-use Rattle.swt_trace.specs.declared.fault.TraceFault.{TraceFault}
-use Rattle.swt_trace.specs.declared.fault.TraceFault.TheVariants as Read
+use Rattle.swt_trace.specs.declared.fault.TraceError.{TraceError}
+use Rattle.swt_trace.specs.declared.fault.TraceError.TheVariants as Read
 use Rattle.swt_trace.specs.declared.fault.ReplayFault.TheVariants as Replay
 use Rattle.swt_trace.specs.Faults.{replay_fault}
 use Rattle.swt_trace.specs.declared.ending.Ending.{Ending}
@@ -59,7 +59,7 @@ module _ (C : Code) (bytes : List ℕ) (r : Report) (t : IsTraceOf C bytes r) wh
   not_bad n b = bad bytes n r.history.items (Some (ending_of r.end)) b its_trace
 
   -- so reading them is refused for memory alone
-  pub read_refused : (fault : TraceFault) → ((n : ℕ) → fault ≡ Read.BadLine n → IsFirstBad bytes n) → replay_fault fault ≡ Replay.Memory
+  pub read_refused : (fault : TraceError) → ((n : ℕ) → fault ≡ Read.BadLine n → IsFirstBad bytes n) → replay_fault fault ≡ Replay.Memory
   read_refused (Read.BadLine n) b = absurd (not_bad n (b n refl))
   read_refused Read.Memory b = refl
 

@@ -5,8 +5,8 @@ use Rattle.std.specs.Fmt.{decimal}
 use Rattle.std.proofs.lemmas.Grind.{common_steps}
 use Rattle.task_code.specs.declared.event.Event.{Event}
 use Rattle.task_code.specs.declared.event.Event.TheVariants.{Begin, End, Back}
-use Rattle.swt_trace.specs.declared.fault.TraceFault.{TraceFault}
-use Rattle.swt_trace.specs.declared.fault.TraceFault.TheVariants.{BadLine, Memory}
+use Rattle.swt_trace.specs.declared.fault.TraceError.{TraceError}
+use Rattle.swt_trace.specs.declared.fault.TraceError.TheVariants.{BadLine, Memory}
 use Rattle.swt_trace.specs.declared.ending.Ending.{Ending}
 use Rattle.swt_trace.specs.declared.ending.Ending.TheVariants.{Quiet, Fault, Limit}
 use Rattle.swt_trace.specs.Trace.{Version, plain, ended, letter, worker_of, item_of, ending_letter, first_line, event_line, event_lines, ending_line, version_of, last_line, TraceText, most_events}
@@ -287,7 +287,7 @@ one_more_in_range [] e a p = all_in_range e [] p a
 one_more_in_range (f ∷ es) e a p = all_in_range f (es ++ e ∷ []) (first_in_range f es a) (one_more_in_range es e (rest_in_range f es a) p)
 
 -- the number that a fault names
-line_number : TraceFault → ℕ
+line_number : TraceError → ℕ
 line_number (BadLine n) = n
 line_number Memory = 0
 

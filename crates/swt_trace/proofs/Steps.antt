@@ -4,8 +4,8 @@ use Rattle.dataflow.specs.Machine.{Back, Begin, End, Event}
 use Rattle.dataflow.specs.System.{In}
 use Rattle.dataflow.proofs.Lists.{seam_here}
 use Rattle.task_code.specs.Machine.{CodeItem}
-use Rattle.board.specs.declared.refusal.Refusal.{Refusal}
-use Rattle.board.specs.declared.refusal.Refusal.TheVariants.{Ended, Memory, NotReady, NotYours, Stranger}
+use Rattle.board.specs.declared.refusal.BoardRefusal.{BoardRefusal}
+use Rattle.board.specs.declared.refusal.BoardRefusal.TheVariants.{Ended, Memory, NotReady, NotYours, Stranger}
 use Rattle.board.specs.Board.{IsGoing, IsTheirs, MayBegin, RefusesBack, RefusesBegin, RefusesWork, Seen}
 use Rattle.swt_trace.specs.Replay.{IsNoStep}
 
@@ -46,21 +46,21 @@ no_back_if b w n not = λ new step.
       runs = backs.runs;
     })
 
-pub no_begin : (b : Seen) (w n : ℕ) (e : Refusal) → length b.history < b.limit → RefusesBegin b n e → (e ≡ Memory → ⊥) → IsNoStep b.code b.state (Begin w n)
+pub no_begin : (b : Seen) (w n : ℕ) (e : BoardRefusal) → length b.history < b.limit → RefusesBegin b n e → (e ≡ Memory → ⊥) → IsNoStep b.code b.state (Begin w n)
 no_begin b w n Ended room refused other = no_going b (Begin w n) room refused
 no_begin b w n NotReady room refused other = no_begin_if b w n refused.1
 no_begin b w n Memory room refused other = absurd (other refl)
 no_begin b w n NotYours room refused other = absurd refused
 no_begin b w n Stranger room refused other = absurd refused
 
-pub no_end : (b : Seen) (w n : ℕ) (e : Refusal) → length b.history < b.limit → RefusesWork b w n e → (e ≡ Memory → ⊥) → IsNoStep b.code b.state (End w n)
+pub no_end : (b : Seen) (w n : ℕ) (e : BoardRefusal) → length b.history < b.limit → RefusesWork b w n e → (e ≡ Memory → ⊥) → IsNoStep b.code b.state (End w n)
 no_end b w n Ended room refused other = no_going b (End w n) room refused
 no_end b w n NotYours room refused other = no_end_if b w n refused.1
 no_end b w n Memory room refused other = absurd (other refl)
 no_end b w n NotReady room refused other = absurd refused
 no_end b w n Stranger room refused other = absurd refused
 
-pub no_back : (b : Seen) (w n : ℕ) (e : Refusal) → length b.history < b.limit → RefusesBack b w n e → IsNoStep b.code b.state (Back w n)
+pub no_back : (b : Seen) (w n : ℕ) (e : BoardRefusal) → length b.history < b.limit → RefusesBack b w n e → IsNoStep b.code b.state (Back w n)
 no_back b w n Ended room refused = no_going b (Back w n) room refused
 no_back b w n NotYours room refused = no_back_if b w n refused.1
 no_back b w n Memory room refused = absurd refused

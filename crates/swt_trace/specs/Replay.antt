@@ -1,4 +1,4 @@
--- Traces that are run again.
+-- Traces that are replayed.
 use Rattle.std.specs.Prelude.{◌≡◌, ◌≢◌, ℕ, ◌+◌, ◌<◌, ◌≤◌, Bool, true, false, Option, Some, None, List, length, map, take, slice_index_or}
 use Rattle.dataflow.specs.Machine as Machine
 use Rattle.task_code.specs.declared.event.Event.{Event}
@@ -13,11 +13,11 @@ use Rattle.swt_trace.specs.declared.ending.Ending.{Ending}
 use Rattle.swt_trace.specs.Report.{TraceOf, ending_of}
 use Rattle.swt_trace.specs.Trace.{IsTrace, most_events}
 
--- the event is no step from the state
+-- the event is not a step from the state
 abbrev pub IsNoStep : Code → CodeState → Machine.Event → Type 0
 IsNoStep C s e = (new : CodeState) → CodeStep C s e new → ⊥
 
--- the board takes the event, or it is no step
+-- the board accepts the event, or it is not a step and the board is unchanged
 abbrev pub Takes : Seen → Machine.Event → Seen → Bool → Type 0
 Takes old e new true = Accepts old e new
 Takes old e new false = (new ≡ old) × IsNoStep old.code old.state e
@@ -27,7 +27,8 @@ abbrev pub IsNamed : Option Ending → End → Type 0
 IsNamed None d = Unit {0}
 IsNamed (Some e) d = e ≡ ending_of d
 
--- the report is one of the events of which the bytes are a trace, with their number as the limit, and no other end is named
+-- the bytes are a trace of the report's events, which are run with their number as the limit, and no other end is
+-- named
 pub record ReplaysTo (C : Code) (bytes : List ℕ) (r : Report) : Type 0 where
   pub events : List Event
   pub ending : Option Ending
@@ -36,7 +37,8 @@ pub record ReplaysTo (C : Code) (bytes : List ℕ) (r : Report) : Type 0 where
   pub reports : Reports C (length events) r
   pub named : IsNamed ending r.end
 
--- the bytes are a trace whose events are a run up to line n, and the event of line n is no step from where they lead to
+-- the bytes are a trace whose events before line n are a run; the event of line n is not a step from the state after
+-- them
 pub record IsFirstNoStep (C : Code) (bytes : List ℕ) (n : ℕ) : Type 0 where
   pub events : List Event
   pub ending : Option Ending
@@ -50,7 +52,8 @@ pub record IsFirstNoStep (C : Code) (bytes : List ℕ) (n : ℕ) : Type 0 where
   pub here : slice_index_or events place event ≡ event
   pub no_step : IsNoStep C state (event_view event)
 
--- the bytes are a trace whose events are a run, and line n, behind them, names another end than that of its report
+-- the bytes are a trace whose events are a run, and line n, which follows them, names a different end than its report
+-- has
 pub record IsWrongEnd (C : Code) (bytes : List ℕ) (n : ℕ) : Type 0 where
   pub events : List Event
   pub ending : Ending
@@ -61,7 +64,8 @@ pub record IsWrongEnd (C : Code) (bytes : List ℕ) (n : ℕ) : Type 0 where
   pub reports : Reports C (length events) report
   pub other : ending ≢ ending_of report.end
 
--- the bytes are the trace of the report, and the report is one of a run of the code of no more events than a trace has
+-- the bytes are the trace of the report; the report is of a run of the code with at most as many events as a trace
+-- may have
 pub record IsTraceOf (C : Code) (bytes : List ℕ) (r : Report) : Type 0 where
   pub limit : ℕ
   pub few : limit ≤ most_events

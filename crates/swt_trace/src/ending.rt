@@ -1,23 +1,23 @@
-//! How a run ended, as the last line of a trace names it.
+//! The end of a run as a trace names it.
 ghost use Rattle.std.specs.Prelude.{◌≡◌, []};
 ghost use Rattle.swt_trace.specs.Report.{ending_of};
 ghost use Rattle.swt_trace.specs.Trace.{ending_line};
 
 use board_runs::report::End;
 
-/// How a run ended, as the last line of a trace names it.
+/// The end of a run, as the last line of a trace names it.
 #[derive(Clone, Copy, PartialEq, Eq, Debug, Drop)]
 pub enum Ending {
-    /// `Q`: no item ran, and none could begin.
+    /// `Q`: there is no fault, and no item is ready or running.
     Quiet,
-    /// `F`: a fault was met.
+    /// `F`: a fault occurred.
     Fault,
-    /// `L`: there were as many events as were allowed.
+    /// `L`: the run reached its limit of events.
     Limit,
 }
 
 impl Ending {
-    /// The end of a run.
+    /// Converts the end of a report.
     pub(crate) fn of(end: &End) -> Ending
         ensures { result ≡ ending_of end.now }
     {
@@ -28,7 +28,7 @@ impl Ending {
         }
     }
 
-    /// The line that names it.
+    /// Returns the line that names this end.
     pub(crate) fn line(self) -> &'static [u8]
         ensures { result.now ≡ ending_line self [] }
     {

@@ -1,54 +1,54 @@
-//! Why a text was not read as a trace, and why a report or a trace was not written.
+//! Errors of reading, replaying and writing traces and reports.
 use std::alloc::{AllocError, AllocFailed};
 use thiserror::Error;
 use values::sink::SinkFault;
 
-/// Why a trace was not read.
+/// The reason why a trace could not be read.
 #[derive(Clone, Copy, PartialEq, Eq, Debug, Drop, Error)]
-pub enum TraceFault {
-    /// The number, from 1 on, of the first line that no trace has there.
+pub enum TraceError {
+    /// The number, counted from 1, of the first line that violates the trace grammar.
     #[error("T1 BadLine {0}")]
     BadLine(u64),
-    /// Memory that was asked for was refused.
+    /// An allocation failed.
     #[error("no memory")]
     Memory,
 }
 
-impl From<AllocError> for TraceFault {
+impl From<AllocError> for TraceError {
     ghost use Rattle.std.specs.Prelude.{◌≡◌};
-    ghost use Rattle.swt_trace.specs.declared.fault.TraceFault.TheVariants.{Memory};
+    ghost use Rattle.swt_trace.specs.declared.fault.TraceError.TheVariants.{Memory};
 
     ghost from_gives = { λ _ fault. fault ≡ Memory };
 
-    fn from(_refused: AllocError) -> TraceFault {
-        TraceFault::Memory
+    fn from(_refused: AllocError) -> TraceError {
+        TraceError::Memory
     }
 }
 
-impl<T: Drop> From<AllocFailed<T>> for TraceFault {
+impl<T: Drop> From<AllocFailed<T>> for TraceError {
     ghost use Rattle.std.specs.Prelude.{◌≡◌};
-    ghost use Rattle.swt_trace.specs.declared.fault.TraceFault.TheVariants.{Memory};
+    ghost use Rattle.swt_trace.specs.declared.fault.TraceError.TheVariants.{Memory};
 
     ghost from_gives = { λ _ fault. fault ≡ Memory };
 
-    fn from(_refused: AllocFailed<T>) -> TraceFault {
-        TraceFault::Memory
+    fn from(_refused: AllocFailed<T>) -> TraceError {
+        TraceError::Memory
     }
 }
 
-/// Why a trace was not run again.
+/// The reason why a trace could not be replayed.
 #[derive(Clone, Copy, PartialEq, Eq, Debug, Drop, Error)]
 pub enum ReplayFault {
-    /// The number, from 1 on, of the first line that no trace has there.
+    /// The number, counted from 1, of the first line that violates the trace grammar.
     #[error("T1 BadLine {0}")]
     BadLine(u64),
-    /// The number of the first line whose event is no step.
+    /// The number of the first line whose event is not a step.
     #[error("T2 NotARun {0}")]
     NotARun(u64),
-    /// The number of the last line, which names another end than that of the run.
+    /// The number of the last line, which names a different end than the run has.
     #[error("T3 WrongEnd {0}")]
     WrongEnd(u64),
-    /// Memory that was asked for was refused.
+    /// An allocation failed.
     #[error("no memory")]
     Memory,
 }
@@ -64,35 +64,35 @@ impl From<AllocError> for ReplayFault {
     }
 }
 
-impl From<TraceFault> for ReplayFault {
+impl From<TraceError> for ReplayFault {
     ghost use Rattle.std.specs.Prelude.{◌≡◌};
     ghost use Rattle.swt_trace.specs.Faults.{replay_fault};
 
     ghost from_gives = { λ fault answer. answer ≡ replay_fault fault };
 
-    fn from(fault: TraceFault) -> ReplayFault {
+    fn from(fault: TraceError) -> ReplayFault {
         match fault {
-            TraceFault::BadLine(line) => ReplayFault::BadLine(line),
-            TraceFault::Memory => ReplayFault::Memory,
+            TraceError::BadLine(line) => ReplayFault::BadLine(line),
+            TraceError::Memory => ReplayFault::Memory,
         }
     }
 }
 
-/// Why a report, or its trace, was not written.
+/// The reason why a report or its trace could not be written.
 #[derive(Clone, Copy, PartialEq, Eq, Debug, Drop, Error)]
-pub enum WriteFault {
+pub enum WriteError {
     /// A write failed.
     #[error("W1 Write")]
     Write,
 }
 
-impl From<SinkFault> for WriteFault {
+impl From<SinkFault> for WriteError {
     ghost use Rattle.std.specs.Prelude.{◌≡◌};
-    ghost use Rattle.swt_trace.specs.declared.fault.WriteFault.TheVariants.{Write};
+    ghost use Rattle.swt_trace.specs.declared.fault.WriteError.TheVariants.{Write};
 
     ghost from_gives = { λ _ fault. fault ≡ Write };
 
-    fn from(_refused: SinkFault) -> WriteFault {
-        WriteFault::Write
+    fn from(_refused: SinkFault) -> WriteError {
+        WriteError::Write
     }
 }

@@ -1,9 +1,12 @@
-//! Traces: the events of a run as a text, written and read.
+//! Texts of a run: its report, and the trace of its events, which can be written, read and replayed.
 //!
-//! A trace is the line `swt-trace 2` and then a line for each event, `B`, `E` or `K` (an item was begun, ended or given
-//! back), the worker from 0 to 63 and the item from 1 on, in decimal, with single spaces and byte 10 behind each line. The
-//! last line names the end of the run: `Q` (quiet), `F` (a fault) or `L` (the limit). A trace of version 1 begins with
-//! `swt-trace 1`, and has no such line.
+//! A trace is the line `swt-trace 2`, a line for each event, and a last line for the end of the run. The line of an
+//! event is `B`, `E` or `K`, the worker from 0 to 63, and the item from 1 on. The letters stand for an item that was
+//! begun, ended or given back. Numbers are decimal, parts are separated by single spaces, and each line ends with
+//! byte 10.
+//!
+//! The last line is `Q` (quiet), `F` (a fault) or `L` (the limit). A trace of version 1 begins with `swt-trace 1` and
+//! has no such line.
 #![tactic(auto)]
 
 ghost use Rattle.std.specs.Prelude.{◌≡◌, ℕ, ◌≤◌, List, Option, length, All};
@@ -23,8 +26,10 @@ pub mod replay;
 pub mod report;
 pub mod write;
 
-/// The grammar of traces and their text fit together: a text is a trace of at most one list of events and names at most one
-/// end, `TraceText` of events in range is a trace of them and the only one, and a text with a bad line is no trace.
+/// States that the grammar of traces and their text agree.
+///
+/// A text is a trace of at most one list of events, and it names at most one end. `TraceText` of at most
+/// `most_events` events in range is a trace of them, and the only one. A text with a bad line is not a trace.
 pub fn traces_are_exact()
     ensures one_meaning { (bytes : List ℕ) (es fs : List Event) (d e : Option Ending) → IsTrace bytes es d → IsTrace bytes fs e → (es ≡ fs) × (d ≡ e) }
     ensures one_text { (bytes : List ℕ) (es : List Event) (e : Option Ending) → IsTrace bytes es e → bytes ≡ TraceText es e }
@@ -33,8 +38,10 @@ pub fn traces_are_exact()
     ensures first_bad { (bytes : List ℕ) (m n : ℕ) → IsFirstBad bytes m → IsFirstBad bytes n → m ≡ n }
 {}
 
-/// What running a trace again comes to is told by the code and the bytes: each event is a step, or one is none; and then
-/// the end of their run is the one that is named, or it is another. A bad line is none of these, by `traces_are_exact`.
+/// States that a code and the bytes of a trace allow at most one result of a replay.
+///
+/// The results are a report, a first event that is not a step, and an end that differs from the named one. A bad line
+/// excludes all of them, by `traces_are_exact`.
 pub fn replays_are_exact()
     ensures no_step { (C : Code) (bytes : List ℕ) (n : ℕ) (r : Report) → IsCode C → IsFirstNoStep C bytes n → ReplaysTo C bytes r → ⊥ }
     ensures other_end { (C : Code) (bytes : List ℕ) (n : ℕ) (r : Report) → IsCode C → IsWrongEnd C bytes n → ReplaysTo C bytes r → ⊥ }

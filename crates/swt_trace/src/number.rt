@@ -1,10 +1,11 @@
-//! Numbers in a text, read with no leading zeros.
+//! Parser for decimal numbers without leading zeros.
 ghost use Rattle.std.specs.Prelude.{◌≡◌, ◌≢◌, ◌^◌, ◌<◌, ◌++◌, ◌∷◌, ℕ, List, decimal, length, slice_index, IfSome, IfNone, IsTrue, ◌↔◌};
 
 use itoa::Buffer;
 use std::str;
 
-/// The number in front of the byte `end`, and the bytes behind that byte.
+/// Returns the number before the first byte `end`, and the bytes after that byte. Returns `None` if there is no such
+/// number of 64 bits.
 pub(crate) fn read_number(bytes: &[u8], end: u8) -> Option<(u64, &[u8])>
     requires { end < 48 }
     ensures some { IfSome result (λ read. bytes.now ≡ decimal read.0 ++ end ∷ read.1.now) }
@@ -16,7 +17,7 @@ pub(crate) fn read_number(bytes: &[u8], end: u8) -> Option<(u64, &[u8])>
     Some((n, &bytes[place + 1..]))
 }
 
-/// The place of the first byte that is `wanted`.
+/// Returns the position of the first byte equal to `wanted`.
 fn find(bytes: &[u8], wanted: u8) -> Option<usize>
     ensures within { IfSome result (λ place. place < length bytes.now) }
     ensures found { IfSome result (λ place. slice_index bytes.now place ≡ wanted) }
@@ -31,7 +32,7 @@ fn find(bytes: &[u8], wanted: u8) -> Option<usize>
     None
 }
 
-/// The number that the digits write.
+/// Returns the number with exactly these decimal digits, or `None` if there is no such number of 64 bits.
 fn parse_number(digits: &[u8]) -> Option<u64>
     ensures some { IfSome result (λ n. digits.now ≡ decimal n) }
     ensures none { IfNone result ((n : ℕ) → n < 2 ^ 64 → digits.now ≢ decimal n) }
@@ -50,7 +51,7 @@ fn parse_number(digits: &[u8]) -> Option<u64>
     }
 }
 
-/// Whether the bytes are the same.
+/// Returns true if the bytes are equal.
 fn is_same(a: &[u8], b: &[u8]) -> bool
     ensures { IsTrue result ↔ (a.now ≡ b.now) }
 {

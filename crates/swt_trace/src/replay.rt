@@ -1,4 +1,4 @@
-//! Running a trace again.
+//! Replay of a trace on the code of its script.
 ghost use Rattle.std.specs.Prelude.{◌≡◌, ◌<◌, ℕ, List, [], length, map, Option, IfOk, IfErr, OnOk};
 ghost use Rattle.dataflow.specs.Machine.{Back, Begin, End};
 ghost use Rattle.task_code.specs.View.{event_view};
@@ -14,25 +14,32 @@ use crate::ending::Ending;
 use crate::fault::ReplayFault;
 use crate::read::read_trace;
 use board::Board;
-use board::refusal::Refusal;
+use board::refusal::BoardRefusal;
 use board_program::program::Program;
 use board_runs::report::{Report, report_of};
-use board_runs::turn::finish;
+use board_runs::step::finish;
 use std::alloc::{AllocError, Global};
 use task_code::code::Code;
 use task_code::event::Event;
 
-/// Runs the events of a trace on the code, and reports that run. Its limit is the number of events, so its end is `Limit`
-/// where the trace stops in the midst of the run.
+/// Runs the events of a trace on the code, and returns the report of that run.
 ///
-/// The trace of a report of a run of the code, whoever made it, gives a report that tells the same, want of memory aside.
+/// The limit of the run is the number of events. The end of the report is therefore `Limit` if the trace stops before
+/// the run does. The trace of a report of any run of the code is replayed to a report with the same content, unless
+/// an allocation fails.
 ///
 /// # Errors
 ///
-/// `BadLine` with the number of the first line that leaves the grammar of traces, before any event is run. `NotARun` with
-/// the number of the first line whose event is no step: an item was begun that could not begin, or was ended or given back by
-/// a worker that did not run it, or a fault was met before. `WrongEnd` with the number of the last line of a trace of version 2,
-/// where each event is a step and that line names another end. `Memory` where memory that was asked for was refused.
+/// Returns `BadLine` if the bytes are not a trace, before any event is run. Its number is that of the first line that
+/// violates the grammar.
+///
+/// Returns `NotARun` if an event is not a step, with the number of the first such line. The item could not begin, or
+/// was ended or given back by a worker that did not run it. Or a fault occurred earlier.
+///
+/// Returns `WrongEnd` if each event is a step, but the last line of a trace of version 2 names a different end. Its
+/// number is that of the last line.
+///
+/// Returns `Memory` if an allocation fails.
 pub fn replay(alloc: Global, code: &Code, trace: &[u8]) -> Result<Report, ReplayFault>
     ensures report { IfOk result (ReplaysTo code.now trace.now) }
     ensures bad { IfErr result (λ fault. (n : ℕ) → fault ≡ ReplayFault.BadLine n → IsFirstBad trace.now n) }
@@ -49,7 +56,11 @@ pub fn replay(alloc: Global, code: &Code, trace: &[u8]) -> Result<Report, Replay
     ended_as(report, told.ending, told.events.len() as u64 + 2)
 }
 
-/// The report, where it ends as its trace names it on this line, if it names an end.
+/// Returns the report if it has the end that its trace names on this line, or if the trace names none.
+///
+/// # Errors
+///
+/// Returns `WrongEnd` with the number of the line if the report has a different end.
 fn ended_as(report: Report, ending: Option<Ending>, line: u64) -> Result<Report, ReplayFault>
     ensures ok { IfOk result (λ same. (same ≡ report) × IsNamed ending report.end) }
     ensures err { IfErr result (λ fault. (fault ≡ ReplayFault.WrongEnd line) × ¬ IsNamed ending report.end) }
@@ -62,7 +73,7 @@ fn ended_as(report: Report, ending: Option<Ending>, line: u64) -> Result<Report,
     Ok(report)
 }
 
-/// The report of the events of a trace, on a board without any before.
+/// Runs the events of a trace on a board without history, and returns the report.
 fn report_behind(alloc: Global, board: &mut Board, events: &[Event]) -> Result<Report, ReplayFault>
     requires trace { (bytes : List ℕ) × (e : Option Ending) × IsTrace bytes events.now e }
     requires none { board.old.history ≡ [] }
@@ -78,7 +89,7 @@ fn report_behind(alloc: Global, board: &mut Board, events: &[Event]) -> Result<R
     Ok(report_of(alloc, board)?)
 }
 
-/// Does what the events of a trace say, on a board without any before, up to one that is no step.
+/// Runs the events of a trace on a board without history, up to the first one that is not a step.
 fn take_all(board: &mut Board, events: &[Event]) -> Result<(), ReplayFault>
     requires trace { (bytes : List ℕ) × (e : Option Ending) × IsTrace bytes events.now e }
     requires none { board.old.history ≡ [] }
@@ -100,7 +111,7 @@ fn take_all(board: &mut Board, events: &[Event]) -> Result<(), ReplayFault>
     Ok(())
 }
 
-/// Does what the event says, and says whether it is a step.
+/// Runs an event if it is a step, and returns whether it is one.
 fn take_step(board: &mut Board, event: &Event) -> Result<bool, AllocError>
     requires worker { IsWorker (worker_of event.now) }
     requires room { length board.old.history < board.old.limit }
@@ -113,7 +124,7 @@ fn take_step(board: &mut Board, event: &Event) -> Result<bool, AllocError>
     }
 }
 
-/// Begins an item, as `take_step` does.
+/// Begins an item for `take_step`.
 fn take_begin(board: &mut Board, worker: u8, item: u64) -> Result<bool, AllocError>
     requires worker { IsWorker worker }
     requires room { length board.old.history < board.old.limit }
@@ -125,13 +136,13 @@ fn take_begin(board: &mut Board, worker: u8, item: u64) -> Result<bool, AllocErr
             Ok(true)
         }
         Err(refusal) => match refusal {
-            Refusal::Memory => Err(AllocError),
+            BoardRefusal::Memory => Err(AllocError),
             _ => Ok(false),
         },
     }
 }
 
-/// Computes an item that runs and ends it, as `take_step` does.
+/// Computes a running item and ends it, for `take_step`.
 fn take_end(board: &mut Board, worker: u8, item: u64) -> Result<bool, AllocError>
     requires worker { IsWorker worker }
     requires room { length board.old.history < board.old.limit }
@@ -140,13 +151,13 @@ fn take_end(board: &mut Board, worker: u8, item: u64) -> Result<bool, AllocError
     match board.work(worker, item) {
         Ok(work) => finish(board, worker, work),
         Err(refusal) => match refusal {
-            Refusal::Memory => Err(AllocError),
+            BoardRefusal::Memory => Err(AllocError),
             _ => Ok(false),
         },
     }
 }
 
-/// Gives an item back, as `take_step` does.
+/// Gives an item back, for `take_step`.
 fn take_back(board: &mut Board, worker: u8, item: u64) -> Result<bool, AllocError>
     requires worker { IsWorker worker }
     requires room { length board.old.history < board.old.limit }

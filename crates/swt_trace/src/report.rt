@@ -1,44 +1,44 @@
-//! Writing a report.
+//! Writer for the text of a report.
 //!
-//! Its text has each line that the run printed, in the order of printing. Then come the statements that are blocked where
-//! the run ended quiet, the fault where it met one, or else the limit. A path is `/` for the script, or `/node.key` for
-//! each step from the outermost on. A key that is a text stands between quotes, as a string of a script spells it.
+//! The text has each line that the run printed, in the order of printing. The end of the run follows: the blocked
+//! statements of a quiet run, or the fault, or the limit. A path is `/` for the script, or `/offset.key` for each
+//! step, outermost first. A key that is a text is written in quotes and escaped as in a script.
 ghost use Rattle.std.specs.Prelude.{◌≡◌, ◌<◌, ◌≤◌, ◌+◌, ◌++◌, ◌∷◌, [], length, codes, decimal, OnOk, OnErr};
 ghost use Rattle.std.specs.Fmt.{signed_decimal};
 ghost use Rattle.std.specs.List.{flat_map};
-ghost use Rattle.pages.specs.Pages.{OnPage};
+ghost use Rattle.values.specs.Pages.{OnPage};
 ghost use Rattle.values.specs.Sinks.{Beginning};
 ghost use Rattle.paths.specs.Names.{fault_name};
 ghost use Rattle.swt_trace.specs.Report.{ReportText, text_line, quoted, spelled, step_text, path_text, statement_text, blocked_line, fault_line, limit_line, end_text};
 
-use crate::fault::WriteFault;
+use crate::fault::WriteError;
 use arrayvec::ArrayString;
 use board_runs::report::{End, Report};
 use itoa::Buffer;
-use pages::Page;
-use paths::{Fault, FaultKind, Statement, Step};
+use paths::{Fault, FaultKind, StatementInstance, Step};
+use values::Page;
 use values::key::Key;
 use values::sink::{Sink, SinkFault, write_all};
 use values::text::Text;
 
-/// The most bytes of a step: `/`, twenty digits of an offset, `.`, and twenty bytes of a key.
+/// Maximum number of bytes of a step: `/`, 20 digits of an offset, `.`, and 20 bytes of a key.
 const LONGEST_STEP: usize = 42;
 
-/// The most bytes of what stands before the offset in the line of a fault: the longest is `swt: fault F4 ElementTwice `.
+/// Maximum number of bytes before the offset in the line of a fault. The longest is `swt: fault F4 ElementTwice `.
 const LONGEST_FAULT: usize = 27;
 
-/// The most bytes of what stands before a path: the longest is `swt: fault F4 ElementTwice `, twenty digits and a space.
+/// Maximum number of bytes before a path. The longest is `swt: fault F4 ElementTwice `, 20 digits and a space.
 const LONGEST_START: usize = 48;
 
-/// The most bytes of the line of a limit: `swt: limit `, twenty digits and the byte 10.
+/// Maximum number of bytes of the line of a limit: `swt: limit `, 20 digits and the byte 10.
 const LONGEST_LIMIT: usize = 32;
 
-/// Writes the text of the report.
+/// Writes the text of a report.
 ///
 /// # Errors
 ///
-/// `Write` where a write failed. The sink then has what it had before and a beginning of the text.
-pub fn write_report<W: Sink>(report: &Report, sink: &mut W) -> Result<(), WriteFault>
+/// Returns `Write` if a write failed. The sink then has received a prefix of the text.
+pub fn write_report<W: Sink>(report: &Report, sink: &mut W) -> Result<(), WriteError>
     requires { W.failures sink.old < u64.MAX }
     ensures ok { OnOk result (W.taken sink.new ≡ W.taken sink.old ++ ReportText report.now) }
     ensures err { OnErr result (Beginning (W.taken sink.old) (ReportText report.now) (W.taken sink.new)) }
@@ -50,11 +50,11 @@ pub fn write_report<W: Sink>(report: &Report, sink: &mut W) -> Result<(), WriteF
     Ok(())
 }
 
-/// Writes the lines that were printed, many a write.
+/// Writes the printed lines. Many lines are passed to the sink in one write.
 ///
 /// # Errors
 ///
-/// `SinkFault` where a write failed. The sink then has what it had before and a beginning of the text.
+/// Returns `SinkFault` if a write failed. The sink then has received a prefix of the text.
 pub fn write_lines<W: Sink>(lines: &Vec<Text>, sink: &mut W) -> Result<(), SinkFault>
     requires { W.failures sink.old < u64.MAX }
     ensures ok { OnOk result (W.taken sink.new ≡ W.taken sink.old ++ flat_map text_line lines.now.items) }
@@ -70,7 +70,7 @@ pub fn write_lines<W: Sink>(lines: &Vec<Text>, sink: &mut W) -> Result<(), SinkF
     Ok(())
 }
 
-/// Puts a line and the byte 10 behind what waits.
+/// Appends a line and the byte 10 to the page, which is written to the sink when it is full.
 fn put_line<W: Sink>(line: &[u8], page: &mut Page, sink: &mut W) -> Result<(), SinkFault>
     requires { W.failures sink.old < u64.MAX }
     ensures ok { OnOk result (OnPage (W.taken sink.old) (W.taken sink.new) page.new (page.old ++ text_line line.now)) }
@@ -83,7 +83,7 @@ fn put_line<W: Sink>(line: &[u8], page: &mut Page, sink: &mut W) -> Result<(), S
     Ok(())
 }
 
-/// Writes what follows the lines.
+/// Writes the part after the printed lines: the blocked statements, the fault or the limit.
 fn write_end<W: Sink>(report: &Report, sink: &mut W) -> Result<(), SinkFault>
     requires { W.failures sink.old < u64.MAX }
     ensures ok { OnOk result (W.taken sink.new ≡ W.taken sink.old ++ end_text report.now.end report.now) }
@@ -102,8 +102,11 @@ fn write_end<W: Sink>(report: &Report, sink: &mut W) -> Result<(), SinkFault>
 ///
 /// # Errors
 ///
-/// `SinkFault` where a write failed. The sink then has what it had before and a beginning of the text.
-pub fn write_blocked<W: Sink>(blocked: &Vec<Statement>, sink: &mut W) -> Result<(), SinkFault>
+/// Returns `SinkFault` if a write failed. The sink then has received a prefix of the text.
+pub fn write_blocked<W: Sink>(
+    blocked: &Vec<StatementInstance>,
+    sink: &mut W,
+) -> Result<(), SinkFault>
     requires { W.failures sink.old < u64.MAX }
     ensures ok { OnOk result (W.taken sink.new ≡ W.taken sink.old ++ flat_map blocked_line blocked.now.items) }
     ensures err { OnErr result (Beginning (W.taken sink.old) (flat_map blocked_line blocked.now.items) (W.taken sink.new)) }
@@ -120,7 +123,7 @@ pub fn write_blocked<W: Sink>(blocked: &Vec<Statement>, sink: &mut W) -> Result<
 ///
 /// # Errors
 ///
-/// `SinkFault` where a write failed. The sink then has what it had before and a beginning of the text.
+/// Returns `SinkFault` if a write failed. The sink then has received a prefix of the text.
 pub fn write_fault<W: Sink>(fault: &Fault, sink: &mut W) -> Result<(), SinkFault>
     requires { W.failures sink.old < u64.MAX }
     ensures ok { OnOk result (W.taken sink.new ≡ W.taken sink.old ++ fault_line fault.now) }
@@ -132,7 +135,7 @@ pub fn write_fault<W: Sink>(fault: &Fault, sink: &mut W) -> Result<(), SinkFault
     write_statement(start.as_str(), &fault.statement, sink)
 }
 
-/// What the line of a fault begins with.
+/// Returns the start of the line of a fault.
 fn fault_start(kind: FaultKind) -> ArrayString<LONGEST_FAULT>
     ensures { result.bytes ≡ codes "swt: fault " ++ (fault_name kind ++ 32 ∷ []) }
 {
@@ -147,7 +150,7 @@ fn fault_start(kind: FaultKind) -> ArrayString<LONGEST_FAULT>
 ///
 /// # Errors
 ///
-/// `SinkFault` where a write failed. The sink then has what it had before and a beginning of the text.
+/// Returns `SinkFault` if a write failed. The sink then has received a prefix of the text.
 pub fn write_limit<W: Sink>(events: usize, sink: &mut W) -> Result<(), SinkFault>
     requires { W.failures sink.old < u64.MAX }
     ensures ok { OnOk result (W.taken sink.new ≡ W.taken sink.old ++ limit_line events) }
@@ -159,7 +162,7 @@ pub fn write_limit<W: Sink>(events: usize, sink: &mut W) -> Result<(), SinkFault
     write_all(sink, line.as_str().as_bytes())
 }
 
-/// The line of a limit.
+/// Returns the line of a limit.
 fn line_of_limit(events: usize) -> ArrayString<LONGEST_LIMIT>
     ensures { result.bytes ≡ limit_line events }
 {
@@ -171,10 +174,10 @@ fn line_of_limit(events: usize) -> ArrayString<LONGEST_LIMIT>
     line
 }
 
-/// Writes a line: what it begins with, a statement's offset and its path.
+/// Writes a line: its start, the offset of a statement and the path of the statement.
 fn write_statement<W: Sink>(
     start: &str,
-    statement: &Statement,
+    statement: &StatementInstance,
     sink: &mut W,
 ) -> Result<(), SinkFault>
     requires sound { W.failures sink.old < u64.MAX }
@@ -190,7 +193,7 @@ fn write_statement<W: Sink>(
     write_all(sink, b"\n")
 }
 
-/// What a line begins with, an offset and a space.
+/// Returns the start of a line, followed by an offset and a space.
 fn before_path(start: &str, at: usize) -> ArrayString<LONGEST_START>
     requires { length start.now ≤ 27 }
     ensures { result.bytes ≡ start.now ++ (decimal at ++ 32 ∷ []) }
@@ -253,7 +256,7 @@ fn write_step<W: Sink>(step: &Step, sink: &mut W) -> Result<(), SinkFault>
     }
 }
 
-/// The text of a step to a number.
+/// Returns the text of a step with a number as its key.
 fn text_to_number(offset: usize, number: i64) -> ArrayString<LONGEST_STEP>
     ensures { result.bytes ≡ 47 ∷ decimal offset ++ 46 ∷ signed_decimal number }
 {
@@ -266,7 +269,7 @@ fn text_to_number(offset: usize, number: i64) -> ArrayString<LONGEST_STEP>
     text
 }
 
-/// What the text of a step begins with.
+/// Returns the start of a step's text: `/`, the offset and `.`.
 fn start_of_step(offset: usize) -> ArrayString<LONGEST_STEP>
     ensures { result.bytes ≡ 47 ∷ decimal offset ++ 46 ∷ [] }
 {
@@ -278,7 +281,7 @@ fn start_of_step(offset: usize) -> ArrayString<LONGEST_STEP>
     text
 }
 
-/// Writes a text between quotes, as a string of a script spells it.
+/// Writes a text in quotes, escaped as in a script.
 fn write_quoted<W: Sink>(bytes: &[u8], sink: &mut W) -> Result<(), SinkFault>
     requires { W.failures sink.old < u64.MAX }
     ensures ok { OnOk result (W.taken sink.new ≡ W.taken sink.old ++ quoted bytes.now) }
@@ -291,7 +294,7 @@ fn write_quoted<W: Sink>(bytes: &[u8], sink: &mut W) -> Result<(), SinkFault>
     write_all(sink, b"\"")
 }
 
-/// Writes the bytes of a text, as a string of a script spells them.
+/// Writes the bytes of a text, escaped as in a script.
 fn write_spelled<W: Sink>(bytes: &[u8], sink: &mut W) -> Result<(), SinkFault>
     requires { W.failures sink.old < u64.MAX }
     ensures ok { OnOk result (W.taken sink.new ≡ W.taken sink.old ++ flat_map spelled bytes.now) }
@@ -305,7 +308,7 @@ fn write_spelled<W: Sink>(bytes: &[u8], sink: &mut W) -> Result<(), SinkFault>
     Ok(())
 }
 
-/// Writes a byte of a text, as a string of a script spells it.
+/// Writes a byte of a text, escaped as in a script.
 fn write_byte<W: Sink>(byte: u8, sink: &mut W) -> Result<(), SinkFault>
     requires { W.failures sink.old < u64.MAX }
     ensures ok { OnOk result (W.taken sink.new ≡ W.taken sink.old ++ spelled byte) }

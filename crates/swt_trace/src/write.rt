@@ -1,29 +1,30 @@
-//! Writing a trace.
+//! Writer for traces of version 2.
 ghost use Rattle.std.specs.Prelude.{◌≡◌, ◌<◌, ◌++◌, ◌∷◌, [], length, decimal, OnOk, OnErr};
-ghost use Rattle.pages.specs.Pages.{OnPage};
+ghost use Rattle.values.specs.Pages.{OnPage};
 ghost use Rattle.values.specs.Sinks.{Beginning};
 ghost use Rattle.swt_trace.specs.Report.{TraceOf, ending_of};
 ghost use Rattle.swt_trace.specs.Trace.{ended, ending_line, event_line, event_lines, first_line};
 
 use crate::ending::Ending;
-use crate::fault::WriteFault;
+use crate::fault::WriteError;
 use arrayvec::ArrayString;
 use board_runs::report::{End, Report};
 use itoa::Buffer;
-use packed_events::PackedEvent;
-use pages::Page;
 use task_code::event::Event;
+use task_code::packed_event::PackedEvent;
+use values::Page;
 use values::sink::{Sink, SinkFault, write_all};
 
-/// The most bytes of an event's line: a letter, three digits of a worker, twenty of an item, two spaces and the byte 10.
+/// Maximum number of bytes of an event's line: a letter, 3 digits of a worker, 20 of an item, two spaces and the byte
+/// 10.
 const LONGEST_LINE: usize = 27;
 
-/// Writes the trace of the report, of version 2, many lines a write.
+/// Writes the trace of a report, in version 2. Many lines are passed to the sink in one write.
 ///
 /// # Errors
 ///
-/// `Write` where a write failed. The sink then has what it had before and a beginning of the trace.
-pub fn write_trace<W: Sink>(report: &Report, sink: &mut W) -> Result<(), WriteFault>
+/// Returns `Write` if a write failed. The sink then has received a prefix of the trace.
+pub fn write_trace<W: Sink>(report: &Report, sink: &mut W) -> Result<(), WriteError>
     requires { W.failures sink.old < u64.MAX }
     ensures ok { OnOk result (W.taken sink.new ≡ W.taken sink.old ++ TraceOf report.now) }
     ensures err { OnErr result (Beginning (W.taken sink.old) (TraceOf report.now) (W.taken sink.new)) }
@@ -35,7 +36,7 @@ pub fn write_trace<W: Sink>(report: &Report, sink: &mut W) -> Result<(), WriteFa
     Ok(())
 }
 
-/// Writes the first line, and the lines of the events.
+/// Writes the first line and the lines of the events.
 fn write_events<W: Sink>(events: &[PackedEvent], sink: &mut W) -> Result<(), SinkFault>
     requires { W.failures sink.old < u64.MAX }
     ensures ok { OnOk result (W.taken sink.new ≡ W.taken sink.old ++ (first_line ended ++ event_lines events.now [])) }
@@ -63,7 +64,7 @@ fn write_ending<W: Sink>(end: &End, sink: &mut W) -> Result<(), SinkFault>
     write_all(sink, Ending::of(end).line())
 }
 
-/// Puts an event's line behind what waits.
+/// Appends the line of an event to the page, which is written to the sink when it is full.
 fn put_event<W: Sink>(event: Event, page: &mut Page, sink: &mut W) -> Result<(), SinkFault>
     requires { W.failures sink.old < u64.MAX }
     ensures ok { OnOk result (OnPage (W.taken sink.old) (W.taken sink.new) page.new (page.old ++ event_line event [])) }
@@ -80,7 +81,7 @@ fn put_event<W: Sink>(event: Event, page: &mut Page, sink: &mut W) -> Result<(),
     page.put(sink, line.as_str().as_bytes())
 }
 
-/// The line of a letter with its space, a worker and an item.
+/// Returns the line of an event, given its letter with the following space, its worker and its item.
 fn line_of(letter: &str, worker: u8, item: u64) -> ArrayString<LONGEST_LINE>
     requires { length letter.now ≡ 2 }
     ensures { result.bytes ≡ letter.now ++ (decimal worker ++ 32 ∷ (decimal item ++ 10 ∷ [])) }

@@ -1,4 +1,4 @@
--- What ends a list of tokens.
+-- The end of a list of tokens.
 use Rattle.std.specs.Prelude.{List, [], ◌∷◌, Option, Some, None, Err}
 use Rattle.lexer.specs.Items.{Item}
 use Rattle.lexer.specs.declared.fault.LexFault.{LexFault}

@@ -1,4 +1,4 @@
--- The number and the name of each refusal of a text that is no script. Want of memory is no refusal and has no number.
+-- The number and the name of each refusal of a text. An allocation failure is not a refusal and has no number.
 use Rattle.std.specs.Prelude.{ℕ, List, codes}
 use Rattle.lexer.specs.FaultNames.{lex_name}
 use Rattle.syntax.specs.declared.error.ParseFault.{ParseFault}

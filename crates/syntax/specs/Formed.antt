@@ -6,13 +6,13 @@ use Rattle.lexer.specs.Items.{Lexeme}
 use Rattle.lexer.specs.declared.token.TokenKind.{TokenKind}
 use Rattle.lexer.specs.declared.token.TokenKind.TheVariants as Kind
 
--- whether a string ends with its closing quote; whether a `\` stands before these bytes
+-- whether a string ends with its closing quote; escaped: whether a `\` precedes these bytes
 abbrev pub closes : Bool → List ℕ → Bool
 closes escaped [] = false
 closes true (c ∷ cs) = is_some (escaped_byte c) && closes false cs
 closes false (c ∷ cs) = if nat_eq c 34 then is_empty cs else (if nat_eq c 92 then closes true cs else is_plain c && closes false cs)
 
--- whether it is a string in quotes
+-- whether a text is a string in quotes
 abbrev pub is_quoted : List ℕ → Bool
 is_quoted [] = false
 is_quoted (c ∷ cs) = nat_eq c 34 && closes false cs

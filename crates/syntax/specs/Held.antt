@@ -1,4 +1,4 @@
--- The tokens that are left behind a cursor, which holds the next two.
+-- The tokens that remain after a cursor, which holds the next two.
 use Rattle.std.specs.Prelude.{◌≡◌, ℕ, List, [], ◌∷◌, ◌++◌, map, Option, Some, None, Ok, Err, IsTrue}
 use Rattle.lexer.specs.declared.token.Token.{Token}
 use Rattle.lexer.specs.declared.fault.LexFault.{LexFault}
@@ -16,12 +16,12 @@ tokens_of [] = []
 tokens_of (Ok t ∷ items) = t ∷ tokens_of items
 tokens_of (Err f ∷ items) = []
 
--- a token with those behind it; where there is none, none
+-- a token followed by others, or nothing if there is none
 abbrev pub led : Option Token → List Lexeme → List Lexeme
 led None ts = []
 led (Some t) ts = lexeme_of t ∷ ts
 
--- it has the form of its kind
+-- the token has the form of its kind
 abbrev pub IsFormed : Option Token → Type 0
 IsFormed None = Unit {0}
 IsFormed (Some t) = IsTrue (has_form t.kind t.text.now)

@@ -1,4 +1,4 @@
--- What a refusal says of a text.
+-- The meaning of a refusal for its text.
 use Rattle.std.specs.Prelude.{◌≡◌, ℕ, ◌<◌, ◌≤◌, List, [], ◌∷◌, ◌++◌, map, length, Ok, Err, Option, Some, None, ◌⊎◌}
 use Rattle.lexer.specs.Items.{Lexeme, span_of}
 use Rattle.lexer.specs.declared.token.Span.{Span}
@@ -16,15 +16,16 @@ use Rattle.syntax.specs.Viable.{StopsFirst}
 use Rattle.syntax.specs.declared.error.ParseFault.{ParseFault}
 use Rattle.syntax.specs.declared.error.ParseFault.TheVariants.{Lex, Unexpected, TooNested, TooLong, Memory}
 
--- it has no tree
+-- the text has no tree
 abbrev pub HasNone : List ℕ → Type 0
 HasNone bytes = (tree : Tree) → ¬ Reads bytes tree
 
--- its tokens, which this ends, are read within 64 levels of nesting up to this stop, and so far they begin a script
+-- the tokens of the text, with this end, are read within 64 levels of nesting up to this stop, and up to there they
+-- begin a script
 abbrev pub Stopped : List ℕ → Option LexFault → ParseStop → Type 0
 Stopped bytes fault stop = (ts : List Lexeme) × Tokens bytes (map Ok ts ++ ending fault) × (read_script 64 (start ts) ≡ refused stop) × StopsFirst ts stop
 
--- its tokens are a script of their own, and then comes its first lexical fault
+-- the tokens of the text are a complete script, followed by its first lexical fault
 abbrev pub Spoilt : List ℕ → LexFault → Type 0
 Spoilt bytes f = (ts : List Lexeme) × (tree : Tree) × Tokens bytes (map Ok ts ++ Err f ∷ []) × IsScript 64 ts tree
 

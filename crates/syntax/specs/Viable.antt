@@ -1,4 +1,4 @@
--- Tokens with which scripts begin, and where a text stops being one.
+-- Tokens with which scripts begin, and the place where a text stops being one.
 use Rattle.std.specs.Prelude.{◌≡◌, ℕ, List, [], ◌∷◌, ◌++◌}
 use Rattle.lexer.specs.Items.{Lexeme}
 use Rattle.language.specs.Tree.{Tree}
@@ -6,11 +6,12 @@ use Rattle.language.specs.Grammar.{IsScript}
 use Rattle.syntax.specs.declared.stop.ParseStop.{ParseStop}
 use Rattle.syntax.specs.declared.stop.ParseStop.TheVariants.{AtEnd, Unexpected, TooNested, Memory}
 
--- some tokens behind these make a script of them, however deep it nests
+-- further tokens complete these to a script, however deep it nests
 abbrev pub Viable : List Lexeme → Type 0
 Viable ts = (depth : ℕ) × (us : List Lexeme) × (tree : Tree) × IsScript depth (ts ++ us) tree
 
--- all tokens begin a script; or those before a token do and with it none does; or with a token that nests too deep they do
+-- all tokens begin a script; or those before a token do and with it none does; or those with a token that nests too
+-- deep do
 abbrev pub StopsFirst : List Lexeme → ParseStop → Type 0
 StopsFirst ts AtEnd = Viable ts
 StopsFirst ts (Unexpected s) = (before : List Lexeme) × (t : Lexeme) × (after : List Lexeme) × (ts ≡ before ++ t ∷ after) × (s ≡ t.span) × Viable before × ¬ Viable (before ++ t ∷ [])

@@ -1,4 +1,4 @@
-//! From the bytes of a text to its script.
+//! The entry point of the parser: parses the bytes of a text into a script.
 
 ghost use Rattle.std.specs.Prelude.{◌≡◌, ◌++◌, IfOk, IfErr, List, Ok, Option, length, map};
 ghost use Rattle.lexer.specs.Items.{Lexeme};
@@ -19,13 +19,14 @@ use lexer::token::Span;
 use std::alloc::Allocator;
 use syntax_trees::tree::Script;
 
-/// How many bytes a text may have.
+/// Maximum number of bytes of a text.
 pub const MAX_SOURCE: usize = 1_048_576;
 
-/// How deep a text may nest.
+/// Maximum nesting depth of a text.
 pub const MAX_NESTING: u32 = 64;
 
-/// The answer to a text, by where its reading stops.
+/// Converts a stop of the parser into the reported fault. A stop after the last token becomes the lexical fault there,
+/// or `Unexpected` at the end of the text.
 fn answer(stop: ParseStop, src: &[u8]) -> ParseFault
     ensures { (ts : List Lexeme) (fault : Option LexFault) → Tokens src.now (map Ok ts ++ ending fault) → result ≡ answer_of stop fault (length src.now) }
 {
@@ -43,7 +44,11 @@ fn answer(stop: ParseStop, src: &[u8]) -> ParseFault
     }
 }
 
-/// The script of a text.
+/// Parses a text into a script.
+///
+/// # Errors
+///
+/// Returns the first fault of the text, or `Memory` if an allocation fails.
 #[tactic(auto, using(crate::proofs::scripts::Texts::begun_stops, crate::proofs::scripts::Texts::begun_faulty, crate::proofs::scripts::Texts::begun_within, crate::proofs::scripts::Texts::long_refuses, crate::proofs::scripts::Parts::begun_short, crate::proofs::scripts::Texts::begun_reads))]
 pub fn parse<A: Allocator + Clone>(alloc: A, src: &[u8]) -> Result<Script<A>, ParseFault>
     ensures read { IfOk result (λ script. Reads src.now (tree_of script)) }

@@ -1,4 +1,4 @@
-//! Where the reading of a text stops, before it is known what stands behind its last token.
+//! Stops of the parser: where reading a text stops, before a lexical fault after the last token is looked up.
 
 ghost use Rattle.std.specs.Prelude.{◌≡◌};
 ghost use Rattle.syntax.specs.declared.stop.ParseStop.TheVariants.{Memory};
@@ -8,13 +8,13 @@ use std::alloc::{AllocError, AllocFailed};
 
 #[derive(Clone, Copy, Debug, PartialEq, Eq)]
 pub enum ParseStop {
-    /// Behind the last token.
+    /// After the last token.
     AtEnd,
-    /// At a token with which no text goes on.
+    /// At a token with which no text continues.
     Unexpected(Span),
     /// At a token that nests too deep.
     TooNested(Span),
-    /// Anywhere, where memory ran out.
+    /// At any place, because an allocation failed.
     Memory,
 }
 

@@ -1,4 +1,4 @@
-//! What stands behind the last token of a text.
+//! Lookup of the lexical fault after the last token of a text.
 
 ghost use Rattle.std.specs.Prelude.{◌≡◌, ◌≤◌, ◌++◌, List, Option, length, map, Ok};
 ghost use Rattle.lexer.specs.Items.{Lexeme, ends_at};
@@ -9,7 +9,7 @@ ghost use Rattle.syntax.specs.Endings.{ending};
 use lexer::Lexer;
 use lexer::fault::LexFault;
 
-/// The fault that ends the tokens of a text, if there is one.
+/// Returns the lexical fault that ends the tokens of a text, if there is one.
 pub fn fault_of(source: &[u8]) -> Option<LexFault>
     ensures { (ts : List Lexeme) (fault : Option LexFault) → Tokens source.now (map Ok ts ++ ending fault) → result ≡ fault }
 {
@@ -23,7 +23,8 @@ pub fn fault_of(source: &[u8]) -> Option<LexFault>
     None
 }
 
-/// The fault that ends the tokens of a text of which the last ends there, if there is one. Nothing before is read again.
+/// Returns the lexical fault after the last token, which ends at `to`, if there is one. Nothing before `to` is read
+/// again.
 pub fn fault_behind(source: &[u8], to: usize) -> Option<LexFault>
     requires { to ≤ length source.now }
     ensures { (ts : List Lexeme) (fault : Option LexFault) → Tokens source.now (map Ok ts ++ ending fault) → ends_at 0 ts ≡ to → result ≡ fault }

@@ -1,4 +1,4 @@
-//! The same tree in other memory.
+//! Copies of syntax trees into another allocator.
 
 ghost use Rattle.std.specs.Prelude.{◌≡◌, IfOk, map, option_map};
 ghost use Rattle.language.specs.Tree.{expressions_of, element, call, chain, declare, assign, write, assign_all, choice, choice_else, loop, waits, body, statements_of};
@@ -11,11 +11,11 @@ use crate::tree::{
 use std::alloc::{AllocError, Allocator};
 
 impl<A: Allocator> Script<A> {
-    /// The same tree, with all that it holds in memory of `alloc`.
+    /// Returns a copy of the tree, with all its contents in memory of `alloc`.
     ///
     /// # Errors
     ///
-    /// `AllocError` where `alloc` refuses a growth.
+    /// Returns `AllocError` if `alloc` refuses an allocation.
     pub fn copy_to<B: Allocator + Clone>(&self, alloc: B) -> Result<Script<B>, AllocError>
         ensures { IfOk result (λ t. tree_of t ≡ tree_of self.now) }
     {
@@ -61,7 +61,7 @@ fn copy_boxed_name<A: Allocator, B: Allocator + Clone>(
 
 // EXPRESSIONS
 
-/// An element of an array, whose index is copied.
+/// Creates an array element from a copied index. Copies the name.
 fn copy_element<A: Allocator, B: Allocator + Clone>(
     name: &Name<A>,
     index: Box<Expr<B>, B>,
@@ -73,7 +73,7 @@ fn copy_element<A: Allocator, B: Allocator + Clone>(
     Ok(ExprKind::Element(name, index))
 }
 
-/// A function with its arguments, which are copied.
+/// Creates a function call from copied arguments. Copies the name.
 fn copy_application<A: Allocator, B: Allocator + Clone>(
     name: &Name<A>,
     arguments: Vec<Expr<B>, B>,
@@ -85,7 +85,7 @@ fn copy_application<A: Allocator, B: Allocator + Clone>(
     Ok(ExprKind::Call(name, arguments))
 }
 
-/// A chain, whose operands are copied.
+/// Creates a chain from copied operands. Copies the operators.
 fn copy_chain<B: Allocator + Clone>(
     operators: &[Operator],
     operands: Vec<Expr<B>, B>,
@@ -369,7 +369,7 @@ fn copy_assign_all<A: Allocator, B: Allocator + Clone>(
     Ok(StmtKind::AssignAll(names, copy_call(call, alloc)?))
 }
 
-/// An `if` without `else`, whose block is copied.
+/// Creates an `if` without `else` from a copied block. Copies the condition.
 fn copy_choice<A: Allocator, B: Allocator + Clone>(
     test: &Expr<A>,
     then: Box<Block<B>, B>,
@@ -381,7 +381,7 @@ fn copy_choice<A: Allocator, B: Allocator + Clone>(
     Ok(StmtKind::If(test, then, None))
 }
 
-/// An `if` with `else`, whose blocks are copied.
+/// Creates an `if` with `else` from copied blocks. Copies the condition.
 fn copy_choice_else<A: Allocator, B: Allocator + Clone>(
     test: &Expr<A>,
     then: Box<Block<B>, B>,
@@ -394,7 +394,7 @@ fn copy_choice_else<A: Allocator, B: Allocator + Clone>(
     Ok(StmtKind::If(test, then, Some(other)))
 }
 
-/// A loop, whose block is copied.
+/// Creates a `foreach` from a copied block. Copies the header.
 fn copy_loop<A: Allocator, B: Allocator + Clone>(
     header: &Header<A>,
     body: Box<Block<B>, B>,
@@ -407,7 +407,7 @@ fn copy_loop<A: Allocator, B: Allocator + Clone>(
     Ok(StmtKind::Foreach(header, body))
 }
 
-/// A `wait`, whose block is copied.
+/// Creates a `wait` from a copied block. Copies the names.
 fn copy_wait<A: Allocator, B: Allocator + Clone>(
     names: &Vec<Name<A>, A>,
     body: Box<Block<B>, B>,

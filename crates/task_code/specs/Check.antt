@@ -1,4 +1,4 @@
--- Whether code's bodies fit together, by computing it.
+-- Computable tests of the conditions for whole code.
 use Rattle.std.specs.Prelude.{ℕ, zero, suc, Bool, true, false, not, ◌&&◌, ◌||◌, List, [], ◌∷◌, Option, Some, None, nat_eq, nat_lt, length}
 use Rattle.std.specs.List.{list_all}
 use Rattle.task_code.specs.Code.{Argument, Body, ByCalls, ByMain, ByStep, ByWait, Calling, Code, Entry, Fixed, InPlace, Local, Loop, Name, Named, Opener, Owned, Parameter, Through, Variable, Way, argument, body, call_at, entry, here, is_array_name, loop_of, loop_variables, needed, targets, ways}
@@ -20,27 +20,27 @@ abbrev pub number_in : ℕ → List ℕ → Bool
 number_in n [] = false
 number_in n (m ∷ ms) = nat_eq n m || number_in n ms
 
--- no number stands twice
+-- no number occurs twice
 abbrev pub distinct_numbers : List ℕ → Bool
 distinct_numbers [] = true
 distinct_numbers (n ∷ ns) = not (number_in n ns) && distinct_numbers ns
 
--- no variable stands twice
+-- no variable occurs twice
 abbrev pub distinct_variables : List Variable → Bool
 distinct_variables [] = true
 distinct_variables (v ∷ vs) = not (variable_in v vs) && distinct_variables vs
 
--- with each member's place in the list
+-- a test that holds for each member with its index
 abbrev pub every_at : {X : Type 0} → (ℕ → X → Bool) → List X → Bool
 every_at f [] = true
 every_at f (x ∷ xs) = f 0 x && every_at (λ i. f (suc i)) xs
 
--- both are one name
+-- both arguments are the same name
 abbrev pub same_argument : Option Argument → Option Argument → Bool
 same_argument (Some (Named r)) (Some (Named s)) = name_eq r s
 same_argument _ _ = false
 
--- nothing opens the body but the start
+-- the body is opened by the start of the run alone
 abbrev pub is_main : Opener → Bool
 is_main ByMain = true
 is_main (ByWait i) = false
@@ -57,7 +57,7 @@ module _ (C : Code) where
       by zero (Parameter k a) = false
       by (suc up) x = false
 
-  -- the opener has the right to what the name means outside
+  -- the opener has the right to the outside name of this name
   abbrev pub is_seen : List Name → ℕ → Way → Name → Bool
   is_seen rights mark InPlace r = name_in r rights
   is_seen rights mark Through r = by r.up
@@ -83,11 +83,11 @@ module _ (C : Code) where
       by zero (Parameter k a) = elim (argument C mark k a) [ None ↦ false | Some x ↦ elim x [ Named s ↦ false | Fixed v ↦ true ] ]
       by (suc up) x = false
 
-  -- each name that an entry of the body may read is declared, or seen from the opener, or a literal
+  -- each name that an entry of the body may read is declared, or visible to the opener, or a literal
   abbrev pub reads_covered : Entry → Way → ℕ → Bool
   reads_covered e w b = list_all (λ j. list_all (λ r. (is_declared b r || is_seen e.reads e.mark w r) || is_fixed e.mark w r) (entry C j).reads) (body C b).entries
 
-  -- each name of this right is declared, or seen from the opener
+  -- each name of this right is declared, or visible to the opener
   abbrev pub is_covered : (Entry → List Name) → Entry → Way → ℕ → Bool
   is_covered rights e w b = list_all (λ j. list_all (λ r. is_declared b r || is_seen (rights e) e.mark w r) (rights (entry C j))) (body C b).entries
 
@@ -98,13 +98,13 @@ module _ (C : Code) where
   is_opened_by i e Calling ByCalls = nat_eq (call_at C e.mark) i
   is_opened_by i e w o = false
 
-  -- a wait does not name what its content declares
+  -- a wait has no right to write a variable that its body declares
   abbrev pub is_inside : Entry → Way → ℕ → Bool
   is_inside e InPlace b = list_all (λ v. not (name_in (here v) e.writes)) (body C b).makes
   is_inside e Through b = true
   is_inside e Calling b = true
 
-  -- two parameters of scalars that are not one variable of the caller
+  -- two scalar parameters that are not the same variable of the caller
   abbrev pub outputs_apart : ℕ → Name → Name → Bool
   outputs_apart mark r s = by r.up r.owned s.up s.owned
     where
@@ -112,20 +112,20 @@ module _ (C : Code) where
       by zero (Parameter k false) zero (Parameter l false) = nat_eq k l || not (same_argument (argument C mark k false) (argument C mark l false))
       by _ _ _ _ = true
 
-  -- no two outputs of a call are one variable
+  -- no two outputs of a call are the same variable
   abbrev pub has_outputs : Entry → Way → ℕ → Bool
   has_outputs e InPlace b = true
   has_outputs e Through b = true
   has_outputs e Calling b =
       list_all (λ j. list_all (λ j'. list_all (λ r. list_all (λ s. outputs_apart e.mark r s) (entry C j').writes) (entry C j).writes) (body C b).entries) (body C b).entries
 
-  -- the entry and a body that it opens fit
+  -- the entry is compatible with a body that it opens
   abbrev pub is_fit : ℕ → Entry → Way × ℕ → Bool
   is_fit i e s =
       is_opened_by i e s.0 (body C s.1).opener
       && (reads_covered e s.0 s.1 && (is_covered (λ e. e.writes) e s.0 s.1 && (is_inside e s.0 s.1 && has_outputs e s.0 s.1)))
 
-  -- the loop and its body fit
+  -- the loop is compatible with its body
   abbrev pub is_fit_loop : Entry → Loop → Bool
   is_fit_loop e l =
       list_all is_array_name e.writes
@@ -133,18 +133,18 @@ module _ (C : Code) where
       && (distinct_variables (loop_variables l)
       && list_all (λ v. list_all (λ j. not (name_in (here v) (entry C j).writes)) (body C l.body).entries) (loop_variables l)))
 
-  -- an entry that is no loop fits
+  -- an entry that is not a loop passes
   abbrev pub is_fit_if_loop : Entry → Option Loop → Bool
   is_fit_if_loop e None = true
   is_fit_if_loop e (Some l) = is_fit_loop e l
 
-  -- all that is asked of one entry
+  -- all conditions on one entry
   abbrev pub is_entry : ℕ → Entry → Bool
   is_entry i e =
       is_shaped e && (list_all (λ n. list_all (λ r. name_in r e.reads) (needed n)) e.needs
       && (list_all (λ r. name_in r e.writes) (targets e) && (list_all (is_fit i e) (ways e.act) && is_fit_if_loop e (loop_of e.act))))
 
-  -- all that is asked of one body, beside the others
+  -- all conditions on one body, relative to the others
   abbrev pub is_body : ℕ → Body → Bool
   is_body b x =
       (distinct_numbers x.entries && list_all (λ j. nat_lt j (length C.entries)) x.entries)

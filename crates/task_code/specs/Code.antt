@@ -1,4 +1,4 @@
--- Code: bodies of entries, laid flat.
+-- Code: bodies of entries in flat lists.
 use Rattle.std.specs.Prelude.{ℕ, zero, suc, Bool, true, false, ◌&&◌, List, [], ◌∷◌, ◌++◌, map, Option, Some, None, ℤ, pos, nat_eq}
 use Rattle.values.specs.declared.key.Key.{Key}
 use Rattle.values.specs.declared.value.Scalar.{Scalar}
@@ -9,29 +9,30 @@ use Rattle.values.specs.Operators.{Operation}
 pub use Rattle.work_queue.specs.declared.entry.Kind.{Kind}
 pub use Rattle.work_queue.specs.declared.entry.Kind.TheVariants.{Control, Leaf}
 
--- what has a datum in each instance of its block: the node of the source that it belongs to, and whether it is an array
+-- a variable with a datum in each instance of its block: its node in the source, and whether it is an array
 pub record Variable : Type 0 where
   pub node : ℕ
   pub array : Bool
 
--- what a block can name as its own: a variable of it, or, in a function's body, an input or output of the function by its place in the call's arguments
+-- a variable of a block, or in a function's body an input or output of the function, by its index among the arguments
+-- of the call
 pub data Owned : Type 0 where
   Local : Variable → Owned
   Parameter : (index : ℕ) → (array : Bool) → Owned
 
--- a name, seen from a block: the owner lies so many steps of the path further out
+-- a name as seen from a block: its owner lies `up` steps of the path further out
 pub record Name : Type 0 where
   pub up : ℕ
   pub owned : Owned
 
--- what an entry waits for: a scalar that is stored, an array that is closed, or an element of an array, at a scalar's value or at a key
+-- a need: a scalar that is stored, an array that is closed, or an element of an array, at a scalar's value or at a key
 pub data Need : Type 0 where
   Stored : Name → Need
   Closed : Name → Need
   At : (array index : Name) → Need
   AtKey : (array : Name) → (key : Key) → Need
 
--- an expression over constants and over what the needs gave, told by their places in the entry's list
+-- an expression over constants and over the answers to needs, which are given by their indexes in the entry's list
 mutual
   pub data Expr : Type 0 where
     constant : Scalar → Expr
@@ -42,23 +43,23 @@ mutual
     no_operand : Exprs
     operand : Expr → Exprs → Exprs
 
--- what a call hands over for an input: a name of the caller, or a literal that stands for itself and has no datum
+-- the argument that a call passes for an input: a name of the caller, or a literal, which has no datum
 pub data Argument : Type 0 where
   Named : Name → Argument
   Fixed : Scalar → Argument
 
--- a loop's body, and the nodes of its variables: the value, and the key or number of the turn
+-- the body of a loop, and the nodes of its variables: the value, and the key or number of the turn
 pub record Loop : Type 0 where
   pub body : ℕ
   pub value : ℕ
   pub turn : Option ℕ
 
--- one `wait` of those that were merged into one: its statement's offset, and what it waits for
+-- one of the `wait` statements that were merged into one entry: the offset of the statement, and its needs
 pub record Header : Type 0 where
   pub at : ℕ
   pub needs : List Need
 
--- what an entry does when it ends
+-- the act of an entry, performed when it ends
 pub data Act : Type 0 where
   Cell : Expr → Act
   Read : Act
@@ -85,25 +86,25 @@ pub record Entry : Type 0 where
   pub reads : List Name  -- what it may read, by itself or through entries that it leads to
   pub writes : List Name  -- what it may write, likewise
 
--- what opens a body: nothing but the start, a wait, a branch or loop, or the calls of its function
+-- the opener of a body: the start of the run, a wait, a branch or loop, or the calls of its function
 pub data Opener : Type 0 where
   ByMain : Opener
   ByWait : (entry : ℕ) → Opener
   ByStep : (entry : ℕ) → Opener
   ByCalls : Opener
 
--- a block of the source: what opens it, the variables that it declares, and its entries in order
+-- a block of the source: its opener, the variables that it declares, and its entries in order
 pub record Body : Type 0 where
   pub opener : Opener
   pub makes : List Variable
   pub entries : List ℕ
 
--- the body of number 0 is the script
+-- body 0 is the script
 pub record Code : Type 0 where
   pub entries : List Entry
   pub bodies : List Body
 
--- a variable, seen from its own block
+-- the name of a variable within its own block
 abbrev pub here : Variable → Name
 here v = record { up = 0; owned = Local v }
 
@@ -111,16 +112,16 @@ here v = record { up = 0; owned = Local v }
 abbrev pub scalar : ℕ → Variable
 scalar n = record { node = n; array = false }
 
--- what a block names is an array's
+-- the owned variable or parameter is an array
 abbrev pub is_array_owned : Owned → Bool
 is_array_owned (Local v) = v.array
 is_array_owned (Parameter k b) = b
 
--- a name tells whether it is an array's
+-- the name refers to an array
 abbrev pub is_array_name : Name → Bool
 is_array_name r = is_array_owned r.owned
 
--- which entries are run by engines
+-- the kind of an act: engines run control acts, workers run leaf acts
 abbrev pub kind_of : Act → Kind
 kind_of (Cell e) = Leaf
 kind_of Read = Control
@@ -136,27 +137,27 @@ kind_of (Range l h s w) = Control
 kind_of (Each w) = Control
 kind_of (Wait hs b) = Control
 
--- an entry that does nothing, and a body without entries
+-- an entry without effect, and a body without entries
 abbrev pub blank_entry : Entry
 blank_entry = record { node = 0; at = 0; mark = 0; priority = pos 0; needs = []; act = Print (constant (Number (pos 0))); reads = []; writes = [] }
 
 abbrev pub blank_body : Body
 blank_body = record { opener = ByMain; makes = []; entries = [] }
 
--- the member of a number, from 0
+-- the member at an index, from 0
 abbrev pub nth : {X : Type 0} → X → List X → ℕ → X
 nth d [] n = d
 nth d (x ∷ xs) zero = x
 nth d (x ∷ xs) (suc n) = nth d xs n
 
--- the entry and the body of a number; a number that there is not has a blank one
+-- the entry and the body of a number; a blank one if there is none
 abbrev pub entry : Code → ℕ → Entry
 entry C i = nth blank_entry C.entries i
 
 abbrev pub body : Code → ℕ → Body
 body C b = nth blank_body C.bodies b
 
--- the entry of the call whose function's name stands at an offset
+-- the entry of the call whose function name is at an offset
 abbrev pub call_from : ℕ → List Entry → ℕ → ℕ
 call_from i [] at = 0
 call_from i (e ∷ es) at = elim (is_call e.act && nat_eq e.mark at) [ true ↦ i | false ↦ call_from (suc i) es at ]
@@ -165,16 +166,17 @@ call_from i (e ∷ es) at = elim (is_call e.act && nat_eq e.mark at) [ true ↦ 
     is_call (Call b rs os) = true
     is_call _ = false
 
--- the call that a path's step at this offset is of
+-- the call to which a path's step with this offset belongs
 abbrev pub call_at : Code → ℕ → ℕ
 call_at C at = call_from 0 C.entries at
 
--- what a call hands over: its inputs, and behind them its outputs
+-- the arguments of a call: its inputs, followed by its outputs
 abbrev pub arguments : Act → List Argument
 arguments (Call b rs os) = rs ++ map Named os
 arguments _ = []
 
--- what a parameter stands for: the argument at its place, if it is of its kind; a literal is a scalar's
+-- the argument for a parameter: that at its index, if it is an array or a scalar as the parameter is; a literal is a
+-- scalar
 abbrev pub argument_in : List Argument → ℕ → Bool → Option Argument
 argument_in [] k b = None
 argument_in (Named r ∷ rs) zero b = elim (same_truth (is_array_name r) b) [ true ↦ Some (Named r) | false ↦ None ]
@@ -185,7 +187,7 @@ argument_in (x ∷ rs) (suc k) b = argument_in rs k b
 abbrev pub argument : Code → ℕ → ℕ → Bool → Option Argument
 argument C at k b = argument_in (arguments (entry C (call_at C at)).act) k b
 
--- how an entry opens a body: at its own path, by a step, or by a call's step
+-- the ways to open a body: at the path of the entry, by a step, or by the step of a call
 pub data Way : Type 0 where
   InPlace Through Calling : Way
 
@@ -206,7 +208,7 @@ ways (Range l h s w) = (Through, w.body) ∷ []
 ways (Each w) = (Through, w.body) ∷ []
 ways (Wait hs b) = (InPlace, b) ∷ []
 
--- what an entry of a node stores into by itself, but for a loop's variables
+-- the names that an entry of a node stores into itself, except for the variables of a loop
 abbrev pub stored_of : ℕ → Act → List Name
 stored_of n (Cell e) = here (scalar n) ∷ []
 stored_of n Read = here (scalar n) ∷ []
@@ -222,7 +224,7 @@ stored_of n (Range l h s w) = []
 stored_of n (Each w) = []
 stored_of n (Wait hs b) = []
 
--- its targets: what it stores into, or its function stores for it
+-- the targets of an entry: the names that it stores into itself, or that its function stores into
 abbrev pub targets_of : ℕ → Act → List Name
 targets_of n (Call b rs os) = os
 targets_of n a = stored_of n a
@@ -230,22 +232,22 @@ targets_of n a = stored_of n a
 abbrev pub targets : Entry → List Name
 targets e = targets_of e.node e.act
 
--- the loop that an act is
+-- the loop of an act
 abbrev pub loop_of : Act → Option Loop
 loop_of (Range l h s w) = Some w
 loop_of (Each w) = Some w
 loop_of _ = None
 
--- the variable of a loop's turn, if it has one
+-- the variable for the key or number of a loop's turn, if it has one
 abbrev pub turn_variables : Option ℕ → List Variable
 turn_variables None = []
 turn_variables (Some n) = scalar n ∷ []
 
--- a loop's variables are data of the block of each turn
+-- the variables of a loop, which are data of the block of each turn
 abbrev pub loop_variables : Loop → List Variable
 loop_variables w = scalar w.value ∷ turn_variables w.turn
 
--- the names that a need has
+-- the names in a need
 abbrev pub needed : Need → List Name
 needed (Stored r) = r ∷ []
 needed (Closed r) = r ∷ []

@@ -1,4 +1,5 @@
--- What an entry computes from what it waited for. A value of a wrong type is read as 0, false or the empty text, so there is always an answer.
+-- The result that an entry computes from its answers. A value of a wrong type is read as 0, false or the empty text, so
+-- the result is total.
 use Rattle.std.specs.Prelude.{ℕ, zero, suc, Bool, List, [], ◌∷◌, map, Option, Some, None, Result, Ok, Err, ℤ, pos, if◌then◌else◌}
 use Rattle.dataflow.specs.System.{Answer, Found, Missing, Content}
 use Rattle.values.specs.declared.fault.OpFault.{OpFault}
@@ -16,7 +17,7 @@ use Rattle.values.specs.Values.{number_of, truth_of, scalar_of, elements_of}
 use Rattle.values.specs.Operators.{literal, evaluated}
 use Rattle.task_code.specs.Code.{Expr, constant, need, operation, Exprs, no_operand, operand, Act, Cell, Read, Call, Set, Fill, Copy, Put, Print, Assert, If, Range, Each, Wait}
 
--- what can be wrong at an entry: a fault of an operation, an array that has no such element, or a path that would be too long
+-- the faults of an entry: a fault of an operation, a missing element of an array, or a path that would be too long
 pub data EntryFault : Type 0 where
   InOperation : OpFault → EntryFault
   NoElement : EntryFault
@@ -26,18 +27,18 @@ pub data EntryFault : Type 0 where
 abbrev pub Elements : Type 0
 Elements = List (Key × Scalar)
 
--- the same as elements of a map, and back
+-- conversion to elements of a map, and back
 abbrev pub elements : Elements → List Element
 elements xs = map (λ (x : Key × Scalar). record { key = x.0; value = x.1 }) xs
 
 abbrev pub pairs : List Element → Elements
 pairs es = map (λ (e : Element). (e.key, e.value)) es
 
--- the order in which elements are listed: by rising keys
+-- elements in their order: by ascending keys
 abbrev pub in_key_order : Elements → Bool
 in_key_order xs = rising (elements xs)
 
--- the answer to the need of a number
+-- the answer to the need at an index
 abbrev pub answer_at : List (Answer Key Scalar) → ℕ → Option (Answer Key Scalar)
 answer_at [] n = None
 answer_at (x ∷ xs) zero = Some x
@@ -50,7 +51,7 @@ answer_value (Some (Found v)) = One v
 answer_value (Some Missing) = One (Number (pos 0))
 answer_value (Some (Content xs)) = Many (elements xs)
 
--- an expression's value or its first fault in reading order; each operation is strict
+-- the value of an expression, or its first fault in reading order; each operation is strict
 abbrev mutual
   pub eval : List (Answer Key Scalar) → Expr → Result Value OpFault
   eval xs (constant v) = Ok (One v)
@@ -61,7 +62,8 @@ abbrev mutual
   evals xs no_operand = []
   evals xs (operand e es) = eval xs e ∷ evals xs es
 
--- what an entry has computed: a fault, a scalar, elements, which branch it takes, a loop's turns (key and value), or that its block can be opened
+-- the result of an entry: a fault, a scalar, elements, the branch that it takes, a loop's turns (key and value), or
+-- that its block can be opened
 pub data Computed : Type 0 where
   Fails : EntryFault → Computed
   Gives : Scalar → Computed
@@ -75,7 +77,7 @@ abbrev pub given : Result Value OpFault → Computed
 given (Ok v) = Gives (scalar_of v)
 given (Err f) = Fails (InOperation f)
 
--- an element, where the array has one
+-- an element, if the array has it
 abbrev pub read : Option (Answer Key Scalar) → Computed
 read None = Gives (Number (pos 0))
 read (Some (Found v)) = Gives v
@@ -87,29 +89,29 @@ abbrev pub filled : Result Value OpFault → Computed
 filled (Ok v) = Inserts (pairs (elements_of v))
 filled (Err f) = Fails (InOperation f)
 
--- elements that stand in their order, as those of a closed array do
+-- elements if they are in order, as those of a closed array are
 abbrev pub listed : Elements → Elements
 listed xs = if in_key_order xs then xs else []
 
--- the elements of the array that was waited for
+-- the elements of the awaited array
 abbrev pub content : Option (Answer Key Scalar) → Elements
 content None = []
 content (Some (Found v)) = []
 content (Some Missing) = []
 content (Some (Content xs)) = listed xs
 
--- the index is worked out before the right side
+-- the index is evaluated before the right side
 abbrev pub put : Result Value OpFault → Result Value OpFault → Computed
 put (Err f) right = Fails (InOperation f)
 put (Ok i) (Err f) = Fails (InOperation f)
 put (Ok i) (Ok v) = Inserts ((key_of (scalar_of i), scalar_of v) ∷ [])
 
--- which branch a condition takes
+-- the branch that a condition takes
 abbrev pub branched : Result Value OpFault → Computed
 branched (Ok v) = Takes (truth_of v)
 branched (Err f) = Fails (InOperation f)
 
--- so many turns of a range, from the turn n on
+-- the next turns of a range, starting at turn n
 abbrev pub range_turns : ℤ → ℤ → ℕ → ℕ → Elements
 range_turns low step n zero = []
 range_turns low step n (suc c) = (number_key (pos n), Number (value_in low step n)) ∷ range_turns low step (suc n) c
@@ -119,14 +121,14 @@ abbrev pub turns_or : Result ℕ OpFault → ℤ → ℤ → Computed
 turns_or (Ok n) low step = Turns (range_turns low step 0 n)
 turns_or (Err f) low step = Fails (InOperation f)
 
--- the bounds are worked out in order, then the range
+-- the bounds are evaluated in order, then the range
 abbrev pub ranged : Result Value OpFault → Result Value OpFault → Result Value OpFault → Computed
 ranged (Err f) high step = Fails (InOperation f)
 ranged (Ok low) (Err f) step = Fails (InOperation f)
 ranged (Ok low) (Ok high) (Err f) = Fails (InOperation f)
 ranged (Ok low) (Ok high) (Ok step) = turns_or (range_count (number_of low) (number_of high) (number_of step)) (number_of low) (number_of step)
 
--- what each entry computes
+-- the result of each act
 abbrev pub compute : Act → List (Answer Key Scalar) → Computed
 compute (Cell e) xs = given (eval xs e)
 compute Read xs = read (answer_at xs 0)
@@ -142,7 +144,7 @@ compute (Range l h s w) xs = ranged (eval xs l) (eval xs h) (eval xs s)
 compute (Each w) xs = Turns (content (answer_at xs 0))
 compute (Wait hs b) xs = Opens
 
--- what a worker works out of a leaf entry, before the item ends
+-- the result that a worker computes for a leaf entry before the item ends
 abbrev pub leaf_result : Act → List (Answer Key Scalar) → Option (Result Value OpFault)
 leaf_result (Cell e) xs = Some (eval xs e)
 leaf_result Read xs = None

@@ -1,4 +1,4 @@
--- What an item does when it ends: the blocks that it opens, what it stores and prints.
+-- The effect of an item that ends: the blocks that it opens, its stores and its printed lines.
 use Rattle.std.specs.Prelude.{ℕ, zero, suc, Bool, true, false, ◌&&◌, List, [], ◌∷◌, ◌++◌, map, take, drop, length, Option, Some, None, pos, nat_le}
 use Rattle.dataflow.specs.System.{Bad, Effect, Good, Opening, Outcome, Write}
 use Rattle.std.specs.List.{flat_map}
@@ -10,7 +10,8 @@ use Rattle.values.specs.declared.key.Key.TheVariants.{Number as number_key}
 use Rattle.values.specs.declared.value.Scalar.{Scalar}
 use Rattle.values.specs.Limits.{chunk_size, most_steps}
 
--- the task that opens the script, or an entry in a block's instance; a loop's chunk c begins at its turn c times `chunk_size`, and other entries have the chunk 0 alone
+-- the task that opens the script, or an entry in an instance of a block; chunk c of a loop begins at turn c times
+-- `chunk_size`, and other entries have chunk 0 alone
 pub data Task : Type 0 where
   Main : Task
   Item : (entry : ℕ) → (path : List Step) → (chunk : ℕ) → Task
@@ -19,12 +20,12 @@ pub data Task : Type 0 where
 abbrev pub only : Key
 only = number_key (pos 0)
 
--- in the first chunk alone
+-- the list in chunk 0, empty in all others
 abbrev pub at_first : {X : Type 0} → ℕ → List X → List X
 at_first zero xs = xs
 at_first (suc c) xs = []
 
--- what is left of a loop's turns before its chunk c
+-- the remaining turns of a loop at chunk c
 abbrev pub left_at : {X : Type 0} → ℕ → List X → List X
 left_at zero xs = xs
 left_at (suc c) xs = left_at c (drop chunk_size xs)
@@ -33,7 +34,7 @@ left_at (suc c) xs = left_at c (drop chunk_size xs)
 abbrev pub chunk : {X : Type 0} → ℕ → List X → List X
 chunk c xs = take chunk_size (left_at c xs)
 
--- the list has a member
+-- the list is not empty
 abbrev pub is_some_list : {X : Type 0} → List X → Bool
 is_some_list [] = false
 is_some_list (x ∷ xs) = true
@@ -43,11 +44,11 @@ abbrev pub turns_of : Computed → Elements
 turns_of (Turns ts) = ts
 turns_of _ = []
 
--- the path with one step more
+-- the path extended by one step
 abbrev pub step_at : ℕ → Key → List Step → List Step
 step_at mark k p = record { offset = mark; key = k } ∷ p
 
--- the block of an `else`, where there is one
+-- the block of an `else`, if there is one
 abbrev pub else_instance : Option ℕ → List Step → List (ℕ × List Step)
 else_instance None q = []
 else_instance (Some b) q = (b, q) ∷ []
@@ -78,17 +79,17 @@ instances (Range l h s w) mark p c x = turn_instances w mark p (chunk c (turns_o
 instances (Each w) mark p c x = turn_instances w mark p (chunk c (turns_of x))
 instances (Wait hs b) mark p c x = at_first c ((b, p) ∷ [])
 
--- a loop leaves the rest of its turns to one more item
+-- one more item for the remaining turns of a loop, if there are any
 abbrev pub rest_if : Bool → ℕ → List Step → ℕ → List (Opening Task Place)
 rest_if true i p c = record { makes = []; tasks = Item i p (suc c) ∷ [] } ∷ []
 rest_if false i p c = []
 
--- the rest of a loop, where some turns are left
+-- the rest of a loop, if turns remain
 abbrev pub rest : Option Loop → ℕ → List Step → ℕ → Computed → List (Opening Task Place)
 rest None i p c x = []
 rest (Some w) i p c x = rest_if (is_some_list (left_at (suc c) (turns_of x))) i p c
 
--- a scalar is stored at a place
+-- the write of a scalar to a place
 abbrev pub stored_at : Place → Computed → List (Write Place Key Scalar)
 stored_at d (Fails f) = []
 stored_at d (Gives v) = record { place = d; key = only; value = v } ∷ []
@@ -97,7 +98,7 @@ stored_at d (Takes b) = []
 stored_at d (Turns ts) = []
 stored_at d Opens = []
 
--- elements are stored at a place
+-- the writes of elements to a place
 abbrev pub inserted_at : Place → Computed → List (Write Place Key Scalar)
 inserted_at d (Fails f) = []
 inserted_at d (Gives v) = []
@@ -106,22 +107,22 @@ inserted_at d (Takes b) = []
 inserted_at d (Turns ts) = []
 inserted_at d Opens = []
 
--- a turn's variables
+-- the write of the variable for the key or number of a turn
 abbrev pub turn_bound : Option ℕ → List Step → Key → List (Write Place Key Scalar)
 turn_bound None q k = []
 turn_bound (Some n) q k = record { place = Datum q (scalar n); key = only; value = key_scalar k } ∷ []
 
--- the variables of a turn are stored in its block
+-- the writes of the variables of a turn into its block
 abbrev pub bound : Loop → ℕ → List Step → Key × Scalar → List (Write Place Key Scalar)
 bound w mark p t =
     record { place = Datum (step_at mark t.0 p) (scalar w.value); key = only; value = t.1 } ∷ turn_bound w.turn (step_at mark t.0 p) t.0
 
--- what an entry prints
+-- the lines that an entry prints
 abbrev pub prints : Act → Computed → List Scalar
 prints (Print e) (Gives v) = v ∷ []
 prints _ _ = []
 
--- whether an entry opens its blocks by a step
+-- the act opens its blocks by a step
 abbrev pub steps_on : Act → Bool
 steps_on (Call b rs os) = true
 steps_on (If e b d) = true
@@ -129,7 +130,7 @@ steps_on (Range l h s w) = true
 steps_on (Each w) = true
 steps_on _ = false
 
--- a path has at most so many steps
+-- the path would exceed the maximum number of steps
 abbrev pub is_too_deep : Act → List Step → List (ℕ × List Step) → Bool
 is_too_deep a p ss = nat_le most_steps (length p) && (steps_on a && is_some_list ss)
 
@@ -138,7 +139,7 @@ abbrev pub limited : Bool → Effect Task Place Key Scalar → Outcome Task Plac
 limited true e = Bad TooDeep
 limited false e = Good e
 
--- what comes of an item: its own fault first, then TooDeep
+-- the outcome of an item: its own fault first, then TooDeep
 abbrev pub outcome_of : Computed → Bool → Effect Task Place Key Scalar → Outcome Task Place Key Scalar EntryFault
 outcome_of (Fails f) b e = Bad f
 outcome_of (Gives v) b e = limited b e
@@ -148,11 +149,11 @@ outcome_of (Turns ts) b e = limited b e
 outcome_of Opens b e = limited b e
 
 module _ (C : Code) where
-  -- a body's block in the instance of a path: its data and its items
+  -- the block of a body in the instance of a path: its data and its items
   abbrev pub block : ℕ × List Step → Opening Task Place
   block s = record { makes = map (Datum s.1) (body C s.0).makes; tasks = map (λ j. Item j s.1 0) (body C s.0).entries }
 
-  -- what an entry stores
+  -- the writes of an entry
   abbrev pub stores : Act → ℕ → ℕ → List Step → ℕ → Computed → List (Write Place Key Scalar)
   stores (Cell e) node mark p c x = stored_at (place_at C p (here (scalar node))) x
   stores Read node mark p c x = stored_at (place_at C p (here (scalar node))) x
@@ -168,7 +169,7 @@ module _ (C : Code) where
   stores (Each w) node mark p c x = flat_map (bound w mark p) (chunk c (turns_of x))
   stores (Wait hs b) node mark p c x = []
 
-  -- the whole effect of an item that computed this
+  -- the whole effect of an item with this result
   abbrev pub effect_at : ℕ → List Step → ℕ → Computed → Effect Task Place Key Scalar
   effect_at i p c x =
       let e = entry C i in

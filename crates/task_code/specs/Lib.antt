@@ -14,3 +14,4 @@ pub mod Count
 pub mod Worked
 pub mod View
 pub mod Tokens
+pub mod Packed

@@ -1,4 +1,4 @@
--- The machine of code: the machine of its system, in short words.
+-- The machine of code: abbreviations for the machine of its system.
 use Rattle.std.specs.Prelude.{ℕ, List}
 use Rattle.dataflow.specs.System.{Effect}
 use Rattle.dataflow.specs.Facts.{Clean}
@@ -22,12 +22,12 @@ CodeItem = MachineItem Task
 abbrev pub CodeState : Type 0
 CodeState = State Task Place Key Scalar EntryFault
 
--- what the items of a run did, the latest first
+-- the effects of the items of a run, the latest first
 abbrev pub CodeLog : Type 0
 CodeLog = List (Task × Effect Task Place Key Scalar)
 
 module _ (C : Code) where
-  -- in no round a key of an array has two writers
+  -- no key of an array has two writers in any round
   abbrev pub CleanCode : Type 0
   CleanCode = Clean (code_system C)
 
@@ -35,7 +35,7 @@ module _ (C : Code) where
   abbrev pub Enabled : CodeState → Task → Type 0
   Enabled s t = EnabledIn (code_system C) s t
 
-  -- the array is there, and no item that has not ended may write it
+  -- the array exists, and no item that has not ended may write it
   abbrev pub ClosedByRights : CodeState → Place → Type 0
   ClosedByRights s a = ClosedIn (code_system C) s a
 
@@ -59,15 +59,16 @@ module _ (C : Code) where
   abbrev pub RunsOn : CodeState → ℕ → ℕ → Type 0
   RunsOn s worker number = RunsIn (code_system C) s worker number
 
-  -- no fault stands, and no item is enabled or runs
+  -- there is no fault, and no item is enabled or runs
   abbrev pub Quiet : CodeState → Type 0
   Quiet s = QuietIn (code_system C) s
 
-  -- how often, in a run of these events, an item is enabled and does not run after an event, when it was not so before it
+  -- the number of times, in a run of these events, that an item becomes able to begin: enabled and not running after an
+  -- event, but not before it
   abbrev pub Newly : List Event → ℕ → Type 0
   Newly events n = NewlyOf (code_system C) events n
 
-  -- what is stored, closed, printed and reported is the meaning's
+  -- everything stored, closed, printed and reported agrees with the meaning
   abbrev pub Agrees : CodeState → Type 0
   Agrees s = AgreesWith (code_system C) s
 
@@ -75,7 +76,7 @@ module _ (C : Code) where
   abbrev pub Complete : CodeState → Type 0
   Complete s = CompleteIn (code_system C) s
 
-  -- never stuck, and each item once
+  -- no item is ever stuck, and each exists once
   abbrev pub GoesOn : CodeState → Type 0
   GoesOn s = GoesOnIn (code_system C) s
 
@@ -83,18 +84,18 @@ module _ (C : Code) where
   abbrev pub AnswersAreOne : CodeState → Type 0
   AnswersAreOne s = AnswersIn (code_system C) s
 
-  -- the log of a run, and what it says of the state
+  -- the log of a run, and its relation to the state
   abbrev pub run_log : (events : List Event) (s : CodeState) → Run events s → CodeLog
   run_log events s run = log_of (code_system C) events s run
 
   abbrev pub LeadsTo : CodeLog → CodeState → Type 0
   LeadsTo log s = LeadsToIn (code_system C) log s
 
-  -- each datum that was made is there or free
+  -- each datum that was made still exists or is free
   abbrev pub DataAreKept : CodeState → CodeLog → Type 0
   DataAreKept s log = KeptIn (code_system C) s log
 
-  -- no datum that is free is there
+  -- no free datum exists
   abbrev pub IsTidy : CodeState → Type 0
   IsTidy s = TidyIn (code_system C) s
 
@@ -106,10 +107,10 @@ module _ (C : Code) where
   abbrev pub SameButFree : CodeState → CodeState → Type 0
   SameButFree s t = SameIn (code_system C) s t
 
-  -- which events have a step
+  -- the events that have a step
   abbrev pub HasSteps : CodeState → Type 0
   HasSteps s = HasStepsIn (code_system C) s
 
-  -- two ends of runs that are the same, but for the order of the lines and for free data
+  -- two ends of runs that agree, except for the order of the lines and for free data
   abbrev pub SameEnd : CodeState → CodeState → Type 0
   SameEnd s t = SameEndIn (code_system C) s t

@@ -1,4 +1,4 @@
--- Paths of block instances, places of data, and what a name means at a path.
+-- Paths of block instances, places of data, and the place of a name at a path.
 use Rattle.std.specs.Prelude.{ℕ, zero, suc, Bool, true, false, ◌&&◌, List, [], ◌∷◌, Some, None, nat_eq}
 use Rattle.values.specs.declared.key.Key.{Key}
 use Rattle.values.specs.declared.value.Scalar.{Scalar}
@@ -7,24 +7,25 @@ use Rattle.values.specs.Keys.{same_key}
 use Rattle.values.specs.Values.{same, same_truth}
 use Rattle.task_code.specs.Code.{Variable, Owned, Local, Parameter, Name, Named, Fixed, Code, argument}
 
--- a step to a block: the offset that opens it, and the branch (0 or 1), the turn's key, or 0 for a call
+-- a step to a block: the offset of its opener, and the branch (0 or 1), the key of the turn, or 0 for a call
 pub record Step : Type 0 where
   pub offset : ℕ
   pub key : Key
 
--- where data are: a variable in a block's instance, told by its path, of which the last step stands first. A parameter whose argument is a literal is that literal and no datum; a name that means nothing is nowhere
+-- the place of a name: a variable in the instance of a block, which is given by its path with the last step first. A
+-- parameter whose argument is a literal is that literal and has no datum; a name without a referent is nowhere
 pub data Place : Type 0 where
   Datum : (path : List Step) → (variable : Variable) → Place
   Constant : Scalar → Place
   Nowhere : Place
 
--- whether a place is an array; what is no datum counts as one, so that each scalar is a datum
+-- the place is an array; a place without a datum counts as one, so that each scalar is a datum
 abbrev pub place_array : Place → Bool
 place_array (Datum p v) = v.array
 place_array (Constant v) = true
 place_array Nowhere = true
 
--- the same path, variable, place and name
+-- equality of paths, variables, places and names
 abbrev pub path_eq : List Step → List Step → Bool
 path_eq [] [] = true
 path_eq [] (t ∷ q) = false
@@ -50,7 +51,8 @@ abbrev pub name_eq : Name → Name → Bool
 name_eq r s = nat_eq r.up s.up && owned_eq r.owned s.owned
 
 module _ (C : Code) where
-  -- the place that a name means: go out so many steps; what is the owner's own lies there, and a parameter is looked up at the call that the last step names
+  -- the place of a name: go out `up` steps; the owner's own variable is there, and a parameter is looked up at the call
+  -- that the last step belongs to
   abbrev pub resolve : List Step → ℕ → Owned → Place
   resolve [] zero (Local v) = Datum [] v
   resolve [] zero (Parameter k b) = Nowhere

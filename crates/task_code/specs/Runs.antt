@@ -1,4 +1,4 @@
--- What a state of code shows: its blocked statements, and where its fault stands.
+-- Observations of a state of code: its blocked statements, and the statement of its fault.
 use Rattle.std.specs.Prelude.{◌≡◌, ◌⊎◌, ℕ, Bool, true, false, List, [], ◌∷◌, Some}
 use Rattle.dataflow.specs.System.{In, Input, Effect}
 use Rattle.dataflow.specs.Facts.{Live, Known, Ever, EverGiven}
@@ -29,22 +29,23 @@ counts (Each w) = true
 counts (Wait hs b) = true
 
 module _ (C : Code) (IsIn : Input Place Key → Type 0) where
-  -- all that a header waits for is known
+  -- all needs of a header are known
   abbrev pub IsHeaderKnown : List Step → Header → Type 0
   IsHeaderKnown p h = (n : Need) (i : Input Place Key) → In n h.needs → In i (inputs_at C p n) → IsIn i
 
-  -- the first header that waits for something unknown stands at this offset
+  -- the first header with an unknown need has this offset
   abbrev pub FirstUnknown : List Step → List Header → ℕ → Type 0
   FirstUnknown p [] at = ⊥
   FirstUnknown p (h ∷ hs) at = ((IsHeaderKnown p h → ⊥) × (at ≡ h.at)) ⊎ (IsHeaderKnown p h × FirstUnknown p hs at)
 
-  -- where a statement of this act is blocked: waits that were merged at the outermost one with an unknown name, others at their own offset
+  -- the offset at which a statement of this act is blocked: merged waits at the outermost one with an unknown name,
+  -- others at their own offset
   abbrev pub IsBlockedAt : List Step → Act → ℕ → ℕ → Type 0
   IsBlockedAt p (Wait hs b) own at = FirstUnknown p hs at
   IsBlockedAt p _ own at = at ≡ own
 
 module _ (C : Code) where
-  -- a blocked statement of a quiet state: one whose own item has not ended
+  -- a blocked statement of a quiet state: the statement's own item has not ended
   pub record Blocked (s : CodeState) (at : ℕ) (path : List Step) : Type 0 where
     pub item : CodeItem
     pub there : In item s.items
@@ -54,7 +55,7 @@ module _ (C : Code) where
     pub counted : counts (entry C number).act ≡ true
     pub stands : IsBlockedAt C (IsKnown (code_system C) s) path (entry C number).act (entry C number).at at
 
-  -- a blocked statement of the code's meaning: one that is live and never gets its fact
+  -- a blocked statement of the code's meaning: it is live and never has its fact
   pub record EverBlocked (at : ℕ) (path : List Step) : Type 0 where
     pub round : ℕ
     pub number : ℕ
@@ -64,7 +65,7 @@ module _ (C : Code) where
     pub counted : counts (entry C number).act ≡ true
     pub stands : IsBlockedAt C (EverGiven (code_system C)) path (entry C number).act (entry C number).at at
 
-  -- the fault stands at the statement of the entry that met it
+  -- the fault is reported at the statement of the entry that caused it
   pub record FaultAt (s : CodeState) (fault : Fault EntryFault) (at : ℕ) (path : List Step) : Type 0 where
     pub number : ℕ
     pub chunk : ℕ

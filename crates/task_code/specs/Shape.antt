@@ -1,10 +1,10 @@
--- The shape of entries: an act has the needs that it uses, and names scalars and arrays where it should.
+-- The shape of entries: an act has the needs that it uses, and its names are scalars and arrays as it requires.
 use Rattle.std.specs.Prelude.{ℕ, Bool, true, false, not, ◌&&◌, nat_lt, List, [], ◌∷◌, length}
 use Rattle.std.specs.List.{list_all, list_any}
 use Rattle.task_code.specs.Code.{Need, Stored, Closed, At, AtKey, Expr, constant, need, operation, Exprs, no_operand, operand, Header, Act, Cell, Read, Call, Set, Fill, Copy, Put, Print, Assert, If, Range, Each, Wait, Entry, is_array_name}
 use Rattle.task_code.specs.Places.{name_eq}
 
--- scalars are waited for as scalars, arrays as arrays
+-- needs for stored scalars name scalars, and needs for arrays name arrays
 abbrev pub fits_kinds : Need → Bool
 fits_kinds (Stored r) = not (is_array_name r)
 fits_kinds (Closed r) = is_array_name r
@@ -24,7 +24,7 @@ is_same_plain (Stored r) (Stored s) = name_eq r s
 is_same_plain (Closed r) (Closed s) = name_eq r s
 is_same_plain _ _ = false
 
--- each need that the expression uses is one of so many
+-- each need that the expression uses has an index less than n
 abbrev mutual
   pub is_fed : ℕ → Expr → Bool
   is_fed n (constant v) = true
@@ -35,23 +35,23 @@ abbrev mutual
   are_fed n no_operand = true
   are_fed n (operand e es) = is_fed n e && are_fed n es
 
--- one element and nothing else
+-- exactly one element
 abbrev pub one_element : List Need → Bool
 one_element (At a r ∷ []) = true
 one_element (AtKey a k ∷ []) = true
 one_element _ = false
 
--- one array and nothing else
+-- exactly one array
 abbrev pub one_array : List Need → Bool
 one_array (Closed r ∷ []) = true
 one_array _ = false
 
--- no need at all
+-- no needs
 abbrev pub is_none : List Need → Bool
 is_none [] = true
 is_none (n ∷ ns) = false
 
--- expressions stand over scalars and whole arrays
+-- the needs of expressions are scalars and whole arrays
 abbrev pub feeds : List Need → Bool → Bool
 feeds ns fed = list_all is_plain ns && fed
 
@@ -61,7 +61,7 @@ has_headers hs ns =
     list_all (λ h. list_all (λ n. list_any (is_same_plain n) ns) h.needs) hs
     && list_all (λ n. list_any (λ h. list_any (is_same_plain n) h.needs) hs) ns
 
--- what an act stores is of the kind of its target, and it has the needs that it uses
+-- the act's target is an array or a scalar as its value is, and the act has the needs that it uses
 abbrev pub has_shape : Act → List Need → Bool
 has_shape (Cell e) ns = feeds ns (is_fed (length ns) e)
 has_shape Read ns = one_element ns

@@ -1,4 +1,4 @@
--- Expressions as lists of tokens, by which a proof tells them apart.
+-- Expressions as lists of tokens, by which a proof distinguishes them.
 use Rattle.std.specs.Prelude.{◌≡◌, ℕ, zero, suc, List, [], ◌∷◌, refl}
 use Rattle.std.specs.Coded.{Coded, code_by, coded_list}
 use Rattle.std.proofs.Common.{ap, ap₂, ◌∙◌}
@@ -6,18 +6,18 @@ use Rattle.values.specs.declared.value.Scalar.{Scalar}
 use Rattle.values.specs.Operators.{Operation}
 use Rattle.task_code.specs.Code.{Expr, constant, need, operation, Exprs, no_operand, operand}
 
--- a constant, a need, or an operation behind its operands, with their number
+-- a constant, a need, or an operation after its operands, with their number
 pub data Token : Type 0 where
   Given : Scalar → Token
   Needed : ℕ → Token
   Applied : Operation → ℕ → Token
 
--- how many operands there are
+-- the number of operands
 abbrev pub operand_count : Exprs → ℕ
 operand_count no_operand = zero
 operand_count (operand e es) = suc (operand_count es)
 
--- an expression's tokens in front of others: its operands from the last to the first, and then its operation
+-- the tokens of an expression followed by others: its operands from the last to the first, and then its operation
 abbrev mutual
   pub tokens : Expr → List Token → List Token
   tokens (constant v) ts = Given v ∷ ts
@@ -28,12 +28,12 @@ abbrev mutual
   operand_tokens no_operand ts = ts
   operand_tokens (operand e es) ts = operand_tokens es (tokens e ts)
 
--- operands in front of others
+-- operands followed by others
 abbrev pub in_front_of : Exprs → Exprs → Exprs
 in_front_of no_operand fs = fs
 in_front_of (operand e es) fs = operand e (in_front_of es fs)
 
--- the first so many operands, and those behind them
+-- the first n operands, and the others
 abbrev pub front : ℕ → Exprs → Exprs
 front zero es = no_operand
 front (suc n) no_operand = no_operand
@@ -44,7 +44,7 @@ behind zero es = es
 behind (suc n) no_operand = no_operand
 behind (suc n) (operand e es) = behind n es
 
--- reads tokens from left to right, over the expressions that were read before
+-- reads tokens from left to right, onto a stack of the expressions read before
 abbrev pub read_tokens : List Token → Exprs → Exprs
 read_tokens [] es = es
 read_tokens (Given v ∷ ts) es = read_tokens ts (operand (constant v) es)
@@ -67,7 +67,7 @@ abbrev pub in_front_of-none : (es : Exprs) → in_front_of es no_operand ≡ es
 in_front_of-none no_operand = refl
 in_front_of-none (operand e es) = ap (operand e) (in_front_of-none es)
 
--- what was written is read
+-- reading the tokens of an expression returns the expression
 abbrev mutual
   pub read-tokens : (e : Expr) (ts : List Token) (fs : Exprs) → read_tokens (tokens e ts) fs ≡ read_tokens ts (operand e fs)
   read-tokens (constant v) ts fs = refl
@@ -80,7 +80,7 @@ abbrev mutual
   read-operand_tokens no_operand ts fs = refl
   read-operand_tokens (operand e es) ts fs = read-operand_tokens es (tokens e ts) fs ∙ read-tokens e ts (in_front_of es fs)
 
--- the code of expressions, from that of tokens
+-- the coding of expressions, from that of tokens
 abbrev pub expr_code : Coded Token → Coded Expr
 expr_code token_code =
     code_by (List Token) (coded_list token_code) (λ e. tokens e []) (λ ts. first_read (read_tokens ts no_operand))

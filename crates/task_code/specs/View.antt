@@ -1,4 +1,4 @@
--- The code that a value of the program stands for, apart from where it lies in memory.
+-- The code that a runtime value represents, independent of its memory layout.
 use Rattle.std.specs.Prelude.{List, [], ◌∷◌, map}
 use Rattle.values.specs.Operators.{Operation, sum_of, product_of, compare, equal, unequal, all_true, any_true, not_true, negate, join, from_int, to_int, size, printf, assert, literal}
 use Rattle.task_code.specs.declared.expr.Operator.{Operator}
@@ -26,7 +26,7 @@ use Rattle.task_code.specs.declared.event.Event.TheVariants as Happens
 use Rattle.dataflow.specs.Machine as Machine
 use Rattle.task_code.specs.Code as Pure
 
--- what is done with the operands
+-- the operation of an operator
 abbrev pub operation_view : Operator → Operation
 operation_view (Op.Sum signs) = sum_of signs.items
 operation_view (Op.Product factors) = product_of factors.items
@@ -45,12 +45,12 @@ operation_view (Op.Printf format) = printf format
 operation_view Op.Assert = assert
 operation_view Op.Literal = literal
 
--- operands, one after another
+-- a list of operands
 abbrev pub operands_of : List Pure.Expr → Pure.Exprs
 operands_of [] = Pure.no_operand
 operands_of (e ∷ es) = Pure.operand e (operands_of es)
 
--- an expression, from those that stand in it
+-- an expression, from its subexpressions
 abbrev pub expr_step : Expr-F Pure.Expr → Pure.Expr
 expr_step (Form.Constant v) = Pure.constant v
 expr_step (Form.Need n) = Pure.need n
@@ -73,14 +73,14 @@ owned_view (Own.Parameter k b) = Pure.Parameter k b
 abbrev pub name_view : Name → Pure.Name
 name_view r = record { up = r.up; owned = owned_view r.owned }
 
--- what an entry waits for
+-- a need
 abbrev pub need_view : Need → Pure.Need
 need_view (Wants.Stored r) = Pure.Stored (name_view r)
 need_view (Wants.Closed r) = Pure.Closed (name_view r)
 need_view (Wants.At a r) = Pure.At (name_view a) (name_view r)
 need_view (Wants.AtKey a k) = Pure.AtKey (name_view a) k
 
--- what a call hands over
+-- an argument
 abbrev pub argument_view : Argument → Pure.Argument
 argument_view (Passed.Named r) = Pure.Named (name_view r)
 argument_view (Passed.Fixed v) = Pure.Fixed v
@@ -91,7 +91,7 @@ loop_view w = record { body = w.body; value = w.value; turn = w.turn }
 abbrev pub header_view : Header → Pure.Header
 header_view h = record { at = h.at; needs = map need_view h.needs.items }
 
--- what an entry does
+-- an act
 abbrev pub act_view : Act → Pure.Act
 act_view (Does.Cell e) = Pure.Cell (expr_view e)
 act_view Does.Read = Pure.Read
@@ -121,7 +121,7 @@ entry_view e =
       writes = map name_view e.writes.items;
     }
 
--- what opens a body
+-- the opener of a body
 abbrev pub opener_view : Opener → Pure.Opener
 opener_view Opens.ByMain = Pure.ByMain
 opener_view (Opens.ByWait i) = Pure.ByWait i

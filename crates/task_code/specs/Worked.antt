@@ -1,4 +1,4 @@
--- Worked scripts as code, bad codes, and what items of them do.
+-- Worked scripts as code, codes that are not whole, and effects of their items.
 use Rattle.std.specs.Prelude.{◌≡◌, ℕ, true, false, length, [], ◌∷◌, Option, None, Some, pos}
 use Rattle.dataflow.specs.Machine.{Begin, ElementTwice, End, Quiet, Run}
 use Rattle.dataflow.specs.System.{Answer, Bad, Found, Good, Missing, Outcome}
@@ -14,13 +14,13 @@ use Rattle.values.specs.declared.key.Key.{Key}
 use Rattle.values.specs.declared.key.Key.TheVariants.{Number as number_key}
 use Rattle.values.specs.declared.value.Scalar.{Scalar}
 use Rattle.values.specs.declared.value.Scalar.TheVariants.{Number, Text, Truth}
-use Rattle.values.specs.declared.format.Piece.TheVariants.{Byte, Number as digits}
+use Rattle.values.specs.declared.format.FormatPiece.TheVariants.{Byte, Number as digits}
 use Rattle.values.specs.declared.op.Sign.TheVariants.{Plus, Minus}
 use Rattle.values.specs.declared.op.Factor.TheVariants.{Times}
 use Rattle.values.specs.declared.op.Order.TheVariants.{Less}
 use Rattle.values.specs.Limits.{chunk_size}
 
--- an array of a node
+-- the array of a node
 abbrev array : ℕ → Variable
 array n = record { node = n; array = true }
 
@@ -264,7 +264,7 @@ loop_variable_assigned =
           ∷ [];
     }
 
--- int x; x = 1;, with an entry that stands twice in its body
+-- int x; x = 1;, with an entry that occurs twice in its body
 abbrev pub entry_twice : Code
 entry_twice =
     let x = scalar 1 in
@@ -277,7 +277,7 @@ entry_twice =
           ∷ [];
     }
 
--- int x; x = 1; wait (x) { printf("hello"); }, with a content that names another opener
+-- int x; x = 1; wait (x) { printf("hello"); }, whose body names another opener
 abbrev pub opened_by_another : Code
 opened_by_another =
     let x = scalar 1 in
@@ -306,7 +306,7 @@ scalar_filled =
           ∷ [];
     }
 
--- printf("hello"); beside int x;, with a right to read x that the entry has no use for
+-- printf("hello"); with int x;, and an unused right to read x
 abbrev pub right_without_use : Code
 right_without_use =
     let x = scalar 1 in
@@ -338,7 +338,7 @@ calls_without_right =
           ∷ [];
     }
 
--- the same, whose calls have it: A is never closed, since each call may still write it
+-- the same script, whose calls have that right: A is never closed, since each call may still write it
 abbrev pub filled_without_end : Code
 filled_without_end =
     let a = array 1 in
@@ -442,11 +442,11 @@ called_everywhere =
           ∷ [];
     }
 
--- what items of these codes do
+-- the effects of items of these codes
 abbrev pub step : ℕ → ℕ → Step
 step at k = record { offset = at; key = number_key (pos k) }
 
--- the answer that a scalar is
+-- the answer with this scalar
 abbrev pub gives : ℕ → Answer Key Scalar
 gives n = Found (Number (pos n))
 
@@ -454,7 +454,7 @@ gives n = Found (Number (pos n))
 abbrev pub StoresThree : Type 0
 StoresThree = (code_system used_before_assigned).effect (Item 0 [] 0) (gives 2 ∷ []) ≡ Good (record { writes = record { place = Datum [] (scalar 1); key = only; value = Number (pos 3) } ∷ []; lines = []; opens = [] })
 
--- the greatest number and 1 are no number
+-- the greatest number plus 1 is out of range
 abbrev pub Overflows : Type 0
 Overflows = (code_system used_before_assigned).effect (Item 0 [] 0) (gives 9223372036854775807 ∷ []) ≡ Bad (InOperation Overflow)
 
@@ -462,11 +462,11 @@ Overflows = (code_system used_before_assigned).effect (Item 0 [] 0) (gives 92233
 abbrev pub PrintsHello : Type 0
 PrintsHello = (code_system hello).effect (Item 0 [] 0) [] ≡ Good (record { writes = []; lines = Text (104 ∷ 101 ∷ 108 ∷ 108 ∷ 111 ∷ []) ∷ []; opens = [] })
 
--- an element that a closed array lacks is a fault
+-- a missing element of a closed array is a fault
 abbrev pub LacksElement : Type 0
 LacksElement = (code_system key_written_twice).effect (Item 2 [] 0) (Missing ∷ []) ≡ Bad NoElement
 
--- how many blocks are opened
+-- the number of blocks that are opened
 abbrev pub opened_by : Outcome Task Place Key Scalar EntryFault → Option ℕ
 opened_by (Bad f) = None
 opened_by (Good e) = Some (length e.opens)
@@ -475,14 +475,14 @@ opened_by (Good e) = Some (length e.opens)
 abbrev pub OpensTurns : Type 0
 OpensTurns = opened_by ((code_system filled_by_loop).effect (Item 1 [] 0) []) ≡ Some 5
 
--- fib's input at its first call is 10, and its output the caller's node
+-- at its first call, the input of fib is 10, and its output is the node of the caller
 abbrev pub MeansTen : Type 0
 MeansTen = place_at fibonacci (step 21 1 ∷ step 92 0 ∷ []) (parameter 1 0) ≡ Constant (Number (pos 10))
 
 abbrev pub MeansResult : Type 0
 MeansResult = place_at fibonacci (step 21 1 ∷ step 92 0 ∷ []) (parameter 1 1) ≡ Datum [] (scalar 1)
 
--- inside the first inner call it is a node of the block that calls
+-- within the first inner call it is a node of the calling block
 abbrev pub MeansInner : Type 0
 MeansInner = place_at fibonacci (step 21 0 ∷ step 54 0 ∷ step 21 1 ∷ step 92 0 ∷ []) (parameter 1 1) ≡ Datum (step 21 1 ∷ step 92 0 ∷ []) (scalar 7)
 
@@ -490,7 +490,7 @@ MeansInner = place_at fibonacci (step 21 0 ∷ step 54 0 ∷ step 21 1 ∷ step 
 abbrev pub MeansCallersArray : Type 0
 MeansCallersArray = place_at filled_by_call (step 63 0 ∷ []) (array_parameter 0 1) ≡ Datum [] (array 1)
 
--- a parameter that is a literal is no input of an item: n < 2 with 10 for n is false
+-- a parameter that is a literal is not an input of an item: n < 2 with 10 for n is false
 abbrev pub ComparesTen : Type 0
 ComparesTen = (code_system fibonacci).effect (Item 2 (step 92 0 ∷ []) 0) [] ≡ Good (record { writes = record { place = Datum (step 92 0 ∷ []) (scalar 3); key = only; value = Truth false } ∷ []; lines = []; opens = [] })
 
@@ -501,7 +501,8 @@ Chunks =
     × (length (chunk 1 (range_turns (pos 1) (pos 1) 0 65)) ≡ 1)
     × (length (chunk 2 (range_turns (pos 1) (pos 1) 0 65)) ≡ 0)
 
--- worker 0 begins and ends the item that opens the script, worker 1 the one that prints: then the code is quiet, and the line is there
+-- worker 0 begins and ends the item that opens the script, worker 1 the one that prints: then the code is quiet, and
+-- the line is printed
 abbrev pub HelloRuns : Type 0
 HelloRuns =
     (s : CodeState)

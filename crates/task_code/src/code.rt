@@ -1,4 +1,4 @@
-//! Whole code: what every machine runs.
+//! Whole code: the immutable code that every machine runs.
 ghost use Rattle.std.specs.Prelude.{◌≡◌, ◌<◌, ◌≤◌, length, IfOk, MatchOption};
 ghost use Rattle.std.specs.Arc.{arc_value};
 ghost use Rattle.task_code.specs.Code.{entry, body, kind_of};
@@ -11,20 +11,20 @@ use std::alloc::AllocError;
 use std::marker::Model;
 use std::sync::Arc;
 
-/// What opens a body.
+/// The cause that opens a body.
 #[derive(Clone, Copy, PartialEq, Eq, Debug, Drop)]
 pub enum Opener {
-    /// Nothing but the start of the run: the body is the script.
+    /// The start of the run: the body is the script.
     ByMain,
-    /// A `wait` of this number, at its own path.
+    /// A `wait` entry of this number, at its own path.
     ByWait(u32),
-    /// A branch or a loop of this number.
+    /// A branch or loop entry of this number.
     ByStep(u32),
     /// The calls of its function.
     ByCalls,
 }
 
-/// A block of the source: what opens it, the variables that it declares, and the numbers of its entries in order.
+/// A block of the source: its opener, the variables that it declares, and the numbers of its entries in order.
 #[derive(Debug, Drop)]
 pub struct Body {
     pub opener: Opener,
@@ -32,10 +32,10 @@ pub struct Body {
     pub entries: Vec<u32>,
 }
 
-/// A script's code: a draft that is whole, with at most 4,194,304 entries. Entries and bodies are numbered from 0 on, and the
-/// body 0 is the script.
+/// The code of a script: a whole draft with at most 4,194,304 entries. Entries and bodies are numbered from 0; body 0
+/// is the script.
 ///
-/// Its copies share the entries, whichever threads they are on.
+/// Copies share the entries, also across threads.
 #[derive(Drop)]
 pub struct Code {
     draft: Draft,
@@ -58,7 +58,7 @@ impl Model for Code {
 }
 
 impl Code {
-    /// The draft as code.
+    /// Converts a draft into code. The caller has to prove that the draft is whole and has at most 4,194,304 entries.
     pub fn of(draft: Draft) -> Code
         requires whole { IsCode draft }
         requires few { length draft.entries ≤ 4194304 }
@@ -67,14 +67,14 @@ impl Code {
         Code { draft }
     }
 
-    /// The draft, which tells all of it.
+    /// Returns the underlying draft.
     pub fn draft(&self) -> &Draft
         ensures { result.now ≡ self.now }
     {
         &self.draft
     }
 
-    /// How many entries there are.
+    /// Returns the number of entries.
     pub fn entry_count(&self) -> usize
         ensures count { result ≡ length self.now.entries }
         ensures whole { IsCode self.now }
@@ -83,14 +83,14 @@ impl Code {
         self.draft.entry_count()
     }
 
-    /// How many bodies there are.
+    /// Returns the number of bodies.
     pub fn body_count(&self) -> usize
         ensures { result ≡ length self.now.bodies }
     {
         self.draft.body_count()
     }
 
-    /// The entry of this number, where there is one.
+    /// Returns the entry of this number, or `None` if there is none.
     pub fn entry(&self, number: u32) -> Option<&Entry>
         ensures { MatchOption result (length self.now.entries ≤ number)
             (λ found. (number < length self.now.entries) × (entry_view found.now ≡ entry self.now number)) }
@@ -98,7 +98,7 @@ impl Code {
         self.draft.entry(number)
     }
 
-    /// The same for whoever keeps the entry.
+    /// Returns a shared pointer to the entry of this number, or `None` if there is none. No entry is copied.
     pub fn share_entry(&self, number: u32) -> Result<Option<Arc<Entry>>, AllocError>
         ensures { IfOk result (λ found. MatchOption found (length self.now.entries ≤ number)
             (λ shared. (number < length self.now.entries) × (entry_view (arc_value shared) ≡ entry self.now number))) }
@@ -106,7 +106,7 @@ impl Code {
         self.draft.share_entry(number)
     }
 
-    /// The body of this number, where there is one.
+    /// Returns the body of this number, or `None` if there is none.
     pub fn body(&self, number: u32) -> Option<&Body>
         ensures { MatchOption result (length self.now.bodies ≤ number)
             (λ found. (number < length self.now.bodies) × (body_view found.now ≡ body self.now number)) }
@@ -114,21 +114,21 @@ impl Code {
         self.draft.body(number)
     }
 
-    /// Who runs the entry of this number. A number that there is not is a leaf's.
+    /// Returns the kind of the entry of this number. A number without an entry counts as a leaf.
     pub fn kind(&self, number: u32) -> Kind
         ensures { result ≡ kind_of (entry self.now number).act }
     {
         self.draft.kind(number)
     }
 
-    /// The priority of the entry of this number. A number that there is not has 0.
+    /// Returns the priority of the entry of this number, or 0 if there is none.
     pub fn priority(&self, number: u32) -> i32
         ensures { result ≡ (entry self.now number).priority }
     {
         self.draft.priority(number)
     }
 
-    /// The same code, which no entry is copied for.
+    /// Returns a copy that shares all entries and bodies.
     pub fn copy(&self) -> Result<Code, AllocError>
         ensures { IfOk result (λ code. code ≡ self.now) }
     {

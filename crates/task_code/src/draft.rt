@@ -1,4 +1,4 @@
-//! Code while it is laid: bodies of entries, told by their numbers, which need not fit together yet.
+//! Drafts: code under construction, whose numbered bodies and entries need not fit together yet.
 ghost use Rattle.std.specs.Prelude.{◌≡◌, ◌<◌, ◌≤◌, ◌++◌, ◌∷◌, [], length, map, IfOk, OnOk, OnErr, MatchOption};
 ghost use Rattle.std.specs.Arc.{arc_value};
 ghost use Rattle.task_code.specs.Code.{blank_entry, blank_body, entry, body, kind_of};
@@ -10,9 +10,9 @@ use std::alloc::{AllocError, Global};
 use std::marker::Model;
 use std::sync::Arc;
 
-/// A script's code while it is laid. Entries and bodies are numbered from 0 on, and the body 0 is the script.
+/// The code of a script under construction. Entries and bodies are numbered from 0; body 0 is the script.
 ///
-/// Its copies share the entries, whichever threads they are on.
+/// Copies share the entries, also across threads.
 #[derive(Drop)]
 pub struct Draft {
     entries: Vec<Arc<Entry>>,
@@ -35,7 +35,7 @@ impl Model for Draft {
 }
 
 impl Draft {
-    /// The draft without entries and bodies.
+    /// Creates a draft without entries and bodies.
     pub fn new(alloc: Global) -> Draft
         ensures { result ≡ record { entries = []; bodies = [] } }
     {
@@ -45,7 +45,7 @@ impl Draft {
         }
     }
 
-    /// Puts an entry behind the others.
+    /// Appends an entry. On failure the draft is unchanged.
     pub fn push_entry(&mut self, added: Entry) -> Result<(), AllocError>
         ensures ok { OnOk result (self.new ≡ record self.old { entries = self.old.entries ++ entry_view added ∷ [] }) }
         ensures err { OnErr result (self.new ≡ self.old) }
@@ -55,7 +55,7 @@ impl Draft {
         Ok(())
     }
 
-    /// Puts a body behind the others.
+    /// Appends a body. On failure the draft is unchanged.
     pub fn push_body(&mut self, added: Body) -> Result<(), AllocError>
         ensures ok { OnOk result (self.new ≡ record self.old { bodies = self.old.bodies ++ body_view added ∷ [] }) }
         ensures err { OnErr result (self.new ≡ self.old) }
@@ -65,21 +65,21 @@ impl Draft {
         Ok(())
     }
 
-    /// How many entries there are.
+    /// Returns the number of entries.
     pub fn entry_count(&self) -> usize
         ensures { result ≡ length self.now.entries }
     {
         self.entries.len()
     }
 
-    /// How many bodies there are.
+    /// Returns the number of bodies.
     pub fn body_count(&self) -> usize
         ensures { result ≡ length self.now.bodies }
     {
         self.bodies.len()
     }
 
-    /// The entry of this number, where there is one.
+    /// Returns the entry of this number, or `None` if there is none.
     pub fn entry(&self, number: u32) -> Option<&Entry>
         ensures { MatchOption result (length self.now.entries ≤ number)
             (λ found. (number < length self.now.entries) × (entry_view found.now ≡ entry self.now number)) }
@@ -90,7 +90,7 @@ impl Draft {
         }
     }
 
-    /// The same for whoever keeps the entry.
+    /// Returns a shared pointer to the entry of this number, or `None` if there is none. No entry is copied.
     pub fn share_entry(&self, number: u32) -> Result<Option<Arc<Entry>>, AllocError>
         ensures { IfOk result (λ found. MatchOption found (length self.now.entries ≤ number)
             (λ shared. (number < length self.now.entries) × (entry_view (arc_value shared) ≡ entry self.now number))) }
@@ -101,7 +101,7 @@ impl Draft {
         }
     }
 
-    /// The body of this number, where there is one.
+    /// Returns the body of this number, or `None` if there is none.
     pub fn body(&self, number: u32) -> Option<&Body>
         ensures { MatchOption result (length self.now.bodies ≤ number)
             (λ found. (number < length self.now.bodies) × (body_view found.now ≡ body self.now number)) }
@@ -112,7 +112,7 @@ impl Draft {
         }
     }
 
-    /// Who runs the entry of this number. A number that there is not is a leaf's.
+    /// Returns the kind of the entry of this number. A number without an entry counts as a leaf.
     pub fn kind(&self, number: u32) -> Kind
         ensures { result ≡ kind_of (entry self.now number).act }
     {
@@ -122,7 +122,7 @@ impl Draft {
         }
     }
 
-    /// The priority of the entry of this number. A number that there is not has 0.
+    /// Returns the priority of the entry of this number, or 0 if there is none.
     pub fn priority(&self, number: u32) -> i32
         ensures { result ≡ (entry self.now number).priority }
     {
@@ -132,7 +132,7 @@ impl Draft {
         }
     }
 
-    /// The same draft, which no entry is copied for.
+    /// Returns a copy that shares all entries and bodies.
     pub fn copy(&self) -> Result<Draft, AllocError>
         ensures { IfOk result (λ draft. draft ≡ self.now) }
     {
@@ -144,7 +144,7 @@ impl Draft {
     }
 }
 
-/// The same shared values.
+/// Returns a list of further pointers to the same shared values.
 fn share_all<T: Drop>(alloc: Global, shared: &Vec<Arc<T>>) -> Result<Vec<Arc<T>>, AllocError>
     ensures { IfOk result (λ copies. map arc_value copies.items ≡ map arc_value shared.now.items) }
 {

@@ -1,4 +1,4 @@
-//! The entries of a code: what each waits for, what it does when it ends, and what it may read and write.
+//! Entries of code: the needs of each, its act, and its rights to read and write.
 ghost use Rattle.std.specs.Prelude.{◌≡◌};
 ghost use Rattle.task_code.specs.View.{act_view};
 ghost use Rattle.task_code.specs.Code.{kind_of};
@@ -8,51 +8,51 @@ use values::key::Key;
 use values::value::Scalar;
 pub use work_queue::entry::Kind;
 
-/// What has a datum in each instance of its block: the node of the source that it belongs to, and whether it is an array.
+/// A variable with a datum in each instance of its block: its node in the source, and whether it is an array.
 #[derive(Clone, Copy, PartialEq, Eq, Debug, Drop)]
 pub struct Variable {
     pub node: u32,
     pub array: bool,
 }
 
-/// What a block can name as its own.
+/// A variable or parameter that belongs to a block.
 #[derive(Clone, Copy, PartialEq, Eq, Debug, Drop)]
 pub enum Owned {
     Local(Variable),
-    /// An input or output of the function, by its place among the inputs and the outputs behind them, and whether it is an
-    /// array.
+    /// An input or output of the function, and whether it is an array. Its index counts the inputs first, then the
+    /// outputs.
     Parameter(usize, bool),
 }
 
-/// A name, seen from a block: its owner lies `up` steps of the path further out.
+/// A name as seen from a block: its owner lies `up` steps of the path further out.
 #[derive(Clone, Copy, PartialEq, Eq, Debug, Drop)]
 pub struct Name {
     pub up: usize,
     pub owned: Owned,
 }
 
-/// What an entry waits for.
+/// A need: one input that an entry waits for.
 #[derive(Debug, Drop)]
 pub enum Need {
     /// A scalar that is stored.
     Stored(Name),
     /// An array that is closed.
     Closed(Name),
-    /// An element of the array, at the scalar's value.
+    /// An element of the array, at the value of the scalar.
     At(Name, Name),
     /// An element of the array, at the key.
     AtKey(Name, Key),
 }
 
-/// What a call hands over for an input.
+/// An argument that a call passes for an input.
 #[derive(Drop)]
 pub enum Argument {
     Named(Name),
-    /// A literal, which stands for itself and has no datum.
+    /// A literal, which has no datum.
     Fixed(Scalar),
 }
 
-/// A loop's body, and the nodes of its variables: the value, and the key or number of the turn.
+/// The body of a loop, and the nodes of its variables: the value, and the key or number of the turn.
 #[derive(Clone, Copy, PartialEq, Eq, Debug, Drop)]
 pub struct Loop {
     pub body: u32,
@@ -60,21 +60,21 @@ pub struct Loop {
     pub turn: Option<u32>,
 }
 
-/// One `wait` of those that were merged into one: its statement's offset, and what it waits for.
+/// One of the `wait` statements that were merged into one entry: the offset of the statement, and its needs.
 #[derive(Debug, Drop)]
 pub struct Header {
     pub at: usize,
     pub needs: Vec<Need>,
 }
 
-/// What an entry does when it ends.
+/// The act of an entry: its effect when it ends.
 #[derive(Drop)]
 pub enum Act {
     /// Stores the value of an argument, condition, bound, index or right side.
     Cell(Expr),
-    /// Stores an element that was waited for.
+    /// Stores the element that the entry waited for.
     Read,
-    /// Opens a function's body, with what is handed over for its inputs, and with the names of its outputs.
+    /// Opens the body of a function with these input arguments, and with the names that receive its outputs.
     Call {
         body: u32,
         inputs: Vec<Argument>,
@@ -90,36 +90,36 @@ pub enum Act {
     Put(Name, Expr, Expr),
     Print(Expr),
     Assert(Expr),
-    /// Opens a branch: the body of the condition's true, and that of its false where there is one.
+    /// Opens a branch: one body if the condition is true, and an optional one if it is false.
     If(Expr, u32, Option<u32>),
-    /// Opens the turns of a range: its low and high end, and its step.
+    /// Opens the turns of a range, given its low end, its high end and its step.
     Range(Expr, Expr, Expr, Loop),
-    /// Opens a turn for each element of an array.
+    /// Opens one turn for each element of an array.
     Each(Loop),
-    /// Opens the content of a `wait`.
+    /// Opens the block of a `wait`.
     Wait(Vec<Header>, u32),
 }
 
 /// An entry of a body.
 #[derive(Drop)]
 pub struct Entry {
-    /// The variable of this node gets the value of a cell or of an element read.
+    /// The node of the variable that receives the value of a cell or of an element read.
     pub node: u32,
-    /// The offset of its statement, where its faults are reported.
+    /// The offset of the entry's statement, where faults are reported.
     pub at: usize,
-    /// The offset that a listing shows, and that the paths of the blocks that it opens have.
+    /// The offset that a listing shows, and that the paths of the blocks opened by this entry contain.
     pub mark: usize,
     pub priority: i32,
     pub needs: Vec<Need>,
     pub act: Act,
-    /// What it may read, by itself or through entries that it leads to.
+    /// The names that the entry may read, itself or through entries that it leads to.
     pub reads: Vec<Name>,
-    /// What it may write, likewise.
+    /// The names that the entry may write, itself or through entries that it leads to.
     pub writes: Vec<Name>,
 }
 
 impl Act {
-    /// Who runs an entry that does this.
+    /// Returns the kind of an entry with this act.
     pub fn kind(&self) -> Kind
         ensures { result ≡ kind_of (act_view self.now) }
     {

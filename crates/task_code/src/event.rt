@@ -1,4 +1,4 @@
-//! What happens in a run.
+//! Events of a run.
 
 /// An event of a run: a worker begins an item, ends it, or gives it back.
 #[derive(Clone, Copy, PartialEq, Eq, Debug, Drop)]

@@ -1,4 +1,4 @@
-//! Expressions over the answers that an entry waits for.
+//! Expressions over the answers to the needs of an entry.
 ghost use Rattle.std.specs.Prelude.{◌≡◌};
 ghost use Rattle.values.specs.Op.{operation_of};
 ghost use Rattle.task_code.specs.View.{operation_view};
@@ -7,7 +7,7 @@ use values::format::Format;
 use values::op::{Factor, Op, Order, Sign};
 use values::value::Scalar;
 
-/// What is done with the operands of one expression, as `Op` of `values`, with what stands in it.
+/// The operator of an expression, like `Op` of `values`, but owning its data.
 #[derive(Drop)]
 pub enum Operator {
     /// The signs between the operands of a chain of `+` and `-`.
@@ -30,7 +30,8 @@ pub enum Operator {
     Literal,
 }
 
-/// An expression: a constant, what a need gave (told by its place in the entry's list), or an operator on its operands.
+/// An expression: a constant, the answer to a need (by its index in the needs of the entry), or an operation on
+/// operands.
 #[cycle(expr)]
 #[derive(Drop)]
 pub enum Expr {
@@ -40,8 +41,8 @@ pub enum Expr {
 }
 
 impl Operator {
-    /// The operator for `values` to apply.
-    pub fn as_op(&self) -> Op<'_>
+    /// Returns the operator in the form that `values` applies.
+    pub fn to_op(&self) -> Op<'_>
         ensures { operation_of result ≡ operation_view self.now }
     {
         match self {

@@ -1,4 +1,5 @@
-//! Code: bodies of entries laid flat, and what every run of them comes to.
+//! Flat dataflow code: its bodies and entries, its meaning as a task system, and the theorems about every run of whole
+//! code.
 #![tactic(auto)]
 
 ghost use Rattle.std.specs.Prelude.{◌≡◌, ℕ, true, false, List, length, ◌+◌, ◌*◌, ◌≤◌};
@@ -27,12 +28,17 @@ pub mod draft;
 pub mod entry;
 pub mod event;
 pub mod expr;
+pub mod packed_event;
 
-/// The theorem for every list of events of whole code. If no key is written twice in any round, each state agrees with
-/// the code's meaning. A quiet state without fault has all of it, with that premise or without, and its blocked
-/// statements are those of the meaning; so all runs that end quiet end the same. No item is ever stuck, none is there twice, which events have a step is told by
-/// the items, and no fault is that memory was refused. A run has at most two events for each item that was made and for each that was given back, and the items are
-/// counted by the blocks that are opened and the loops that run.
+/// Proves the theorem for every list of events of whole code.
+///
+/// - If no key is written twice in any round, each state agrees with the meaning of the code.
+/// - A quiet state without fault has all of the meaning, with that premise or without. Its blocked statements are those
+///   of the meaning, so all runs that end quiet end alike.
+/// - No item is ever stuck, and none exists twice. The items determine which events have a step.
+/// - No fault is an allocation failure.
+/// - A run has at most two events for each item created and for each item given back. The items are counted by the
+///   blocks that are opened and the loops that run.
 pub fn every_run_of_code()
     ensures agrees { (C : Code) → IsCode C → CleanCode C →
         (events : List Event) (s : CodeState) → Run C events s →
@@ -64,7 +70,8 @@ pub fn every_run_of_code()
         length events ≤ 2 * (items_in C blocks loops + backs events) }
 {}
 
-/// What the states of whole code keep: answers, the log of the run, how often items became able to begin, and the data.
+/// Proves the invariants of the states of whole code: answers, the log of the run, the number of newly enabled items,
+/// and the data.
 pub fn every_state_of_code()
     ensures answers { (C : Code) → IsCode C →
         (events : List Event) (s : CodeState) → Run C events s →
@@ -91,7 +98,7 @@ pub fn every_state_of_code()
         (tidy : CodeState) × CodeStep C old event tidy × IsTidy C tidy }
 {}
 
-/// The same for code whose data have names, for every choice of names.
+/// Proves agreement and completeness for code whose data have names, for every choice of names.
 pub fn every_naming_of_code<N>()
     ensures agrees { (C : Code) → IsCode C → CleanCode C →
         (events : List Event) (s : NamedState (code_system C) N) →
@@ -107,10 +114,12 @@ pub fn every_naming_of_code<N>()
         (named : NamedState (code_system C) N) × (named.state ≡ new) × NamedStep (code_system C) N old event named }
 {}
 
-/// Whether code is whole is decided by a test that computes. The worked scripts are whole: `printf("hello");`, a scalar
-/// that is used before its assignment, an array that a loop fills, a key that is written twice, a recursive function,
-/// a function that fills its caller's array, one whose calls never end, and calls with several outputs, with arrays handed
-/// down, within one another, in loops and without outputs.
+/// Proves that a computable test decides whether code is whole, and that the worked codes are whole.
+///
+/// They are `printf("hello");`, a scalar used before its assignment, an array filled by a loop, and a key written
+/// twice. There are also a recursive function, a function that fills an array of its caller, and one whose calls never
+/// end. The last two have calls with several outputs, with arrays passed down, nested calls, and calls in loops and
+/// without outputs.
 pub fn whole_code()
     ensures tested { (C : Code) → is_code C ≡ true → IsCode C }
     ensures passes { (C : Code) → IsCode C → is_code C ≡ true }
@@ -125,10 +134,20 @@ pub fn whole_code()
     ensures called_everywhere { IsCode called_everywhere }
 {}
 
-/// Codes that are not whole, each for one reason: a scalar with two assigners, a loop that lacks its body's right, a call
-/// with one variable for two outputs, a name that nothing declares, an assignment inside a loop from outside, an assigned
-/// loop variable, an entry that stands twice, a body with another opener, elements stored into a scalar, and calls without the
-/// right to write their outputs.
+/// Proves that ten codes are not whole, each for one reason.
+///
+/// The reasons are:
+///
+/// - a scalar with two assigners,
+/// - a loop that lacks the right of its body,
+/// - a call with one variable for two outputs,
+/// - an undeclared name,
+/// - an assignment to an outer scalar inside a loop,
+/// - an assigned loop variable,
+/// - a duplicate entry,
+/// - a body with another opener,
+/// - elements stored into a scalar,
+/// - calls without the right to write their outputs.
 pub fn bad_code()
     ensures assigned_twice { IsCode assigned_twice → ⊥ }
     ensures loop_without_right { IsCode loop_without_right → ⊥ }
@@ -142,8 +161,10 @@ pub fn bad_code()
     ensures calls_without_right { IsCode calls_without_right → ⊥ }
 {}
 
-/// Rights. Whole code has each right that an entry, or an entry that it leads to, has a use for; exact code has no other.
-/// Exactness is found by a test that looks through so many bodies, and the worked codes are exact.
+/// Proves that whole code has every right that is used, and that exact code has no other right.
+///
+/// A right is used by an entry or by an entry that it leads to. A test that searches bodies up to a given depth
+/// establishes exactness. The worked codes are exact.
 pub fn exact_rights()
     ensures reads { (C : Code) → IsCode C → (i : ℕ) (r : Name) → Leads C needs_of i r → In r (entry C i).reads }
     ensures writes { (C : Code) → IsCode C → (i : ℕ) (r : Name) → Leads C targets i r → In r (entry C i).writes }
@@ -160,7 +181,7 @@ pub fn exact_rights()
     ensures right_without_use { IsCode right_without_use × (IsExact right_without_use → ⊥) }
 {}
 
-/// What items of the worked codes do.
+/// Proves the effects of selected items of the worked codes.
 pub fn worked_items()
     ensures stores { StoresThree }
     ensures overflows { Overflows }
@@ -175,9 +196,10 @@ pub fn worked_items()
     ensures chunks { Chunks }
 {}
 
-/// Runs of the worked codes: one of `printf("hello");` that ends quiet with its line, one in which an assignment waits for
-/// the one behind it, and two of a script that writes a key twice, which end in a fault at the second write, whichever
-/// that is.
+/// Proves facts about runs of the worked codes.
+///
+/// One run of `printf("hello");` ends quiet with its line. In one run an assignment waits for the following one. Two
+/// runs of a script that writes a key twice end in a fault at the second write, in either order.
 pub fn worked_runs()
     ensures hello { HelloRuns }
     ensures waits { WaitsForAssignment }

@@ -4,10 +4,10 @@ ghost use Rattle.board_program.specs.Program.{IsLeads};
 
 use crate::asserts::is_equal;
 use crate::worlds::FIRST;
-use board_program::places::places_among;
-use board_program::program::{Own, Program, Wanted};
-use board_program::spot::Leads;
-use data_store::store::Shape;
+use board_program::lexical_address::NameResolver;
+use board_program::program::{LocalVariable, Program, ResolvedNeed};
+use board_program::variable_index::places_among;
+use data_store::store::DatumKind;
 use std::alloc::Global;
 use std::process::Abort;
 use task_code::code::Code;
@@ -73,7 +73,12 @@ fn entries_have_their_data(rt: HostRuntime) {
 /// What is asserted wants the first slot's value.
 fn asserts_wants(rt: &impl Abort, program: &Program) {
     let asserts = program.entry(1).expect(rt, "an entry");
-    assert!(rt; matches!(asserts.needs.as_slice(), [Wanted::Stored(Some(FIRST))]));
+    assert!(rt;
+        matches!(
+            asserts.needs.as_slice(),
+            [ResolvedNeed::Stored(Some(FIRST))]
+        )
+    );
     assert!(rt; asserts.reads.as_slice() == [FIRST].as_slice());
 }
 
@@ -82,7 +87,7 @@ fn element_is_wanted(rt: &impl Abort, program: &Program) {
     let wanted = program
         .wanted(0, &Need::AtKey(NAME, Key::Number(7)))
         .expect(rt, "memory");
-    assert!(rt; matches!(wanted, Wanted::AtKey(Some(FIRST), Key::Number(7))));
+    assert!(rt; matches!(wanted, ResolvedNeed::AtKey(Some(FIRST), Key::Number(7))));
 }
 
 #[test]
@@ -95,8 +100,8 @@ fn an_entry_wants_its_needs(rt: HostRuntime) {
 /// The body has one variable of its own, none from outside, and two leaves.
 fn body_has_its_holds(rt: &impl Abort, program: &Program) {
     let body = program.body(0).expect(rt, "a body");
-    let own = Own {
-        shape: Shape::Single,
+    let own = LocalVariable {
+        shape: DatumKind::Single,
         reads: 1,
         writes: 1,
     };
@@ -113,15 +118,15 @@ fn a_block_has_its_holds(rt: HostRuntime) {
 }
 
 /// Where the names of the code lead, which has one body.
-fn leads_of(rt: &impl Abort, alloc: Global, code: &Code) -> Leads
+fn leads_of(rt: &impl Abort, alloc: Global, code: &Code) -> NameResolver
     ensures { IsLeads code.now result }
 {
     assert_eq!(rt; code.body_count(), 1);
-    Leads::new(alloc, code).expect(rt, "memory")
+    NameResolver::new(alloc, code).expect(rt, "memory")
 }
 
 /// Both entries are of the body, and there is no third.
-fn entries_have_homes(rt: &impl Abort, leads: &Leads) {
+fn entries_have_homes(rt: &impl Abort, leads: &NameResolver) {
     is_equal(
         rt,
         (leads.home(0), leads.home(1), leads.home(2)),
@@ -130,7 +135,7 @@ fn entries_have_homes(rt: &impl Abort, leads: &Leads) {
 }
 
 /// The variable's name leads to its slot, and another's nowhere.
-fn names_have_slots(rt: &impl Abort, code: &Code, leads: &Leads)
+fn names_have_slots(rt: &impl Abort, code: &Code, leads: &NameResolver)
     requires { IsLeads code.now leads.now }
 {
     let lost = Name {
@@ -153,7 +158,7 @@ fn names_lead_to_their_slots(rt: HostRuntime) {
 }
 
 /// The body has a place for its variable, by the variable and by its name.
-fn body_has_a_place(rt: &impl Abort, leads: &Leads) {
+fn body_has_a_place(rt: &impl Abort, leads: &NameResolver) {
     let places = leads.places(0).expect(rt, "a body");
     is_equal(rt, (places.of(X), places.of(OTHER)), (Some(0), None));
     let further = Name {

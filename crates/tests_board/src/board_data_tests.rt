@@ -1,19 +1,19 @@
 //! Data by what names stand for: values, elements, holds, what an item misses and is answered, and what items store.
 
 use crate::asserts::is_equal;
-use crate::worlds::{FIRST, Opened, opened_script};
-use board_changes::world::World;
-use board_compute::answer::Answer;
+use crate::worlds::{FIRST, Fixture, opened_script};
+use board_changes::data_state::DataState;
 use board_data::answers::{answers, are_answers};
 use board_data::data;
-use board_data::holding::{give_up, hold_outer};
-use board_data::making::{Starts, make_data};
+use board_data::holds::{give_up, hold_outer};
+use board_data::inputs::Environment;
+use board_data::making::{InitialValues, make_data};
 use board_data::storing::{store_all, store_element, store_value};
-use board_data::wanted::View;
 use board_instances::instance::Slot;
 use board_instances::packed::PackedSlot;
-use board_program::program::{Hold, Own, Wanted};
-use data_store::store::{Shape, Store};
+use board_program::program::{Hold, LocalVariable, ResolvedNeed};
+use board_work::answer::Answer;
+use data_store::store::{DatumKind, Store};
 use rules::input::Input;
 use smallvec::SmallVec;
 use std::alloc::{AllocError, Global};
@@ -36,7 +36,7 @@ fn element(key: i64, n: i64) -> Element {
 /// A store with an array, which two may read and one may write.
 fn with_array(alloc: Global) -> Result<Store, AllocError> {
     let mut store = Store::new(alloc);
-    let array = store.new_cell(Shape::Keyed, 2, 1)?;
+    let array = store.new_cell(DatumKind::Keyed, 2, 1)?;
     data::reserve(&mut store, Some(array), KeyRef::Number(0), 3)?;
     Ok(store)
 }
@@ -44,7 +44,7 @@ fn with_array(alloc: Global) -> Result<Store, AllocError> {
 /// A scalar takes the first number alone, and has no element.
 fn put_three(rt: &impl Abort, store: &mut Store, x: usize) {
     assert!(rt; data::value(store, x).is_none());
-    data::put(store, x, number(4));
+    data::set_scalar(store, x, number(4));
     store_value(store, Some(x), number(5));
     store_value(store, None, number(6));
     assert!(rt; matches!(data::value(store, x), Some(Scalar::Number(4))));
@@ -54,7 +54,9 @@ fn put_three(rt: &impl Abort, store: &mut Store, x: usize) {
 #[test]
 fn a_scalar_is_put_once(rt: HostRuntime) {
     let mut store = Store::new(rt.alloc());
-    let x = store.new_cell(Shape::Single, 1, 1).expect(&rt, "memory");
+    let x = store
+        .new_cell(DatumKind::Single, 1, 1)
+        .expect(&rt, "memory");
     put_three(&rt, &mut store, x);
 }
 
@@ -124,41 +126,41 @@ fn holds_come_and_go(rt: HostRuntime) {
     release_readers(&rt, &mut store);
 }
 
-fn open(rt: &impl Abort, alloc: Global) -> Box<Opened> {
+fn open(rt: &impl Abort, alloc: Global) -> Box<Fixture> {
     opened_script(rt, alloc)
 }
 
 /// Three items hold the first datum twice each.
-fn hold_thrice(rt: &impl Abort, world: &mut World) {
+fn hold_thrice(rt: &impl Abort, data_state: &mut DataState) {
     let hold = Hold {
         spot: FIRST,
         reads: 2,
         writes: 0,
     };
-    hold_outer(&mut world.store, &world.instances, &[hold], 0, 3);
-    is_equal(rt, reads(&world.store), Some(7));
+    hold_outer(&mut data_state.store, &data_state.instances, &[hold], 0, 3);
+    is_equal(rt, reads(&data_state.store), Some(7));
 }
 
 /// One read and one write of the first datum are given up, and it was no array that this closes.
-fn give_up_once(rt: &impl Abort, alloc: Global, world: &mut World) {
+fn give_up_once(rt: &impl Abort, alloc: Global, data_state: &mut DataState) {
     let mut closed = Vec::new(alloc);
     give_up(
-        &mut world.store,
+        &mut data_state.store,
         &mut closed,
-        &world.instances,
+        &data_state.instances,
         0,
         &[FIRST],
         &[FIRST],
     );
-    is_equal(rt, reads(&world.store), Some(6));
+    is_equal(rt, reads(&data_state.store), Some(6));
     assert!(rt; closed.is_empty());
 }
 
 #[test]
 fn instances_hold_what_lies_outside(rt: HostRuntime) {
     let mut opened = open(&rt, rt.alloc());
-    hold_thrice(&rt, &mut opened.world);
-    give_up_once(&rt, rt.alloc(), &mut opened.world);
+    hold_thrice(&rt, &mut opened.data_state);
+    give_up_once(&rt, rt.alloc(), &mut opened.data_state);
 }
 
 /// The holds for reading on the first datum.
@@ -171,26 +173,26 @@ fn reads(store: &Store) -> Option<u64> {
 }
 
 /// The first datum has no value, which is missed.
-fn first_is_missed(rt: &impl Abort, view: View<'_>) {
-    let missing = view.missing(&Wanted::Stored(Some(FIRST)));
+fn first_is_missed(rt: &impl Abort, view: Environment<'_>) {
+    let missing = view.missing(&ResolvedNeed::Stored(Some(FIRST)));
     assert!(rt; matches!(missing, Some(Input::Whole(0))));
-    assert!(rt; view.misses(&Wanted::Stored(Some(FIRST))));
+    assert!(rt; view.is_missing_any(&ResolvedNeed::Stored(Some(FIRST))));
 }
 
 /// What is missed is listed.
-fn first_is_listed(rt: &impl Abort, alloc: Global, view: View<'_>) {
+fn first_is_listed(rt: &impl Abort, alloc: Global, view: Environment<'_>) {
     let mut inputs = SmallVec::new(alloc);
-    let listed = view.list_missing(&[Wanted::Stored(Some(FIRST))], &mut inputs);
+    let listed = view.list_missing(&[ResolvedNeed::Stored(Some(FIRST))], &mut inputs);
     assert!(rt; listed.is_ok() && inputs.len() == 1);
 }
 
 /// The first datum has its value, which is not missed.
-fn first_is_known(rt: &impl Abort, view: View<'_>) {
+fn first_is_known(rt: &impl Abort, view: Environment<'_>) {
     is_equal(rt, view.datum(Some(FIRST)), Some(0));
     assert!(rt; matches!(view.scalar(Some(FIRST)), Some(Scalar::Truth(true))));
-    assert!(rt; view.missing(&Wanted::Stored(Some(FIRST))).is_none());
-    assert!(rt; !view.misses(&Wanted::Stored(Some(FIRST))));
-    assert!(rt; view.found(&Wanted::Closed(Some(FIRST))).is_none());
+    assert!(rt; view.missing(&ResolvedNeed::Stored(Some(FIRST))).is_none());
+    assert!(rt; !view.is_missing_any(&ResolvedNeed::Stored(Some(FIRST))));
+    assert!(rt; view.found(&ResolvedNeed::Closed(Some(FIRST))).is_none());
 }
 
 #[test]
@@ -198,7 +200,7 @@ fn an_item_misses_what_is_not_known(rt: HostRuntime) {
     let mut opened = open(&rt, rt.alloc());
     first_is_missed(&rt, opened.view());
     first_is_listed(&rt, rt.alloc(), opened.view());
-    data::put(&mut opened.world.store, 0, Scalar::Truth(true));
+    data::set_scalar(&mut opened.data_state.store, 0, Scalar::Truth(true));
     first_is_known(&rt, opened.view());
 }
 
@@ -208,7 +210,7 @@ fn are_found(found: &[Answer]) -> bool {
 }
 
 /// Two needs have their answers, in a list that had another, and no other list has.
-fn two_are_answered(rt: &impl Abort, alloc: Global, view: View<'_>, needs: &[Wanted]) {
+fn two_are_answered(rt: &impl Abort, alloc: Global, view: Environment<'_>, needs: &[ResolvedNeed]) {
     let mut found = Vec::from_array(alloc, [Answer::Missing]).expect(rt, "memory");
     answers(&mut found, view, needs).expect(rt, "memory");
     assert!(rt; are_found(found.as_slice()));
@@ -219,15 +221,18 @@ fn two_are_answered(rt: &impl Abort, alloc: Global, view: View<'_>, needs: &[Wan
 #[test]
 fn needs_are_answered(rt: HostRuntime) {
     let mut opened = open(&rt, rt.alloc());
-    data::put(&mut opened.world.store, 0, Scalar::Truth(true));
-    let needs = [Wanted::Stored(Some(FIRST)), Wanted::Closed(None)];
+    data::set_scalar(&mut opened.data_state.store, 0, Scalar::Truth(true));
+    let needs = [
+        ResolvedNeed::Stored(Some(FIRST)),
+        ResolvedNeed::Closed(None),
+    ];
     two_are_answered(&rt, rt.alloc(), opened.view(), &needs);
 }
 
 /// Of a variable that is read so often and never written.
-fn own(reads: u64) -> Own {
-    Own {
-        shape: Shape::Single,
+fn own(reads: u64) -> LocalVariable {
+    LocalVariable {
+        shape: DatumKind::Single,
         reads,
         writes: 0,
     }
@@ -235,7 +240,7 @@ fn own(reads: u64) -> Own {
 
 /// Makes the data of three variables, the third of which is a turn's.
 fn make_three(rt: &impl Abort, store: &mut Store, slots: &mut [PackedSlot]) {
-    let starts = Starts {
+    let starts = InitialValues {
         value_at: None,
         value: None,
         turn_at: Some(2),

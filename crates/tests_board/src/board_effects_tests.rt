@@ -1,10 +1,10 @@
 //! What the items of `boolean x = true; assert(x, "");` do when they end.
 
 use crate::asserts::is_equal;
-use crate::worlds::{Opened, opened_script};
-use board_compute::outcome::Outcome;
-use board_effects::effect::{Effect, Ended};
+use crate::worlds::{Fixture, opened_script};
+use board_effects::effect::{Effect, EndingItem};
 use board_effects::script_effect;
+use board_work::outcome::Outcome;
 use paths::FaultKind;
 use std::alloc::Global;
 use std::process::Abort;
@@ -12,11 +12,17 @@ use values::fault::OpFault;
 use values::value::{Scalar, Value};
 
 /// What the item of the entry does that came to this.
-fn effect(rt: &impl Abort, alloc: Global, world: &Opened, number: u32, outcome: Outcome) -> Effect {
-    let program = &world.program;
-    let ended = Ended {
+fn effect(
+    rt: &impl Abort,
+    alloc: Global,
+    data_state: &Fixture,
+    number: u32,
+    outcome: Outcome,
+) -> Effect {
+    let program = &data_state.program;
+    let ended = EndingItem {
         alloc,
-        view: world.view(),
+        view: data_state.view(),
         number,
         entry: program.code().entry(number).expect(rt, "an entry"),
         table: program.entry(number).expect(rt, "an entry"),
@@ -38,8 +44,8 @@ fn opens_one(rt: &impl Abort, effect: &Effect) {
 
 #[test]
 fn the_script_opens_its_block(rt: HostRuntime) {
-    let world = opened_script(&rt, rt.alloc());
-    let opens = script_effect(rt.alloc(), &world.program).expect(&rt, "memory");
+    let data_state = opened_script(&rt, rt.alloc());
+    let opens = script_effect(rt.alloc(), &data_state.program).expect(&rt, "memory");
     opens_one(&rt, &opens);
 }
 
@@ -49,22 +55,22 @@ fn truth() -> Outcome {
 }
 
 /// The item of the assignment stores true into the first datum.
-fn set_stores(rt: &impl Abort, alloc: Global, world: &Opened) {
-    let stores = effect(rt, alloc, world, 0, truth());
+fn set_stores(rt: &impl Abort, alloc: Global, data_state: &Fixture) {
+    let stores = effect(rt, alloc, data_state, 0, truth());
     assert!(rt; matches!(stores, Effect::Stores(Some(0), Scalar::Truth(true))));
 }
 
 /// The item of what is asserted does nothing.
-fn assert_passes(rt: &impl Abort, alloc: Global, world: &Opened) {
-    let passes = effect(rt, alloc, world, 1, truth());
+fn assert_passes(rt: &impl Abort, alloc: Global, data_state: &Fixture) {
+    let passes = effect(rt, alloc, data_state, 1, truth());
     assert!(rt; matches!(passes, Effect::Passes));
 }
 
 #[test]
 fn an_assignment_stores(rt: HostRuntime) {
-    let world = opened_script(&rt, rt.alloc());
-    set_stores(&rt, rt.alloc(), &world);
-    assert_passes(&rt, rt.alloc(), &world);
+    let data_state = opened_script(&rt, rt.alloc());
+    set_stores(&rt, rt.alloc(), &data_state);
+    assert_passes(&rt, rt.alloc(), &data_state);
 }
 
 /// It fails with what was asserted, at its statement.
@@ -81,8 +87,8 @@ fn fails_at_its_statement(rt: &impl Abort, effect: &Effect) {
 
 #[test]
 fn a_fault_has_its_statement(rt: HostRuntime) {
-    let world = opened_script(&rt, rt.alloc());
+    let data_state = opened_script(&rt, rt.alloc());
     let failed = Outcome::Leaf(Err(OpFault::AssertFailed));
-    let fails = effect(&rt, rt.alloc(), &world, 1, failed);
+    let fails = effect(&rt, rt.alloc(), &data_state, 1, failed);
     fails_at_its_statement(&rt, &fails);
 }

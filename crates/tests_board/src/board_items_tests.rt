@@ -2,11 +2,11 @@
 
 use crate::asserts::is_equal;
 use crate::worlds::{ASSERT, SET, open};
-use board_changes::world::World;
-use board_instances::item::Job;
-use board_instances::opening::Inputs;
+use board_changes::data_state::DataState;
+use board_instances::item::ItemTask;
+use board_instances::pending::MissingInputs;
 use board_items::items::{Counts, Items, order_of};
-use board_items::settling::Outlook;
+use board_items::readiness::BoardView;
 use board_program::program::Program;
 use rules::input::Input;
 use smallvec::SmallVec;
@@ -36,7 +36,11 @@ fn kinds_are_counted(rt: HostRuntime) {
 #[test]
 fn entries_have_an_order(rt: HostRuntime) {
     let program = program_of(&rt, rt.alloc());
-    is_equal(&rt, order_of(&program, Job::Script), (Kind::Control, 0));
+    is_equal(
+        &rt,
+        order_of(&program, ItemTask::Script),
+        (Kind::Control, 0),
+    );
     is_equal(&rt, order_of(&program, ASSERT), (Kind::Leaf, 0));
 }
 
@@ -44,14 +48,14 @@ fn entries_have_an_order(rt: HostRuntime) {
 fn first_begins(rt: &impl Abort, items: &mut Items) {
     is_equal(rt, items.queue.first(Kind::Control), Some(1));
     items.begin(3, 1, (Kind::Control, 0));
-    assert!(rt; !items.is_still() && items.running == 1);
+    assert!(rt; !items.is_quiescent() && items.running == 1);
     is_equal(rt, items.queue.first(Kind::Control), None);
 }
 
 /// The first item comes back, and is new.
 fn first_comes_back(rt: &impl Abort, items: &mut Items) {
     items.back(1, (Kind::Control, 0));
-    assert!(rt; !items.is_still() && items.running == 0);
+    assert!(rt; !items.is_quiescent() && items.running == 0);
     assert!(rt; items.newly.as_slice() == [1u64].as_slice());
 }
 
@@ -64,7 +68,7 @@ fn the_first_item_begins_and_comes_back(rt: HostRuntime) {
 
 /// Begins the script's item, and makes room for what its end wakes and makes.
 fn begin_script(program: &Program, items: &mut Items) -> Result<(), AllocError> {
-    items.begin(0, 1, order_of(program, Job::Script));
+    items.begin(0, 1, order_of(program, ItemTask::Script));
     items.reserve_to_wake(2)?;
     items.reserve_new(Counts {
         controls: 0,
@@ -76,24 +80,24 @@ fn begin_script(program: &Program, items: &mut Items) -> Result<(), AllocError> 
 fn finish_script(
     alloc: Global,
     program: &Program,
-    world: &World,
+    data_state: &DataState,
     items: &mut Items,
 ) -> Result<(), AllocError> {
-    let outlook = Outlook {
+    let board_view = BoardView {
         alloc,
         program,
-        instances: &world.instances,
-        store: &world.store,
+        instances: &data_state.instances,
+        store: &data_state.store,
     };
-    items.finish(outlook, 1, Job::Script, 1, Vec::new(alloc))
+    items.finish(board_view, 1, ItemTask::Script, 1, Vec::new(alloc))
 }
 
 /// Opens the script in a world of its own, and ends its item.
 fn open_script(alloc: Global, program: &Program, items: &mut Items) -> Result<(), AllocError> {
-    let mut world = World::new(alloc);
+    let mut data_state = DataState::new(alloc);
     let mut known = Vec::new(alloc);
-    open(alloc, program, &mut world, &mut items.rows, &mut known)?;
-    finish_script(alloc, program, &world, items)
+    open(alloc, program, &mut data_state, &mut items.rows, &mut known)?;
+    finish_script(alloc, program, &data_state, items)
 }
 
 /// Items without any.
@@ -147,7 +151,7 @@ fn a_value_wakes_who_waits_for_it(rt: HostRuntime) {
 }
 
 /// One list with room for three inputs.
-fn list_of_three(alloc: Global) -> Result<Vec<Inputs>, AllocError> {
+fn list_of_three(alloc: Global) -> Result<Vec<MissingInputs>, AllocError> {
     let mut list = SmallVec::new(alloc);
     list.reserve(3)?;
     let mut lists = Vec::new(alloc);

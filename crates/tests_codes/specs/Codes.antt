@@ -1,15 +1,15 @@
 -- Code that tests run.
 use Rattle.std.specs.Prelude.{Bool, List, [], ◌∷◌, pos}
 use Rattle.task_code.specs.Code.{Assert, ByMain, Code, Entry, Print, Set, Stored, constant, here, need, no_operand, operation, scalar}
-use Rattle.values.specs.declared.format.Piece.{Piece}
+use Rattle.values.specs.declared.format.FormatPiece.{FormatPiece}
 use Rattle.values.specs.declared.value.Scalar.TheVariants.{Truth}
 use Rattle.values.specs.Operators.{printf}
 
 -- printf(FORMAT); without operands
-abbrev pub print_entry : List Piece → Entry
+abbrev pub print_entry : List FormatPiece → Entry
 print_entry ps = record { node = 1; at = 0; mark = 0; priority = pos 0; needs = []; act = Print (operation (printf ps) no_operand); reads = []; writes = [] }
 
-abbrev pub prints : List Piece → Code
+abbrev pub prints : List FormatPiece → Code
 prints ps = record {
   entries = print_entry ps ∷ [];
   bodies = record { opener = ByMain; makes = []; entries = 0 ∷ [] } ∷ [];

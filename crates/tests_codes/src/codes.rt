@@ -11,7 +11,7 @@ use task_code::code::{Body, Code, Opener};
 use task_code::draft::Draft;
 use task_code::entry::{Act, Entry, Name, Need, Owned, Variable};
 use task_code::expr::{Expr, Operator};
-use values::format::{Format, FormatFault};
+use values::format::{Format, FormatError};
 use values::value::Scalar;
 
 /// What prints a format without conversions.
@@ -27,7 +27,7 @@ pub fn empty(alloc: Global) -> Code {
 }
 
 /// `printf(TEXT);`
-fn printed_draft(alloc: Global, text: &[u8]) -> Result<Draft, FormatFault>
+fn printed_draft(alloc: Global, text: &[u8]) -> Result<Draft, FormatError>
     ensures whole { IfOk result (λ code. IsCode code) }
     ensures few { IfOk result (λ code. length code.entries ≤ 4194304) }
 {
@@ -52,13 +52,13 @@ fn printed_draft(alloc: Global, text: &[u8]) -> Result<Draft, FormatFault>
 }
 
 /// `printf(TEXT);`
-pub fn printed(alloc: Global, text: &[u8]) -> Result<Code, FormatFault> {
+pub fn printed(alloc: Global, text: &[u8]) -> Result<Code, FormatError> {
     let draft = printed_draft(alloc, text)?;
     Ok(Code::of(draft))
 }
 
 /// `printf("hello");`
-pub fn hello(alloc: Global) -> Result<Code, FormatFault> {
+pub fn hello(alloc: Global) -> Result<Code, FormatError> {
     printed(alloc, b"hello")
 }
 

@@ -3,19 +3,19 @@
 use crate::asserts::{boxed, holds, is_equal};
 use crate::flows::{array, call_part, computed, element, output, scalar, sum};
 use crate::lists::two;
+use emit_cells::cell_views::{note_seen, placed_seen};
 use emit_cells::names::{named, own, small};
 use emit_cells::needs::{PlainNeed, listed, note, note_name, place_of};
+use emit_cells::operands::{all_placed, placed};
 use emit_cells::operators::{operator, text};
-use emit_cells::over::{all_placed, placed};
 use emit_cells::plain::{is_outer_plain, is_plain, local_node};
-use emit_cells::seen::{note_seen, placed_seen};
-use flow::cell::{Cell, Form, Outer};
+use flow::cell::{Cell, CellForm, OuterCell};
 use flow::expression::{Expr, Operation};
 use indexmap::IndexSet;
 use std::alloc::Global;
 use std::process::Abort;
 use task_code::entry::{Name, Need, Owned, Variable};
-use task_code::expr::{Expr as Placed, Operator};
+use task_code::expr::{self, Operator};
 use values::op::Sign;
 use values::value::Scalar;
 
@@ -46,7 +46,7 @@ fn needs_of(rt: &impl Abort, alloc: Global, first: Name, second: Name) -> Box<In
     needs
 }
 
-/// Whether these are the scalar of node 8 and the array of node 3.
+/// Returns true if these are the scalar of node 8 and the array of node 3.
 fn are_both(needs: &[Need]) -> bool {
     match needs {
         [first, second] => is_stored(first, datum(8, false)) && is_closed(second, datum(3, true)),
@@ -55,22 +55,22 @@ fn are_both(needs: &[Need]) -> bool {
 }
 
 /// What a constant is as a number.
-fn number(placed: &Placed) -> Option<i64> {
+fn number(placed: &expr::Expr) -> Option<i64> {
     match placed {
-        Placed::Constant(Scalar::Number(n)) => Some(*n),
+        expr::Expr::Constant(Scalar::Number(n)) => Some(*n),
         _ => None,
     }
 }
 
 /// Which need it is.
-fn need(placed: &Placed) -> Option<u32> {
+fn need(placed: &expr::Expr) -> Option<u32> {
     match placed {
-        Placed::Need(place) => Some(*place),
+        expr::Expr::Need(place) => Some(*place),
         _ => None,
     }
 }
 
-/// Whether this is a chain with one `+`.
+/// Returns true if this is a chain with one `+`.
 fn is_one_plus(operator: &Operator) -> bool {
     match operator {
         Operator::Sum(signs) => signs.as_slice() == [Sign::Plus].as_slice(),
@@ -78,8 +78,8 @@ fn is_one_plus(operator: &Operator) -> bool {
     }
 }
 
-/// Whether these are the number 6 and the second need.
-fn are_six_and_second(operands: &[Placed]) -> bool {
+/// Returns true if these are the number 6 and the second need.
+fn are_six_and_second(operands: &[expr::Expr]) -> bool {
     match operands {
         [left, right] => number(left) == Some(6) && need(right) == Some(1),
         _ => false,
@@ -101,7 +101,7 @@ fn names_become_those_of_code(rt: HostRuntime) {
     is_equal(&rt, local_node(output()), None);
 }
 
-/// Whether the datum is needed once it is stored.
+/// Returns true if the datum is needed once it is stored.
 fn is_stored(need: &Need, datum: Name) -> bool {
     match need {
         Need::Stored(name) => *name == datum,
@@ -109,7 +109,7 @@ fn is_stored(need: &Need, datum: Name) -> bool {
     }
 }
 
-/// Whether the datum is needed once it is closed.
+/// Returns true if the datum is needed once it is closed.
 fn is_closed(need: &Need, datum: Name) -> bool {
     match need {
         Need::Closed(name) => *name == datum,
@@ -155,15 +155,15 @@ fn over(
     alloc: Global,
     needs: &IndexSet<PlainNeed>,
     expr: &Expr<Global>,
-) -> Box<Placed> {
+) -> Box<expr::Expr> {
     let found = placed(alloc, needs, 0, expr).expect(rt, "memory");
     boxed(rt, alloc, found)
 }
 
-/// Whether this is the sum of the number 6 and the second need.
-fn is_six_and_second(placed: &Placed) -> bool {
+/// Returns true if this is the sum of the number 6 and the second need.
+fn is_six_and_second(placed: &expr::Expr) -> bool {
     match placed {
-        Placed::Operation(operator, operands) => {
+        expr::Expr::Operation(operator, operands) => {
             is_one_plus(operator) && are_six_and_second(operands.as_slice())
         }
         _ => false,
@@ -184,7 +184,7 @@ fn all_over(
     alloc: Global,
     needs: &IndexSet<PlainNeed>,
     exprs: &Vec<Expr<Global>>,
-) -> Vec<Placed> {
+) -> Vec<expr::Expr> {
     all_placed(alloc, needs, 0, exprs).expect(rt, "memory")
 }
 
@@ -202,7 +202,7 @@ fn operator_of(rt: &impl Abort, alloc: Global, operation: &Operation<Global>) ->
     boxed(rt, alloc, found)
 }
 
-/// Whether this is `!`.
+/// Returns true if this is `!`.
 fn is_not(operator: &Operator) -> bool {
     matches!(operator, Operator::Not)
 }
@@ -213,7 +213,7 @@ fn operators_are_those_of_code(rt: HostRuntime) {
     holds(&rt, is_not(&not));
 }
 
-/// Whether this is the text.
+/// Returns true if this is the text.
 fn is_text(scalar: &Scalar, bytes: &[u8]) -> bool {
     match scalar {
         Scalar::Text(found) => found.as_bytes() == bytes,
@@ -229,12 +229,12 @@ fn texts_are_those_of_code(rt: HostRuntime) {
 }
 
 /// A form in a box.
-fn form(rt: &impl Abort, alloc: Global, expr: Expr<Global>) -> Box<Form<Global>> {
-    boxed(rt, alloc, Form::Compute(expr))
+fn form(rt: &impl Abort, alloc: Global, expr: Expr<Global>) -> Box<CellForm<Global>> {
+    boxed(rt, alloc, CellForm::Compute(expr))
 }
 
-/// Whether this is plain before any part.
-fn is_plain_alone(alloc: Global, form: &Form<Global>) -> bool {
+/// Returns true if this is plain before any part.
+fn is_plain_alone(alloc: Global, form: &CellForm<Global>) -> bool {
     is_plain(&Vec::new(alloc), 0, form)
 }
 
@@ -247,8 +247,8 @@ fn literals_and_names_are_plain(rt: HostRuntime) {
 }
 
 /// A call, and the cell of the scalar of node 6 behind it.
-fn outer_behind_call(rt: &impl Abort, alloc: Global) -> Box<Outer<Global>> {
-    let outer = Outer {
+fn outer_behind_call(rt: &impl Abort, alloc: Global) -> Box<OuterCell<Global>> {
+    let outer = OuterCell {
         parts: call_part(alloc).expect(rt, "memory"),
         cell: computed(7, Expr::Name(scalar(6))),
     };

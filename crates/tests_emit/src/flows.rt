@@ -1,9 +1,9 @@
 //! Names, expressions and cells that several tests take.
 
 use crate::lists::{one, two};
-use flow::cell::{Call, Cell, Form, Part};
+use flow::cell::{Call, Cell, CellForm, CellPart};
 use flow::expression::{Expr, Operation};
-use flow::name::{Name, Owned};
+use flow::name::{Name, NameBinding};
 use flow::script::Function;
 use flow::statement::{Block, Statement, Variable};
 use language::tree::{Keys, Shape};
@@ -14,7 +14,7 @@ use values::op::Sign;
 pub fn scalar(node: u32) -> Name {
     Name {
         up: 0,
-        what: Owned::Local(node),
+        what: NameBinding::Local(node),
         shape: Shape::Scalar,
     }
 }
@@ -23,7 +23,7 @@ pub fn scalar(node: u32) -> Name {
 pub fn array(node: u32) -> Name {
     Name {
         up: 0,
-        what: Owned::Local(node),
+        what: NameBinding::Local(node),
         shape: Shape::Array(Keys::Numbers),
     }
 }
@@ -32,7 +32,7 @@ pub fn array(node: u32) -> Name {
 pub fn output() -> Name {
     Name {
         up: 1,
-        what: Owned::Output(0),
+        what: NameBinding::Output(0),
         shape: Shape::Scalar,
     }
 }
@@ -53,7 +53,7 @@ pub fn computed(node: u32, expr: Expr<Global>) -> Cell<Global> {
     Cell {
         node,
         at: 10 + node as usize,
-        form: Form::Compute(expr),
+        form: CellForm::Compute(expr),
     }
 }
 
@@ -62,7 +62,7 @@ pub fn element() -> Cell<Global> {
     Cell {
         node: 4,
         at: 14,
-        form: Form::Read {
+        form: CellForm::Read {
             array: array(1),
             index: 3,
         },
@@ -70,11 +70,11 @@ pub fn element() -> Cell<Global> {
 }
 
 /// The parts of that element: its index, which is a literal, and itself.
-pub fn element_parts(alloc: Global) -> Result<Vec<Part<Global>>, AllocError> {
+pub fn element_parts(alloc: Global) -> Result<Vec<CellPart<Global>>, AllocError> {
     two(
         alloc,
-        Part::Inner(computed(3, Expr::Number(6))),
-        Part::Inner(element()),
+        CellPart::Inner(computed(3, Expr::Number(6))),
+        CellPart::Inner(element()),
     )
 }
 
@@ -91,9 +91,9 @@ pub fn call(alloc: Global) -> Result<Call<Global>, AllocError> {
 }
 
 /// That call alone.
-pub fn call_part(alloc: Global) -> Result<Vec<Part<Global>>, AllocError> {
+pub fn call_part(alloc: Global) -> Result<Vec<CellPart<Global>>, AllocError> {
     let call = call(alloc)?;
-    one(alloc, Part::Calls(call))
+    one(alloc, CellPart::Calls(call))
 }
 
 /// A list of one variable, a scalar without a name.

@@ -121,7 +121,7 @@ fn code(alloc: Global) -> Result<Draft, AllocError> {
     granted(alloc, bodies, entries)
 }
 
-/// Whether an entry may read and write these.
+/// Returns true if an entry may read and write these.
 fn may(entry: Option<&Entry>, reads: &[Name], writes: &[Name]) -> bool {
     match entry {
         Some(found) => found.reads.as_slice() == reads && found.writes.as_slice() == writes,

@@ -2,15 +2,15 @@
 
 use crate::asserts::{boxed, holds, is_equal};
 use crate::flows::{array, call, computed, element, element_parts, functions, scalar, sum};
-use crate::lists::{one, put as put_behind};
-use emit_cells::cells::{element as element_need, handed, pass_cell, pass_parts};
+use crate::lists::{one, put};
+use emit_cells::cells::{self, handed, pass_cell, pass_parts};
 use emit_cells::data::{add_data, add_scalar};
-use emit_cells::entries::{Shown, Standing, entry, put};
-use emit_cells::laid::add_parts;
+use emit_cells::entries::{EntryOrigin, StatementContext, entry, push_entry};
+use emit_cells::layout::add_parts;
 use emit_cells::outers::{add_outer, pass_outer};
-use emit_cells::owns::{add_outer_data, add_own_data, add_own_outer};
+use emit_cells::own_cells::{add_outer_data, add_own_data, add_own_outer};
 use emit_cells::parts::{add_call, add_cell};
-use flow::cell::{Call, Cell, Outer, Part};
+use flow::cell::{Call, Cell, CellPart, OuterCell};
 use flow::expression::Expr;
 use indexmap::{IndexMap, IndexSet};
 use std::alloc::{AllocError, Global};
@@ -19,7 +19,7 @@ use task_code::entry::{Act, Argument, Entry, Name, Need, Owned, Variable};
 use values::key::Key;
 use values::value::Scalar;
 
-const STANDING: Standing = Standing {
+const STANDING: StatementContext = StatementContext {
     at: 8,
     priority: 3,
     inputs: 0,
@@ -56,10 +56,10 @@ fn letters(alloc: Global, entries: &[Entry]) -> Result<Vec<u8>, AllocError> {
 }
 
 /// `A[6] + f(A[6])`, but for the sum itself
-fn parts(alloc: Global) -> Result<Vec<Part<Global>>, AllocError> {
+fn parts(alloc: Global) -> Result<Vec<CellPart<Global>>, AllocError> {
     let mut parts = element_parts(alloc)?;
     let call = call(alloc)?;
-    put_behind(&mut parts, Part::Calls(call))?;
+    put(&mut parts, CellPart::Calls(call))?;
     Ok(parts)
 }
 
@@ -67,22 +67,22 @@ fn parts(alloc: Global) -> Result<Vec<Part<Global>>, AllocError> {
 fn outer_of(
     rt: &impl Abort,
     alloc: Global,
-    parts: Vec<Part<Global>>,
+    parts: Vec<CellPart<Global>>,
     cell: Cell<Global>,
-) -> Box<Outer<Global>> {
-    boxed(rt, alloc, Outer { parts, cell })
+) -> Box<OuterCell<Global>> {
+    boxed(rt, alloc, OuterCell { parts, cell })
 }
 
 /// `A[6] + f(A[6])`
-fn outer(rt: &impl Abort, alloc: Global) -> Box<Outer<Global>> {
+fn outer(rt: &impl Abort, alloc: Global) -> Box<OuterCell<Global>> {
     let parts = parts(alloc).expect(rt, "memory");
     let expr = sum(alloc, Expr::Name(scalar(4)), Expr::Name(scalar(5))).expect(rt, "memory");
     outer_of(rt, alloc, parts, computed(7, expr))
 }
 
 /// `A[6]`
-fn read(rt: &impl Abort, alloc: Global) -> Box<Outer<Global>> {
-    let index = Part::Inner(computed(3, Expr::Number(6)));
+fn read(rt: &impl Abort, alloc: Global) -> Box<OuterCell<Global>> {
+    let index = CellPart::Inner(computed(3, Expr::Number(6)));
     let parts = one(alloc, index).expect(rt, "memory");
     outer_of(rt, alloc, parts, element())
 }
@@ -93,7 +93,7 @@ fn own_call(rt: &impl Abort, alloc: Global) -> Box<Call<Global>> {
     boxed(rt, alloc, call)
 }
 
-/// Whether this is the element of the array of node 1 at the key 6.
+/// Returns true if this is the element of the array of node 1 at the key 6.
 fn is_sixth(need: &Need) -> bool {
     match need {
         Need::AtKey(name, Key::Number(n)) => *name == datum(1, true) && *n == 6,
@@ -107,14 +107,14 @@ fn none_passed(rt: &impl Abort, alloc: Global) -> Box<Passed> {
 }
 
 /// What is handed over for the parts.
-fn passed_parts(rt: &impl Abort, alloc: Global, parts: &Vec<Part<Global>>) -> Box<Passed> {
+fn passed_parts(rt: &impl Abort, alloc: Global, parts: &Vec<CellPart<Global>>) -> Box<Passed> {
     let mut passed = none_passed(rt, alloc);
     pass_parts(alloc, &mut passed, 0, parts).expect(rt, "memory");
     passed
 }
 
 /// What is handed over for an outermost cell and its parts.
-fn passed_outer(rt: &impl Abort, alloc: Global, outer: &Outer<Global>) -> Box<Passed> {
+fn passed_outer(rt: &impl Abort, alloc: Global, outer: &OuterCell<Global>) -> Box<Passed> {
     let mut passed = none_passed(rt, alloc);
     pass_outer(alloc, &mut passed, 0, outer).expect(rt, "memory");
     passed
@@ -154,13 +154,13 @@ fn an_element_is_at_its_index(rt: HostRuntime) {
     let parts = element_parts(rt.alloc()).expect(&rt, "memory");
     let passed = passed_parts(&rt, rt.alloc(), &parts);
     is_equal(&rt, handed_number(&rt, &passed, 3), Some(6));
-    let need = element_need(&passed, datum(1, true), 3).expect(&rt, "memory");
+    let need = cells::element(&passed, datum(1, true), 3).expect(&rt, "memory");
     holds(&rt, is_sixth(&need));
 }
 
 /// The entry of an element, in a box.
 fn element_entry(rt: &impl Abort, alloc: Global) -> Box<Entry> {
-    let shown = Shown { node: 4, mark: 14 };
+    let shown = EntryOrigin { node: 4, mark: 14 };
     let made = entry(alloc, STANDING, shown, Vec::new(alloc), Act::Read);
     boxed(rt, alloc, made)
 }
@@ -179,13 +179,13 @@ fn an_entry_stands_as_its_statement(rt: HostRuntime) {
 fn put_read(alloc: Global) -> Result<Vec<Entry>, AllocError> {
     let needs = IndexSet::new(alloc);
     let mut entries = Vec::new(alloc);
-    let shown = Shown { node: 4, mark: 14 };
-    put(alloc, &mut entries, STANDING, shown, &needs, Act::Read)?;
+    let shown = EntryOrigin { node: 4, mark: 14 };
+    push_entry(alloc, &mut entries, STANDING, shown, &needs, Act::Read)?;
     Ok(entries)
 }
 
 /// The entries of the sum and its parts.
-fn sum_entries(rt: &impl Abort, alloc: Global, outer: &Outer<Global>) -> Vec<Entry> {
+fn sum_entries(rt: &impl Abort, alloc: Global, outer: &OuterCell<Global>) -> Vec<Entry> {
     let functions = functions(alloc).expect(rt, "memory");
     let passed = passed_outer(rt, alloc, outer);
     let mut entries = Vec::new(alloc);
@@ -194,7 +194,7 @@ fn sum_entries(rt: &impl Abort, alloc: Global, outer: &Outer<Global>) -> Vec<Ent
 }
 
 /// The entries of what a statement does not work out itself.
-fn own_entries(rt: &impl Abort, alloc: Global, outer: &Outer<Global>) -> Vec<Entry> {
+fn own_entries(rt: &impl Abort, alloc: Global, outer: &OuterCell<Global>) -> Vec<Entry> {
     let functions = functions(alloc).expect(rt, "memory");
     let passed = passed_outer(rt, alloc, outer);
     let mut entries = Vec::new(alloc);
@@ -211,7 +211,7 @@ fn add_element(alloc: Global, entries: &mut Vec<Entry>, passed: &Passed) -> Resu
 fn part_entries(
     rt: &impl Abort,
     alloc: Global,
-    parts: &Vec<Part<Global>>,
+    parts: &Vec<CellPart<Global>>,
     call: &Call<Global>,
 ) -> Vec<Entry> {
     let functions = functions(alloc).expect(rt, "memory");
@@ -223,7 +223,7 @@ fn part_entries(
     entries
 }
 
-/// Whether the entry reads the sixth element, or calls the function as it is to.
+/// Returns true if the entry reads the sixth element, or calls the function as it is to.
 fn is_right(entry: &Entry) -> bool {
     match &entry.act {
         Act::Read => entry.needs.iter().all(is_sixth),
@@ -238,12 +238,12 @@ fn is_right(entry: &Entry) -> bool {
     }
 }
 
-/// Whether each of the entries does.
+/// Returns true if each of the entries does.
 fn are_right(entries: &[Entry]) -> bool {
     entries.iter().all(is_right)
 }
 
-/// Whether this is the scalar of node 4 alone.
+/// Returns true if this is the scalar of node 4 alone.
 fn is_fourth(inputs: &[Argument]) -> bool {
     match inputs {
         [Argument::Named(name)] => *name == datum(4, false),
@@ -299,7 +299,7 @@ fn an_element_is_read_before_its_statement(rt: HostRuntime) {
 }
 
 /// The data of node 2 and of parts.
-fn part_data(alloc: Global, parts: &Vec<Part<Global>>) -> Result<Vec<Variable>, AllocError> {
+fn part_data(alloc: Global, parts: &Vec<CellPart<Global>>) -> Result<Vec<Variable>, AllocError> {
     let mut makes = Vec::new(alloc);
     add_scalar(&mut makes, 2)?;
     add_data(&mut makes, parts)?;
@@ -307,14 +307,14 @@ fn part_data(alloc: Global, parts: &Vec<Part<Global>>) -> Result<Vec<Variable>, 
 }
 
 /// The data of an outermost cell, also where its statement works it out itself.
-fn outer_data(alloc: Global, outer: &Outer<Global>) -> Result<Vec<Variable>, AllocError> {
+fn outer_data(alloc: Global, outer: &OuterCell<Global>) -> Result<Vec<Variable>, AllocError> {
     let mut makes = Vec::new(alloc);
     add_outer_data(&mut makes, outer)?;
     add_own_data(&mut makes, outer)?;
     Ok(makes)
 }
 
-/// Whether these are the scalars of these nodes.
+/// Returns true if these are the scalars of these nodes.
 fn are_scalars(makes: &[Variable], nodes: &[u32]) -> bool {
     let mut all = makes.len() == nodes.len();
     for (variable, node) in makes.iter().zip(nodes) {

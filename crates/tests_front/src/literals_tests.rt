@@ -1,6 +1,6 @@
 //! Literals, and what operations on them come to.
 
-use fold_literals::{outcome, scalar};
+use constant_fold::literal_values::{outcome, scalar};
 use lexer::token::Span;
 use std::alloc::{AllocError, Global};
 use syntax_trees::expr;

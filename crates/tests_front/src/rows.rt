@@ -1,6 +1,6 @@
 //! Tables of texts, a row a line: the answer that is wanted, ` | `, and the text.
 
-use explain_warnings::told::{name_of, warnings_of};
+use explain_warnings::render::{name_of, warnings_of};
 use explain_warnings::warning::Warning;
 use lexer::token::Span;
 use std::alloc::{AllocError, Global};
@@ -59,7 +59,7 @@ fn add_warning(alloc: Global, warning: Warning, said: &mut String) -> Result<(),
     if !said.is_empty() {
         said.push_str(", ")?;
     }
-    let name = name_of(warning.oddity);
+    let name = name_of(warning.warning_kind);
     let words = format!(in alloc; "{name} {} {}", warning.at.from, warning.at.to)?;
     said.push_str(words.as_str())
 }

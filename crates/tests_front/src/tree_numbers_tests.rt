@@ -9,7 +9,7 @@ use lexer::token::Span;
 use std::alloc::{AllocError, Global};
 use std::process::Abort;
 use std::test::Fail;
-use syntax_numbers::part;
+use syntax::part;
 use syntax_trees::stmt;
 use syntax_trees::tree::{Base, Decl, Item, Name, Shape, StmtKind};
 

@@ -9,7 +9,7 @@ use std::process::Abort;
 use syntax::parser::parse;
 use types::check;
 use types::fault::TypeFault;
-use types::typed::{Builtin, Callee, Meaning, Owned, Reference, Settled, Typed, by_number};
+use types::typed::{Binding, Builtin, Callee, NameEntry, NameMeaning, Reference, Typed, by_number};
 
 const REFUSED: &str = r#"Y1 Unknown 13 14 | printf("%i", y);
 Y1 Unknown 6 7 | wait (q) { }
@@ -76,7 +76,7 @@ fn accepted_scripts(rt: HostRuntime) {
 }
 
 /// A variable of the block that it is used in.
-fn own(what: Owned) -> Reference {
+fn own(what: Binding) -> Reference {
     Reference { up: 0, what }
 }
 
@@ -105,12 +105,12 @@ fn calls(rt: &impl Abort, typed: &Typed, number: u32, wanted: Callee) {
 #[test]
 fn what_names_are(rt: HostRuntime) {
     let typed = names(&rt, rt.alloc());
-    refers(&rt, &typed, 6, own(Owned::Output(0)));
-    refers(&rt, &typed, 10, own(Owned::Input(0)));
-    refers(&rt, &typed, 18, own(Owned::Local(12)));
+    refers(&rt, &typed, 6, own(Binding::Output(0)));
+    refers(&rt, &typed, 10, own(Binding::Input(0)));
+    refers(&rt, &typed, 18, own(Binding::Local(12)));
     let outer = Reference {
         up: 1,
-        what: Owned::Local(14),
+        what: Binding::Local(14),
     };
     refers(&rt, &typed, 26, outer);
     is_equal(&rt, typed.shape(10), Shape::Array(Keys::Numbers));
@@ -126,22 +126,22 @@ fn what_calls_are(rt: HostRuntime) {
 }
 
 /// One of these meanings.
-fn settled(number: u32, meaning: Meaning) -> Settled {
-    Settled { number, meaning }
+fn settled(number: u32, meaning: NameMeaning) -> NameEntry {
+    NameEntry { number, meaning }
 }
 
 #[test]
 fn what_was_settled_last_holds(rt: HostRuntime) {
-    let variable = Meaning::Variable(own(Owned::Input(4)), Shape::Array(Keys::Numbers));
+    let variable = NameMeaning::Variable(own(Binding::Input(4)), Shape::Array(Keys::Numbers));
     let settled = [
-        settled(3, Meaning::Called(Callee::Function(1))),
+        settled(3, NameMeaning::Called(Callee::Function(1))),
         settled(1, variable),
-        settled(3, Meaning::Called(Callee::Function(2))),
+        settled(3, NameMeaning::Called(Callee::Function(2))),
     ];
     let typed = by_number(rt.alloc(), &settled).expect(&rt, "memory");
     calls(&rt, &typed, 3, Callee::Function(2));
-    refers(&rt, &typed, 1, own(Owned::Input(4)));
-    refers(&rt, &typed, 2, own(Owned::Local(0)));
+    refers(&rt, &typed, 1, own(Binding::Input(4)));
+    refers(&rt, &typed, 2, own(Binding::Local(0)));
 }
 
 #[test]

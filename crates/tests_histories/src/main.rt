@@ -17,7 +17,7 @@ use std::{env, fs, io};
 /// The most events of a run.
 const LIMIT: u32 = 10_000_000;
 
-/// How many choices there are in a run that has some.
+/// Number of choices in a run that has any.
 const CHOICES: u32 = 100;
 
 fn main(rt: HostRuntime) -> io::Result<()> {

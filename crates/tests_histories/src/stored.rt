@@ -1,15 +1,15 @@
 //! A run of one thread beside a stored one.
 
-use crate::sink::Kept;
+use crate::sink::MemorySink;
 use board_program::program::Program;
 use board_runs::one::run_one;
 use board_runs::report::Report;
-use packed_events::PackedEvent;
 use std::alloc::{AllocError, Global};
-use swt_trace::fault::TraceFault;
+use swt_trace::fault::TraceError;
 use swt_trace::read::read_trace;
 use swt_trace::report::write_report;
 use task_code::event::Event;
+use task_code::packed_event::PackedEvent;
 
 /// What stands between the trace and the report of a stored run.
 const BORDER: &str = "--\n";
@@ -29,7 +29,7 @@ pub enum Difference {
 ///
 /// # Errors
 ///
-/// `AllocError` where memory that was asked for was refused.
+/// Returns `AllocError` if an allocation fails.
 pub fn compare(
     alloc: Global,
     program: &Program,
@@ -53,7 +53,7 @@ pub fn compare(
     Ok(None)
 }
 
-/// Whether a history has these events.
+/// Returns true if a history has these events.
 fn are_alike(history: &[PackedEvent], events: &[Event]) -> bool {
     if history.len() != events.len() {
         return false;
@@ -70,14 +70,14 @@ fn are_alike(history: &[PackedEvent], events: &[Event]) -> bool {
 fn events_of(alloc: Global, trace: &str) -> Result<Option<Vec<Event>>, AllocError> {
     match read_trace(alloc, trace.as_bytes()) {
         Ok(told) => Ok(Some(told.events)),
-        Err(TraceFault::BadLine(_)) => Ok(None),
-        Err(TraceFault::Memory) => Err(AllocError),
+        Err(TraceError::BadLine(_)) => Ok(None),
+        Err(TraceError::Memory) => Err(AllocError),
     }
 }
 
-/// Whether this is the text of the report.
+/// Returns true if this is the text of the report.
 fn is_told(alloc: Global, report: &Report, wanted: &[u8]) -> Result<bool, AllocError> {
-    let mut told = Kept::new(alloc);
+    let mut told = MemorySink::new(alloc);
     match write_report(report, &mut told) {
         Ok(()) => Ok(told.bytes.as_slice() == wanted),
         Err(_) => Err(AllocError),

@@ -2,8 +2,8 @@
 ghost use Rattle.data_store.specs.Stores.{IsArrayAt, IsScalarAt};
 
 use crate::asserts::{boxed, holds, is_equal};
-use data_store::refusal::Refusal;
-use data_store::store::{DatumNo, Shape, Store};
+use data_store::refusal::StoreRefusal;
+use data_store::store::{DatumKind, DatumNo, Store};
 use std::alloc::Global;
 use std::process::Abort;
 use values::key::{Key, KeyRef};
@@ -20,7 +20,7 @@ fn scalar(rt: &impl Abort, store: &mut Store, writes: u64) -> DatumNo
     ensures { IsScalarAt store.new result }
 {
     store
-        .new_cell(Shape::Single, 1, writes)
+        .new_cell(DatumKind::Single, 1, writes)
         .expect(rt, "memory")
 }
 
@@ -28,11 +28,13 @@ fn scalar(rt: &impl Abort, store: &mut Store, writes: u64) -> DatumNo
 fn array(rt: &impl Abort, store: &mut Store, writes: u64) -> DatumNo
     ensures { IsArrayAt store.new result }
 {
-    store.new_cell(Shape::Keyed, 1, writes).expect(rt, "memory")
+    store
+        .new_cell(DatumKind::Keyed, 1, writes)
+        .expect(rt, "memory")
 }
 
 /// A put of this number ends so.
-fn puts(rt: &impl Abort, store: &mut Store, d: DatumNo, n: i64, end: Result<(), Refusal>)
+fn puts(rt: &impl Abort, store: &mut Store, d: DatumNo, n: i64, end: Result<(), StoreRefusal>)
     requires { IsScalarAt store.old d }
     ensures { IsScalarAt store.new d }
 {
@@ -46,7 +48,7 @@ fn inserts(
     d: DatumNo,
     key: i64,
     n: i64,
-    end: Result<(), Refusal>,
+    end: Result<(), StoreRefusal>,
 )
     requires { IsArrayAt store.old d }
     ensures { IsArrayAt store.new d }
@@ -119,7 +121,7 @@ fn put_twice(rt: &impl Abort, store: &mut Store, d: DatumNo)
 {
     is_equal(rt, number(store.value(d)), None);
     puts(rt, store, d, 7, Ok(()));
-    puts(rt, store, d, 8, Err(Refusal::AlreadySet));
+    puts(rt, store, d, 8, Err(StoreRefusal::AlreadySet));
     is_equal(rt, number(store.value(d)), Some(7));
 }
 
@@ -138,7 +140,7 @@ fn insert_four(rt: &impl Abort, store: &mut Store, d: DatumNo)
     inserts(rt, store, d, 5, 50, Ok(()));
     inserts(rt, store, d, -3, 30, Ok(()));
     inserts(rt, store, d, 2, 20, Ok(()));
-    inserts(rt, store, d, 5, 51, Err(Refusal::ElementTwice));
+    inserts(rt, store, d, 5, 51, Err(StoreRefusal::ElementTwice));
 }
 
 /// The number under a key.
@@ -181,7 +183,7 @@ fn inserts_at_text(
     d: DatumNo,
     text: Text,
     n: i64,
-    end: Result<(), Refusal>,
+    end: Result<(), StoreRefusal>,
 )
     requires { IsArrayAt store.old d }
     ensures { IsArrayAt store.new d }
@@ -200,7 +202,7 @@ fn insert_three_texts(rt: &impl Abort, alloc: Global, store: &mut Store, d: Datu
 {
     inserts_at_text(rt, store, d, text(rt, alloc, b"longname2"), 20, Ok(()));
     inserts_at_text(rt, store, d, text(rt, alloc, b"longname1"), 10, Ok(()));
-    let again = Err(Refusal::ElementTwice);
+    let again = Err(StoreRefusal::ElementTwice);
     inserts_at_text(rt, store, d, text(rt, alloc, b"longname2"), 21, again);
 }
 
@@ -252,7 +254,7 @@ fn insert_into_closed(rt: &impl Abort, store: &mut Store, d: DatumNo)
     requires { IsArrayAt store.old d }
 {
     holds(rt, store.is_closed(d));
-    inserts(rt, store, d, 1, 1, Err(Refusal::Closed));
+    inserts(rt, store, d, 1, 1, Err(StoreRefusal::Closed));
     store.reserve(d, 4).expect(rt, "memory");
     is_equal(rt, store.len(), 1);
 }
@@ -293,8 +295,8 @@ fn the_last_hold_frees(rt: HostRuntime) {
 /// The letter of the shape that a number tells, if it tells one.
 fn letter(store: &Store, d: DatumNo) -> Option<u8> {
     match store.shape(d) {
-        Some(Shape::Single) => Some(b's'),
-        Some(Shape::Keyed) => Some(b'k'),
+        Some(DatumKind::Single) => Some(b's'),
+        Some(DatumKind::Keyed) => Some(b'k'),
         None => None,
     }
 }

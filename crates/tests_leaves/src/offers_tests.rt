@@ -4,8 +4,8 @@ ghost use Rattle.std.specs.Prelude.{◌≡◌, ◌+◌, ◌<◌, IfOk};
 ghost use Rattle.pool.specs.Seats.{IsSeatOf};
 
 use crate::asserts::is_equal;
-use pool::{Kind, Pool};
-use pool_offers::{Fresh, Offers};
+use pool::offers::{Offers, ReadyItem};
+use pool::{HoleKind, Pool};
 use std::alloc::{AllocError, Global};
 use std::process::Abort;
 
@@ -21,11 +21,11 @@ fn alone(alloc: Global) -> Result<(Pool, Offers), AllocError>
 }
 
 /// A leaf of the middle class.
-fn leaf(number: u64) -> Fresh
+fn leaf(number: u64) -> ReadyItem
     requires { 0 < number }
 {
-    Fresh {
-        side: Kind::Leaf,
+    ReadyItem {
+        side: HoleKind::Leaf,
         class: 1,
         number,
     }
@@ -52,10 +52,10 @@ fn offer_and_draw(rt: &impl Abort, pool: &Pool, offers: &mut Offers)
         (offers.offered, offers.full, offers.lost, offers.pending),
         (2, 0, 1, 0),
     );
-    is_equal(rt, offers.draw(pool, Kind::Control), None);
-    is_equal(rt, offers.draw(pool, Kind::Leaf), Some(6));
-    is_equal(rt, offers.draw(pool, Kind::Leaf), Some(5));
-    is_equal(rt, offers.draw(pool, Kind::Leaf), None);
+    is_equal(rt, offers.draw(pool, HoleKind::Control), None);
+    is_equal(rt, offers.draw(pool, HoleKind::Leaf), Some(6));
+    is_equal(rt, offers.draw(pool, HoleKind::Leaf), Some(5));
+    is_equal(rt, offers.draw(pool, HoleKind::Leaf), None);
     is_equal(rt, offers.drawn, 2);
 }
 

@@ -1,7 +1,7 @@
 //! Numbers of options: one that is given, none, and what is no number between two.
 
 use crate::asserts::is_equal;
-use swt_numbers::{number, number_within};
+use swt_arguments::option_number::{number, number_within};
 
 #[test]
 fn an_option_gives_its_number(rt: HostRuntime) {

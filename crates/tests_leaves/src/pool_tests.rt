@@ -4,7 +4,7 @@ ghost use Rattle.std.specs.Prelude.{◌≡◌, ◌<◌, All, IfOk, vec_len};
 ghost use Rattle.pool.specs.Seats.{IsSeatOf, seats_of};
 
 use crate::asserts::{holds, is_equal};
-use pool::{Kind, Left, Offer, Pool, PoolSeat};
+use pool::{HoleKind, Left, Offer, Pool, PoolSeat};
 use std::alloc::{AllocError, Global};
 use std::process::Abort;
 use std::thread;
@@ -38,20 +38,20 @@ fn is_offered(rt: &impl Abort, pool: &Pool, seat: &mut PoolSeat, class: u8, numb
 {
     is_equal(
         rt,
-        pool.offer(seat, Kind::Leaf, class, number),
+        pool.offer(seat, HoleKind::Leaf, class, number),
         Offer::Offered,
     );
 }
 
 /// A take of this kind gives this number, or none.
-fn gives(rt: &impl Abort, pool: &Pool, seat: &mut PoolSeat, kind: Kind, number: Option<u64>)
+fn gives(rt: &impl Abort, pool: &Pool, seat: &mut PoolSeat, kind: HoleKind, number: Option<u64>)
     requires { IsSeatOf pool.now seat.old }
     ensures { IsSeatOf pool.now seat.new }
 {
     is_equal(rt, pool.take(seat, kind), number);
 }
 
-/// Whether nothing lies in a hole.
+/// Returns true if nothing lies in a hole.
 fn is_empty(left: &Left) -> bool {
     left.holes.iter().all(|number| *number == 0)
 }
@@ -72,12 +72,12 @@ fn take_four(rt: &impl Abort, pool: &Pool, seat: &mut PoolSeat)
     requires { IsSeatOf pool.now seat.old }
     ensures { IsSeatOf pool.now seat.new }
 {
-    gives(rt, pool, seat, Kind::Control, None);
-    gives(rt, pool, seat, Kind::Leaf, Some(6));
-    gives(rt, pool, seat, Kind::Leaf, Some(5));
-    gives(rt, pool, seat, Kind::Leaf, Some(8));
-    gives(rt, pool, seat, Kind::Leaf, Some(7));
-    gives(rt, pool, seat, Kind::Leaf, None);
+    gives(rt, pool, seat, HoleKind::Control, None);
+    gives(rt, pool, seat, HoleKind::Leaf, Some(6));
+    gives(rt, pool, seat, HoleKind::Leaf, Some(5));
+    gives(rt, pool, seat, HoleKind::Leaf, Some(8));
+    gives(rt, pool, seat, HoleKind::Leaf, Some(7));
+    gives(rt, pool, seat, HoleKind::Leaf, None);
 }
 
 #[test]
@@ -96,7 +96,7 @@ fn fill(pool: &Pool, seat: &mut PoolSeat) -> u32
 {
     let mut count = 0;
     for number in 1..17u64 {
-        if pool.offer(seat, Kind::Leaf, 1, number) == Offer::Offered {
+        if pool.offer(seat, HoleKind::Leaf, 1, number) == Offer::Offered {
             count += 1;
         }
     }
@@ -109,7 +109,7 @@ fn fill_past(rt: &impl Abort, pool: &Pool, seat: &mut PoolSeat)
     ensures { IsSeatOf pool.now seat.new }
 {
     is_equal(rt, fill(pool, seat), 16);
-    is_equal(rt, pool.offer(seat, Kind::Leaf, 1, 17), Offer::Full(17));
+    is_equal(rt, pool.offer(seat, HoleKind::Leaf, 1, 17), Offer::Full(17));
 }
 
 /// What lies in a hole where one class is full.
@@ -139,7 +139,7 @@ fn hands_the_seventeenth_back(rt: HostRuntime) {
 /// What one thread has: its seat, where its own numbers begin, and its numbers that were taken in, and those that it
 /// took, 0 for none.
 #[derive(Drop)]
-struct Hand {
+struct ThreadSeat {
     seat: PoolSeat,
     first: u32,
     offered: [u64; 1000],
@@ -147,27 +147,31 @@ struct Hand {
 }
 
 /// Offers 1,000 numbers to either kind in turn and to each class, and takes 1,000 times leaves alone.
-fn work(pool: &Pool, hand: &mut Hand)
+fn work(pool: &Pool, hand: &mut ThreadSeat)
     requires { IsSeatOf pool.now hand.old.seat }
     ensures { IsSeatOf pool.now hand.new.seat }
 {
     for turn in 0..1000usize {
         let kind = if turn % 2 == 0 {
-            Kind::Leaf
+            HoleKind::Leaf
         } else {
-            Kind::Control
+            HoleKind::Control
         };
         let number = u64::from(hand.first) + turn as u64 + 1;
         if pool.offer(&mut hand.seat, kind, (turn % 3) as u8, number) == Offer::Offered {
             hand.offered[turn] = number;
         }
-        if let Some(number) = pool.take(&mut hand.seat, Kind::Leaf) {
+        if let Some(number) = pool.take(&mut hand.seat, HoleKind::Leaf) {
             hand.taken[turn] = number;
         }
     }
 }
 
-fn hands_of(alloc: Global, pool: &Pool, mut seats: Vec<PoolSeat>) -> Result<Vec<Hand>, AllocError>
+fn hands_of(
+    alloc: Global,
+    pool: &Pool,
+    mut seats: Vec<PoolSeat>,
+) -> Result<Vec<ThreadSeat>, AllocError>
     requires { All (IsSeatOf pool.now) seats.items }
     ensures count { IfOk result (λ v. vec_len v ≡ vec_len seats) }
     ensures each { IfOk result (λ v. All (λ h. IsSeatOf pool.now h.seat) v.items) }
@@ -175,7 +179,7 @@ fn hands_of(alloc: Global, pool: &Pool, mut seats: Vec<PoolSeat>) -> Result<Vec<
     let mut hands = Vec::new(alloc);
     let mut first = 0u32;
     while let Some(seat) = seats.pop() {
-        hands.push(Hand {
+        hands.push(ThreadSeat {
             seat,
             first,
             offered: [0; 1000],
@@ -196,7 +200,11 @@ fn add_numbers(all: &mut Vec<u64>, numbers: &[u64]) -> Result<(), AllocError> {
 }
 
 /// Adds what a hand offered and took to the lists.
-fn add_hand(hand: &Hand, offered: &mut Vec<u64>, taken: &mut Vec<u64>) -> Result<(), AllocError> {
+fn add_hand(
+    hand: &ThreadSeat,
+    offered: &mut Vec<u64>,
+    taken: &mut Vec<u64>,
+) -> Result<(), AllocError> {
     add_numbers(offered, hand.offered.as_slice())?;
     add_numbers(taken, hand.taken.as_slice())
 }
@@ -205,7 +213,7 @@ fn add_hand(hand: &Hand, offered: &mut Vec<u64>, taken: &mut Vec<u64>) -> Result
 fn seats_back(
     alloc: Global,
     pool: &Pool,
-    mut hands: Vec<Hand>,
+    mut hands: Vec<ThreadSeat>,
     offered: &mut Vec<u64>,
     taken: &mut Vec<u64>,
 ) -> Result<Vec<PoolSeat>, AllocError>
@@ -225,7 +233,7 @@ fn seats_back(
 fn add_all(
     alloc: Global,
     pool: Pool,
-    hands: Vec<Hand>,
+    hands: Vec<ThreadSeat>,
     offered: &mut Vec<u64>,
     taken: &mut Vec<u64>,
 ) -> Result<(), AllocError>
@@ -237,7 +245,7 @@ fn add_all(
     add_numbers(taken, left.holes.as_slice())
 }
 
-/// Whether each number is greater than the one before.
+/// Returns true if each number is greater than the one before.
 fn rises(numbers: &[u64]) -> bool {
     numbers.windows(2).all(|pair| pair[0] < pair[1])
 }
@@ -256,7 +264,7 @@ fn sort_both(offered: &mut Vec<u64>, taken: &mut Vec<u64>) -> Result<(), AllocEr
 }
 
 /// What the hands offered came out of the pool once.
-fn is_balanced(rt: &impl Abort, alloc: Global, pool: Pool, hands: Vec<Hand>)
+fn is_balanced(rt: &impl Abort, alloc: Global, pool: Pool, hands: Vec<ThreadSeat>)
     requires each { All (λ h. IsSeatOf pool h.seat) hands.items }
     requires all { vec_len hands ≡ seats_of pool }
 {

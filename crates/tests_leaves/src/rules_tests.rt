@@ -2,7 +2,7 @@
 
 use crate::asserts::{boxed, holds, is_equal};
 use rules::input::Input;
-use rules::listing::Rules;
+use rules::rules_table::Rules;
 use smallvec::SmallVec;
 use std::alloc::{AllocError, Global};
 use std::process::Abort;
@@ -139,7 +139,7 @@ fn two_wait(rt: &impl Abort, alloc: Global, rules: &mut Rules) {
     is_equal(rt, rules.waiting(), 2);
 }
 
-/// Whether the items are these two, in either order.
+/// Returns true if the items are these two, in either order.
 fn are_both(items: &[u64], one: u64, other: u64) -> bool {
     items == [one, other].as_slice() || items == [other, one].as_slice()
 }
@@ -178,7 +178,7 @@ fn half_of_a_thousand(rt: &impl Abort, alloc: Global, rules: &mut Rules, first: 
     }
 }
 
-/// How many items the seven arrays wake.
+/// Returns the number of items that the seven arrays wake.
 fn woken_by_arrays(rt: &impl Abort, alloc: Global, rules: &mut Rules) -> usize {
     let mut woken_items = 0usize;
     for datum in 0..7u64 {

@@ -57,7 +57,7 @@ fn the_first_entry_is_shown_with_its_priority(rt: HostRuntime) {
     shows_first(&rt, &queue, Kind::Leaf, None);
 }
 
-/// Whether the queue lists these.
+/// Returns true if the queue lists these.
 fn is_list(rt: &impl Abort, queue: &Queue, wanted: &[(Kind, i32, u64)]) -> bool {
     let list = queue.list().expect(rt, "memory");
     list.as_slice() == wanted
@@ -159,7 +159,7 @@ fn put_again(rt: &impl Abort, queue: &mut Queue, priority: i32, no: u64) {
     is_equal(rt, queue.first(Kind::Control), Some(no));
 }
 
-/// How many entries are listed, asked for again where memory was refused.
+/// Returns the number of entries that are listed, asked for again where memory was refused.
 fn listed(rt: &impl Abort, queue: &Queue) -> usize {
     match queue.list() {
         Ok(list) => list.len(),

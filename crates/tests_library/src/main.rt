@@ -4,12 +4,12 @@
 
 mod sink;
 
-use crate::sink::Kept;
+use crate::sink::MemorySink;
 use std::alloc::{AllocError, Global};
 use std::io;
 use swt_library::runs::{replay, run_one};
-use swt_library::scripts::{Code, compile};
-use swt_library::{Report, WriteFault, write_report, write_trace};
+use swt_library::scripts::{CompiledScript, compile};
+use swt_library::{Report, WriteError, write_report, write_trace};
 
 /// The script: the tenth Fibonacci number, by calls.
 const SCRIPT: &[u8] =
@@ -27,13 +27,13 @@ fn main(rt: HostRuntime) -> io::Result<()> {
 }
 
 /// Prints the listing, the report of a run on one thread, and that of its trace.
-fn tell(rt: &HostRuntime, alloc: Global, code: &Code) -> io::Result<()> {
-    let mut listing = Kept::new(alloc);
+fn tell(rt: &HostRuntime, alloc: Global, code: &CompiledScript) -> io::Result<()> {
+    let mut listing = MemorySink::new(alloc);
     let listed = code.listing(&mut listing);
     print_text(rt, alloc, listed, &listing)?;
     let report = run_one(alloc, code, &[], LIMIT)?;
     print_report(rt, alloc, &report)?;
-    let mut trace = Kept::new(alloc);
+    let mut trace = MemorySink::new(alloc);
     match write_trace(&report, &mut trace) {
         Ok(()) => {}
         Err(fault) => return println!(rt; "{fault}"),
@@ -46,7 +46,7 @@ fn tell(rt: &HostRuntime, alloc: Global, code: &Code) -> io::Result<()> {
 
 /// Prints the text of a report.
 fn print_report(rt: &HostRuntime, alloc: Global, report: &Report) -> io::Result<()> {
-    let mut text = Kept::new(alloc);
+    let mut text = MemorySink::new(alloc);
     let written = write_report(report, &mut text);
     print_text(rt, alloc, written, &text)
 }
@@ -55,8 +55,8 @@ fn print_report(rt: &HostRuntime, alloc: Global, report: &Report) -> io::Result<
 fn print_text(
     rt: &HostRuntime,
     alloc: Global,
-    written: Result<(), WriteFault>,
-    text: &Kept,
+    written: Result<(), WriteError>,
+    text: &MemorySink,
 ) -> io::Result<()> {
     match written {
         Ok(()) => print!(rt; "{}", as_text(alloc, text)?),
@@ -65,6 +65,6 @@ fn print_text(
 }
 
 /// What a sink was given, as a text.
-fn as_text(alloc: Global, text: &Kept) -> Result<String, AllocError> {
+fn as_text(alloc: Global, text: &MemorySink) -> Result<String, AllocError> {
     String::from_utf8_lossy(alloc, text.bytes.as_slice())
 }

@@ -5,28 +5,28 @@ use swt_library::{Sink, SinkFault};
 
 /// A sink that keeps what it is given.
 #[derive(Drop)]
-pub struct Kept {
+pub struct MemorySink {
     /// What it was given.
     pub bytes: Vec<u8>,
-    /// How many writes failed, for want of memory.
+    /// Number of writes that failed because an allocation failed.
     failures: u64,
 }
 
-impl Kept {
+impl MemorySink {
     ghost use Rattle.std.specs.Prelude.{◌≡◌};
 
     /// A sink that was given nothing.
-    pub fn new(alloc: Global) -> Kept
+    pub fn new(alloc: Global) -> MemorySink
         ensures { result.failures ≡ 0 }
     {
-        Kept {
+        MemorySink {
             bytes: Vec::new(alloc),
             failures: 0,
         }
     }
 }
 
-impl Sink for Kept {
+impl Sink for MemorySink {
     ghost taken = { λ sink. sink.bytes.items };
 
     ghost failures = { λ sink. sink.failures };

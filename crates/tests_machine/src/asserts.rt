@@ -1,9 +1,9 @@
 //! What a test asserts, as functions.
 
-use packed_events::PackedEvent;
 use std::fmt::Debug;
 use std::process::Abort;
 use task_code::event::Event;
+use task_code::packed_event::PackedEvent;
 
 /// Ends the test where the two are not equal, and shows both.
 pub fn is_equal<T: PartialEq + Debug + Drop>(rt: &impl Abort, left: T, right: T) {
@@ -16,7 +16,7 @@ pub fn last_of(history: &[PackedEvent]) -> Option<Event> {
     Some(packed.event())
 }
 
-/// Whether a history has these events.
+/// Returns true if a history has these events.
 pub fn are_events(history: &[PackedEvent], events: &[Event]) -> bool {
     if history.len() != events.len() {
         return false;

@@ -2,8 +2,8 @@
 ghost use Rattle.board.specs.Board.{IsWorker};
 
 use crate::asserts::{are_events, is_equal, last_of};
-use board::refusal::Refusal;
-use board::{Board, Done, Remains, Work};
+use board::refusal::BoardRefusal;
+use board::{Board, BoardParts, Done, Work};
 use board_program::program::Program;
 use std::alloc::Global;
 use std::process::Abort;
@@ -26,29 +26,30 @@ fn hello_board(rt: &impl Abort, alloc: Global, limit: u32) -> Box<Board> {
 }
 
 /// Begins the item, and lets its work go.
-fn begin_on(board: &mut Board, worker: u8, item: u64) -> Result<(), Refusal>
+fn begin_on(board: &mut Board, worker: u8, item: u64) -> Result<(), BoardRefusal>
     requires { IsWorker worker }
 {
     board.begin(worker, item).map(|_work| ())
 }
 
 /// Begins the item and computes it.
-fn done_on(board: &mut Board, worker: u8, item: u64) -> Result<Done, Refusal>
+fn done_on(board: &mut Board, worker: u8, item: u64) -> Result<Done, BoardRefusal>
     requires { IsWorker worker }
 {
     let work: Work = board.begin(worker, item)?;
-    work.compute().map_err(|(_work, _refused)| Refusal::Memory)
+    work.compute()
+        .map_err(|(_work, _refused)| BoardRefusal::Memory)
 }
 
 /// Ends an item, and says why not where that is refused.
-fn end_on(board: &mut Board, worker: u8, done: Done) -> Result<(), Refusal>
+fn end_on(board: &mut Board, worker: u8, done: Done) -> Result<(), BoardRefusal>
     requires { IsWorker worker }
 {
     board.end(worker, done).map_err(|(_done, refused)| refused)
 }
 
 /// Begins the item, computes it and ends it.
-fn work_on(board: &mut Board, worker: u8, item: u64) -> Result<(), Refusal>
+fn work_on(board: &mut Board, worker: u8, item: u64) -> Result<(), BoardRefusal>
     requires { IsWorker worker }
 {
     let done = done_on(board, worker, item)?;
@@ -56,15 +57,15 @@ fn work_on(board: &mut Board, worker: u8, item: u64) -> Result<(), Refusal>
 }
 
 /// Begins the item, computes it and ends it as the worker's own.
-fn own_on(board: &mut Board, worker: u8, item: u64) -> Result<(), Refusal>
+fn own_on(board: &mut Board, worker: u8, item: u64) -> Result<(), BoardRefusal>
     requires { IsWorker worker }
 {
     let work = board.begin(worker, item)?;
     let Ok(done) = work.compute() else {
-        return Err(Refusal::Memory);
+        return Err(BoardRefusal::Memory);
     };
     board
-        .end_own(worker, done)
+        .end_trusted(worker, done)
         .map_err(|(_done, refused)| refused)
 }
 
@@ -75,7 +76,7 @@ fn works(rt: &impl Abort, board: &mut Board, worker: u8, item: u64)
     is_equal(rt, work_on(board, worker, item), Ok(()));
 }
 
-/// Whether the board has printed the one line `hello`.
+/// Returns true if the board has printed the one line `hello`.
 fn prints_hello(board: &Board) -> bool {
     match board.lines().as_slice() {
         [Scalar::Text(line)] => line.as_bytes() == b"hello".as_slice(),
@@ -160,7 +161,7 @@ fn an_item_is_performed(rt: HostRuntime) {
     is_equal(&rt, board.perform(3, 1), Ok(true));
     is_equal(&rt, board.first(), Some((Kind::Leaf, 2)));
     has_opened(&rt, &board);
-    is_equal(&rt, board.perform(3, 1), Err(Refusal::NotReady));
+    is_equal(&rt, board.perform(3, 1), Err(BoardRefusal::NotReady));
     is_equal(&rt, board.perform(2, 2), Ok(true));
     is_over(&rt, &board);
 }
@@ -174,7 +175,7 @@ fn the_limit_cuts_an_item(rt: HostRuntime) {
 }
 
 /// The program, the events and the line are left.
-fn are_left(rt: &impl Abort, left: &Remains) {
+fn are_left(rt: &impl Abort, left: &BoardParts) {
     let code = left.program.code();
     is_equal(rt, (code.entry_count(), left.history.len()), (1, 4));
     is_equal(rt, left.lines.len(), 1);
@@ -187,21 +188,21 @@ fn a_board_leaves_what_it_has(rt: HostRuntime) {
     let mut board = Board::new(rt.alloc(), program, 100).expect(&rt, "memory");
     works(&rt, &mut board, 0, 1);
     works(&rt, &mut board, 2, 2);
-    are_left(&rt, &board.into_remains());
+    are_left(&rt, &board.into_parts());
 }
 
 /// The script runs on worker 1, which can have its work again; it does not begin again.
 fn runs_on_one(rt: &impl Abort, board: &mut Board) {
     let again = board.work(1, 1).expect(rt, "its work");
     is_equal(rt, again.item(), 1);
-    is_equal(rt, begin_on(board, 1, 1), Err(Refusal::NotReady));
+    is_equal(rt, begin_on(board, 1, 1), Err(BoardRefusal::NotReady));
 }
 
 /// That worker alone gives it back, and once.
 fn is_given_back_once(rt: &impl Abort, board: &mut Board) {
-    is_equal(rt, board.back(2, 1), Err(Refusal::NotYours));
+    is_equal(rt, board.back(2, 1), Err(BoardRefusal::NotYours));
     is_equal(rt, board.back(1, 1), Ok(()));
-    is_equal(rt, board.back(1, 1), Err(Refusal::NotYours));
+    is_equal(rt, board.back(1, 1), Err(BoardRefusal::NotYours));
 }
 
 #[test]
@@ -215,9 +216,9 @@ fn an_item_runs_on_one_worker(rt: HostRuntime) {
 /// No more events are accepted, the end of this work among them, and nothing is offered.
 fn is_ended(rt: &impl Abort, board: &mut Board, done: Done) {
     assert!(rt; !board.is_going());
-    is_equal(rt, board.back(0, 1), Err(Refusal::Ended));
-    is_equal(rt, end_on(board, 0, done), Err(Refusal::Ended));
-    is_equal(rt, begin_on(board, 0, 1), Err(Refusal::Ended));
+    is_equal(rt, board.back(0, 1), Err(BoardRefusal::Ended));
+    is_equal(rt, end_on(board, 0, done), Err(BoardRefusal::Ended));
+    is_equal(rt, begin_on(board, 0, 1), Err(BoardRefusal::Ended));
     is_equal(rt, board.next(Kind::Control), None);
 }
 
@@ -238,7 +239,7 @@ fn others_result(rt: &impl Abort, alloc: Global) -> Done {
 
 /// The result is refused to worker 1, and prints nothing.
 fn refuses(rt: &impl Abort, board: &mut Board, strange: Done) {
-    is_equal(rt, end_on(board, 1, strange), Err(Refusal::Stranger));
+    is_equal(rt, end_on(board, 1, strange), Err(BoardRefusal::Stranger));
     assert!(rt; board.lines().is_empty());
 }
 
@@ -295,7 +296,7 @@ fn asserted_result(rt: &impl Abort, alloc: Global, holds: bool) -> Done {
 
 /// The one result is refused to worker 1, and with the other the run is over.
 fn takes(rt: &impl Abort, board: &mut Board, strange: Done, same: Done) {
-    is_equal(rt, end_on(board, 1, strange), Err(Refusal::Stranger));
+    is_equal(rt, end_on(board, 1, strange), Err(BoardRefusal::Stranger));
     is_equal(rt, end_on(board, 1, same), Ok(()));
     assert!(rt; board.is_quiet());
 }
@@ -313,7 +314,7 @@ fn other_inputs_are_strange(rt: HostRuntime) {
 /// The result comes too late for worker 4, and is handed back.
 fn comes_too_late(rt: &impl Abort, board: &mut Board, done: Done) -> Done {
     let (done, refused) = board.end(4, done).err().expect(rt, "refused");
-    is_equal(rt, refused, Refusal::NotYours);
+    is_equal(rt, refused, BoardRefusal::NotYours);
     done
 }
 

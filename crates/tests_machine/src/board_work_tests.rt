@@ -2,11 +2,11 @@
 //! of the language: `%/` cuts toward zero, a left operand's fault is met first, and every operator is strict.
 
 use crate::asserts::is_equal;
-use board_compute::answer::Answer;
-use board_compute::evaluation::{evaluate, evaluate_literal};
-use board_compute::outcome::{Computed, EntryFault, Outcome, into_scalar, outcome_of};
-use board_compute::same::is_same_entry;
-use board_work::work::{Done, Job, Work};
+use board_work::answer::Answer;
+use board_work::evaluation::{evaluate, evaluate_literal};
+use board_work::outcome::{ControlResult, EntryFault, Outcome, into_scalar, outcome_of};
+use board_work::view_eq::is_same_entry;
+use board_work::work::{Done, Work, WorkTask};
 use std::alloc::Global;
 use std::process::Abort;
 use std::sync::Arc;
@@ -122,19 +122,19 @@ fn result_text(rt: &impl Abort, alloc: Global, outcome: &Result<Value, OpFault>)
 }
 
 /// What a control entry computes, as a text.
-fn computed_text(rt: &impl Abort, alloc: Global, computed: &Computed) -> String {
+fn computed_text(rt: &impl Abort, alloc: Global, computed: &ControlResult) -> String {
     match computed {
-        Computed::Fails(EntryFault::NoElement) => String::from_str(alloc, "no element"),
-        Computed::Fails(_) => String::from_str(alloc, "fails"),
-        Computed::Gives(scalar) => return scalar_text(rt, alloc, scalar),
-        Computed::Inserts(map) | Computed::Goes(map) => return map_text(rt, alloc, map),
-        Computed::Puts(Key::Number(key), Scalar::Number(value)) => {
+        ControlResult::Fails(EntryFault::NoElement) => String::from_str(alloc, "no element"),
+        ControlResult::Fails(_) => String::from_str(alloc, "fails"),
+        ControlResult::Gives(scalar) => return scalar_text(rt, alloc, scalar),
+        ControlResult::Inserts(map) | ControlResult::Goes(map) => return map_text(rt, alloc, map),
+        ControlResult::Puts(Key::Number(key), Scalar::Number(value)) => {
             format!(in alloc; "[{key}]={value}")
         }
-        Computed::Puts(_, _) => String::from_str(alloc, "puts"),
-        Computed::Takes(branch) => format!(in alloc; "takes {branch}"),
-        Computed::Counts(range) => format!(in alloc; "{} from {}", range.count, range.low),
-        Computed::Opens => String::from_str(alloc, "opens"),
+        ControlResult::Puts(_, _) => String::from_str(alloc, "puts"),
+        ControlResult::Takes(branch) => format!(in alloc; "takes {branch}"),
+        ControlResult::Counts(range) => format!(in alloc; "{} from {}", range.count, range.low),
+        ControlResult::Opens => String::from_str(alloc, "opens"),
     }
     .expect(rt, "memory")
 }
@@ -205,7 +205,7 @@ fn entry(alloc: Global, act: Act) -> Entry {
 }
 
 /// Item 7 with its entry, or without one, computed.
-fn done(rt: &impl Abort, job: Job, answers: Vec<Answer>) -> Done {
+fn done(rt: &impl Abort, job: WorkTask, answers: Vec<Answer>) -> Done {
     match Work::new(7, job, answers).compute() {
         Ok(done) => done,
         Err(_) => panic!(rt; "memory"),
@@ -213,8 +213,8 @@ fn done(rt: &impl Abort, job: Job, answers: Vec<Answer>) -> Done {
 }
 
 /// The job of the entry that does this.
-fn job(rt: &impl Abort, alloc: Global, act: Act) -> Job {
-    Job::Entry(Arc::new(alloc, entry(alloc, act)).expect(rt, "memory"))
+fn job(rt: &impl Abort, alloc: Global, act: Act) -> WorkTask {
+    WorkTask::Entry(Arc::new(alloc, entry(alloc, act)).expect(rt, "memory"))
 }
 
 /// The outcome has this text.
@@ -324,9 +324,9 @@ fn items_over_arrays(rt: HostRuntime) {
 #[test]
 fn the_script_is_opened(rt: HostRuntime) {
     let alloc = rt.alloc();
-    let start = Work::new(7, Job::Script, Vec::new(alloc));
+    let start = Work::new(7, WorkTask::Script, Vec::new(alloc));
     is_equal(&rt, (start.item(), start.kind()), (7, Kind::Control));
-    let done = done(&rt, Job::Script, Vec::new(alloc));
+    let done = done(&rt, WorkTask::Script, Vec::new(alloc));
     is_equal(
         &rt,
         outcome_text(&rt, alloc, done.outcome()).as_str(),
@@ -349,7 +349,7 @@ fn setting(rt: &impl Abort, alloc: Global, text: &[u8]) -> Box<Entry> {
     Box::new(alloc, setting).expect(rt, "memory")
 }
 
-/// Whether the entries are the same that store these expressions' values.
+/// Returns true if the entries are the same that store these expressions' values.
 fn are_same(rt: &impl Abort, alloc: Global, text: &[u8], other: &[u8]) -> bool {
     let one = setting(rt, alloc, text);
     let other = setting(rt, alloc, other);
@@ -362,7 +362,7 @@ fn entries_are_compared(rt: HostRuntime) {
     assert!(rt; !are_same(&rt, rt.alloc(), b"1x+", b"1x-"));
 }
 
-/// Whether it is of the entry that stores the expression's value.
+/// Returns true if it is of the entry that stores the expression's value.
 fn is_of(rt: &impl Abort, alloc: Global, done: &Done, text: &[u8]) -> bool {
     let other = setting(rt, alloc, text);
     done.is_of(&other)
@@ -385,7 +385,7 @@ fn what_is_done_has_a_result(rt: HostRuntime) {
     assert!(rt; done.into_list().is_empty());
 }
 
-/// Whether an answer is the array that has these numbers under 4 and 5.
+/// Returns true if an answer is the array that has these numbers under 4 and 5.
 fn is_array(rt: &impl Abort, alloc: Global, answer: &Answer, first: i64, second: i64) -> bool {
     let map = array(rt, alloc, first, second);
     answer.is_content(&map)
@@ -435,11 +435,11 @@ fn outcomes_are_shared(rt: HostRuntime) {
         Outcome::Leaf(Err(OpFault::Overflow)),
         "F1 Overflow",
     );
-    let over = Computed::Goes(array(&rt, alloc, 1, 2));
+    let over = ControlResult::Goes(array(&rt, alloc, 1, 2));
     is_shared(&rt, alloc, Outcome::Control(over), "[4]=1[5]=2");
-    let put = Computed::Puts(Key::Number(5), Scalar::Number(4));
+    let put = ControlResult::Puts(Key::Number(5), Scalar::Number(4));
     is_shared(&rt, alloc, Outcome::Control(put), "[5]=4");
-    is_shared(&rt, alloc, Outcome::Control(Computed::Opens), "opens");
+    is_shared(&rt, alloc, Outcome::Control(ControlResult::Opens), "opens");
 }
 
 #[test]

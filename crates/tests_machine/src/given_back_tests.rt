@@ -3,7 +3,7 @@ ghost use Rattle.board.specs.Board.{IsWorker};
 
 use crate::asserts::is_equal;
 use board::Board;
-use board::refusal::Refusal;
+use board::refusal::BoardRefusal;
 use board_program::program::Program;
 use std::alloc::Global;
 use std::process::Abort;
@@ -22,7 +22,7 @@ fn hello_board(rt: &impl Abort, alloc: Global) -> Box<Board> {
 }
 
 /// Begins the item of `printf` on the worker, and gives it back.
-fn comes_back(board: &mut Board, worker: u8) -> Result<(), Refusal>
+fn comes_back(board: &mut Board, worker: u8) -> Result<(), BoardRefusal>
     requires { IsWorker worker }
 {
     let work = board.begin(worker, 2)?;
@@ -38,7 +38,7 @@ fn comes_back_from_each(rt: &impl Abort, board: &mut Board) {
     }
 }
 
-/// Whether the board has printed the one line `hello`.
+/// Returns true if the board has printed the one line `hello`.
 fn prints_hello(board: &Board) -> bool {
     match board.lines().as_slice() {
         [Scalar::Text(line)] => line.as_bytes() == b"hello".as_slice(),

@@ -1,9 +1,9 @@
 //! Events that were packed come out as they were.
 
 use crate::asserts::is_equal;
-use packed_events::PackedEvent;
 use std::process::Abort;
 use task_code::event::Event;
+use task_code::packed_event::PackedEvent;
 
 /// The packed event stands for that one.
 fn stands_for(rt: &impl Abort, packed: PackedEvent, event: Event) {

@@ -5,8 +5,8 @@ ghost use Rattle.task_code.specs.View.{argument_view, entry_view, name_view};
 ghost use Rattle.ref_counting.specs.Rights.{HasMarks};
 
 use crate::asserts::is_equal;
-use ref_counting::laid::Laid;
-use ref_counting::lead::Lead;
+use ref_counting::code_tables::CodeTables;
+use ref_counting::entry_name::EntryName;
 use ref_counting::rights::rights;
 use std::alloc::{AllocError, Global};
 use std::test::Fail;
@@ -88,7 +88,7 @@ fn function_body(alloc: Global) -> Result<Body, AllocError> {
 }
 
 /// The code of that script.
-fn calls_itself(alloc: Global) -> Result<Laid, AllocError>
+fn calls_itself(alloc: Global) -> Result<CodeTables, AllocError>
     ensures marks { IfOk result (λ code. HasMarks code) }
     ensures entries { IfOk result (λ code. length code.entries < 2 ^ 32) }
     ensures bodies { IfOk result (λ code. length code.bodies < 2 ^ 32) }
@@ -101,7 +101,7 @@ fn calls_itself(alloc: Global) -> Result<Laid, AllocError>
     let mut bodies = Vec::new(alloc);
     bodies.push(main_body(alloc)?)?;
     bodies.push(function_body(alloc)?)?;
-    Ok(Laid::new(bodies, entries))
+    Ok(CodeTables::new(bodies, entries))
 }
 
 #[test]
@@ -110,8 +110,12 @@ fn a_call_may_write_its_outputs(rt: HostRuntime) -> Result<(), Fail> {
     let code = calls_itself(alloc)?;
     let found = rights(alloc, &code)?;
     is_equal(&rt, found.writes.len(), 2);
-    assert!(rt; found.writes.contains(&Lead::new(0, array(1))));
-    assert!(rt; found.writes.contains(&Lead::new(1, parameter(1, true))));
+    assert!(rt; found.writes.contains(&EntryName::new(0, array(1))));
+    assert!(rt;
+        found
+            .writes
+            .contains(&EntryName::new(1, parameter(1, true)))
+    );
     Ok(())
 }
 

@@ -5,7 +5,7 @@ use board::Board;
 use board_program::program::Program;
 use board_runs::one::run_one;
 use board_runs::report::{End, Report, last_report, report_of};
-use board_runs::turn::finish;
+use board_runs::step::finish;
 use std::alloc::Global;
 use std::process::Abort;
 use task_code::event::Event;
@@ -23,7 +23,7 @@ fn run_of(rt: &impl Abort, alloc: Global, choices: &[u32], limit: u32) -> Report
     run_one(alloc, &program, choices, limit).expect(rt, "memory")
 }
 
-/// Whether a report shows the one line `hello`.
+/// Returns true if a report shows the one line `hello`.
 fn prints_hello(report: &Report) -> bool {
     match report.lines.as_slice() {
         [line] => line.as_bytes() == b"hello".as_slice(),

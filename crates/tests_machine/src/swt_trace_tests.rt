@@ -3,19 +3,19 @@
 ghost use Rattle.std.specs.Prelude.{◌≡◌};
 
 use crate::asserts::is_equal;
-use board::{Fault, FaultKind, Statement, Step};
+use board::{Fault, FaultKind, StatementInstance, Step};
 use board_program::program::Program;
 use board_runs::report::{End, Report};
-use packed_events::PackedEvent;
 use std::alloc::Global;
 use std::process::Abort;
 use swt_trace::ending::Ending;
-use swt_trace::fault::{ReplayFault, TraceFault, WriteFault};
+use swt_trace::fault::{ReplayFault, TraceError, WriteError};
 use swt_trace::read::read_trace;
 use swt_trace::replay::replay;
 use swt_trace::report::write_report;
 use swt_trace::write::write_trace;
 use task_code::event::Event;
+use task_code::packed_event::PackedEvent;
 use tests_codes::codes::{empty, hello};
 use values::key::Key;
 use values::sink::{Sink, SinkFault};
@@ -51,7 +51,7 @@ fn is_read(rt: &impl Abort, alloc: Global, trace: &[u8], events: &[Event], endin
 
 /// The text has this line as its first that no trace has there.
 fn is_bad(rt: &impl Abort, alloc: Global, text: &[u8], line: u64) {
-    let wanted = Some(TraceFault::BadLine(line));
+    let wanted = Some(TraceError::BadLine(line));
     is_equal(rt, read_trace(alloc, text).err(), wanted);
 }
 
@@ -138,9 +138,9 @@ fn bad_ends_are_refused(rt: HostRuntime) {
 
 #[test]
 fn faults_have_texts(rt: HostRuntime) {
-    let bad = TraceFault::BadLine(4);
+    let bad = TraceError::BadLine(4);
     let (stray, other) = (ReplayFault::NotARun(5), ReplayFault::WrongEnd(6));
-    let refused = WriteFault::Write;
+    let refused = WriteError::Write;
     let text = format!(in rt.alloc(); "{bad}, {stray}, {other}, {refused}").expect(&rt, "memory");
     is_equal(
         &rt,
@@ -151,7 +151,7 @@ fn faults_have_texts(rt: HostRuntime) {
 
 /// A sink that takes at most `at_once` bytes a write, and refuses one write, by its number from 1.
 #[derive(Drop)]
-struct Failing {
+struct FailingSink {
     taken: Vec<u8>,
     at_once: usize,
     writes: u8,
@@ -159,7 +159,7 @@ struct Failing {
     failures: u64,
 }
 
-impl Sink for Failing {
+impl Sink for FailingSink {
     ghost taken = { λ sink. sink.taken.items };
 
     ghost failures = { λ sink. sink.failures };
@@ -181,10 +181,10 @@ impl Sink for Failing {
     }
 }
 
-fn sink_of(alloc: Global, at_once: usize, refused: u8) -> Failing
+fn sink_of(alloc: Global, at_once: usize, refused: u8) -> FailingSink
     ensures { result.failures ≡ 0 }
 {
-    Failing {
+    FailingSink {
         taken: Vec::new(alloc),
         at_once,
         writes: 0,
@@ -235,7 +235,7 @@ fn report_with(
     alloc: Global,
     events: &[Event],
     end: End,
-    blocked: Vec<Statement>,
+    blocked: Vec<StatementInstance>,
 ) -> Report {
     let history = history_of(rt, alloc, events);
     Report {
@@ -305,7 +305,12 @@ fn is_shown(rt: &impl Abort, alloc: Global, report: &Report, text: &[u8]) {
     }
 }
 
-fn statement(rt: &impl Abort, alloc: Global, at: usize, steps: &[(usize, i64)]) -> Statement {
+fn statement(
+    rt: &impl Abort,
+    alloc: Global,
+    at: usize,
+    steps: &[(usize, i64)],
+) -> StatementInstance {
     let mut path = Vec::new(alloc);
     for (offset, key) in steps {
         let step = Step {
@@ -314,11 +319,11 @@ fn statement(rt: &impl Abort, alloc: Global, at: usize, steps: &[(usize, i64)]) 
         };
         path.push(step).expect(rt, "memory");
     }
-    Statement { at, path }
+    StatementInstance { at, path }
 }
 
 /// Two blocked statements, with the greatest and the least number.
-fn two_blocked(rt: &impl Abort, alloc: Global) -> Vec<Statement> {
+fn two_blocked(rt: &impl Abort, alloc: Global) -> Vec<StatementInstance> {
     let first = statement(rt, alloc, 14, &[]);
     let path = [(25, 3), (40, -9223372036854775808)];
     let second = statement(rt, alloc, 4294967295, &path);
@@ -365,7 +370,7 @@ fn limits_are_shown(rt: HostRuntime) {
 }
 
 /// The sink has failed once, and has the bytes of the text before the one that it refused.
-fn has_stopped(rt: &impl Abort, sink: &Failing, text: &[u8], refused: u8) {
+fn has_stopped(rt: &impl Abort, sink: &FailingSink, text: &[u8], refused: u8) {
     let before = refused.saturating_sub(1) as usize;
     assert!(rt; Some(sink.taken.as_slice()) == text.get(..before));
     is_equal(rt, sink.failures, 1);
@@ -375,7 +380,7 @@ fn has_stopped(rt: &impl Abort, sink: &Failing, text: &[u8], refused: u8) {
 fn stops_writing(rt: &impl Abort, alloc: Global, report: &Report, refused: u8) {
     let mut sink = sink_of(alloc, 1, refused);
     let fault = write_trace(report, &mut sink).err();
-    is_equal(rt, fault, Some(WriteFault::Write));
+    is_equal(rt, fault, Some(WriteError::Write));
     has_stopped(rt, &sink, CUT_HELLO, refused);
 }
 
@@ -392,7 +397,7 @@ fn writing_stops_at_a_refused_write(rt: HostRuntime) {
 fn stops_showing(rt: &impl Abort, alloc: Global, report: &Report, refused: u8) {
     let mut sink = sink_of(alloc, 1, refused);
     let fault = write_report(report, &mut sink).err();
-    is_equal(rt, fault, Some(WriteFault::Write));
+    is_equal(rt, fault, Some(WriteError::Write));
     has_stopped(rt, &sink, b"a\n\nswt: limit 4\n", refused);
 }
 

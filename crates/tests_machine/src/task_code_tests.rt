@@ -9,7 +9,7 @@ use task_code::entry::{Act, Argument, Entry, Kind, Name, Need, Owned, Variable};
 use task_code::event::Event;
 use task_code::expr::{Expr, Operator};
 use tests_codes::codes::hello;
-use values::format::{Format, Piece};
+use values::format::{Format, FormatPiece};
 use values::op::{Op, Order, Sign};
 use values::value::Scalar;
 
@@ -197,7 +197,7 @@ fn fibonacci(rt: &impl Abort, alloc: Global) -> Draft {
 }
 
 /// What is printed by an entry that prints a format without operands.
-fn printed(code: &Code, number: u32) -> Option<&[Piece]> {
+fn printed(code: &Code, number: u32) -> Option<&[FormatPiece]> {
     match &code.entry(number)?.act {
         Act::Print(Expr::Operation(Operator::Printf(format), _)) => Some(format.pieces()),
         _ => None,
@@ -213,7 +213,7 @@ fn hello_copy(rt: &impl Abort, alloc: Global) -> Code {
 /// The code has the one entry, which prints, and the one body.
 fn prints_hello(rt: &impl Abort, code: &Code) {
     assert_eq!(rt; (code.entry_count(), code.body_count()), (1, 1));
-    let letters = b"hello".map(|letter| Piece::Byte(letter));
+    let letters = b"hello".map(|letter| FormatPiece::Byte(letter));
     assert!(rt; printed(code, 0) == Some(letters.as_slice()));
     is_equal(rt, code.kind(0), Kind::Leaf);
 }
@@ -270,8 +270,8 @@ fn fibonacci_is_read_and_copied(rt: HostRuntime) {
 #[test]
 fn operators_are_those_of_values(rt: HostRuntime) {
     let signs = Vec::from_array(rt.alloc(), [Sign::Minus]).expect(&rt, "memory");
-    assert!(rt; matches!(Operator::Sum(signs).as_op(), Op::Sum([Sign::Minus])));
-    assert!(rt; matches!(Operator::Not.as_op(), Op::Not));
+    assert!(rt; matches!(Operator::Sum(signs).to_op(), Op::Sum([Sign::Minus])));
+    assert!(rt; matches!(Operator::Not.to_op(), Op::Not));
 }
 
 #[test]

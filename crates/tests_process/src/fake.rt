@@ -6,7 +6,7 @@ use host::record::{
     ARGUMENT, BEGAN, BROKEN, EMPTIED, ERROR, FAILED, FOLLOWED, GOT, KNOWN, LAST_ARGUMENT,
     LED_NOWHERE, LED_TO, NAMED, OPENED, OUT, PUT, REMOVED, Record, UNOPENED, note_found,
 };
-use host::{ArgumentFault, Host, HostFault, Stream};
+use host::{CommandLineError, Host, HostError, Stream};
 use std::alloc::{AllocError, Global};
 
 /// A name of a file. A name that is a link has another one behind it.
@@ -19,7 +19,7 @@ struct Entry {
 
 /// A machine in memory. It reads and writes so many bytes at once, and refuses the call that has this number.
 #[derive(Drop)]
-pub struct Fake {
+pub struct FakeHost {
     alloc: Global,
     words: Vec<String>,
     told: usize,
@@ -36,13 +36,13 @@ pub struct Fake {
     log: Record,
 }
 
-impl Fake {
+impl FakeHost {
     ghost use Rattle.tests_process.specs.Fakes.{events_of};
 
-    pub fn new(alloc: Global, words: Vec<String>, at_once: usize, refused: u64) -> Fake
+    pub fn new(alloc: Global, words: Vec<String>, at_once: usize, refused: u64) -> FakeHost
         ensures { events_of result ≡ [] }
     {
-        Fake {
+        FakeHost {
             alloc,
             words,
             told: 0,
@@ -98,13 +98,13 @@ impl Fake {
     }
 
     /// The next word.
-    fn word(&self) -> Result<Option<String>, ArgumentFault> {
+    fn word(&self) -> Result<Option<String>, CommandLineError> {
         let Some(word) = self.words.as_slice().get(self.told) else {
             return Ok(None);
         };
         match String::from_str(self.alloc, word.as_str()) {
             Ok(copy) => Ok(Some(copy)),
-            Err(AllocError) => Err(ArgumentFault::Memory),
+            Err(AllocError) => Err(CommandLineError::Memory),
         }
     }
 
@@ -138,7 +138,7 @@ impl Fake {
         Some(bytes.as_slice())
     }
 
-    /// Whether the file of this name begins so.
+    /// Returns true if the file of this name begins so.
     pub fn begins(&self, name: &str, start: &[u8]) -> bool {
         match self.bytes(name) {
             Some(bytes) => bytes.starts_with(start),
@@ -204,12 +204,12 @@ fn identity_of(file: Option<usize>) -> Option<Identity> {
     })
 }
 
-impl Host for Fake {
+impl Host for FakeHost {
     ghost use Rattle.tests_process.specs.Fakes.{events_of};
 
     ghost history = { λ fake. events_of fake };
 
-    fn argument(&mut self) -> Result<Option<String>, ArgumentFault> {
+    fn argument(&mut self) -> Result<Option<String>, CommandLineError> {
         match self.word() {
             Ok(Some(word)) => {
                 self.told = self.told.saturating_add(1);
@@ -246,20 +246,20 @@ impl Host for Fake {
         }
     }
 
-    fn identity(&mut self, name: &str) -> Result<Option<Identity>, HostFault> {
+    fn identity(&mut self, name: &str) -> Result<Option<Identity>, HostError> {
         if !self.is_done() {
             self.log.note(&[FAILED], &[]);
-            return Err(HostFault);
+            return Err(HostError);
         }
         let found = identity_of(self.file(name));
         note_found(&mut self.log, NAMED, found, name.as_bytes());
         Ok(found)
     }
 
-    fn stream_identity(&mut self, stream: Stream) -> Result<Option<Identity>, HostFault> {
+    fn stream_identity(&mut self, stream: Stream) -> Result<Option<Identity>, HostError> {
         if !self.is_done() {
             self.log.note(&[FAILED], &[]);
-            return Err(HostFault);
+            return Err(HostError);
         }
         match stream {
             Stream::Out => {
@@ -275,7 +275,7 @@ impl Host for Fake {
         }
     }
 
-    fn open(&mut self, name: &str) -> Result<(), HostFault> {
+    fn open(&mut self, name: &str) -> Result<(), HostError> {
         let found = self.file(name);
         if self.is_done() && found.is_some() {
             self.input = found;
@@ -284,10 +284,10 @@ impl Host for Fake {
             return Ok(());
         }
         self.log.note(&[UNOPENED], name.as_bytes());
-        Err(HostFault)
+        Err(HostError)
     }
 
-    fn input_identity(&mut self) -> Result<Identity, HostFault> {
+    fn input_identity(&mut self) -> Result<Identity, HostError> {
         let found = identity_of(self.input);
         if self.is_done() {
             if let Some(file) = found {
@@ -296,10 +296,10 @@ impl Host for Fake {
             }
         }
         self.log.note(&[BROKEN], &[]);
-        Err(HostFault)
+        Err(HostError)
     }
 
-    fn read(&mut self, buffer: &mut [u8]) -> Result<usize, HostFault> {
+    fn read(&mut self, buffer: &mut [u8]) -> Result<usize, HostError> {
         if self.is_done() {
             if let Some(n) = self.take(buffer) {
                 self.log.note(&[GOT], &buffer[..n]);
@@ -307,10 +307,10 @@ impl Host for Fake {
             }
         }
         self.log.note(&[BROKEN], &[]);
-        Err(HostFault)
+        Err(HostError)
     }
 
-    fn begin(&mut self, name: &str) -> Result<(), HostFault> {
+    fn begin(&mut self, name: &str) -> Result<(), HostError> {
         if self.is_done() && self.file(name).is_none() {
             if let Ok(file) = self.add(name, &[]) {
                 self.output = Some(file);
@@ -319,10 +319,10 @@ impl Host for Fake {
             }
         }
         self.log.note(&[FAILED], &[]);
-        Err(HostFault)
+        Err(HostError)
     }
 
-    fn empty(&mut self, name: &str) -> Result<(), HostFault> {
+    fn empty(&mut self, name: &str) -> Result<(), HostError> {
         let found = self.file(name);
         if self.is_done() && found.is_some() {
             self.output = found;
@@ -330,10 +330,10 @@ impl Host for Fake {
             return Ok(());
         }
         self.log.note(&[FAILED], &[]);
-        Err(HostFault)
+        Err(HostError)
     }
 
-    fn put(&mut self, piece: &[u8]) -> Result<usize, HostFault> {
+    fn put(&mut self, piece: &[u8]) -> Result<usize, HostError> {
         if self.is_done() {
             if let Some(n) = self.append(piece) {
                 self.log.note(&[PUT], &piece[..n]);
@@ -341,10 +341,10 @@ impl Host for Fake {
             }
         }
         self.log.note(&[FAILED], &[]);
-        Err(HostFault)
+        Err(HostError)
     }
 
-    fn rename(&mut self, before: &str, name: &str) -> Result<(), HostFault> {
+    fn rename(&mut self, before: &str, name: &str) -> Result<(), HostError> {
         if self.is_done() {
             if let Some(file) = self.file(before) {
                 if let Some(old) = self.entry(name) {
@@ -360,10 +360,10 @@ impl Host for Fake {
             }
         }
         self.log.note(&[FAILED], &[]);
-        Err(HostFault)
+        Err(HostError)
     }
 
-    fn remove(&mut self, name: &str) -> Result<(), HostFault> {
+    fn remove(&mut self, name: &str) -> Result<(), HostError> {
         if self.is_done() {
             if let Some(old) = self.entry(name) {
                 drop_entry(&mut self.entries, old);
@@ -372,7 +372,7 @@ impl Host for Fake {
             }
         }
         self.log.note(&[FAILED], &[]);
-        Err(HostFault)
+        Err(HostError)
     }
 }
 

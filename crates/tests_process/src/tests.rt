@@ -2,13 +2,13 @@
 ghost use Rattle.std.specs.Prelude.{◌≡◌, [], IfOk};
 ghost use Rattle.tests_process.specs.Fakes.{events_of};
 
-use crate::fake::Fake;
+use crate::fake::FakeHost;
 use std::alloc::{AllocError, Global};
 use std::sync::Wait;
 use std::thread::Threads;
 use swt_arguments::fault::LineFault;
 use swt_command::buffer::Buffer;
-use swt_command::direct::Direct;
+use swt_command::unobserved::Unobserved;
 use swt_process::program::program;
 use swt_process::words::read_request;
 
@@ -20,19 +20,24 @@ const SCRIPT: &[u8] = b"int x; int y; x = y + 1; y = 2; printf(\"%i\", x);";
 
 /// What came of a process: the status, what was printed and what was said, and the machine.
 #[derive(Drop)]
-struct Came {
+struct ProcessResult {
     status: u8,
     out: Buffer,
     err: Buffer,
-    fake: Fake,
+    fake: FakeHost,
 }
 
 /// A machine with these words.
-fn machine(alloc: Global, at_once: usize, refused: u64, words: &[&str]) -> Result<Fake, AllocError>
+fn machine(
+    alloc: Global,
+    at_once: usize,
+    refused: u64,
+    words: &[&str],
+) -> Result<FakeHost, AllocError>
     ensures { IfOk result (λ fake. events_of fake ≡ []) }
 {
     let words = copies(alloc, words)?;
-    Ok(Fake::new(alloc, words, at_once, refused))
+    Ok(FakeHost::new(alloc, words, at_once, refused))
 }
 
 fn copies(alloc: Global, words: &[&str]) -> Result<Vec<String>, AllocError> {
@@ -44,7 +49,11 @@ fn copies(alloc: Global, words: &[&str]) -> Result<Vec<String>, AllocError> {
 }
 
 /// What comes of the process that the machine has the words for.
-fn came_of<R: Threads + Wait + Sync>(rt: &R, alloc: Global, fake: Fake) -> Result<Came, LineFault>
+fn came_of<R: Threads + Wait + Sync>(
+    rt: &R,
+    alloc: Global,
+    fake: FakeHost,
+) -> Result<ProcessResult, LineFault>
     requires { events_of fake ≡ [] }
 {
     let mut fake = fake;
@@ -57,11 +66,11 @@ fn came_of<R: Threads + Wait + Sync>(rt: &R, alloc: Global, fake: Fake) -> Resul
         fake,
         PROCESS,
         &request.line,
-        &Direct,
+        &Unobserved,
         &mut out,
         &mut err,
     );
-    Ok(Came {
+    Ok(ProcessResult {
         status,
         out,
         err,

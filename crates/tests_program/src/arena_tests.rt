@@ -19,7 +19,7 @@ fn read<A: Allocator + Clone>(
     boxed(rt, machine, parse(alloc, text))
 }
 
-/// Whether a text has the same tree over both, or is refused alike.
+/// Returns true if a text has the same tree over both, or is refused alike.
 fn is_read_alike<A: Allocator + Clone>(
     rt: &impl Abort,
     alloc: Global,
@@ -31,7 +31,7 @@ fn is_read_alike<A: Allocator + Clone>(
     is_same(rt, alloc, &one, &other)
 }
 
-/// Whether the same tree was read over both, or the text was refused alike.
+/// Returns true if the same tree was read over both, or the text was refused alike.
 fn is_same<A: Allocator>(
     rt: &impl Abort,
     alloc: Global,
@@ -50,7 +50,7 @@ fn copy_of<A: Allocator>(rt: &impl Abort, alloc: Global, tree: &Script<A>) -> Bo
     boxed(rt, alloc, copy)
 }
 
-/// Whether a text that has this tree over an arena has the same over the machine's memory.
+/// Returns true if a text that has this tree over an arena has the same over the machine's memory.
 fn is_copied<A: Allocator>(
     rt: &impl Abort,
     alloc: Global,
@@ -61,7 +61,7 @@ fn is_copied<A: Allocator>(
     has_tree(one, &copy)
 }
 
-/// Whether this tree was read.
+/// Returns true if this tree was read.
 fn has_tree(read: &Result<Script<Global>, ParseFault>, tree: &Script<Global>) -> bool {
     match read {
         Ok(script) => script == tree,
@@ -69,7 +69,7 @@ fn has_tree(read: &Result<Script<Global>, ParseFault>, tree: &Script<Global>) ->
     }
 }
 
-/// Whether a text was refused with this fault.
+/// Returns true if a text was refused with this fault.
 fn is_refused(read: &Result<Script<Global>, ParseFault>, fault: ParseFault) -> bool {
     match read {
         Ok(_) => false,
@@ -77,7 +77,7 @@ fn is_refused(read: &Result<Script<Global>, ParseFault>, fault: ParseFault) -> b
     }
 }
 
-/// Whether a text has the same listing over both, or is refused alike.
+/// Returns true if a text has the same listing over both, or is refused alike.
 fn is_listed_alike(alloc: Global, arena: &Bump, text: &[u8]) -> bool {
     match (listed(alloc, alloc, text), listed(alloc, arena, text)) {
         (Ok(one), Ok(other)) => one.text() == other.text(),

@@ -7,7 +7,7 @@ use std::alloc::{AllocError, Global};
 use std::process::Abort;
 use task_code::code::{Code, Opener};
 use task_code::entry::{Act, Name, Need, Owned, Variable};
-use task_code::expr::Expr as Placed;
+use task_code::expr;
 use values::value::Scalar;
 
 /// Why a script has no code.
@@ -94,7 +94,7 @@ fn made(code: &Code, place: usize) -> Option<Name> {
     })
 }
 
-/// Whether the entry of this number stands at this offset, and waits for the scalars of these places alone.
+/// Returns true if the entry of this number stands at this offset, and waits for the scalars of these places alone.
 fn waits_for(code: &Code, number: u32, at: usize, places: &[usize]) -> bool {
     let Some(entry) = code.entry(number) else {
         return false;
@@ -114,7 +114,7 @@ fn waits_for(code: &Code, number: u32, at: usize, places: &[usize]) -> bool {
     entry.at == at && entry.mark == at
 }
 
-/// Whether the script's body makes so many scalars, and has the first so many entries.
+/// Returns true if the script's body makes so many scalars, and has the first so many entries.
 fn is_body(code: &Code, makes: usize, count: u32) -> bool {
     let Some(body) = code.body(0) else {
         return false;
@@ -129,15 +129,15 @@ fn is_body(code: &Code, makes: usize, count: u32) -> bool {
     body.opener == Opener::ByMain && body.makes.len() == makes && number == count
 }
 
-/// Whether the entry of this number prints its first need and a 7.
+/// Returns true if the entry of this number prints its first need and a 7.
 fn prints_need_and_seven(code: &Code, number: u32) -> bool {
     let Some(entry) = code.entry(number) else {
         return false;
     };
     match &entry.act {
-        Act::Print(Placed::Operation(_, operands)) => matches!(
+        Act::Print(expr::Expr::Operation(_, operands)) => matches!(
             operands.as_slice(),
-            [Placed::Need(0), Placed::Constant(Scalar::Number(7))]
+            [expr::Expr::Need(0), expr::Expr::Constant(Scalar::Number(7))]
         ),
         _ => false,
     }
@@ -159,7 +159,7 @@ fn operands_are_placed(rt: HostRuntime) {
     has_placed_operands(&rt, &code);
 }
 
-/// Whether the entry of this number writes the scalar of this place alone.
+/// Returns true if the entry of this number writes the scalar of this place alone.
 fn writes(code: &Code, number: u32, place: usize) -> bool {
     match (code.entry(number), made(code, place)) {
         (Some(entry), Some(own)) => entry.writes.len() == 1 && entry.writes[0] == own,
@@ -167,7 +167,7 @@ fn writes(code: &Code, number: u32, place: usize) -> bool {
     }
 }
 
-/// Whether the entry of this number writes nothing.
+/// Returns true if the entry of this number writes nothing.
 fn writes_nothing(code: &Code, number: u32) -> bool {
     match code.entry(number) {
         Some(entry) => entry.writes.is_empty(),

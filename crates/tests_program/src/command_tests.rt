@@ -1,12 +1,12 @@
 //! Commands on small scripts: what they print, what they say, the trace, and the status.
 use crate::asserts::{holds, is_equal};
-use crate::doing::{Small, WIDE, perform};
+use crate::doing::{LimitedSink, WIDE, perform};
 use std::alloc::Global;
 use std::process::Abort;
 use std::sync::Wait;
 use std::thread::Threads;
-use swt_command::trouble::tell;
-use swt_status::trouble::Trouble;
+use swt_command::trouble::write_failure;
+use swt_status::failure::CommandFailure;
 
 const HELLO: &[u8] = b"printf(\"hello\");";
 
@@ -139,7 +139,7 @@ fn runs_scripts(rt: HostRuntime) {
     each_does_so(&rt, rt.alloc(), "run f", &ASSERTING);
 }
 
-/// Whether this is one of two texts.
+/// Returns true if this is one of two texts.
 fn is_either(text: &str, one: &str, other: &str) -> bool {
     text == one || text == other
 }
@@ -332,8 +332,11 @@ fn stops_at_a_write_among_others(rt: HostRuntime) {
 /// No memory: the line and the status, and a command of which any allocation may fail.
 #[test]
 fn lacks_memory(rt: HostRuntime) {
-    let mut err = Small::new(rt.alloc(), 1000);
-    holds(&rt, tell(Trouble::Memory, "f", &mut err).is_ok());
+    let mut err = LimitedSink::new(rt.alloc(), 1000);
+    holds(
+        &rt,
+        write_failure(CommandFailure::Memory, "f", &mut err).is_ok(),
+    );
     is_equal(&rt, err.bytes.as_slice(), b"swt: no memory\n".as_slice());
-    is_equal(&rt, Trouble::Memory.status().number(), 6);
+    is_equal(&rt, CommandFailure::Memory.status().number(), 6);
 }

@@ -18,7 +18,7 @@ use swt_arguments::line::Line;
 use swt_arguments::request::Request;
 use swt_arguments::word::Word;
 use swt_command::command::command;
-use swt_command::direct::Direct;
+use swt_command::unobserved::Unobserved;
 use task_code::code::Code;
 use values::sink::{Sink, SinkFault};
 
@@ -27,19 +27,19 @@ pub(crate) const WIDE: (usize, usize) = (100000, 100000);
 
 /// A sink that takes one byte a write, and none once it has no room.
 #[derive(Drop)]
-pub(crate) struct Small {
+pub(crate) struct LimitedSink {
     pub bytes: Vec<u8>,
     room: usize,
     failures: u64,
 }
 
-impl Small {
+impl LimitedSink {
     ghost use Rattle.std.specs.Prelude.{◌≡◌};
 
-    pub(crate) fn new(alloc: Global, room: usize) -> Small
+    pub(crate) fn new(alloc: Global, room: usize) -> LimitedSink
         ensures { result.failures ≡ 0 }
     {
-        Small {
+        LimitedSink {
             bytes: Vec::new(alloc),
             room,
             failures: 0,
@@ -47,7 +47,7 @@ impl Small {
     }
 }
 
-impl Sink for Small {
+impl Sink for LimitedSink {
     ghost taken = { λ sink. sink.bytes.items };
 
     ghost failures = { λ sink. sink.failures };
@@ -66,14 +66,14 @@ impl Sink for Small {
 
 /// What a command printed, said and traced, and its status.
 #[derive(Drop)]
-pub(crate) struct Done {
+pub(crate) struct CommandOutput {
     pub out: Vec<u8>,
     pub err: Vec<u8>,
     pub trace: Vec<u8>,
     pub status: u8,
 }
 
-impl Done {
+impl CommandOutput {
     /// All of it in one text.
     pub(crate) fn text(&self, rt: &impl Abort, alloc: Global) -> String {
         let mut text = String::new(alloc);
@@ -155,7 +155,7 @@ pub(crate) fn perform<R: Threads + Wait + Sync + Abort>(
     line: &str,
     sources: &[Option<&[u8]>],
     rooms: (usize, usize),
-) -> Box<Done> {
+) -> Box<CommandOutput> {
     let files = files_of(alloc, sources).expect(rt, "memory");
     let request = command_of(rt, alloc, line);
     let done = done_by(rt, alloc, &request.line, files.as_slice(), rooms);
@@ -169,22 +169,22 @@ fn done_by<R: Threads + Wait + Sync>(
     line: &Line,
     files: &[Option<Vec<u8>>],
     rooms: (usize, usize),
-) -> Done {
-    let mut out = Small::new(alloc, rooms.0);
-    let mut err = Small::new(alloc, 1000);
-    let mut trace = Small::new(alloc, rooms.1);
+) -> CommandOutput {
+    let mut out = LimitedSink::new(alloc, rooms.0);
+    let mut err = LimitedSink::new(alloc, 1000);
+    let mut trace = LimitedSink::new(alloc, rooms.1);
     let status = command(
         rt,
         alloc,
         &mut Bump::new(alloc),
         line,
         files,
-        &Direct,
+        &Unobserved,
         &mut out,
         &mut err,
         &mut trace,
     );
-    Done {
+    CommandOutput {
         out: out.bytes,
         err: err.bytes,
         trace: trace.bytes,

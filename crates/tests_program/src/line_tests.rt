@@ -3,8 +3,8 @@ use crate::asserts::{boxed, holds, is_equal};
 use crate::doing::{command_of, request_of, words_of};
 use std::alloc::{AllocError, Global};
 use std::process::Abort;
+use swt_arguments::argument_error::{ArgumentError, first_wrong};
 use swt_arguments::command::Command;
-use swt_arguments::complaint::{Complaint, first_wrong};
 use swt_arguments::fault::LineFault;
 use swt_arguments::line::Line;
 use swt_arguments::nearest::meant;
@@ -373,7 +373,7 @@ fn single_words(rt: HostRuntime) {
 }
 
 /// The complaint has this text.
-fn has_text(rt: &impl Abort, alloc: Global, wrong: Complaint<'_>, text: &str) {
+fn has_text(rt: &impl Abort, alloc: Global, wrong: ArgumentError<'_>, text: &str) {
     let found = format!(in alloc; "{wrong}").expect(rt, "memory");
     is_equal(rt, found.as_str(), text);
 }
@@ -446,7 +446,7 @@ fn nearest_names(rt: HostRuntime) {
     }
 }
 
-/// Whether the whole usage is to be told behind what is wrong with a line.
+/// Returns true if the whole usage is to be told behind what is wrong with a line.
 fn calls_for_usage(rt: &impl Abort, alloc: Global, line: &str) -> bool {
     let words = words_of(alloc, line).expect(rt, "memory");
     let wrong = first_wrong(words.as_slice()).expect(rt, "something is wrong");

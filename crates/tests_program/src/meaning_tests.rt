@@ -1,17 +1,17 @@
 //! Rounds over small scripts.
 use crate::asserts::{boxed, holds, is_equal, only};
 use crate::doing::{flow_of, known_of};
-use explain_inputs::blocking::{Waiting, inputs_blocking};
+use explain_inputs::blocked_statement::{BlockedStatement, inputs_blocking};
 use flow::script::Flow;
-use flow_index::table::Sites;
-use meaning::watch::{Rounds, Unwatched, Watch};
+use flow_index::statement_index::StatementIndex;
+use meaning::observer::{NoObserver, RoundObserver, RoundProgress};
 use meaning::{rounds, rounds_within};
-use meaning_openings::fault::MeaningFault;
-use meaning_openings::room::Room;
+use meaning_openings::fault::MeaningError;
+use meaning_openings::live_limits::LiveLimits;
+use meaning_outcomes::fixpoint::compute_fixpoint;
 use meaning_outcomes::knowledge::Knowledge;
-use meaning_outcomes::settle::settle;
-use meaning_round::state::State;
-use paths::{Fault, Statement};
+use meaning_round::state::RoundState;
+use paths::{Fault, StatementInstance};
 use std::alloc::Global;
 use std::process::Abort;
 use std::sync::atomic::{AtomicU64, Ordering};
@@ -27,7 +27,7 @@ fn prints_line(rt: &impl Abort, known: &Knowledge, line: &[u8]) {
 }
 
 /// The statements that are blocked.
-fn blocked_in(rt: &impl Abort, known: &Knowledge) -> Vec<Statement> {
+fn blocked_in(rt: &impl Abort, known: &Knowledge) -> Vec<StatementInstance> {
     known.blocked().expect(rt, "memory")
 }
 
@@ -61,9 +61,9 @@ fn a_value_is_used_in_the_round_behind_it(rt: HostRuntime) {
 
 /// What is known of a flow before its first round, where all that is ready is open and all that is finished is closed.
 fn known_at_first(rt: &impl Abort, alloc: Global, flow: &Flow<Global>) -> Box<Knowledge> {
-    let mut state = State::new(alloc, flow).expect(rt, "memory");
+    let mut state = RoundState::new(alloc, flow).expect(rt, "memory");
     let most = usize::MAX;
-    settle(&mut state, Room { alloc, most }).expect(rt, "memory");
+    compute_fixpoint(&mut state, LiveLimits { alloc, most }).expect(rt, "memory");
     let known = Knowledge::of(alloc, state, 0, false).expect(rt, "memory");
     boxed(rt, alloc, known)
 }
@@ -73,7 +73,7 @@ fn an_array_without_writers_is_closed_at_first(rt: HostRuntime) {
     let flow = flow_of(&rt, rt.alloc(), b"int A[]; int B[]; B[0] = 1;");
     let known = known_at_first(&rt, rt.alloc(), &flow);
     is_equal(&rt, (known.rounds, known.finished()), (0, false));
-    is_equal(&rt, known.learned.closed.len(), 1);
+    is_equal(&rt, known.fact_base.closed.len(), 1);
 }
 
 #[test]
@@ -82,8 +82,8 @@ fn one_round_is_not_enough(rt: HostRuntime) {
     is_equal(&rt, first.finished(), false);
 }
 
-/// Whether there are two statements, which stand at these offsets.
-fn stand_at(statements: &[Statement], first: usize, second: usize) -> bool {
+/// Returns true if there are two statements, which stand at these offsets.
+fn stand_at(statements: &[StatementInstance], first: usize, second: usize) -> bool {
     match statements {
         [one, other] => one.at == first && other.at == second,
         _ => false,
@@ -98,7 +98,7 @@ fn statements_in_a_circle_are_blocked(rt: HostRuntime) {
 }
 
 /// The statement at 21 waits for one input.
-fn lacks_one(rt: &impl Abort, waiting: &Waiting<'_, '_, Global>) {
+fn lacks_one(rt: &impl Abort, waiting: &BlockedStatement<'_, '_, Global>) {
     is_equal(
         rt,
         (waiting.site.at(), waiting.instance, waiting.missing.len()),
@@ -110,9 +110,9 @@ fn lacks_one(rt: &impl Abort, waiting: &Waiting<'_, '_, Global>) {
 fn waits(
     rt: &impl Abort,
     alloc: Global,
-    sites: &Sites<'_, Global>,
+    sites: &StatementIndex<'_, Global>,
     known: &Knowledge,
-    statement: &Statement,
+    statement: &StatementInstance,
 ) {
     let found = inputs_blocking(alloc, sites, known, statement).expect(rt, "memory");
     let waiting = found.expect(rt, "it waits");
@@ -120,7 +120,12 @@ fn waits(
 }
 
 /// The second of two blocked statements waits for what is not known.
-fn second_waits(rt: &impl Abort, alloc: Global, sites: &Sites<'_, Global>, known: &Knowledge) {
+fn second_waits(
+    rt: &impl Abort,
+    alloc: Global,
+    sites: &StatementIndex<'_, Global>,
+    known: &Knowledge,
+) {
     let blocked = blocked_in(rt, known);
     assert_eq!(rt; blocked.len(), 2);
     waits(rt, alloc, sites, known, &blocked[1]);
@@ -133,8 +138,12 @@ fn known_over(rt: &impl Abort, alloc: Global, flow: &Flow<Global>) -> Box<Knowle
 }
 
 /// The places of a flow's statements.
-fn sites_of<'a>(rt: &impl Abort, alloc: Global, flow: &'a Flow<Global>) -> Box<Sites<'a, Global>> {
-    let sites = Sites::of(alloc, flow).expect(rt, "memory");
+fn sites_of<'a>(
+    rt: &impl Abort,
+    alloc: Global,
+    flow: &'a Flow<Global>,
+) -> Box<StatementIndex<'a, Global>> {
+    let sites = StatementIndex::of(alloc, flow).expect(rt, "memory");
     boxed(rt, alloc, sites)
 }
 
@@ -164,15 +173,15 @@ fn turns_of_a_loop_are_places(rt: HostRuntime) {
     has_fault_in_turn(&rt, &known);
 }
 
-/// Whether the rounds of a script are over, where so many turns and statements may be live.
+/// Returns true if the rounds of a script are over, where so many turns and statements may be live.
 fn end_within(
     rt: &impl Abort,
     alloc: Global,
     script: &[u8],
     most: usize,
-) -> Result<bool, MeaningFault> {
+) -> Result<bool, MeaningError> {
     let flow = flow_of(rt, alloc, script);
-    match rounds_within(Room { alloc, most }, &Unwatched, &flow, 50) {
+    match rounds_within(LiveLimits { alloc, most }, &NoObserver, &flow, 50) {
         Ok(known) => Ok(known.finished()),
         Err(fault) => Err(fault),
     }
@@ -183,7 +192,7 @@ fn is_larger(rt: &impl Abort, alloc: Global, script: &[u8], most: usize) {
     is_equal(
         rt,
         end_within(rt, alloc, script, most),
-        Err(MeaningFault::TooLarge),
+        Err(MeaningError::TooLarge),
     );
     is_equal(rt, end_within(rt, alloc, script, 100), Ok(true));
 }
@@ -211,20 +220,20 @@ fn what_has_no_end_soon_is_too_large(rt: HostRuntime) {
         is_equal(
             &rt,
             end_within(&rt, rt.alloc(), script, 1000),
-            Err(MeaningFault::TooLarge),
+            Err(MeaningError::TooLarge),
         );
     }
 }
 
 /// Keeps how far the rounds were when it was told last.
 #[derive(Drop)]
-struct Noted {
+struct LastRounds {
     done: AtomicU64,
     live: AtomicU64,
 }
 
-impl Watch for Noted {
-    fn learn(&self, rounds: Rounds) {
+impl RoundObserver for LastRounds {
+    fn learn(&self, rounds: RoundProgress) {
         self.done.store(u64::from(rounds.done), Ordering::SeqCst);
         self.live.store(rounds.live as u64, Ordering::SeqCst);
     }
@@ -232,12 +241,12 @@ impl Watch for Noted {
 
 #[test]
 fn who_watches_learns_how_far_the_rounds_are(rt: HostRuntime) {
-    let noted = Noted {
+    let noted = LastRounds {
         done: AtomicU64::new(0),
         live: AtomicU64::new(0),
     };
     let flow = flow_of(&rt, rt.alloc(), SWAPPED);
-    let room = Room {
+    let room = LiveLimits {
         alloc: rt.alloc(),
         most: usize::MAX,
     };

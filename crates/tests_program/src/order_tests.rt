@@ -4,9 +4,9 @@ use crate::asserts::{boxed, holds, is_equal};
 use crate::doing::{code_of, known_of, program_of, report_of};
 use board::Board;
 use board_runs::report::{End, Report};
-use board_runs::turn::finish;
+use board_runs::step::finish;
 use meaning_outcomes::knowledge::Knowledge;
-use paths::{Fault, Statement};
+use paths::{Fault, StatementInstance};
 use std::alloc::{AllocError, Global};
 use std::process::Abort;
 use swt_command::buffer::Buffer;
@@ -28,7 +28,7 @@ fn sorted_lines<'a>(alloc: Global, report: &'a Report) -> Result<Vec<&'a [u8]>, 
 /// What the runs of a script have: its lines, sorted by bytes, and what is said behind them of one that ends quiet; or, where it
 /// has faults, one of these, and some of its lines.
 #[derive(Clone, Copy)]
-pub struct Worked {
+pub struct RunResults {
     pub lines: &'static [&'static [u8]],
     pub ends: &'static [&'static [u8]],
     pub has_faults: bool,
@@ -63,7 +63,7 @@ fn has_end(rt: &impl Abort, alloc: Global, report: &Report, ends: &[&[u8]]) -> b
 }
 
 /// The lines are those that were worked out for the script, or some of them where the report has a fault.
-fn are_worked(end: &End, printed: &[&[u8]], worked: &Worked) -> bool {
+fn are_worked(end: &End, printed: &[&[u8]], worked: &RunResults) -> bool {
     match end {
         End::Quiet => !worked.has_faults && printed == worked.lines,
         End::Fault(_) => {
@@ -74,7 +74,7 @@ fn are_worked(end: &End, printed: &[&[u8]], worked: &Worked) -> bool {
 }
 
 /// The report has what was worked out for the script.
-fn is_worked(rt: &impl Abort, alloc: Global, report: &Report, worked: &Worked) -> bool {
+fn is_worked(rt: &impl Abort, alloc: Global, report: &Report, worked: &RunResults) -> bool {
     let printed = sorted_lines(alloc, report).expect(rt, "memory");
     are_worked(&report.end, printed.as_slice(), worked) && has_end(rt, alloc, report, worked.ends)
 }
@@ -118,12 +118,12 @@ fn has_some_known_lines(
 }
 
 /// These are the same statements, and as many.
-fn same_statements(meant: &Vec<Statement>, blocked: &[Statement]) -> bool {
+fn same_statements(meant: &Vec<StatementInstance>, blocked: &[StatementInstance]) -> bool {
     meant.len() == blocked.len() && meant.iter().zip(blocked.iter()).all(|(a, b)| a.is_same(b))
 }
 
 /// These are all known blocked statements, and no other.
-fn are_known_blocked(rt: &impl Abort, blocked: &[Statement], known: &Knowledge) -> bool {
+fn are_known_blocked(rt: &impl Abort, blocked: &[StatementInstance], known: &Knowledge) -> bool {
     let meant = known.blocked().expect(rt, "memory");
     same_statements(&meant, blocked)
 }
@@ -161,12 +161,12 @@ fn is_known(rt: &impl Abort, alloc: Global, report: &Report, known: &Knowledge) 
 
 /// What a script means: worked out by rounds, and written here.
 #[derive(Clone, Copy)]
-struct Meant<'a> {
+struct MeaningText<'a> {
     known: &'a Knowledge,
-    written: Option<&'a Worked>,
+    written: Option<&'a RunResults>,
 }
 
-impl Meant<'_> {
+impl MeaningText<'_> {
     /// A run of the script may have this report.
     fn allows(&self, rt: &impl Abort, alloc: Global, report: &Report) -> bool {
         let is_known = is_known(rt, alloc, report, self.known);
@@ -277,8 +277,14 @@ fn last_to_raise(choices: &[u32], widths: &[usize]) -> Option<usize> {
     None
 }
 
-/// Whether a run by these choices comes to what the script means.
-fn comes_to(rt: &impl Abort, alloc: Global, code: &Code, choices: &[u32], meant: &Meant) -> bool {
+/// Returns true if a run by these choices comes to what the script means.
+fn comes_to(
+    rt: &impl Abort,
+    alloc: Global,
+    code: &Code,
+    choices: &[u32],
+    meant: &MeaningText,
+) -> bool {
     let report = report_of(rt, alloc, code, choices, 1000);
     meant.allows(rt, alloc, &report)
 }
@@ -299,7 +305,13 @@ fn choices_behind(
 
 /// In how many orders one thread can run a script, where each comes to what the script means. None where one does not, or
 /// where there are so many or more.
-fn orders(rt: &impl Abort, alloc: Global, code: &Code, most: u32, meant: &Meant) -> Option<u32> {
+fn orders(
+    rt: &impl Abort,
+    alloc: Global,
+    code: &Code,
+    most: u32,
+    meant: &MeaningText,
+) -> Option<u32> {
     let mut choices = Vec::new(alloc);
     for count in 1..most {
         if !comes_to(rt, alloc, code, choices.as_slice(), meant) {
@@ -319,7 +331,7 @@ fn orders_of(
     alloc: Global,
     script: &[u8],
     most: u32,
-    meant: &Meant,
+    meant: &MeaningText,
 ) -> Option<u32> {
     let code = code_of(rt, alloc, script);
     orders(rt, alloc, &code, most, meant)
@@ -329,7 +341,7 @@ fn orders_of(
 fn has_orders(rt: &impl Abort, alloc: Global, script: &[u8], wanted: u32) {
     let known = known_of(rt, alloc, script, 100);
     holds(rt, known.finished());
-    let meant = Meant {
+    let meant = MeaningText {
         known: &known,
         written: None,
     };
@@ -366,9 +378,9 @@ fn every_order_of_scalars(rt: HostRuntime) {
 }
 
 /// Every order of the script comes to this and to what it means, and there is more than one order.
-pub fn always(rt: &impl Abort, alloc: Global, script: &[u8], worked: &Worked) {
+pub fn always(rt: &impl Abort, alloc: Global, script: &[u8], worked: &RunResults) {
     let known = known_of(rt, alloc, script, 100);
-    let meant = Meant {
+    let meant = MeaningText {
         known: &known,
         written: Some(worked),
     };
@@ -378,7 +390,7 @@ pub fn always(rt: &impl Abort, alloc: Global, script: &[u8], worked: &Worked) {
 
 #[test]
 fn every_order_of_branches(rt: HostRuntime) {
-    let quiet = Worked {
+    let quiet = RunResults {
         lines: &[b"e", b"s"],
         ends: &[b""],
         has_faults: false,
@@ -386,7 +398,7 @@ fn every_order_of_branches(rt: HostRuntime) {
     let script =
         b"boolean b; if (b) { printf(\"t\"); } else { printf(\"e\"); } b = 2 < 1; printf(\"s\");";
     always(&rt, rt.alloc(), script, &quiet);
-    let blocked = Worked {
+    let blocked = RunResults {
         lines: &[b"in"],
         ends: &[b"swt: blocked 14 /\nswt: blocked 21 /\nswt: blocked 40 /28.0\n"],
         has_faults: false,
@@ -398,14 +410,14 @@ fn every_order_of_branches(rt: HostRuntime) {
 
 #[test]
 fn every_order_of_waits_and_calls(rt: HostRuntime) {
-    let waits = Worked {
+    let waits = RunResults {
         lines: &[b"p", b"w1"],
         ends: &[b""],
         has_faults: false,
     };
     let script = b"int x; int y; wait (x, y) { printf(\"w%i\", x); } x = 1; y = 2; printf(\"p\");";
     always(&rt, rt.alloc(), script, &waits);
-    let calls = Worked {
+    let calls = RunResults {
         lines: &[b"3", b"f"],
         ends: &[b""],
         has_faults: false,
@@ -417,7 +429,7 @@ fn every_order_of_waits_and_calls(rt: HostRuntime) {
 
 #[test]
 fn every_order_of_arrays(rt: HostRuntime) {
-    let sizes = Worked {
+    let sizes = RunResults {
         lines: &[b"0 1", b"1 2", b"2"],
         ends: &[b""],
         has_faults: false,
@@ -425,7 +437,7 @@ fn every_order_of_arrays(rt: HostRuntime) {
     let script =
         b"int A[]; foreach i in [0:1] { A[i] = i + 1; } printf(\"%i\", size(A)); foreach v, k in A { printf(\"%i %i\", k, v); }";
     always(&rt, rt.alloc(), script, &sizes);
-    let closes = Worked {
+    let closes = RunResults {
         lines: &[b"1", b"7"],
         ends: &[b""],
         has_faults: false,
@@ -437,14 +449,14 @@ fn every_order_of_arrays(rt: HostRuntime) {
 
 #[test]
 fn every_order_of_faults(rt: HostRuntime) {
-    let lacks = Worked {
+    let lacks = RunResults {
         lines: &[b"b"],
         ends: &[b"swt: fault F3 NoElement 19 /\n"],
         has_faults: true,
     };
     let script = b"int A[]; A[0] = 1; printf(\"%i\", A[3]); printf(\"b\");";
     always(&rt, rt.alloc(), script, &lacks);
-    let twice = Worked {
+    let twice = RunResults {
         lines: &[b"1", b"2"],
         ends: &[
             b"swt: fault F4 ElementTwice 9 /\n",
@@ -454,7 +466,7 @@ fn every_order_of_faults(rt: HostRuntime) {
     };
     let script = b"int A[]; A[0] = 1; A[0] = 2; printf(\"%i\", A[0]);";
     always(&rt, rt.alloc(), script, &twice);
-    let in_a_turn = Worked {
+    let in_a_turn = RunResults {
         lines: &[b"0"],
         ends: &[b"swt: fault F2 DivideByZero 24 /0.1\n"],
         has_faults: true,

@@ -1,7 +1,7 @@
 //! Results of items that look alike: of the same entry, under the same numbers of items and data, but with other inputs.
 use crate::asserts::{boxed, holds, is_equal};
 use crate::doing::{code_of, program_of};
-use board::refusal::Refusal;
+use board::refusal::BoardRefusal;
 use board::{Board, Done};
 use std::alloc::Global;
 use std::process::Abort;
@@ -41,7 +41,7 @@ fn has_printed(rt: &impl Abort, board: &Board, line: &[u8]) {
 fn takes_its_own(rt: &impl Abort, board: &mut Board, strange: Done, own: Done, line: &[u8]) {
     match board.end(1, strange) {
         Ok(()) => holds(rt, false),
-        Err((_strange, refused)) => is_equal(rt, refused, Refusal::Stranger),
+        Err((_strange, refused)) => is_equal(rt, refused, BoardRefusal::Stranger),
     }
     holds(rt, board.lines().is_empty());
     match board.end(1, own) {
@@ -72,7 +72,7 @@ fn an_element_of_another_writer_is_strange(rt: HostRuntime) {
     let strange = computed(&rt, &mut other, &[1, 3], 4);
     match board.end(1, strange) {
         Ok(()) => holds(&rt, false),
-        Err((_strange, refused)) => is_equal(&rt, refused, Refusal::Stranger),
+        Err((_strange, refused)) => is_equal(&rt, refused, BoardRefusal::Stranger),
     }
     holds(&rt, board.end(1, own).is_ok());
 }

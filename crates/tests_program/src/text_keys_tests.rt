@@ -1,7 +1,7 @@
 //! Arrays that are keyed by texts: runs with their replays, and every order of some, where each comes to what is meant.
 
 use crate::asserts::holds;
-use crate::order_tests::{Worked, always};
+use crate::order_tests::{RunResults, always};
 use crate::whole_tests::{run_to, runs_to};
 use std::alloc::{AllocError, Global};
 
@@ -91,7 +91,7 @@ fn two_of_one_mark(alloc: Global) -> Result<Vec<u8>, AllocError> {
 fn two_texts_of_one_mark(rt: HostRuntime) {
     let script = two_of_one_mark(rt.alloc()).expect(&rt, "memory");
     holds(&rt, runs_to(&rt, rt.alloc(), script.as_slice(), b"2\n", 0));
-    let worked = Worked {
+    let worked = RunResults {
         lines: &[b"2"],
         ends: &[b""],
         has_faults: false,
@@ -101,7 +101,7 @@ fn two_texts_of_one_mark(rt: HostRuntime) {
 
 #[test]
 fn every_order_of_texts(rt: HostRuntime) {
-    let twice = Worked {
+    let twice = RunResults {
         lines: &[],
         ends: &[
             b"swt: fault F4 ElementTwice 15 /\n",
@@ -111,7 +111,7 @@ fn every_order_of_texts(rt: HostRuntime) {
     };
     let script = b"int A[string]; A[\"x\"] = 1; A[\"\" + \"x\"] = 2;";
     always(&rt, rt.alloc(), script, &twice);
-    let turns = Worked {
+    let turns = RunResults {
         lines: &[b"a 2", b"b 1"],
         ends: &[b""],
         has_faults: false,

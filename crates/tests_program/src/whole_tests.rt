@@ -1,6 +1,6 @@
 //! Scripts of the whole language: what a run prints, and its trace run again, which prints the same.
 use crate::asserts::{holds, is_equal};
-use crate::doing::{Done, WIDE, perform, sorted_text};
+use crate::doing::{CommandOutput, WIDE, perform, sorted_text};
 use std::alloc::{AllocError, Global};
 use std::process::Abort;
 use std::sync::Wait;
@@ -11,31 +11,37 @@ fn replayed<R: Threads + Wait + Sync + Abort>(
     rt: &R,
     alloc: Global,
     script: &[u8],
-    run: &Done,
-) -> Box<Done> {
+    run: &CommandOutput,
+) -> Box<CommandOutput> {
     let sources = [Some(script), Some(run.trace.as_slice())];
     perform(rt, alloc, "replay f t", &sources, WIDE)
 }
 
-/// Whether these texts have the same lines, in some order.
+/// Returns true if these texts have the same lines, in some order.
 fn have_same_lines(rt: &impl Abort, alloc: Global, printed: &[u8], wanted: &[u8]) -> bool {
     let printed = sorted_text(alloc, printed).expect(rt, "memory");
     let meant = sorted_text(alloc, wanted).expect(rt, "memory");
     printed.as_slice() == meant.as_slice()
 }
 
-/// Whether a run printed these lines in some order, said nothing, and ended with this status.
-fn is_wanted(rt: &impl Abort, alloc: Global, run: &Done, wanted: &[u8], status: u8) -> bool {
+/// Returns true if a run printed these lines in some order, said nothing, and ended with this status.
+fn is_wanted(
+    rt: &impl Abort,
+    alloc: Global,
+    run: &CommandOutput,
+    wanted: &[u8],
+    status: u8,
+) -> bool {
     let has_lines = have_same_lines(rt, alloc, run.out.as_slice(), wanted);
     has_lines && run.err.is_empty() && run.status == status
 }
 
-/// Whether a run printed the same as another, said nothing, and ended with this status.
-fn is_same(again: &Done, run: &Done, status: u8) -> bool {
+/// Returns true if a run printed the same as another, said nothing, and ended with this status.
+fn is_same(again: &CommandOutput, run: &CommandOutput, status: u8) -> bool {
     again.out.as_slice() == run.out.as_slice() && again.err.is_empty() && again.status == status
 }
 
-/// Whether a run of the script prints these lines in some order, says nothing, and ends with this status, and its trace run again
+/// Returns true if a run of the script prints these lines in some order, says nothing, and ends with this status, and its trace run again
 /// prints the same.
 pub fn runs_to<R: Threads + Wait + Sync + Abort>(
     rt: &R,

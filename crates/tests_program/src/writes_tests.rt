@@ -1,6 +1,6 @@
 //! Sinks that stop: at each byte of what a command prints or traces, by a write that fails or by one that takes nothing.
 use crate::asserts::is_equal;
-use crate::doing::{Small, WIDE, command_of, files_of, perform};
+use crate::doing::{LimitedSink, WIDE, command_of, files_of, perform};
 use bumpalo::Bump;
 use std::alloc::Global;
 use std::process::Abort;
@@ -8,7 +8,7 @@ use std::sync::Wait;
 use std::thread::Threads;
 use swt_arguments::line::Line;
 use swt_command::command::command;
-use swt_command::direct::Direct;
+use swt_command::unobserved::Unobserved;
 use values::sink::{Sink, SinkFault};
 
 const HELLO: &[u8] = b"printf(\"hello\");";
@@ -21,19 +21,19 @@ const CANNOT: &[u8] = b"swt: cannot write\n";
 
 /// A sink that takes one byte a write, and nothing once it has no room, without an error.
 #[derive(Drop)]
-struct Idle {
+struct FullSink {
     bytes: Vec<u8>,
     room: usize,
     failures: u64,
 }
 
-impl Idle {
+impl FullSink {
     ghost use Rattle.std.specs.Prelude.{◌≡◌};
 
-    fn new(alloc: Global, room: usize) -> Idle
+    fn new(alloc: Global, room: usize) -> FullSink
         ensures { result.failures ≡ 0 }
     {
-        Idle {
+        FullSink {
             bytes: Vec::new(alloc),
             room,
             failures: 0,
@@ -41,7 +41,7 @@ impl Idle {
     }
 }
 
-impl Sink for Idle {
+impl Sink for FullSink {
     ghost taken = { λ sink. sink.bytes.items };
 
     ghost failures = { λ sink. sink.failures };
@@ -66,16 +66,16 @@ fn idles<R: Threads + Wait + Sync>(
     files: &[Option<Vec<u8>>],
     room: usize,
 ) -> (Vec<u8>, Vec<u8>, u8) {
-    let mut out = Idle::new(alloc, room);
-    let mut err = Small::new(alloc, 1000);
-    let mut trace = Small::new(alloc, 0);
+    let mut out = FullSink::new(alloc, room);
+    let mut err = LimitedSink::new(alloc, 1000);
+    let mut trace = LimitedSink::new(alloc, 0);
     let status = command(
         rt,
         alloc,
         &mut Bump::new(alloc),
         line,
         files,
-        &Direct,
+        &Unobserved,
         &mut out,
         &mut err,
         &mut trace,

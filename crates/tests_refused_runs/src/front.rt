@@ -19,7 +19,7 @@ ghost use Rattle.tests_refused_runs.specs.Folds.{IsFold, IsOfText};
 use crate::told::{note, print_listing, wrong};
 use std::alloc::{Allocator, Global};
 use std::io;
-use swt_library::scripts::{Code, compile};
+use swt_library::scripts::{CompiledScript, compile};
 use swt_library::stages::{self, Single};
 use swt_library::{
     AssignFault, CompileFault, Compiled, Flow, Knowledge, ParseFault, Script, TypeFault, Typed,
@@ -152,7 +152,7 @@ fn typed_of<A: Allocator>(
         → WellTyped (tree_of script.now) (table_of typed))) }
 {
     for _ in 0..TRIES {
-        match stages::check_types(machine, script) {
+        match stages::check(machine, script) {
             Ok(typed) => return Ok(Some(typed)),
             Err(TypeFault::Memory) => note(rt, "types")?,
             Err(_) => return Ok(None),
@@ -311,7 +311,7 @@ fn emitted<A: Allocator>(
     rt: &HostRuntime,
     machine: Global,
     counted: &Compiled<A>,
-) -> io::Result<Option<Code>> {
+) -> io::Result<Option<CompiledScript>> {
     for _ in 0..TRIES {
         match stages::emit(machine, counted) {
             Ok(code) => return Ok(Some(code)),
@@ -327,7 +327,7 @@ pub fn compiled<A: Allocator + Clone>(
     machine: Global,
     alloc: &A,
     src: &[u8],
-) -> io::Result<Option<Code>> {
+) -> io::Result<Option<CompiledScript>> {
     for _ in 0..TRIES {
         match compile(machine, alloc.clone()?, src) {
             Ok(code) => return Ok(Some(code)),

@@ -6,8 +6,8 @@ use crate::told::{note, print_report, wrong};
 use std::alloc::Global;
 use std::io;
 use swt_library::runs::{new_board, report_of};
-use swt_library::scripts::Code;
-use swt_library::{Board, Kind, Refusal, Report, Work};
+use swt_library::scripts::CompiledScript;
+use swt_library::{Board, BoardRefusal, Kind, Report, Work};
 
 /// So often a call is made at most.
 const TRIES: u8 = 3;
@@ -20,7 +20,7 @@ const LIMIT: u32 = 1_000_000;
 
 /// What a board shows without taking memory.
 #[derive(Clone, Copy, PartialEq, Eq)]
-struct Views {
+struct BoardReadout {
     events: usize,
     lines: usize,
     stored: usize,
@@ -31,9 +31,9 @@ struct Views {
     is_going: bool,
 }
 
-impl Views {
-    fn of(board: &Board) -> Views {
-        Views {
+impl BoardReadout {
+    fn of(board: &Board) -> BoardReadout {
+        BoardReadout {
             events: board.history().len(),
             lines: board.lines().len(),
             stored: board.stored(),
@@ -47,7 +47,7 @@ impl Views {
 }
 
 /// Moves a board until nothing is left to be done, and prints its report.
-pub fn try_board(rt: &HostRuntime, alloc: Global, code: &Code) -> io::Result<()> {
+pub fn try_board(rt: &HostRuntime, alloc: Global, code: &CompiledScript) -> io::Result<()> {
     let Some(mut board) = opened(rt, alloc, code)? else {
         return wrong(rt, "no board");
     };
@@ -64,7 +64,7 @@ pub fn try_board(rt: &HostRuntime, alloc: Global, code: &Code) -> io::Result<()>
 }
 
 /// A board of a copy of the code.
-fn opened(rt: &HostRuntime, alloc: Global, code: &Code) -> io::Result<Option<Board>> {
+fn opened(rt: &HostRuntime, alloc: Global, code: &CompiledScript) -> io::Result<Option<Board>> {
     for _ in 0..TRIES {
         match code.copy() {
             Err(_) => note(rt, "copy")?,
@@ -91,12 +91,12 @@ fn try_item(rt: &HostRuntime, board: &mut Board, item: u64) -> io::Result<()> {
 fn done_on(rt: &HostRuntime, board: &mut Board, worker: u8, item: u64) -> io::Result<bool>
     requires { IsWorker worker }
 {
-    let before = Views::of(board);
+    let before = BoardReadout::of(board);
     match board.begin(worker, item) {
         Ok(work) => ended_on(rt, board, worker, work),
         Err(refusal) => {
             note(rt, "begin")?;
-            if refusal != Refusal::Memory || Views::of(board) != before {
+            if refusal != BoardRefusal::Memory || BoardReadout::of(board) != before {
                 wrong(rt, "a refused begin")?;
             }
             Ok(false)
@@ -111,14 +111,14 @@ fn ended_on(rt: &HostRuntime, board: &mut Board, worker: u8, work: Work) -> io::
     let item = work.item();
     match work.compute() {
         Ok(done) => {
-            let before = Views::of(board);
+            let before = BoardReadout::of(board);
             match board.end(worker, done) {
                 Ok(()) => Ok(true),
                 Err((done, refusal)) => {
                     note(rt, "end")?;
-                    if refusal != Refusal::Memory
+                    if refusal != BoardRefusal::Memory
                         || done.item() != item
-                        || Views::of(board) != before
+                        || BoardReadout::of(board) != before
                     {
                         wrong(rt, "a refused end")?;
                     }

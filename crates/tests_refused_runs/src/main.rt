@@ -19,35 +19,35 @@ use std::alloc::Global;
 use std::sync::Wait;
 use std::thread::Threads;
 use std::{env, io};
-use swt_library::scripts::Code;
+use swt_library::scripts::CompiledScript;
 
 /// A part of the way from a script to its runs.
 #[derive(Clone, Copy, PartialEq, Eq)]
-enum Part {
+enum Stage {
     Stages,
     Arena,
     Runs,
     OnThreads,
 }
 
-impl Part {
+impl Stage {
     /// The part of a name, where there is one.
-    fn of(name: &str) -> Option<Part> {
+    fn of(name: &str) -> Option<Stage> {
         match name {
-            "stages" => Some(Part::Stages),
-            "arena" => Some(Part::Arena),
-            "runs" => Some(Part::Runs),
-            "threads" => Some(Part::OnThreads),
+            "stages" => Some(Stage::Stages),
+            "arena" => Some(Stage::Arena),
+            "runs" => Some(Stage::Runs),
+            "threads" => Some(Stage::OnThreads),
             _ => None,
         }
     }
 }
 
 fn main(rt: HostRuntime) -> io::Result<()> {
-    let mut part = Part::Stages;
+    let mut part = Stage::Stages;
     for word in env::args(&rt)?.skip(1) {
         println!(rt; "{word}")?;
-        match Part::of(word.as_str()) {
+        match Stage::of(word.as_str()) {
             Some(named) => part = named,
             None => try_name(&rt, &rt, rt.alloc(), word.as_str(), part)?,
         }
@@ -61,15 +61,15 @@ fn try_name<R: Threads + Wait + Sync>(
     threads: &R,
     alloc: Global,
     name: &str,
-    part: Part,
+    part: Stage,
 ) -> io::Result<()> {
     let Some(script) = script_of(name) else {
         return told::wrong(rt, "no script has this name");
     };
     match part {
-        Part::Stages => front::try_stages(rt, alloc, &alloc, script),
-        Part::Arena => try_in_arena(rt, alloc, script),
-        Part::Runs | Part::OnThreads => try_runs(rt, threads, alloc, script, part),
+        Stage::Stages => front::try_stages(rt, alloc, &alloc, script),
+        Stage::Arena => try_in_arena(rt, alloc, script),
+        Stage::Runs | Stage::OnThreads => try_runs(rt, threads, alloc, script, part),
     }
 }
 
@@ -85,7 +85,7 @@ fn try_runs<R: Threads + Wait + Sync>(
     threads: &R,
     alloc: Global,
     script: &[u8],
-    part: Part,
+    part: Stage,
 ) -> io::Result<()> {
     match front::compiled(rt, alloc, &alloc, script)? {
         Some(code) => run_code(rt, threads, alloc, &code, part),
@@ -98,10 +98,10 @@ fn run_code<R: Threads + Wait + Sync>(
     rt: &HostRuntime,
     threads: &R,
     alloc: Global,
-    code: &Code,
-    part: Part,
+    code: &CompiledScript,
+    part: Stage,
 ) -> io::Result<()> {
-    if part == Part::OnThreads {
+    if part == Stage::OnThreads {
         return runs::try_threads(rt, threads, alloc, code);
     }
     hand::try_board(rt, alloc, code)?;

@@ -6,8 +6,8 @@ use std::io;
 use std::sync::Wait;
 use std::thread::Threads;
 use swt_library::runs::{replay, run_one, run_threads};
-use swt_library::scripts::Code;
-use swt_library::{Open, ReplayFault, Report, RunFault, Sink, SinkFault, write_trace};
+use swt_library::scripts::CompiledScript;
+use swt_library::{DirectGate, ReplayFault, Report, RunFault, Sink, SinkFault, write_trace};
 
 /// So often a call is made at most.
 const TRIES: u32 = 2;
@@ -17,25 +17,25 @@ const LIMIT: u32 = 1_000_000;
 
 /// A sink that keeps what it is given.
 #[derive(Drop)]
-struct Kept {
+struct MemorySink {
     bytes: Vec<u8>,
     failures: u64,
 }
 
-impl Kept {
+impl MemorySink {
     ghost use Rattle.std.specs.Prelude.{◌≡◌};
 
-    fn new(alloc: Global) -> Kept
+    fn new(alloc: Global) -> MemorySink
         ensures { result.failures ≡ 0 }
     {
-        Kept {
+        MemorySink {
             bytes: Vec::new(alloc),
             failures: 0,
         }
     }
 }
 
-impl Sink for Kept {
+impl Sink for MemorySink {
     ghost taken = { λ sink. sink.bytes.items };
 
     ghost failures = { λ sink. sink.failures };
@@ -52,7 +52,7 @@ impl Sink for Kept {
 }
 
 /// Runs code on one thread and then by the trace of that run, and prints both reports.
-pub fn try_one_thread(rt: &HostRuntime, alloc: Global, code: &Code) -> io::Result<()> {
+pub fn try_one_thread(rt: &HostRuntime, alloc: Global, code: &CompiledScript) -> io::Result<()> {
     let Some(report) = ran(rt, alloc, code)? else {
         return wrong(rt, "no run");
     };
@@ -67,7 +67,7 @@ pub fn try_one_thread(rt: &HostRuntime, alloc: Global, code: &Code) -> io::Resul
 }
 
 /// A run on one thread.
-fn ran(rt: &HostRuntime, alloc: Global, code: &Code) -> io::Result<Option<Report>> {
+fn ran(rt: &HostRuntime, alloc: Global, code: &CompiledScript) -> io::Result<Option<Report>> {
     for _ in 0..TRIES {
         match run_one(alloc, code, &[], LIMIT) {
             Ok(report) => return Ok(Some(report)),
@@ -80,7 +80,7 @@ fn ran(rt: &HostRuntime, alloc: Global, code: &Code) -> io::Result<Option<Report
 /// The trace of a run.
 fn traced(rt: &HostRuntime, alloc: Global, report: &Report) -> io::Result<Option<Vec<u8>>> {
     for _ in 0..TRIES {
-        let mut kept = Kept::new(alloc);
+        let mut kept = MemorySink::new(alloc);
         match write_trace(report, &mut kept) {
             Ok(()) => return Ok(Some(kept.bytes)),
             Err(_) => note(rt, "trace")?,
@@ -90,7 +90,12 @@ fn traced(rt: &HostRuntime, alloc: Global, report: &Report) -> io::Result<Option
 }
 
 /// The run of a trace.
-fn again(rt: &HostRuntime, alloc: Global, code: &Code, trace: &[u8]) -> io::Result<Option<Report>> {
+fn again(
+    rt: &HostRuntime,
+    alloc: Global,
+    code: &CompiledScript,
+    trace: &[u8],
+) -> io::Result<Option<Report>> {
     for _ in 0..TRIES {
         match replay(alloc, code, trace) {
             Ok(report) => return Ok(Some(report)),
@@ -106,10 +111,10 @@ pub fn try_threads<R: Threads + Wait + Sync>(
     rt: &HostRuntime,
     threads: &R,
     alloc: Global,
-    code: &Code,
+    code: &CompiledScript,
 ) -> io::Result<()> {
     for _ in 0..TRIES {
-        match run_threads(threads, alloc, code, 1, 1, LIMIT, &Open) {
+        match run_threads(threads, alloc, code, 1, 1, LIMIT, &DirectGate) {
             Ok((report, _)) => return print_report(rt, &report),
             Err(RunFault::Memory | RunFault::Spawn) => note(rt, "run_threads")?,
             Err(_) => return wrong(rt, "no run on threads"),

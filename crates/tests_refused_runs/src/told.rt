@@ -3,7 +3,7 @@
 use host::Stream;
 use host_system::stream::Standard;
 use std::io;
-use swt_library::scripts::Code;
+use swt_library::scripts::CompiledScript;
 use swt_library::{Report, write_report};
 
 /// Says that memory was refused to a call.
@@ -26,7 +26,7 @@ pub fn print_report(rt: &HostRuntime, report: &Report) -> io::Result<()> {
 }
 
 /// Prints a listing. It takes no memory.
-pub fn print_listing(rt: &HostRuntime, code: &Code) -> io::Result<()> {
+pub fn print_listing(rt: &HostRuntime, code: &CompiledScript) -> io::Result<()> {
     let mut out = Standard::new(rt, Stream::Out);
     match code.listing(&mut out) {
         Ok(()) => Ok(()),

@@ -1,12 +1,12 @@
 //! How many engines and workers a run may have.
 use crate::asserts::holds;
-use crate::threaded::{MANY, Ran, adds_up, code_of, is_cut, is_whole, run_of, tried};
+use crate::threaded::{MANY, RunOutput, adds_up, code_of, is_cut, is_whole, run_of, tried};
 use std::alloc::Global;
 use std::process::Abort;
 use std::sync::Wait;
 use std::thread::Threads;
 use workers::fault::RunFault;
-use workers::job::Open;
+use workers::gate::DirectGate;
 
 /// Numbers of engines and workers that no run has.
 const BAD: [(u8, u8); 8] = [
@@ -20,8 +20,8 @@ const BAD: [(u8, u8); 8] = [
     (255, 255),
 ];
 
-/// Whether a run was refused for its counts.
-fn is_refused(answer: &Result<Ran, RunFault>) -> bool {
+/// Returns true if a run was refused for its counts.
+fn is_refused(answer: &Result<RunOutput, RunFault>) -> bool {
     matches!(answer, Err(RunFault::BadCount))
 }
 
@@ -29,7 +29,7 @@ fn is_refused(answer: &Result<Ran, RunFault>) -> bool {
 fn there_are_some_of_each_and_64_of_both_at_most(rt: HostRuntime) {
     let code = code_of(&rt, rt.alloc(), b"printf(\"a\");");
     for counts in BAD {
-        let answer = tried(&rt, rt.alloc(), &code, counts, MANY, &Open);
+        let answer = tried(&rt, rt.alloc(), &code, counts, MANY, &DirectGate);
         holds(&rt, is_refused(&answer));
     }
 }
@@ -41,7 +41,7 @@ fn runs_on<R: Threads + Wait + Sync + Abort>(
     script: &[u8],
     counts: (u8, u8),
 ) {
-    let ran = run_of(rt, alloc, script, counts, MANY, &Open);
+    let ran = run_of(rt, alloc, script, counts, MANY, &DirectGate);
     adds_up(rt, &ran.1);
     is_whole(rt, alloc, &ran.0, 22);
 }
@@ -57,7 +57,7 @@ fn every_count_runs_a_script(rt: HostRuntime) {
 
 /// A run of the script is cut off.
 fn is_cut_off<R: Threads + Wait + Sync + Abort>(rt: &R, alloc: Global, script: &[u8], limit: u32) {
-    let ran = run_of(rt, alloc, script, (2, 6), limit, &Open);
+    let ran = run_of(rt, alloc, script, (2, 6), limit, &DirectGate);
     is_cut(rt, alloc, &ran.0, limit);
 }
 

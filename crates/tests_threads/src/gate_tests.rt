@@ -1,6 +1,6 @@
 //! Leaf items that run side by side, offers and draws, and what a gate learns of a run.
 use crate::asserts::{holds, is_equal};
-use crate::gates::{Held, Watched};
+use crate::gates::{BarrierGate, ProgressGate};
 use crate::threaded::{MANY, is_whole, run_of};
 use std::alloc::Global;
 use std::process::Abort;
@@ -14,7 +14,7 @@ fn run_side_by_side<R: Threads + Wait + Sync + Abort>(
     alloc: Global,
     script: &[u8],
     leaves: u8,
-    gate: &Held<'_>,
+    gate: &BarrierGate<'_>,
 ) {
     let ran = run_of(rt, alloc, script, (1, leaves), MANY, gate);
     is_equal(rt, gate.ran_out(), false);
@@ -24,7 +24,7 @@ fn run_side_by_side<R: Threads + Wait + Sync + Abort>(
 #[test]
 fn two_leaves_run_side_by_side(rt: HostRuntime) {
     let script = b"printf(\"a\"); printf(\"b\");";
-    let gate = Held::new(&rt, 1, 2, 0);
+    let gate = BarrierGate::new(&rt, 1, 2, 0);
     run_side_by_side(&rt, rt.alloc(), script, 2, &gate);
 }
 
@@ -32,7 +32,7 @@ fn two_leaves_run_side_by_side(rt: HostRuntime) {
 fn eight_leaves_run_side_by_side(rt: HostRuntime) {
     let script =
         b"printf(\"a\"); printf(\"b\"); printf(\"c\"); printf(\"d\"); printf(\"e\"); printf(\"f\"); printf(\"g\"); printf(\"h\");";
-    let gate = Held::new(&rt, 1, 8, 0);
+    let gate = BarrierGate::new(&rt, 1, 8, 0);
     run_side_by_side(&rt, rt.alloc(), script, 8, &gate);
 }
 
@@ -45,7 +45,7 @@ fn were_offered(rt: &impl Abort, count: &PoolCount) {
 #[test]
 fn what_a_loop_makes_ready_is_offered_and_drawn(rt: HostRuntime) {
     let script = b"foreach i in [1:1000] { printf(\"%i\", i); }";
-    let gate = Held::new(&rt, 1, 1, 3);
+    let gate = BarrierGate::new(&rt, 1, 1, 3);
     let ran = run_of(&rt, rt.alloc(), script, (1, 1), MANY, &gate);
     is_equal(&rt, (gate.ran_out(), ran.0.history.len()), (false, 2034));
     were_offered(&rt, &ran.1);
@@ -56,7 +56,7 @@ fn what_a_loop_makes_ready_is_offered_and_drawn(rt: HostRuntime) {
 fn a_gate_learns_how_far_the_run_is(rt: HostRuntime) {
     let script =
         b"int x; int y; x = y; foreach i in [1:100] { printf(\"%i\", i); } foreach i in [1:10] { printf(\"%i\", x); } y = 2 + x;";
-    let gate = Watched::new();
+    let gate = ProgressGate::new();
     let ran = run_of(&rt, rt.alloc(), script, (1, 3), MANY, &gate);
     is_equal(&rt, ran.0.lines.len(), 100);
     let events = ran.0.history.len() as u64;

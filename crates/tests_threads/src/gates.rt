@@ -4,14 +4,14 @@ use std::alloc::AllocError;
 use std::sync::atomic::{AtomicBool, AtomicU64, Ordering};
 use std::thread;
 use std::time::Duration;
-use workers::job::{Gate, Progress};
+use workers::gate::{Gate, Progress};
 
 /// So many milliseconds an item is held at most. Once one was held for so long none is held any more.
 const TURNS: u32 = 10_000;
 
 /// Holds each leaf item until so many leaf items and so many control items have begun.
 #[derive(Drop)]
-pub(crate) struct Held<'a> {
+pub(crate) struct BarrierGate<'a> {
     clock: &'a HostRuntime,
     engines: u8,
     wanted_leaves: u64,
@@ -21,14 +21,14 @@ pub(crate) struct Held<'a> {
     ran_out: AtomicBool,
 }
 
-impl Held<'_> {
+impl BarrierGate<'_> {
     pub(crate) fn new(
         clock: &HostRuntime,
         engines: u8,
         wanted_leaves: u64,
         wanted_controls: u64,
-    ) -> Held<'_> {
-        Held {
+    ) -> BarrierGate<'_> {
+        BarrierGate {
             clock,
             engines,
             wanted_leaves,
@@ -39,7 +39,7 @@ impl Held<'_> {
         }
     }
 
-    /// Whether some item was held until the last millisecond.
+    /// Returns true if some item was held until the last millisecond.
     pub(crate) fn ran_out(&self) -> bool {
         self.ran_out.load(Ordering::SeqCst)
     }
@@ -60,7 +60,7 @@ impl Held<'_> {
     }
 }
 
-impl Gate for Held<'_> {
+impl Gate for BarrierGate<'_> {
     fn pass(&self, worker: u8, work: Work) -> Result<Done, (Work, AllocError)> {
         if worker < self.engines {
             self.controls.fetch_add(1, Ordering::SeqCst);
@@ -74,15 +74,15 @@ impl Gate for Held<'_> {
 
 /// Keeps how far the run was at its last event.
 #[derive(Drop)]
-pub(crate) struct Watched {
+pub(crate) struct ProgressGate {
     events: AtomicU64,
     lines: AtomicU64,
     active: AtomicU64,
 }
 
-impl Watched {
-    pub(crate) fn new() -> Watched {
-        Watched {
+impl ProgressGate {
+    pub(crate) fn new() -> ProgressGate {
+        ProgressGate {
             events: AtomicU64::new(0),
             lines: AtomicU64::new(0),
             active: AtomicU64::new(0),
@@ -99,7 +99,7 @@ impl Watched {
     }
 }
 
-impl Gate for Watched {
+impl Gate for ProgressGate {
     fn pass(&self, _worker: u8, work: Work) -> Result<Done, (Work, AllocError)> {
         work.compute()
     }

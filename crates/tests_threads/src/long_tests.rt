@@ -2,7 +2,7 @@
 use crate::asserts::{holds, is_equal};
 use crate::threaded::{MANY, adds_up, run_of};
 use board_runs::report::{End, Report};
-use workers::job::Open;
+use workers::gate::DirectGate;
 
 /// The tallies of a report, added up.
 fn told(report: &Report) -> u32 {
@@ -13,7 +13,7 @@ fn told(report: &Report) -> u32 {
     told
 }
 
-/// Whether the run was cut off at the limit.
+/// Returns true if the run was cut off at the limit.
 fn is_limited(report: &Report) -> bool {
     matches!(report.end, End::Limit)
 }
@@ -21,7 +21,7 @@ fn is_limited(report: &Report) -> bool {
 #[test]
 fn ten_million_events_on_64_threads(rt: HostRuntime) {
     let script = b"foreach i in [1:4000000] { int x = i + 1; int y = x * 2; }";
-    let ran = run_of(&rt, rt.alloc(), script, (8, 56), MANY, &Open);
+    let ran = run_of(&rt, rt.alloc(), script, (8, 56), MANY, &DirectGate);
     holds(&rt, is_limited(&ran.0));
     is_equal(&rt, ran.0.history.len(), 10_000_000);
     is_equal(&rt, told(&ran.0), MANY);

@@ -5,7 +5,6 @@ use crate::asserts::{boxed, holds, is_equal};
 use board_program::program::Program;
 use board_runs::report::{End, Report};
 use compile::compile::compile;
-use packed_events::PackedEvent;
 use std::alloc::Global;
 use std::process::Abort;
 use std::sync::Wait;
@@ -14,9 +13,10 @@ use swt_trace::replay::replay;
 use swt_trace::report::write_report;
 use swt_trace::write::write_trace;
 use task_code::code::Code;
+use task_code::packed_event::PackedEvent;
 use values::sink::{Sink, SinkFault};
 use workers::fault::RunFault;
-use workers::job::Gate;
+use workers::gate::Gate;
 use workers::run::{PoolCount, run_threads};
 
 /// More events than the scripts here have.
@@ -24,12 +24,12 @@ pub(crate) const MANY: u32 = 10_000_000;
 
 /// A text in memory.
 #[derive(Drop)]
-struct Written {
+struct MemorySink {
     bytes: Vec<u8>,
     failures: u64,
 }
 
-impl Sink for Written {
+impl Sink for MemorySink {
     ghost taken = { λ sink. sink.bytes.items };
 
     ghost failures = { λ sink. sink.failures };
@@ -46,7 +46,7 @@ impl Sink for Written {
 }
 
 /// What a run reports, and what its pool counted.
-pub(crate) type Ran = (Report, PoolCount);
+pub(crate) type RunOutput = (Report, PoolCount);
 
 /// The code of a script.
 pub(crate) fn code_of(rt: &impl Abort, alloc: Global, script: &[u8]) -> Box<Code> {
@@ -68,7 +68,7 @@ pub(crate) fn tried<R: Threads + Wait + Sync + Abort, G: Gate>(
     (engines, workers): (u8, u8),
     limit: u32,
     gate: &G,
-) -> Box<Result<Ran, RunFault>> {
+) -> Box<Result<RunOutput, RunFault>> {
     let program = program_of(rt, alloc, code);
     let answer = run_threads(rt, alloc, &program, engines, workers, limit, gate);
     boxed(rt, alloc, answer)
@@ -82,14 +82,14 @@ pub(crate) fn run_of<R: Threads + Wait + Sync + Abort, G: Gate>(
     (engines, workers): (u8, u8),
     limit: u32,
     gate: &G,
-) -> Box<Ran> {
+) -> Box<RunOutput> {
     let code = code_of(rt, alloc, script);
     let program = program_of(rt, alloc, &code);
     let ran = run_threads(rt, alloc, &program, engines, workers, limit, gate).expect(rt, "a run");
     boxed(rt, alloc, ran)
 }
 
-/// Whether the report's trace, run again, gives the same report.
+/// Returns true if the report's trace, run again, gives the same report.
 fn is_replayed(rt: &impl Abort, alloc: Global, report: &Report) -> bool {
     let again = again(rt, alloc, report);
     tells_same(rt, alloc, &again, report)
@@ -102,7 +102,7 @@ fn again(rt: &impl Abort, alloc: Global, report: &Report) -> Box<Report> {
     boxed(rt, alloc, again)
 }
 
-/// Whether two histories have the same events.
+/// Returns true if two histories have the same events.
 fn are_alike(again: &[PackedEvent], history: &[PackedEvent]) -> bool {
     if again.len() != history.len() {
         return false;
@@ -115,7 +115,7 @@ fn are_alike(again: &[PackedEvent], history: &[PackedEvent]) -> bool {
     true
 }
 
-/// Whether two reports tell the same.
+/// Returns true if two reports tell the same.
 fn tells_same(rt: &impl Abort, alloc: Global, again: &Report, report: &Report) -> bool {
     again.tallies.as_slice() == report.tallies.as_slice()
         && are_alike(&again.history, &report.history)
@@ -129,28 +129,28 @@ fn has_same_text(rt: &impl Abort, alloc: Global, again: &Report, report: &Report
 }
 
 /// An empty text in memory.
-fn unwritten(alloc: Global) -> Written
+fn unwritten(alloc: Global) -> MemorySink
     ensures { result.failures ≡ 0 }
 {
-    Written {
+    MemorySink {
         bytes: Vec::new(alloc),
         failures: 0,
     }
 }
 
-fn trace_of(rt: &impl Abort, alloc: Global, report: &Report) -> Written {
+fn trace_of(rt: &impl Abort, alloc: Global, report: &Report) -> MemorySink {
     let mut trace = unwritten(alloc);
     write_trace(report, &mut trace).expect(rt, "memory");
     trace
 }
 
-fn text_of(rt: &impl Abort, alloc: Global, report: &Report) -> Written {
+fn text_of(rt: &impl Abort, alloc: Global, report: &Report) -> MemorySink {
     let mut text = unwritten(alloc);
     write_report(report, &mut text).expect(rt, "memory");
     text
 }
 
-/// Whether the run ended quiet with nothing blocked.
+/// Returns true if the run ended quiet with nothing blocked.
 fn is_done(report: &Report) -> bool {
     matches!(report.end, End::Quiet) && report.blocked.is_empty()
 }

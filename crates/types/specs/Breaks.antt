@@ -1,7 +1,8 @@
--- Which rule a refusal names, and where: the rules of names, calls and types, and what in a script they are about.
+-- Rules that a refusal names, with their places: the rules of names, calls and types, and the parts of a script that
+-- they concern.
 use Rattle.std.specs.Prelude.{◌≡◌, ◌≢◌, ℕ, suc, ℤ, false, List, [], ◌∷◌, length, Option, Some, None}
 use Rattle.lexer.specs.declared.token.Span.{Span}
-use Rattle.values.specs.declared.format.Piece.{Piece}
+use Rattle.values.specs.declared.format.FormatPiece.{FormatPiece}
 use Rattle.values.specs.Formats.{pieces}
 use Rattle.types.specs.declared.fault.TypeFault.{TypeFault}
 use Rattle.types.specs.declared.fault.TypeFault.TheVariants.{Unknown, Declared, Mismatch, WrongCount, BadFormat, NotAFunction}
@@ -25,9 +26,9 @@ use Rattle.types.specs.Expressions.{first_of, count}
 use Rattle.types.specs.Scripts.{checked}
 use Rattle.types.specs.Wants.{OfType, OfTypes, Outputs, Gives, Want, of_type, before, Meets, each, element_of, Takes}
 
--- WHAT RULES ARE ABOUT
+-- SUBJECTS OF RULES
 
--- what a call is for: to give so many outputs, or to be a statement
+-- the purpose of a call: n outputs, or a statement
 pub data Purpose : Type 0 where
   giving : ℕ → Purpose
   alone : Purpose
@@ -37,27 +38,28 @@ outputs_for (giving n) = n
 outputs_for alone = 0
 
 pub data Thing : Type 0 where
-  -- a variable's name where it is used, or declared
+  -- the name of a variable where it is used, or declared
   used : Word → Thing
   introduced : Word → Thing
-  -- a function's name, with those above it
+  -- the name of a function, with the names of those above it
   composite : (above : List (List ℕ)) → Word → Thing
   -- a called name with its arguments
   call : Word → Expressions → Purpose → Thing
-  -- an expression with what is wanted of it
+  -- an expression with the type that its context wants
   expects : Want → Expression → Thing
-  -- a name where an array's is wanted
+  -- a name where that of an array is wanted
   as_array : Word → Thing
   -- an array literal with the type of its target
   literal : Node → Typ → Thing
-  -- a called name with the variables that its outputs go to
+  -- a called name with the variables that receive its outputs
   outputs_to : Word → List Word → Thing
-  -- a chain without operands, or an operand of a chain that has not one operand more than operators; the parser makes none
+  -- a chain without operands, or an operand of a chain that has not one operand more than operators; the parser makes
+  -- none
   uneven : Expression → Thing
 
--- RULES THAT ARE BROKEN
+-- BROKEN RULES
 
--- a built-in function is called with so many arguments for this purpose
+-- a built-in function can be called with n arguments for this purpose
 abbrev pub BuiltinCounts : Builtin → ℕ → Purpose → Type 0
 BuiltinCounts strcat n u = (n ≢ 0) × (u ≡ giving 1)
 BuiltinCounts fromint n u = (n ≡ 1) × (u ≡ giving 1)
@@ -69,15 +71,15 @@ BuiltinCounts assert n u = (n ≡ 2) × (u ≡ alone)
 abbrev pub Counts : Signature → ℕ → Purpose → Type 0
 Counts f n u = (length f.inputs ≡ n) × (length f.outputs ≡ outputs_for u)
 
--- a string literal that is a format
+-- a string literal with a valid format
 abbrev pub IsFormat : Expression → Type 0
-IsFormat e = (nd : Node) × (bytes : List ℕ) × (ps : List Piece) × (e ≡ expression nd (text bytes)) × (pieces false bytes ≡ Some ps)
+IsFormat e = (nd : Node) × (bytes : List ℕ) × (ps : List FormatPiece) × (e ≡ expression nd (text bytes)) × (pieces false bytes ≡ Some ps)
 
--- from an expression's first token to its end
+-- the span from the first token of an expression to its end
 abbrev pub whole_of : Expression → Span
 whole_of (expression nd f) = record { from = nd.first.from; to = nd.to }
 
--- a rule that a thing breaks where these variables are visible, as the fault that names it there
+-- a rule that a thing breaks in this scope, as the fault that names it with its place
 pub data Broken (fs : List Signature) (g : Scope) : Thing → TypeFault → Type 0 where
   unknown : {w : Word} → ¬ IsVisible g w.text → Broken fs g (used w) (Unknown w.span)
   visible_before : {w : Word} → IsVisible g w.text → Broken fs g (introduced w) (Declared w.span)
@@ -87,7 +89,7 @@ pub data Broken (fs : List Signature) (g : Scope) : Thing → TypeFault → Type
       → Broken fs g (call w es u) (WrongCount w.span)
   wrong_count_of_builtin : {w : Word} {es : Expressions} {u : Purpose} → (b : Builtin) → w.text ≡ builtin_text b → ¬ BuiltinCounts b (count es) u
       → Broken fs g (call w es u) (WrongCount w.span)
-  wrong_count_of_conversions : {w : Word} {nd : Node} {bytes : List ℕ} {es : Expressions} → (ps : List Piece) → w.text ≡ builtin_text printf
+  wrong_count_of_conversions : {w : Word} {nd : Node} {bytes : List ℕ} {es : Expressions} → (ps : List FormatPiece) → w.text ≡ builtin_text printf
       → pieces false bytes ≡ Some ps → ¬ (count es ≡ length (wanted ps))
       → Broken fs g (call w (and_expression (expression nd (text bytes)) es) alone) (WrongCount w.span)
   no_format : {w : Word} {e : Expression} {es : Expressions} → w.text ≡ builtin_text printf → ¬ IsFormat e
@@ -102,9 +104,9 @@ pub data Broken (fs : List Signature) (g : Scope) : Thing → TypeFault → Type
       → Broken fs g (outputs_to w ws) (Mismatch w.span)
   no_chain : {e : Expression} → Broken fs g (uneven e) (Mismatch (first_of e))
 
--- WHERE THINGS STAND
+-- OCCURRENCES OF THINGS
 
--- some thing of an expression, of which B holds
+-- some thing in an expression, for which B holds
 mutual
   pub data InExpression (fs : List Signature) (B : Scope → Thing → Type 0) (g : Scope) : Expression → Type 0 where
     its_name : {nd : Node} {w : Word} → B g (used w) → InExpression fs B g (expression nd (variable w))
@@ -126,7 +128,7 @@ mutual
     its_arguments : {nd : Node} {w : Word} {es : Expressions} {wants : List Want} → Takes fs w.text es wants → InExpressions fs B g wants es
         → InExpression fs B g (expression nd (tree.call w es))
 
-  -- of an operand with the operators and operands behind it, in a chain of operands of type b that gives c
+  -- in an operand or in the following operators and operands, in a chain of operands of type b with results of type c
   pub data InOperands (fs : List Signature) (B : Scope → Thing → Type 0) (g : Scope) : Base → Base → Expression → List Operator → Expressions → Type 0 where
     its_operator : {b c : Base} {e : Expression} {o : Operator} {os : List Operator} {es : Expressions} → B g (expects (before o c) e) → InOperands fs B g b c e (o ∷ os) es
     next_operand : {b c : Base} {e d : Expression} {o : Operator} {os : List Operator} {es : Expressions} → InWanted fs B g (of_type (one_of b)) d
@@ -136,7 +138,7 @@ mutual
     too_few : {b c : Base} {e : Expression} {o : Operator} {os : List Operator} → B g (uneven e) → InOperands fs B g b c e (o ∷ os) no_expressions
     too_many : {b c : Base} {e d : Expression} {es : Expressions} → B g (uneven e) → InOperands fs B g b c e [] (and_expression d es)
 
-  -- of an expression of which something is wanted
+  -- in an expression for which a type is wanted
   pub data InWanted (fs : List Signature) (B : Scope → Thing → Type 0) (g : Scope) : Want → Expression → Type 0 where
     itself : {want : Want} {e : Expression} → B g (expects want e) → InWanted fs B g want e
     within : {want : Want} {e : Expression} → InExpression fs B g e → InWanted fs B g want e
@@ -150,7 +152,7 @@ pub data InWords (B : Scope → Thing → Type 0) (g : Scope) : List Word → Ty
   first_word : {w : Word} {ws : List Word} → B g (used w) → InWords B g (w ∷ ws)
   later_word : {w : Word} {ws : List Word} → InWords B g ws → InWords B g (w ∷ ws)
 
--- of a right side, by the type of its target
+-- in a right side, by the type of its target
 pub data InRight (fs : List Signature) (B : Scope → Thing → Type 0) (g : Scope) (τ : Typ) : RightSide → Type 0 where
   in_value : {e : Expression} → InWanted fs B g (of_type τ) e → InRight fs B g τ (value e)
   the_list : {nd : Node} {es : List Expression} → B g (literal nd τ) → InRight fs B g τ (list nd es)
@@ -163,7 +165,7 @@ pub data InOver (fs : List Signature) (B : Scope → Thing → Type 0) (g : Scop
   to_high : {low high : Expression} {step : Option Expression} → InWanted fs B g (of_type (one_of Int)) high → InOver fs B g (range low high step)
   by_step : {low high step : Expression} → InWanted fs B g (of_type (one_of Int)) step → InOver fs B g (range low high (Some step))
 
--- the types of the values and of the keys that a loop goes over
+-- the types of the values and of the keys that a loop iterates over
 pub data Values : Scope → Over → Base → Base → Type 0 where
   of_array : {g : Scope} {w : Word} {κ : Keys} {b : Base} → OfType g w (many_of κ b) → Values g (array w) b (base_of_keys κ)
   of_range : {g : Scope} {low high : Expression} {step : Option Expression} → Values g (range low high step) Int Int
@@ -172,7 +174,7 @@ abbrev pub with_key : Scope → Option Word → Base → Scope
 with_key g None c = g
 with_key g (Some k) c = own k (one_of c) ∷ g
 
--- the scope behind a statement
+-- the scope after a statement
 abbrev pub behind_command : Scope → Command → Scope
 behind_command g (declare d r) = own d.name (declared_type d) ∷ g
 behind_command g (assign w r) = g
@@ -187,7 +189,7 @@ behind_command g (waits ws b) = g
 abbrev pub behind : Scope → Statement → Scope
 behind g (statement nd c) = behind_command g c
 
--- some thing of a statement, of which B holds in the scope where it stands
+-- some thing in a statement, for which B holds in the scope at its place
 mutual
   pub data InCommand (fs : List Signature) (B : Scope → Thing → Type 0) : Scope → Command → Type 0 where
     its_declaration : {g : Scope} {d : Declaration} {r : Option RightSide} → B g (introduced d.name) → InCommand fs B g (declare d r)
@@ -227,7 +229,7 @@ mutual
     first_statement : {g : Scope} {nd : Node} {c : Command} {ss : Statements} → InCommand fs B g c → InStatements fs B g (and_statement (statement nd c) ss)
     later_statement : {g : Scope} {s : Statement} {ss : Statements} → InStatements fs B (behind g s) ss → InStatements fs B g (and_statement s ss)
 
--- an output or input of a function, by its place among them
+-- an output or input of a function, by its position
 abbrev pub parameter : (ℕ → Owned) → ℕ → Declaration → Visible
 parameter owned i d = record { text = d.name.text; refers_to = record { up = 0; what = owned i }; type = declared_type d }
 
@@ -252,7 +254,7 @@ pub data InFunction (fs : List Signature) (B : Scope → Thing → Type 0) (abov
   in_inputs : InParameters B input (outputs_scope f) 0 f.inputs → InFunction fs B above f
   in_body : InBody fs B (inputs_scope f) f.body → InFunction fs B above f
 
--- some thing of a script, of which B holds where it stands
+-- some thing in a script, for which B holds at its place
 pub data InParts (fs : List Signature) (B : Scope → Thing → Type 0) : List (List ℕ) → Scope → Tree → Type 0 where
   in_function : {above : List (List ℕ)} {g : Scope} {f : Composite} {ps : Tree} → InFunction fs B above f → InParts fs B above g (function f ∷ ps)
   in_statement : {above : List (List ℕ)} {g : Scope} {nd : Node} {c : Command} {ps : Tree} → InCommand fs B g c → InParts fs B above g (single (statement nd c) ∷ ps)
@@ -260,7 +262,7 @@ pub data InParts (fs : List Signature) (B : Scope → Thing → Type 0) : List (
   behind_function : {above : List (List ℕ)} {g : Scope} {f : Composite} {ps : Tree} → InParts fs B (f.name.text ∷ above) g ps → InParts fs B above g (function f ∷ ps)
   behind_statement : {above : List (List ℕ)} {g : Scope} {s : Statement} {ps : Tree} → InParts fs B above (behind g s) ps → InParts fs B above g (single s ∷ ps)
 
--- a script breaks the rule that a fault names, at the fault's place
+-- the script breaks the rule that the fault names, at the place of the fault
 abbrev pub Breaks : Tree → TypeFault → Type 0
 Breaks tree y = InParts (signatures tree) (λ g x. Broken (signatures tree) g x y) [] [] tree
 
@@ -268,6 +270,6 @@ Breaks tree y = InParts (signatures tree) (λ g x. Broken (signatures tree) g x 
 abbrev pub RefusalNames : Type 0
 RefusalNames = (tree : Tree) (y : TypeFault) → checked tree ≡ refused y → Breaks tree y
 
--- a script that is well typed breaks no rule
+-- a well typed script breaks no rule
 abbrev pub BreaksNothing : Type 0
 BreaksNothing = (tree : Tree) (y : TypeFault) (t : Table) → WellTyped tree t → ¬ Breaks tree y

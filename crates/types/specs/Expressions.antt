@@ -1,10 +1,10 @@
--- The types of expressions, found from left to right, or the first fault.
+-- Types of expressions, inferred from left to right, or the first fault.
 use Rattle.std.specs.Prelude.{ℕ, suc, Bool, true, false, List, [], ◌∷◌, Option, Some, None, cond}
 use Rattle.lexer.specs.declared.token.Span.{Span}
 use Rattle.types.specs.declared.fault.TypeFault.TheVariants.{Mismatch, WrongCount}
 use Rattle.types.specs.declared.typed.Callee.TheVariants.{BuiltIn}
 use Rattle.types.specs.declared.typed.Builtin.{Builtin}
-use Rattle.types.specs.declared.typed.Elements.{Elements}
+use Rattle.types.specs.declared.typed.ElementTypes.{ElementTypes}
 use Rattle.types.specs.declared.typed.Builtin.TheVariants as Named
 use Rattle.language.specs.declared.tree.Base.{Base}
 use Rattle.language.specs.declared.tree.Base.TheVariants.{Int, Text, Boolean}
@@ -41,7 +41,7 @@ same_shape Scalar Scalar = true
 same_shape (Array κ) (Array ι) = same_keys κ ι
 same_shape s r = false
 
--- a type that is the wanted one
+-- a check that the found type is the wanted one
 abbrev pub has_base : Base → Base → Span → Check (Unit {0})
 has_base found wanted at settled = cond (same_base found wanted) (got tt settled) (refused (Mismatch at))
 
@@ -56,15 +56,15 @@ scalar_by (Array κ) b at settled = refused (Mismatch at)
 abbrev pub scalar : Typ → Span → Check Base
 scalar τ at = scalar_by τ.shape τ.base at
 
--- what an array gives: the types of its elements and of an index
-abbrev pub elements_by : Shape → Base → Span → Check Elements
+-- the element and key types of an array
+abbrev pub elements_by : Shape → Base → Span → Check ElementTypes
 elements_by Scalar b at settled = refused (Mismatch at)
 elements_by (Array κ) b at settled = got (record { value = b; key = base_of_keys κ }) settled
 
-abbrev pub elements_of : Typ → Span → Check Elements
+abbrev pub elements_of : Typ → Span → Check ElementTypes
 elements_of τ at = elements_by τ.shape τ.base at
 
--- what an operator gives of two operands of a type
+-- the result type of an operator on two operands of one type
 abbrev pub number_only : Base → Base → Option Base
 number_only c Int = Some c
 number_only c b = None
@@ -101,11 +101,11 @@ abbrev pub given_or : Option Base → Span → Check Base
 given_or None at settled = refused (Mismatch at)
 given_or (Some c) at settled = got c settled
 
--- an operator that takes its operands; one that does not is refused at the operand before it
+-- the result type of an operator; one that does not accept its operands is refused at the preceding operand
 abbrev pub given_by : Operator → Base → Span → Check Base
 given_by o b before = given_or (gives o b) before
 
--- and gives the type that is wanted
+-- a check that the operator also has the wanted result type
 abbrev pub takes : Operator → Base → Base → Span → Check (Unit {0})
 takes o b c before settled = given_by o b before settled >>= λ d. has_base d c before
 
@@ -122,12 +122,12 @@ abbrev pub count : Expressions → ℕ
 count no_expressions = 0
 count (and_expression e es) = suc (count es)
 
--- a scalar of the type that is wanted, where one is; else any type, also an array's
+-- a scalar of the wanted type if there is one; else any type, also an array's
 abbrev pub has_wanted : Typ → Option Base → Span → Check (Unit {0})
 has_wanted τ None at settled = got tt settled
 has_wanted τ (Some b) at settled = scalar τ at settled >>= λ c. has_base c b at
 
--- whether an expression is a variable's name
+-- true if an expression is the name of a variable
 abbrev pub named_form : Form → Bool
 named_form (variable w) = true
 named_form f = false
@@ -135,11 +135,11 @@ named_form f = false
 abbrev pub named : Expression → Bool
 named (expression nd f) = named_form f
 
--- an array's name, with what it gives
-abbrev pub array_name : Typ → Expression → Check Elements
+-- the element and key types of an array that is given by its name
+abbrev pub array_name : Typ → Expression → Check ElementTypes
 array_name τ e settled = cond (named e) (elements_of τ (first_of e) settled) (refused (Mismatch (first_of e)))
 
--- an argument of a type that is found fits an input of another: for an array it is an array's name
+-- a check that an argument fits an input: for an array input it is the name of an array
 abbrev pub fits_by : Shape → Typ → Typ → Expression → Check (Unit {0})
 fits_by Scalar τ σ e settled = scalar τ (first_of e) settled >>= λ c. has_base c σ.base (first_of e)
 fits_by (Array κ) τ σ e settled = array_name τ e settled >>= λ given. has_type τ σ (first_of e)
@@ -147,7 +147,7 @@ fits_by (Array κ) τ σ e settled = array_name τ e settled >>= λ given. has_t
 abbrev pub fits : Typ → Typ → Expression → Check (Unit {0})
 fits found input e = fits_by input.shape found input e
 
--- the type that a built-in function of one argument gives
+-- the result type of a built-in function of one argument
 abbrev pub of_one : Builtin → Typ → Expression → Span → Check Base
 of_one Named.FromInt τ e at settled = (scalar τ (first_of e) settled >>= λ c. has_base c Int (first_of e)) >>= λ u. got Text
 of_one Named.ToInt τ e at settled = (scalar τ (first_of e) settled >>= λ c. has_base c Text (first_of e)) >>= λ u. got Int
@@ -156,12 +156,12 @@ of_one Named.Strcat τ e at settled = refused (WrongCount at)
 of_one Named.Printf τ e at settled = refused (WrongCount at)
 of_one Named.Assert τ e at settled = refused (WrongCount at)
 
--- one or more arguments
+-- a check that there is at least one argument
 abbrev pub some_given : Expressions → Span → Check (Unit {0})
 some_given no_expressions at settled = refused (WrongCount at)
 some_given (and_expression e es) at settled = got tt settled
 
--- the type that a built-in function gives, by what its arguments are as texts and as one argument
+-- the result type of a built-in function, by the checks of its arguments as texts and as one argument
 abbrev pub builtin_by : Builtin → Expressions → Check (Unit {0}) → Check Base → Span → Check Base
 builtin_by Named.Strcat es texts only at settled = (some_given es at settled >>= λ u. texts) >>= λ u. got Text
 builtin_by Named.FromInt es texts only at settled = only settled
@@ -170,12 +170,12 @@ builtin_by Named.Size es texts only at settled = only settled
 builtin_by Named.Printf es texts only at settled = refused (WrongCount at)
 builtin_by Named.Assert es texts only at settled = refused (WrongCount at)
 
--- the type of the one output of a function
+-- the type of the only output of a function
 abbrev pub output_of : List Typ → Span → Check Typ
 output_of [] at settled = refused (WrongCount at)
 output_of (τ ∷ τs) at settled = got τ settled
 
--- a built-in function or another one
+-- one result for a built-in function, another for any other
 abbrev pub either : {A : Type 0} → Option Builtin → (Builtin → A) → A → A
 either None f other = other
 either (Some b) f other = f b
@@ -183,15 +183,15 @@ either (Some b) f other = f b
 -- EXPRESSIONS
 
 unfoldable mutual
-  -- the type of an expression that may be an array's name or a call that gives an array
+  -- the type of an expression that may be the name of an array or a call whose value is an array
   pub whole : List Signature → Around → Expression → Check Typ
   whole fs g (expression nd f) settled = whole_form fs g f nd.first settled
 
-  -- an expression that is a scalar
+  -- the type of a scalar expression
   pub typed : List Signature → Around → Expression → Check Base
   typed fs g (expression nd f) settled = whole_form fs g f nd.first settled >>= λ τ. scalar τ nd.first
 
-  -- an expression of a type that is wanted
+  -- a check that an expression has the wanted type
   pub expected : List Signature → Around → Expression → Base → Check (Unit {0})
   expected fs g (expression nd f) b settled = (whole_form fs g f nd.first settled >>= λ τ. scalar τ nd.first) >>= λ c. has_base c b nd.first
 
@@ -209,13 +209,13 @@ unfoldable mutual
       (λ f. (called w (BuiltIn f) settled >>= λ u. builtin_by f es (elements fs g es (Some Text)) (only fs g es f w.span) w.span) >>= λ b. got (one_of b))
       (function_called fs w (count es) 1 settled >>= λ f s. arguments fs g es f.inputs w.span s >>= λ u. output_of f.outputs w.span)
 
-  -- the operands of a chain with its operators
+  -- the type of a chain, by its operands and operators
   pub chained : List Signature → Around → Expressions → List Operator → Span → Check Base
   chained fs g no_expressions os at settled = refused (Mismatch at)
   chained fs g (and_expression e es) os at settled =
       typed fs g e settled >>= λ b s. first_given os b (first_of e) s >>= λ c s. further fs g es os b c (first_of e) s >>= λ u. got c
 
-  -- operands behind the first one, each behind its operator
+  -- the operands after the first one, each with its preceding operator
   pub further : List Signature → Around → Expressions → List Operator → Base → Base → Span → Check (Unit {0})
   further fs g no_expressions [] b c before settled = got tt settled
   further fs g no_expressions (o ∷ os) b c before settled = refused (Mismatch before)
@@ -223,7 +223,7 @@ unfoldable mutual
   further fs g (and_expression e es) (o ∷ os) b c before settled =
       takes o b c before settled >>= λ u s. expected fs g e b s >>= λ u. further fs g es os b c (first_of e)
 
-  -- expressions of a type that is wanted, or of any
+  -- expressions of the wanted type, or of any type
   pub elements : List Signature → Around → Expressions → Option Base → Check (Unit {0})
   elements fs g no_expressions b settled = got tt settled
   elements fs g (and_expression e es) b settled = (whole fs g e settled >>= λ τ. has_wanted τ b (first_of e)) >>= λ u. elements fs g es b
@@ -234,12 +234,12 @@ unfoldable mutual
   arguments fs g (and_expression e es) [] at settled = refused (WrongCount at)
   arguments fs g (and_expression e es) (τ ∷ τs) at settled = (whole fs g e settled >>= λ found. fits found τ e) >>= λ u. arguments fs g es τs at
 
-  -- the one argument of a built-in function
+  -- the only argument of a built-in function
   pub only : List Signature → Around → Expressions → Builtin → Span → Check Base
   only fs g no_expressions f at settled = refused (WrongCount at)
   only fs g (and_expression e no_expressions) f at settled = whole fs g e settled >>= λ τ. of_one f τ e at
   only fs g (and_expression e (and_expression d es)) f at settled = refused (WrongCount at)
 
--- a built-in function that is called for its value
+-- the result type of a built-in function that is called for its value
 abbrev pub builtin_type : List Signature → Around → Builtin → Expressions → Span → Check Base
 builtin_type fs g f es at = builtin_by f es (elements fs g es (Some Text)) (only fs g es f at) at

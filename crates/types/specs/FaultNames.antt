@@ -1,4 +1,4 @@
--- The number and the name of each rule of the types. Want of memory is no refusal and has no number.
+-- Number and name of each typing rule. An allocation failure is not a refusal and has no number.
 use Rattle.std.specs.Prelude.{ℕ, List, codes}
 use Rattle.types.specs.declared.fault.TypeFault.{TypeFault}
 use Rattle.types.specs.declared.fault.TypeFault.TheVariants as Typing

@@ -1,4 +1,4 @@
--- The functions of a script, as a list.
+-- The signatures of a script, as a list.
 use Rattle.std.specs.Prelude.{List, map}
 use Rattle.types.specs.declared.signatures.Functions.{Functions}
 use Rattle.language.specs.Scopes.{Signature}

@@ -1,8 +1,8 @@
--- What is visible while a script is checked, and what is settled about its names.
+-- The scope during a check, and the signatures of a script.
 use Rattle.std.specs.Prelude.{ℕ, List, [], map, vec_len}
-use Rattle.types.specs.declared.typed.Owned.{Owned}
+use Rattle.types.specs.declared.typed.Binding.{Binding}
 use Rattle.types.specs.declared.typed.VariableType.{VariableType}
-use Rattle.types.specs.declared.scope.Known.{Known}
+use Rattle.types.specs.declared.scope.VisibleVariable.{VisibleVariable}
 use Rattle.types.specs.declared.scope.Scope as scopes
 use Rattle.types.specs.declared.signatures.Signature as signatures
 use Rattle.language.specs.Scopes.{Typ, Signature}
@@ -10,19 +10,19 @@ use Rattle.language.specs.Scopes.{Typ, Signature}
 abbrev pub type_of : VariableType → Typ
 type_of t = record { base = t.base; shape = t.shape }
 
--- a visible variable: its text, how many blocks were open at its declaration, what it is there, and its type
+-- a visible variable: its name, the number of blocks that were open at its declaration, its binding, and its type
 pub record Seen : Type 0 where
   pub text : List ℕ
   pub depth : ℕ
-  pub what : Owned
+  pub what : Binding
   pub of : Typ
 
--- how many blocks are open, and the visible variables in the order of their declarations
+-- a scope: the number of open blocks, and the visible variables in the order of their declarations
 pub record Around : Type 0 where
   pub depth : ℕ
   pub names : List Seen
 
-abbrev pub seen_at : List ℕ → Known → Seen
+abbrev pub seen_at : List ℕ → VisibleVariable → Seen
 seen_at text k = record { text = text; depth = k.depth; what = k.what; of = type_of k.of }
 
 abbrev pub around_of : scopes.Scope → Around

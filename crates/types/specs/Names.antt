@@ -1,11 +1,11 @@
--- Which variable, function or built-in function a name is.
+-- Resolution of names to variables, functions and built-in functions.
 use Rattle.std.specs.Prelude.{ℕ, List, [], ◌∷◌, ◌++◌, ◌-◌, ◌+◌, length, Option, Some, None, codes, cond, nat_eq}
 use Rattle.std.specs.Str.{bytes_eq}
 use Rattle.types.specs.declared.fault.TypeFault.TheVariants.{Unknown, Declared, WrongCount, NotAFunction}
-use Rattle.types.specs.declared.typed.Owned.{Owned}
-use Rattle.types.specs.declared.typed.Meaning.{Meaning}
-use Rattle.types.specs.declared.typed.Meaning.TheVariants.{Variable, Called}
-use Rattle.types.specs.declared.typed.Settled.{Settled}
+use Rattle.types.specs.declared.typed.Binding.{Binding}
+use Rattle.types.specs.declared.typed.NameMeaning.{NameMeaning}
+use Rattle.types.specs.declared.typed.NameMeaning.TheVariants.{Variable, Called}
+use Rattle.types.specs.declared.typed.NameEntry.{NameEntry}
 use Rattle.types.specs.declared.typed.Callee.{Callee}
 use Rattle.types.specs.declared.typed.Callee.TheVariants.{Function}
 use Rattle.types.specs.declared.typed.Builtin.{Builtin}
@@ -15,13 +15,13 @@ use Rattle.language.specs.Scopes.{Typ, Signature}
 use Rattle.types.specs.Known.{Seen, Around}
 use Rattle.types.specs.Outcomes.{refused, got, Check}
 
--- what is settled, with the meaning of one more name
-abbrev pub settles : Word → Meaning → List Settled → List Settled
+-- the recorded names, with the meaning of one more
+abbrev pub settles : Word → NameMeaning → List NameEntry → List NameEntry
 settles w m settled = settled ++ record { number = w.number; meaning = m } ∷ []
 
 -- VARIABLES
 
--- the first one of a text
+-- the first variable with this name
 abbrev pub seen : List Seen → List ℕ → Option Seen
 seen [] text = None
 seen (k ∷ ks) text = cond (bytes_eq k.text text) (Some k) (seen ks text)
@@ -30,7 +30,7 @@ abbrev pub referred : Around → Word → Option Seen → Check Typ
 referred g w None settled = refused (Unknown w.span)
 referred g w (Some k) settled = got k.of (settles w (Variable (record { up = g.depth - k.depth; what = k.what }) k.of.shape) settled)
 
--- the type of the variable that a name refers to, which is settled
+-- the type of the variable that a name refers to, which is recorded
 abbrev pub refer : Around → Word → Check Typ
 refer g w = referred g w (seen g.names w.text)
 
@@ -38,12 +38,12 @@ abbrev pub free : Word → Option Seen → Check (Unit {0})
 free w None settled = got tt settled
 free w (Some k) settled = refused (Declared w.span)
 
--- a name that is not visible
+-- a check that a name is not visible
 abbrev pub fresh : Around → Word → Check (Unit {0})
 fresh g w = free w (seen g.names w.text)
 
 -- the scope with one more variable
-abbrev pub added : Around → Word → Owned → Typ → Around
+abbrev pub added : Around → Word → Binding → Typ → Around
 added g w what of = record { depth = g.depth; names = g.names ++ record { text = w.text; depth = g.depth; what = what; of = of } ∷ [] }
 
 -- FUNCTIONS
@@ -57,12 +57,12 @@ builtin_of text =
     (cond (bytes_eq text (codes "printf")) (Some Named.Printf)
     (cond (bytes_eq text (codes "assert")) (Some Named.Assert) None)))))
 
--- a function with its place among the script's
+-- a function with its position among those of the script
 pub data Found : Type 0 where
   missing : Found
   found : (place : ℕ) → Signature → Found
 
--- the first one of a text, from a place on
+-- the first function with this name, counted from position n
 abbrev pub find_from : ℕ → List Signature → List ℕ → Found
 find_from n [] text = missing
 find_from n (f ∷ fs) text = cond (bytes_eq f.text text) (found n f) (find_from (n + 1) fs text)
@@ -74,7 +74,7 @@ abbrev pub place_of : Found → Option ℕ
 place_of missing = None
 place_of (found n f) = Some n
 
--- one that is called with so many arguments for so many outputs
+-- a function with these numbers of inputs and outputs, which is recorded
 abbrev pub counted : Word → ℕ → ℕ → Found → Check Signature
 counted w inputs outputs missing settled = refused (NotAFunction w.span)
 counted w inputs outputs (found n f) settled =
@@ -85,6 +85,6 @@ counted w inputs outputs (found n f) settled =
 abbrev pub function_called : List Signature → Word → ℕ → ℕ → Check Signature
 function_called fs w inputs outputs = counted w inputs outputs (find fs w.text)
 
--- a called name is settled
+-- a called name is recorded
 abbrev pub called : Word → Callee → Check (Unit {0})
 called w c settled = got tt (settles w (Called c) settled)

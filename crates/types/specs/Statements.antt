@@ -1,14 +1,14 @@
--- Statements, checked from left to right, each with the scope that it leaves, or the first fault.
+-- The check of statements from left to right: each results in the scope after it, or in the first fault.
 use Rattle.std.specs.Prelude.{◌+◌, false, List, [], ◌∷◌, length, Option, Some, None, cond, nat_eq}
 use Rattle.std.specs.Str.{bytes_eq}
-use Rattle.values.specs.declared.format.Piece.{Piece}
+use Rattle.values.specs.declared.format.FormatPiece.{FormatPiece}
 use Rattle.values.specs.Formats.{pieces}
 use Rattle.lexer.specs.declared.token.Span.{Span}
 use Rattle.types.specs.declared.fault.TypeFault.TheVariants.{Declared, Mismatch, WrongCount, BadFormat}
-use Rattle.types.specs.declared.typed.Owned.TheVariants.{Local}
+use Rattle.types.specs.declared.typed.Binding.TheVariants.{Local}
 use Rattle.types.specs.declared.typed.Callee.TheVariants.{BuiltIn}
 use Rattle.types.specs.declared.typed.Builtin.{Builtin}
-use Rattle.types.specs.declared.typed.Elements.{Elements}
+use Rattle.types.specs.declared.typed.ElementTypes.{ElementTypes}
 use Rattle.types.specs.declared.typed.Builtin.TheVariants as Named
 use Rattle.language.specs.declared.tree.Base.{Base}
 use Rattle.language.specs.declared.tree.Base.TheVariants.{Int, Text, Boolean}
@@ -30,7 +30,8 @@ abbrev pub under_numbers : Keys → Span → Check (Unit {0})
 under_numbers Numbers at settled = got tt settled
 under_numbers Texts at settled = refused (Mismatch at)
 
--- an array literal: its target is an array under numbers, and its elements have the type of the target's; with a scalar target they are compared with nothing
+-- an array literal: its target is an array with numbers as keys, and its elements have the element type of the target;
+-- with a scalar target their types are not compared
 abbrev pub literal_by : Shape → List Signature → Around → Base → List Expression → Node → Check (Unit {0})
 literal_by (Array κ) fs g b es nd settled = elements fs g (expressions_of es) (Some b) settled >>= λ u. under_numbers κ nd.first
 literal_by Scalar fs g b es nd settled = elements fs g (expressions_of es) None settled >>= λ u s. refused (Mismatch nd.first)
@@ -51,19 +52,19 @@ abbrev pub refer_all : Around → List Word → Check (List Typ)
 refer_all g [] settled = got [] settled
 refer_all g (w ∷ ws) settled = refer g w settled >>= λ τ s. refer_all g ws s >>= λ τs. got (τ ∷ τs)
 
--- outputs that have the types of their targets
+-- a check that outputs have the types of their targets
 abbrev pub same_types : List Typ → List Typ → Span → Check (Unit {0})
 same_types [] targets at settled = got tt settled
 same_types (τ ∷ τs) [] at settled = refused (WrongCount at)
 same_types (τ ∷ τs) (σ ∷ σs) at settled = has_type τ σ at settled >>= λ u. same_types τs σs at
 
--- the one target of a call with one output
+-- the only target of a call with one output
 abbrev pub only_target : List Typ → Span → Check Typ
 only_target [] at settled = refused (WrongCount at)
 only_target (τ ∷ []) at settled = got τ settled
 only_target (τ ∷ σ ∷ σs) at settled = refused (WrongCount at)
 
--- a call whose outputs go to variables of these types
+-- a call whose outputs are assigned to variables of these types
 abbrev pub several : List Signature → Around → Calling → List Typ → Check (Unit {0})
 several fs g c targets settled =
     either (builtin_of c.name.text)
@@ -71,7 +72,7 @@ several fs g c targets settled =
     (function_called fs c.name (length c.arguments) (length targets) settled >>= λ f s. arguments fs g (expressions_of c.arguments) f.inputs c.name.span s >>= λ u. same_types f.outputs targets c.name.span)
 
 -- the types that the conversions of a format take
-abbrev pub format_by : Option (List Piece) → Span → Check (List Typ)
+abbrev pub format_by : Option (List FormatPiece) → Span → Check (List Typ)
 format_by None at settled = refused (BadFormat at)
 format_by (Some ps) at settled = got (wanted ps) settled
 
@@ -88,7 +89,7 @@ format_form (chain os es) at settled = refused (BadFormat at)
 abbrev pub conversions : Expression → Check (List Typ)
 conversions (expression nd f) = format_form f (record { from = nd.first.from; to = nd.to })
 
--- the arguments of `printf`: a format, and what its conversions take
+-- the arguments of `printf`: a format, and one for each conversion
 abbrev pub print : List Signature → Around → List Expression → Span → Check (Unit {0})
 print fs g [] at settled = refused (WrongCount at)
 print fs g (e ∷ es) at settled =
@@ -117,13 +118,13 @@ abbrev pub step_of : List Signature → Around → Option Expression → Check (
 step_of fs g None settled = got tt settled
 step_of fs g (Some e) settled = expected fs g e Int settled
 
--- what a loop goes over, with the types of the values and of the keys that it gives
-abbrev pub source : List Signature → Around → Over → Check Elements
+-- the source of a loop, with the types of its values and keys
+abbrev pub source : List Signature → Around → Over → Check ElementTypes
 source fs g (array w) settled = refer g w settled >>= λ τ. elements_of τ w.span
 source fs g (range low high step) settled =
     expected fs g low Int settled >>= λ u s. expected fs g high Int s >>= λ u s. step_of fs g step s >>= λ u. got (record { value = Int; key = Int })
 
--- variables of a loop that are not visible, and have two names
+-- a check that the variables of a loop are not visible and have two names
 abbrev pub fresh_key : Around → Word → Option Word → Check (Unit {0})
 fresh_key g v None settled = got tt settled
 fresh_key g v (Some k) settled = fresh g k settled >>= λ u s. cond (bytes_eq k.text v.text) (refused (Declared k.span)) (got tt s)
@@ -131,7 +132,7 @@ fresh_key g v (Some k) settled = fresh g k settled >>= λ u s. cond (bytes_eq k.
 abbrev pub fresh_variables : Around → Word → Option Word → Check (Unit {0})
 fresh_variables g v k settled = fresh g v settled >>= λ u. fresh_key g v k
 
--- the same variables, in a block one step further in
+-- the same variables, in a block that is nested one level deeper
 abbrev pub inside : Around → Around
 inside g = record { depth = g.depth + 1; names = g.names }
 
@@ -139,18 +140,18 @@ inside g = record { depth = g.depth + 1; names = g.names }
 abbrev pub declared : Around → Word → Typ → Around
 declared g w τ = added g w (Local w.number) τ
 
--- the scope of a loop's body
+-- the scope of the body of a loop
 abbrev pub with_key : Around → Option Word → Base → Around
 with_key g None c = g
 with_key g (Some k) c = declared g k (one_of c)
 
-abbrev pub loop_scope : Around → Word → Option Word → Elements → Around
+abbrev pub loop_scope : Around → Word → Option Word → ElementTypes → Around
 loop_scope g v k given = with_key (declared (inside g) v (one_of given.value)) k given.key
 
 -- STATEMENTS
 
 unfoldable mutual
-  -- a statement, with the scope that it leaves to those behind it
+  -- a statement, with the scope after it
   pub stated : List Signature → Around → Statement → Check Around
   stated fs g (statement nd c) settled = commanded fs g c settled
 
@@ -169,7 +170,7 @@ unfoldable mutual
       fresh_variables g v k settled >>= λ u s. source fs g o s >>= λ given s. enclosed fs (loop_scope g v k given) b s >>= λ u. got g
   commanded fs g (waits ws b) settled = refer_all g ws settled >>= λ τs s. enclosed fs g b s >>= λ u. got g
 
-  -- the statements of a block, whose variables are not visible behind it
+  -- the statements of a block; its variables are not visible after it
   pub enclosed : List Signature → Around → Body → Check (Unit {0})
   enclosed fs g (body from ss) settled = in_order fs g ss settled
 

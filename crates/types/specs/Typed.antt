@@ -1,12 +1,12 @@
--- The table that a checked script gives.
+-- The table of a checked script.
 use Rattle.std.specs.Prelude.{ℕ, List, [], ◌∷◌, Option, Some, None, slice_get, cond, nat_eq}
 use Rattle.types.specs.declared.typed.Typed as typed
-use Rattle.types.specs.declared.typed.Meaning.{Meaning}
-use Rattle.types.specs.declared.typed.Meaning.TheVariants.{Nothing, Variable, Called}
-use Rattle.types.specs.declared.typed.Settled.{Settled}
+use Rattle.types.specs.declared.typed.NameMeaning.{NameMeaning}
+use Rattle.types.specs.declared.typed.NameMeaning.TheVariants.{Nothing, Variable, Called}
+use Rattle.types.specs.declared.typed.NameEntry.{NameEntry}
 use Rattle.types.specs.declared.typed.Reference.{Reference}
-use Rattle.types.specs.declared.typed.Owned.{Owned}
-use Rattle.types.specs.declared.typed.Owned.TheVariants.{Local, Input, Output}
+use Rattle.types.specs.declared.typed.Binding.{Binding}
+use Rattle.types.specs.declared.typed.Binding.TheVariants.{Local, Input, Output}
 use Rattle.types.specs.declared.typed.Callee.{Callee}
 use Rattle.types.specs.declared.typed.Callee.TheVariants.{Function, BuiltIn}
 use Rattle.types.specs.declared.typed.Builtin.{Builtin}
@@ -18,8 +18,8 @@ use Rattle.language.specs.Core as core
 use Rattle.language.specs.Table.{Table, composite, built_in, strcat, fromint, toint, size, printf, assert}
 use Rattle.language.specs.Table as table
 
--- what a variable is, a name refers to and a callee is, apart from the program's types
-abbrev pub owned_name : Owned → core.Owned
+-- bindings, references and callees of the program, as those of the language
+abbrev pub owned_name : Binding → core.Owned
 owned_name (Local node) = local node
 owned_name (Input i) = input i
 owned_name (Output i) = output i
@@ -39,26 +39,26 @@ abbrev pub callee_name : Callee → table.Callee
 callee_name (Function place) = composite place
 callee_name (BuiltIn b) = built_in (builtin_name b)
 
--- what the meaning at a number says of a variable's name and of a called name; something where it says nothing
-abbrev pub name_in : Option Meaning → Name
+-- the name, the shape and the callee for the meaning at a number, with defaults where it has none
+abbrev pub name_in : Option NameMeaning → Name
 name_in None = here 0
 name_in (Some Nothing) = here 0
 name_in (Some (Called c)) = here 0
 name_in (Some (Variable r s)) = reference_name r
 
-abbrev pub shape_in : Option Meaning → Shape
+abbrev pub shape_in : Option NameMeaning → Shape
 shape_in None = Scalar
 shape_in (Some Nothing) = Scalar
 shape_in (Some (Called c)) = Scalar
 shape_in (Some (Variable r s)) = s
 
-abbrev pub callee_in : Option Meaning → table.Callee
+abbrev pub callee_in : Option NameMeaning → table.Callee
 callee_in None = composite 0
 callee_in (Some Nothing) = composite 0
 callee_in (Some (Called c)) = callee_name c
 callee_in (Some (Variable r s)) = composite 0
 
--- by node number
+-- the table by node number
 abbrev pub table_of : typed.Typed → Table
 table_of t = record {
   name_of = λ n. name_in (slice_get t.meanings.items n);
@@ -66,15 +66,15 @@ table_of t = record {
   callee_of = λ n. callee_in (slice_get t.meanings.items n);
 }
 
--- the meaning at a number, nothing where there is none
-abbrev pub or_nothing : Option Meaning → Meaning
+-- the meaning at a number, or `Nothing` if there is none
+abbrev pub or_nothing : Option NameMeaning → NameMeaning
 or_nothing None = Nothing
 or_nothing (Some m) = m
 
-abbrev pub meaning_at : typed.Typed → ℕ → Meaning
+abbrev pub meaning_at : typed.Typed → ℕ → NameMeaning
 meaning_at t n = or_nothing (slice_get t.meanings.items n)
 
--- what was settled last of a number, or the meaning that is given
-abbrev pub settled_at : List Settled → ℕ → Meaning → Meaning
+-- the last recorded meaning of a number, or the given one
+abbrev pub settled_at : List NameEntry → ℕ → NameMeaning → NameMeaning
 settled_at [] n m = m
 settled_at (s ∷ ss) n m = settled_at ss n (cond (nat_eq s.number n) s.meaning m)

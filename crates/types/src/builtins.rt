@@ -1,4 +1,4 @@
-//! The built-in functions, and the types of operators.
+//! The built-in functions by name, and the types of operators.
 
 ghost use Rattle.std.specs.Prelude.{◌≡◌};
 ghost use Rattle.language.specs.Scopes as scopes;
@@ -10,7 +10,7 @@ use crate::scope::same_text;
 use crate::typed::{Builtin, VariableType};
 use language::tree::{Base, Operator, Prefix, Shape};
 
-/// The built-in function of a name.
+/// Returns the built-in function with this name, or `None`.
 pub fn builtin_of(text: &[u8]) -> Option<Builtin>
     ensures { result ≡ names.builtin_of text.now }
 {
@@ -31,7 +31,7 @@ pub fn builtin_of(text: &[u8]) -> Option<Builtin>
     }
 }
 
-/// What an operator gives of two operands of a type.
+/// Returns the result type of an operator on two operands of one type, or `None` if it does not accept them.
 pub fn gives(operator: Operator, base: Base) -> Option<Base>
     ensures { result ≡ checks.gives operator base }
 {
@@ -48,7 +48,7 @@ pub fn gives(operator: Operator, base: Base) -> Option<Base>
     }
 }
 
-/// The type of the operand and of the result of an operator before its operand.
+/// Returns the type of a prefix operator, which is that of its operand and of its result.
 pub fn base_of(prefix: Prefix) -> Base
     ensures { result ≡ checks.base_of prefix }
 {
@@ -58,7 +58,7 @@ pub fn base_of(prefix: Prefix) -> Base
     }
 }
 
-/// The type of a scalar.
+/// Returns the type of a scalar with this base type.
 pub fn one_of(base: Base) -> VariableType
     ensures { type_of result ≡ scopes.one_of base }
 {

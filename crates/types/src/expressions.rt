@@ -1,4 +1,8 @@
-//! The types of expressions.
+//! Type inference for expressions.
+//!
+//! An expression is read from left to right; the first fault ends the check. A scalar expression has one of three base
+//! types. An array is the value of a variable's name or of a call, and of no other form. The contracts equate each
+//! function with one of `specs/Expressions.antt`.
 ghost use Rattle.std.specs.Prelude.{map, drop};
 ghost use Rattle.syntax_trees.specs.View.{word_of, expression_view, form_view};
 ghost use Rattle.language.specs.Tree.{expressions_of};
@@ -13,12 +17,12 @@ use crate::fault::TypeFault;
 use crate::functions::{called, function_called};
 use crate::scope::{Scope, refer};
 use crate::signatures::Functions;
-use crate::typed::{Builtin, Callee, Elements, Settled, VariableType};
+use crate::typed::{Builtin, Callee, ElementTypes, NameEntry, VariableType};
 use lexer::token::Span;
 use std::alloc::Allocator;
 use syntax_trees::tree::{Base, Expr, ExprKind, Name, Operator, Shape};
 
-/// Refuses a type that is not the one that is wanted.
+/// Returns `Mismatch` at `at` unless the found base type is the wanted one.
 pub fn same_base(found: Base, wanted: Base, at: Span) -> Result<(), TypeFault>
     ensures { Judges (λ _. tt) result (checks.has_base found wanted at) }
 {
@@ -29,7 +33,7 @@ pub fn same_base(found: Base, wanted: Base, at: Span) -> Result<(), TypeFault>
     }
 }
 
-/// Refuses a type that is not the one that is wanted.
+/// Returns `Mismatch` at `at` unless the found type is the wanted one, in base and in shape.
 pub fn same_type(found: VariableType, wanted: VariableType, at: Span) -> Result<(), TypeFault>
     ensures { Judges (λ _. tt) result (checks.has_type (type_of found) (type_of wanted) at) }
 {
@@ -40,7 +44,7 @@ pub fn same_type(found: VariableType, wanted: VariableType, at: Span) -> Result<
     }
 }
 
-/// The type of a scalar; an array is refused.
+/// Returns the base type of a scalar, or `Mismatch` at `at` for an array.
 pub fn scalar(found: VariableType, at: Span) -> Result<Base, TypeFault>
     ensures { Judges (λ b. b) result (checks.scalar (type_of found) at) }
 {
@@ -50,12 +54,12 @@ pub fn scalar(found: VariableType, at: Span) -> Result<Base, TypeFault>
     }
 }
 
-/// What an array gives; a scalar is refused.
-pub fn elements_of(found: VariableType, at: Span) -> Result<Elements, TypeFault>
+/// Returns the element type and the key type of an array, or `Mismatch` at `at` for a scalar.
+pub fn elements_of(found: VariableType, at: Span) -> Result<ElementTypes, TypeFault>
     ensures { Judges (λ given. given) result (checks.elements_of (type_of found) at) }
 {
     match found.shape {
-        Shape::Array(keys) => Ok(Elements {
+        Shape::Array(keys) => Ok(ElementTypes {
             value: found.base,
             key: keys.base(),
         }),
@@ -63,13 +67,13 @@ pub fn elements_of(found: VariableType, at: Span) -> Result<Elements, TypeFault>
     }
 }
 
-/// The type of an expression that may be an array's name, or a call that gives an array.
+/// Returns the type of an expression, which may be an array: a variable's name, or a call whose output is an array.
 #[tactic(auto, unfolding(crate::specs::Expressions::whole))]
 #[cycle(expr)]
 pub fn whole<A: Allocator>(
     functions: &Functions,
     scope: &Scope,
-    settled: &mut Vec<Settled>,
+    settled: &mut Vec<NameEntry>,
     value: &Expr<A>,
 ) -> Result<VariableType, TypeFault>
     ensures { Gives type_of result settled.new.items (checks.whole (signatures_of functions.now) (around_of scope.now)
@@ -83,7 +87,7 @@ pub fn whole<A: Allocator>(
 fn form<A: Allocator>(
     functions: &Functions,
     scope: &Scope,
-    settled: &mut Vec<Settled>,
+    settled: &mut Vec<NameEntry>,
     kind: &ExprKind<A>,
     at: Span,
 ) -> Result<VariableType, TypeFault>
@@ -113,13 +117,13 @@ fn form<A: Allocator>(
     }
 }
 
-/// The type of an expression that is a scalar.
+/// Returns the type of a scalar expression, or `Mismatch` at its first token if it is an array.
 #[tactic(auto, unfolding(crate::specs::Expressions::typed, crate::specs::Expressions::whole))]
 #[cycle(expr)]
 pub fn expr<A: Allocator>(
     functions: &Functions,
     scope: &Scope,
-    settled: &mut Vec<Settled>,
+    settled: &mut Vec<NameEntry>,
     value: &Expr<A>,
 ) -> Result<Base, TypeFault>
     ensures { Gives (λ b. b) result settled.new.items
@@ -130,13 +134,13 @@ pub fn expr<A: Allocator>(
     Ok(base)
 }
 
-/// An expression of a type that is wanted.
+/// Checks that an expression is a scalar of the wanted type.
 #[tactic(auto, unfolding(crate::specs::Expressions::expected, crate::specs::Expressions::typed))]
 #[cycle(expr)]
 pub fn expect<A: Allocator>(
     functions: &Functions,
     scope: &Scope,
-    settled: &mut Vec<Settled>,
+    settled: &mut Vec<NameEntry>,
     value: &Expr<A>,
     wanted: Base,
 ) -> Result<(), TypeFault>
@@ -148,13 +152,15 @@ pub fn expect<A: Allocator>(
     Ok(())
 }
 
-/// A chain: each operand has the type of the first one, and each operator takes it.
+/// Returns the type of a chain. Every operand has to have the type of the first one.
+///
+/// Every operator has to accept that type, and all operators have to return the same type.
 #[tactic(auto, unfolding(crate::specs::Expressions::chained))]
 #[cycle(expr)]
 fn chain<A: Allocator>(
     functions: &Functions,
     scope: &Scope,
-    settled: &mut Vec<Settled>,
+    settled: &mut Vec<NameEntry>,
     operators: &Vec<Operator, A>,
     operands: &Vec<Expr<A>, A>,
     at: Span,
@@ -182,7 +188,11 @@ fn chain<A: Allocator>(
     Ok(given)
 }
 
-/// What the first operator of a chain gives.
+/// Returns the result type of the first operator of a chain.
+///
+/// # Errors
+///
+/// Returns `Mismatch` at `at` if there is no operator, or if it does not accept the operand type.
 fn first_given(operators: &[Operator], base: Base, at: Span) -> Result<Base, TypeFault>
     ensures { Judges (λ b. b) result (checks.first_given operators.now base at) }
 {
@@ -192,7 +202,8 @@ fn first_given(operators: &[Operator], base: Base, at: Span) -> Result<Base, Typ
     }
 }
 
-/// What an operator gives; one that does not take its operands is refused at the operand before it.
+/// Returns the result type of an operator, or `Mismatch` at the preceding operand if the operator does not accept the
+/// operand type.
 fn given_by(operator: Operator, base: Base, before: Span) -> Result<Base, TypeFault>
     ensures { Judges (λ b. b) result (checks.given_by operator base before) }
 {
@@ -202,13 +213,16 @@ fn given_by(operator: Operator, base: Base, before: Span) -> Result<Base, TypeFa
     }
 }
 
-/// The operators of a chain with the operands behind them, from a place on.
+/// Checks the operators of a chain, each with its following operand, from the operand number `from` on.
+///
+/// `base` is the type of the operands, and `given` is the result type of the first operator. `at` is the operand that
+/// precedes the first of these operators.
 #[tactic(auto, unfolding(crate::specs::Expressions::further))]
 #[cycle(expr)]
 fn further<A: Allocator>(
     functions: &Functions,
     scope: &Scope,
-    settled: &mut Vec<Settled>,
+    settled: &mut Vec<NameEntry>,
     operators: &[Operator],
     operands: &Vec<Expr<A>, A>,
     from: usize,
@@ -236,7 +250,11 @@ fn further<A: Allocator>(
     Ok(())
 }
 
-/// Refuses an operator that does not take its operands, or that gives another type than the first one of its chain.
+/// Checks that an operator accepts its operands and has the result type of the first operator of its chain.
+///
+/// # Errors
+///
+/// Returns `Mismatch` at the preceding operand if it does not.
 fn takes(operator: Operator, base: Base, given: Base, before: Span) -> Result<(), TypeFault>
     ensures { Judges (λ _. tt) result (checks.takes operator base given before) }
 {
@@ -244,13 +262,13 @@ fn takes(operator: Operator, base: Base, given: Base, before: Span) -> Result<()
     same_base(found, given, before)
 }
 
-/// The type of the one output of a call.
+/// Returns the type of the only output of a call.
 #[tactic(auto, unfolding(crate::specs::Expressions::whole_form))]
 #[cycle(expr)]
 fn call<A: Allocator>(
     functions: &Functions,
     scope: &Scope,
-    settled: &mut Vec<Settled>,
+    settled: &mut Vec<NameEntry>,
     name: &Name<A>,
     given: &Vec<Expr<A>, A>,
     at: Span,
@@ -281,7 +299,7 @@ fn call<A: Allocator>(
     }
 }
 
-/// The type of the first output.
+/// Returns the type of the first output, or `WrongCount` at `at` if there is none.
 fn output_of(outputs: &[VariableType], at: Span) -> Result<VariableType, TypeFault>
     ensures { Judges type_of result (checks.output_of (map type_of outputs.now) at) }
 {
@@ -291,12 +309,14 @@ fn output_of(outputs: &[VariableType], at: Span) -> Result<VariableType, TypeFau
     }
 }
 
-/// The type of the output of a call of a built-in function, whose name stands at `at`.
+/// Returns the result type of a call of a built-in function. `at`: the called name.
+///
+/// `printf` and `assert` have no result, so that they are refused here with `WrongCount`.
 #[cycle(expr)]
 pub fn builtin_call<A: Allocator>(
     functions: &Functions,
     scope: &Scope,
-    settled: &mut Vec<Settled>,
+    settled: &mut Vec<NameEntry>,
     builtin: Builtin,
     given: &Vec<Expr<A>, A>,
     at: Span,
@@ -318,13 +338,13 @@ pub fn builtin_call<A: Allocator>(
     }
 }
 
-/// A built-in function with its one argument.
+/// Returns the result type of a built-in function that takes one argument, or `WrongCount` unless there is exactly one.
 #[tactic(auto, unfolding(crate::specs::Expressions::only))]
 #[cycle(expr)]
 fn only<A: Allocator>(
     functions: &Functions,
     scope: &Scope,
-    settled: &mut Vec<Settled>,
+    settled: &mut Vec<NameEntry>,
     builtin: Builtin,
     given: &Vec<Expr<A>, A>,
     at: Span,
@@ -343,7 +363,7 @@ fn only<A: Allocator>(
     Ok(base)
 }
 
-/// What a built-in function gives of one argument.
+/// Returns the result type of a built-in function for one argument of the type `found`, or the fault of that argument.
 fn of_one<A: Allocator>(
     builtin: Builtin,
     found: VariableType,
@@ -369,7 +389,7 @@ fn of_one<A: Allocator>(
     }
 }
 
-/// The first of one or more arguments.
+/// Returns the first argument, or `WrongCount` at `at` if there is none.
 pub fn first_argument<A: Allocator>(given: &[Expr<A>], at: Span) -> Result<&Expr<A>, TypeFault>
     ensures { Judges (λ _. tt) result (checks.some_given (expressions_of (map expression_view given.now)) at) }
 {
@@ -379,13 +399,16 @@ pub fn first_argument<A: Allocator>(given: &[Expr<A>], at: Span) -> Result<&Expr
     }
 }
 
-/// Arguments from a place on, of these types, one for each input.
+/// Checks the arguments from number `from` on against the types of the inputs.
+///
+/// Returns `WrongCount` at `at` for an argument without an input. Inputs without an argument are not reported: the
+/// caller has compared the counts.
 #[tactic(auto, unfolding(crate::specs::Expressions::arguments))]
 #[cycle(expr)]
 pub fn arguments<A: Allocator>(
     functions: &Functions,
     scope: &Scope,
-    settled: &mut Vec<Settled>,
+    settled: &mut Vec<NameEntry>,
     given: &Vec<Expr<A>, A>,
     from: usize,
     inputs: &[VariableType],
@@ -406,7 +429,7 @@ pub fn arguments<A: Allocator>(
     Ok(())
 }
 
-/// An argument that fits an input: for an array it is an array's name.
+/// Checks that an argument fits an input. The argument for an array input has to be the name of an array.
 fn fits<A: Allocator>(
     found: VariableType,
     input: VariableType,
@@ -423,8 +446,8 @@ fn fits<A: Allocator>(
     }
 }
 
-/// What an array gives, of which an expression is the name.
-fn array_name<A: Allocator>(found: VariableType, value: &Expr<A>) -> Result<Elements, TypeFault>
+/// Returns the element and key types of an array that is given by its name, or `Mismatch` for any other expression.
+fn array_name<A: Allocator>(found: VariableType, value: &Expr<A>) -> Result<ElementTypes, TypeFault>
     ensures { Judges (λ given. given) result (checks.array_name (type_of found) (expression_view value.now)) }
 {
     match &value.kind {
@@ -433,13 +456,14 @@ fn array_name<A: Allocator>(found: VariableType, value: &Expr<A>) -> Result<Elem
     }
 }
 
-/// Expressions that are all scalars of the wanted type, or of any type where none is wanted.
+/// Checks that all expressions are scalars of the wanted type. Without a wanted type each has to be well typed, and may
+/// be an array.
 #[tactic(auto, unfolding(crate::specs::Expressions::elements))]
 #[cycle(expr)]
 pub fn elements<A: Allocator>(
     functions: &Functions,
     scope: &Scope,
-    settled: &mut Vec<Settled>,
+    settled: &mut Vec<NameEntry>,
     values: &Vec<Expr<A>, A>,
     wanted: Option<Base>,
 ) -> Result<(), TypeFault>
@@ -454,7 +478,8 @@ pub fn elements<A: Allocator>(
     Ok(())
 }
 
-/// Refuses a type that is not a scalar of the wanted one, where one is wanted.
+/// Returns `Mismatch` at `at` unless the found type is a scalar of the wanted base type. Without a wanted type nothing
+/// is refused.
 fn has_wanted(found: VariableType, wanted: Option<Base>, at: Span) -> Result<(), TypeFault>
     ensures { Judges (λ _. tt) result (checks.has_wanted (type_of found) wanted at) }
 {

@@ -1,4 +1,4 @@
-//! Why a script is not well typed.
+//! Type faults: the rules Y1 to Y6, with the place of the violation.
 ghost use Rattle.std.specs.Prelude.{◌≡◌, ◌≤◌, length};
 ghost use Rattle.types.specs.FaultNames.{type_name};
 
@@ -7,29 +7,30 @@ use std::alloc::{AllocError, AllocFailed};
 use std::error::Error;
 use std::fmt;
 
-/// The first rule of the types that a script breaks, with the place where it does.
+/// The first typing rule that a script breaks, with the place of the violation, or an allocation failure.
 #[derive(Clone, Copy, PartialEq, Eq, Debug, Drop)]
 pub enum TypeFault {
-    /// A name that is no visible variable, at it.
+    /// A name that is not a visible variable; the place is that name.
     Unknown(Span),
-    /// A variable that is declared while one of its name is visible, or a function whose name is taken, at the declared name.
+    /// A second declaration: of a variable whose name is visible, or of a function whose name is taken. The place is
+    /// the declared name.
     Declared(Span),
-    /// An expression or a name of a wrong type, at its first token.
+    /// An expression or a name of the wrong type; the place is its first token.
     Mismatch(Span),
-    /// A wrong number of arguments or outputs, at the called name.
+    /// A wrong number of arguments or outputs; the place is the called name.
     WrongCount(Span),
-    /// The first argument of `printf` is no string literal that is a format, at that argument.
+    /// A first argument of `printf` that is not a string literal with a valid format; the place is that argument.
     BadFormat(Span),
-    /// A called name that is no function, at it.
+    /// A called name that is not a function; the place is that name.
     NotAFunction(Span),
-    /// Memory that was asked for was refused.
+    /// An allocation failed.
     Memory,
 }
 
 impl TypeFault {
     ghost use Rattle.types.specs.Faults.{span_of};
 
-    /// The place of the broken rule, in bytes of the text; none where memory was refused.
+    /// Returns the place of the violation as a byte range of the text, or `None` for an allocation failure.
     pub fn span(self) -> Option<Span>
         ensures { result ≡ span_of self }
     {
@@ -44,7 +45,7 @@ impl TypeFault {
         }
     }
 
-    /// Its number and its name.
+    /// Returns the number and the name of the rule, or "no memory" for an allocation failure.
     pub fn name(self) -> &'static str
         ensures text { result.now ≡ type_name self }
         ensures short { length result.now ≤ 20 }

@@ -1,4 +1,4 @@
-//! The functions of a script.
+//! Functions: their signatures, and the resolution of called names.
 ghost use Rattle.std.specs.Prelude.{◌≡◌, ℕ, List, IfOk, MatchOption, OnOk, map};
 ghost use Rattle.std.specs.Str.{bytes_eq};
 ghost use Rattle.indexmap.specs.IndexMap.{get_by};
@@ -11,19 +11,23 @@ ghost use Rattle.types.specs.Outcomes.{Gives};
 
 use crate::fault::TypeFault;
 use crate::signatures::{Functions, Signature};
-use crate::typed::{Callee, Meaning, Settled, VariableType};
+use crate::typed::{Callee, NameEntry, NameMeaning, VariableType};
 use indexmap::IndexMap;
 use std::alloc::{AllocError, Allocator, Global};
 use syntax_trees::tree::{Decl, Function, Item, Name};
 
-/// A function with its place among those of the script.
+/// A function of the script with its position among all functions.
 #[derive(Clone, Copy)]
-pub struct Found<'a> {
+pub struct FoundFunction<'a> {
     pub place: usize,
     pub signature: &'a Signature,
 }
 
-/// The functions of a script; the only refusal is that of memory.
+/// Collects the signatures of a script.
+///
+/// # Errors
+///
+/// Returns `AllocError` if an allocation fails.
 pub fn signatures<A: Allocator>(alloc: Global, items: &[Item<A>]) -> Result<Functions, AllocError>
     ensures { IfOk result (λ found. signatures_of found ≡ scopes.signatures (map part_of items.now)) }
 {
@@ -32,7 +36,7 @@ pub fn signatures<A: Allocator>(alloc: Global, items: &[Item<A>]) -> Result<Func
     Ok(Functions { list, places })
 }
 
-/// The functions of a script, in its order.
+/// Returns the signatures of a script in the order of its functions.
 fn listed<A: Allocator>(alloc: Global, items: &[Item<A>]) -> Result<Vec<Signature>, AllocError>
     ensures { IfOk result (λ found. map signature_of found.items ≡ scopes.signatures (map part_of items.now)) }
 {
@@ -45,7 +49,9 @@ fn listed<A: Allocator>(alloc: Global, items: &[Item<A>]) -> Result<Vec<Signatur
     Ok(found)
 }
 
-/// The place of the first function of each name: from the last one to the first, each takes its name's place.
+/// Creates the index from each name to the position of its first function.
+///
+/// The functions are inserted from the last to the first, so that the first function of a name overwrites the others.
 fn first_places(
     alloc: Global,
     functions: &[Signature],
@@ -88,7 +94,7 @@ fn types<A: Allocator>(
     Ok(found)
 }
 
-/// The type that a declaration gives.
+/// Returns the type of the variable that a declaration introduces.
 pub fn declared<A: Allocator>(decl: &Decl<A>) -> VariableType
     ensures { type_of result ≡ scopes.declared_type (declaration_of decl.now) }
 {
@@ -98,35 +104,41 @@ pub fn declared<A: Allocator>(decl: &Decl<A>) -> VariableType
     }
 }
 
-/// The first function of a name.
-pub fn find_function<'a>(functions: &'a Functions, text: &[u8]) -> Option<Found<'a>>
+/// Returns the first function with this name, or `None`.
+pub fn find_function<'a>(functions: &'a Functions, text: &[u8]) -> Option<FoundFunction<'a>>
     ensures { MatchOption result (checks.find (signatures_of functions.now) text.now ≡ checks.missing)
         (λ it. checks.find (signatures_of functions.now) text.now ≡ checks.found it.place (signature_of it.signature.now)) }
 {
     let place = *functions.places.get(text)?;
     let signature = functions.list.get(place)?;
-    Some(Found { place, signature })
+    Some(FoundFunction { place, signature })
 }
 
-/// Settles what a called name is.
+/// Records what a called name refers to.
 pub fn called<A: Allocator>(
-    settled: &mut Vec<Settled>,
+    settled: &mut Vec<NameEntry>,
     name: &Name<A>,
     callee: Callee,
 ) -> Result<(), AllocError>
-    ensures { OnOk result (settled.new.items ≡ checks.settles (word_of name.now) (Meaning.Called callee) settled.old.items) }
+    ensures { OnOk result (settled.new.items ≡ checks.settles (word_of name.now) (NameMeaning.Called callee) settled.old.items) }
 {
-    settled.push(Settled {
+    settled.push(NameEntry {
         number: name.number,
-        meaning: Meaning::Called(callee),
+        meaning: NameMeaning::Called(callee),
     })?;
     Ok(())
 }
 
-/// The function of a called name, which is settled, with as many inputs and outputs as there are.
+/// Resolves a called name with these numbers of inputs and outputs: records the function, and returns its signature.
+///
+/// # Errors
+///
+/// - Returns `NotAFunction` if no function of the script has the name.
+/// - Returns `WrongCount` if its numbers of inputs or outputs differ.
+/// - Returns `Memory` if an allocation fails.
 pub fn function_called<'a, A: Allocator>(
     functions: &'a Functions,
-    settled: &mut Vec<Settled>,
+    settled: &mut Vec<NameEntry>,
     name: &Name<A>,
     inputs: usize,
     outputs: usize,

@@ -1,7 +1,8 @@
-//! Whether a script is well typed, and what its names refer to.
+//! Type checker and name resolution: decides if a script is well typed, and records what each of its names refers to.
 //!
-//! A variable is visible from the end of its name to the end of its block, in inner blocks too; the outputs and inputs of a
-//! function and the variables of a loop belong to the body that follows. Variables and functions have separate names.
+//! A variable is visible from the end of its name to the end of its block, and in nested blocks. The outputs and inputs
+//! of a function and the variables of a loop belong to the body that follows. Variables and functions have separate
+//! namespaces.
 #![tactic(auto)]
 
 mod builtins;

@@ -1,4 +1,4 @@
-//! The visible variables.
+//! The scope: the variables that are visible at a point of the script.
 ghost use Rattle.std.specs.Prelude.{◌≡◌, ◌≢◌, OnOk, MatchResult, Some, None, IsSome, option_map, vec_len};
 ghost use Rattle.std.specs.Str.{bytes_eq};
 ghost use Rattle.syntax_trees.specs.View.{word_of};
@@ -7,27 +7,31 @@ ghost use Rattle.types.specs.Names as checks;
 ghost use Rattle.types.specs.Outcomes.{Gives, Judges};
 
 use crate::fault::TypeFault;
-use crate::typed::{Meaning, Owned, Reference, Settled, VariableType};
+use crate::typed::{Binding, NameEntry, NameMeaning, Reference, VariableType};
 use indexmap::IndexMap;
 use std::alloc::{AllocError, Allocator, Global};
 use syntax_trees::tree::Name;
 
-/// What is known of a visible variable: how many blocks were open at its declaration, what it is there, and its type.
+/// A visible variable: its depth, its binding and its type. The depth is the number of blocks that were open at its
+/// declaration.
 #[derive(Clone, Copy)]
-pub struct Known {
+pub struct VisibleVariable {
     pub depth: usize,
-    pub what: Owned,
+    pub what: Binding,
     pub of: VariableType,
 }
 
-/// The visible variables by their texts, in the order of their declarations, and for each open block how many there were at its brace.
+/// The visible variables by name, in the order of their declarations.
+///
+/// `blocks` has an entry for each open block: the number of variables that were visible before it. A hash map finds a
+/// name. Two variables of one name are never visible at once, so that no shadowing has to be resolved.
 #[derive(Drop)]
 pub struct Scope {
     pub blocks: Vec<usize>,
-    pub names: IndexMap<Vec<u8>, Known>,
+    pub names: IndexMap<Vec<u8>, VisibleVariable>,
 }
 
-/// The scope without variables.
+/// Creates a scope without variables.
 pub fn empty(alloc: Global) -> Scope
     ensures { around_of result ≡ nowhere }
 {
@@ -37,21 +41,21 @@ pub fn empty(alloc: Global) -> Scope
     }
 }
 
-/// Whether two texts are the same.
+/// Returns true if two texts are equal.
 pub fn same_text(one: &[u8], other: &[u8]) -> bool
     ensures { result ≡ bytes_eq one.now other.now }
 {
     one == other
 }
 
-/// What is known of the visible variable of a text.
-fn find(scope: &Scope, text: &[u8]) -> Option<Known>
+/// Returns the visible variable with this name, or `None`.
+fn find(scope: &Scope, text: &[u8]) -> Option<VisibleVariable>
     ensures { checks.seen (around_of scope.now).names text.now ≡ option_map (seen_at text.now) result }
 {
     scope.names.get(text).copied()
 }
 
-/// Refuses a name that is visible already.
+/// Returns `Declared` at a name that is already visible.
 pub fn fresh<A: Allocator>(scope: &Scope, name: &Name<A>) -> Result<(), TypeFault>
     ensures judges { Judges (λ _. tt) result (checks.fresh (around_of scope.now) (word_of name.now)) }
     ensures seen { MatchResult result (λ _. checks.seen (around_of scope.now).names name.now.text.items ≡ None)
@@ -63,19 +67,23 @@ pub fn fresh<A: Allocator>(scope: &Scope, name: &Name<A>) -> Result<(), TypeFaul
     }
 }
 
-/// Makes a name visible that is not.
+/// Adds a variable whose name is not yet visible.
+///
+/// # Errors
+///
+/// Returns `AllocError` if an allocation fails.
 pub fn add<A: Allocator>(
     alloc: Global,
     scope: &mut Scope,
     name: &Name<A>,
-    what: Owned,
+    what: Binding,
     of: VariableType,
 ) -> Result<(), AllocError>
     requires { checks.seen (around_of scope.old).names name.now.text.items ≡ None }
     ensures { OnOk result (around_of scope.new ≡ checks.added (around_of scope.old) (word_of name.now) what (type_of of)) }
 {
     let text = Vec::from_slice(alloc, name.text.as_slice())?;
-    let known = Known {
+    let known = VisibleVariable {
         depth: scope.blocks.len(),
         what,
         of,
@@ -84,12 +92,16 @@ pub fn add<A: Allocator>(
     Ok(())
 }
 
-/// Makes a name visible that was not.
+/// Adds a variable, and refuses a name that is already visible.
+///
+/// # Errors
+///
+/// Returns `Declared` at a name that is already visible, or `Memory` if an allocation fails.
 pub fn declare<A: Allocator>(
     alloc: Global,
     scope: &mut Scope,
     name: &Name<A>,
-    what: Owned,
+    what: Binding,
     of: VariableType,
 ) -> Result<(), TypeFault>
     ensures added { OnOk result (around_of scope.new ≡ checks.added (around_of scope.old) (word_of name.now) what (type_of of)) }
@@ -102,10 +114,14 @@ pub fn declare<A: Allocator>(
     Ok(())
 }
 
-/// The type of the visible variable that a name refers to, which is settled.
+/// Resolves the name of a variable: records what it refers to, and returns its type.
+///
+/// # Errors
+///
+/// Returns `Unknown` at a name that is not visible, or `Memory` if an allocation fails.
 pub fn refer<A: Allocator>(
     scope: &Scope,
-    settled: &mut Vec<Settled>,
+    settled: &mut Vec<NameEntry>,
     name: &Name<A>,
 ) -> Result<VariableType, TypeFault>
     ensures { Gives type_of result settled.new.items (checks.refer (around_of scope.now) (word_of name.now) settled.old.items) }
@@ -118,9 +134,9 @@ pub fn refer<A: Allocator>(
         up,
         what: known.what,
     };
-    settled.push(Settled {
+    settled.push(NameEntry {
         number: name.number,
-        meaning: Meaning::Variable(reference, known.of.shape),
+        meaning: NameMeaning::Variable(reference, known.of.shape),
     })?;
     Ok(known.of)
 }

@@ -1,4 +1,4 @@
-//! Scripts, part by part.
+//! The check of a whole script, part by part.
 ghost use Rattle.std.specs.Prelude.{◌≡◌, ◌≢◌, ◌+◌, ◌^◌, ◌<◌, ◌∷◌, ℕ, MatchResult, IfOk, IfErr, map};
 ghost use Rattle.syntax_trees.specs.View.{word_of, declaration_of, composite_of, part_of, tree_of};
 ghost use Rattle.language.specs.Tree.{Tree};
@@ -20,27 +20,27 @@ use crate::functions::{declared, find_function, signatures};
 use crate::scope::{Scope, declare, empty};
 use crate::signatures::Functions;
 use crate::statements::{block, stmt};
-use crate::typed::{Owned, Settled, Typed, by_number};
+use crate::typed::{Binding, NameEntry, Typed, by_number};
 use std::alloc::{Allocator, Global};
 use syntax_trees::tree::{Decl, Function, Item, Name, Script};
 
-/// What the names of a script refer to, where the script is well typed.
+/// Checks a script, and returns what its names refer to.
 ///
-/// The text is read from its beginning, and the first rule that is broken is answered.
+/// The script is read from its beginning, and the first broken rule is returned.
 ///
 /// # Errors
 ///
-/// The broken rule with its place, or `Memory`.
+/// Returns the first broken rule with its place, or `Memory` if an allocation fails.
 pub fn check<A: Allocator>(alloc: Global, script: &Script<A>) -> Result<Typed, TypeFault>
     ensures exact { Checks result (tree_of script.now) }
 
-    // A numbered script is well typed for the table that is answered.
+    // A numbered script is well typed for the returned table.
     ensures typed { IfOk result (λ t. (n : ℕ) (tree : Tree) → tree_of script.now ≡ numbered n tree → WellTyped (tree_of script.now) (table_of t)) }
 
     // A script that is refused for a broken rule is well typed for no table.
     ensures untyped { IfErr result (λ y. y ≢ TypeFault.Memory → (t : Table) → ¬ WellTyped (tree_of script.now) t) }
 
-    // It breaks the rule that the fault names, at the fault's place.
+    // It breaks the rule that the fault names, at the place of the fault.
     ensures names { IfErr result (λ y. y ≢ TypeFault.Memory → Breaks (tree_of script.now) y) }
 {
     let functions = signatures(alloc, script.items.as_slice())?;
@@ -49,11 +49,11 @@ pub fn check<A: Allocator>(alloc: Global, script: &Script<A>) -> Result<Typed, T
     Ok(by_number(alloc, settled.as_slice())?)
 }
 
-/// The parts of a script.
+/// Checks the parts of a script in order.
 fn parts<A: Allocator>(
     alloc: Global,
     functions: &Functions,
-    settled: &mut Vec<Settled>,
+    settled: &mut Vec<NameEntry>,
     items: &[Item<A>],
 ) -> Result<(), TypeFault>
     ensures { Gives (λ _. tt) result settled.new.items
@@ -67,12 +67,12 @@ fn parts<A: Allocator>(
     Ok(())
 }
 
-/// A part with so many functions above it; the answer is how many are above the parts behind it.
+/// Checks a part that follows `above` functions, and returns the number of functions before the next part.
 fn part<A: Allocator>(
     alloc: Global,
     functions: &Functions,
     scope: &mut Scope,
-    settled: &mut Vec<Settled>,
+    settled: &mut Vec<NameEntry>,
     above: usize,
     item: &Item<A>,
 ) -> Result<usize, TypeFault>
@@ -96,11 +96,12 @@ fn part<A: Allocator>(
     }
 }
 
-/// A function with so many functions above it. Its body sees its outputs and inputs, and no variable of the script.
+/// Checks a function that follows `above` functions. Its body sees its outputs and inputs, and no variable of the
+/// script.
 fn function<A: Allocator>(
     alloc: Global,
     functions: &Functions,
-    settled: &mut Vec<Settled>,
+    settled: &mut Vec<NameEntry>,
     above: usize,
     function: &Function<A>,
 ) -> Result<(), TypeFault>
@@ -114,7 +115,8 @@ fn function<A: Allocator>(
     block(alloc, functions, &mut scope, settled, &function.body)
 }
 
-/// Refuses a function's name that is taken by one above it or by a built-in one.
+/// Returns `Declared` if the name of a function is already taken by one of the `above` functions before it, or by a
+/// built-in function.
 fn function_name<A: Allocator>(
     functions: &Functions,
     above: usize,
@@ -131,30 +133,30 @@ fn function_name<A: Allocator>(
     }
 }
 
-/// The outputs of a function, which are new variables.
+/// Declares the outputs of a function, which have to be new names.
 fn outputs<A: Allocator>(
     alloc: Global,
     scope: &mut Scope,
     decls: &[Decl<A>],
 ) -> Result<(), TypeFault>
-    ensures { Tells (λ _. around_of scope.new) result (checks.parameters Owned.Output (around_of scope.old) 0 (map declaration_of decls.now)) }
+    ensures { Tells (λ _. around_of scope.new) result (checks.parameters Binding.Output (around_of scope.old) 0 (map declaration_of decls.now)) }
 {
     for (i, decl) in decls.iter().enumerate() {
-        declare(alloc, scope, &decl.name, Owned::Output(i), declared(decl))?;
+        declare(alloc, scope, &decl.name, Binding::Output(i), declared(decl))?;
     }
     Ok(())
 }
 
-/// The inputs of a function, which are new variables.
+/// Declares the inputs of a function, which have to be new names.
 fn inputs<A: Allocator>(
     alloc: Global,
     scope: &mut Scope,
     decls: &[Decl<A>],
 ) -> Result<(), TypeFault>
-    ensures { Tells (λ _. around_of scope.new) result (checks.parameters Owned.Input (around_of scope.old) 0 (map declaration_of decls.now)) }
+    ensures { Tells (λ _. around_of scope.new) result (checks.parameters Binding.Input (around_of scope.old) 0 (map declaration_of decls.now)) }
 {
     for (i, decl) in decls.iter().enumerate() {
-        declare(alloc, scope, &decl.name, Owned::Input(i), declared(decl))?;
+        declare(alloc, scope, &decl.name, Binding::Input(i), declared(decl))?;
     }
     Ok(())
 }

@@ -1,4 +1,4 @@
-//! The functions of a script, as those who call them see them.
+//! The signatures of the functions of a script, with an index by name.
 ghost use Rattle.std.specs.Prelude.{◌≡◌, ℕ, List, map};
 ghost use Rattle.std.specs.Str.{bytes_eq};
 ghost use Rattle.indexmap.specs.IndexMap.{get_by};
@@ -8,7 +8,7 @@ ghost use Rattle.types.specs.Names.{find, place_of};
 use crate::typed::VariableType;
 use indexmap::IndexMap;
 
-/// A function: its text, and the types of its inputs and outputs.
+/// The signature of a function: its name, and the types of its inputs and outputs.
 #[derive(Drop)]
 pub struct Signature {
     pub text: Vec<u8>,
@@ -16,7 +16,8 @@ pub struct Signature {
     pub outputs: Vec<VariableType>,
 }
 
-/// The functions of a script in its order, and by each name the place of the first one.
+/// The signatures of a script in its order, with a hash index from each name to the position of the first function of
+/// that name.
 #[derive(Drop)]
 pub struct Functions {
     pub list: Vec<Signature>,

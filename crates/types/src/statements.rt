@@ -1,4 +1,8 @@
-//! Statements, each with the scope that it leaves to those behind it.
+//! Type checks of statements, each of which passes the extended scope to the following ones.
+//!
+//! The functions read a statement from left to right and stop at the first fault. They append each resolved name to
+//! `settled`, even if they fail later. The contracts equate each function with one of `specs/Statements.antt`, except
+//! after an allocation failure.
 ghost use Rattle.std.specs.Prelude.{◌≡◌, IfOk, List, OnOk, map, option_map};
 ghost use Rattle.syntax_trees.specs.View.{word_of, expression_view, calling_of, right_of, list_of, range_of, over_of, words_view, declaration_of, statement_view, command_view, body_view};
 ghost use Rattle.language.specs.Tree.{choice_of};
@@ -20,20 +24,20 @@ use crate::fault::TypeFault;
 use crate::functions::{called, declared, function_called};
 use crate::scope::{Scope, add, declare, fresh, refer, same_text};
 use crate::signatures::Functions;
-use crate::typed::{Builtin, Callee, Elements, Owned, Settled, VariableType};
+use crate::typed::{Binding, Builtin, Callee, ElementTypes, NameEntry, VariableType};
 use lexer::token::Span;
 use std::alloc::{AllocError, Allocator, Global};
 use syntax_trees::tree::{
     Base, Block, Call, Decl, Expr, ExprKind, Header, Keys, ListOf, Name, Range, Right, Shape,
     Source, Stmt, StmtKind,
 };
-use values::format::{Format, FormatFault, Piece};
+use values::format::{Format, FormatError, FormatPiece};
 
-/// A right side of the type of its target.
+/// Checks that a right side has the type of its target.
 fn right<A: Allocator>(
     functions: &Functions,
     scope: &Scope,
-    settled: &mut Vec<Settled>,
+    settled: &mut Vec<NameEntry>,
     right: &Right<A>,
     target: VariableType,
 ) -> Result<(), TypeFault>
@@ -49,12 +53,14 @@ fn right<A: Allocator>(
     }
 }
 
-/// An array literal: its elements have the type of the target's, and the target is an array under numbers. With a scalar target they are compared
-/// with nothing, before the literal is refused.
+/// Checks an array literal against the type of its target.
+///
+/// Each element has to have the element type of the target, and the target has to be an array with numbers as keys.
+/// With a scalar target the elements are checked for their own faults alone, and then the literal is refused.
 fn literal<A: Allocator>(
     functions: &Functions,
     scope: &Scope,
-    settled: &mut Vec<Settled>,
+    settled: &mut Vec<NameEntry>,
     list: &ListOf<A>,
     target: VariableType,
 ) -> Result<(), TypeFault>
@@ -73,7 +79,7 @@ fn literal<A: Allocator>(
     }
 }
 
-/// Refuses keys that are no numbers.
+/// Returns `Mismatch` at `at` unless the keys are numbers.
 fn under_numbers(keys: Keys, at: Span) -> Result<(), TypeFault>
     ensures { Judges (λ _. tt) result (steps.under_numbers keys at) }
 {
@@ -83,11 +89,15 @@ fn under_numbers(keys: Keys, at: Span) -> Result<(), TypeFault>
     }
 }
 
-/// The types of the variables that names refer to, in their order, all of which are settled; the first fault of a name, or `Memory`.
+/// Returns the types of the variables that names refer to, in the order of the names, and records each reference.
+///
+/// # Errors
+///
+/// Returns the first fault of a name, or `Memory` if an allocation fails.
 fn refer_all<A: Allocator>(
     alloc: Global,
     scope: &Scope,
-    settled: &mut Vec<Settled>,
+    settled: &mut Vec<NameEntry>,
     names: &[Name<A>],
 ) -> Result<Vec<VariableType>, TypeFault>
     ensures { Gives (λ types. map type_of types.items) result settled.new.items
@@ -100,7 +110,10 @@ fn refer_all<A: Allocator>(
     Ok(types)
 }
 
-/// Refuses outputs that have not the types of their targets.
+/// Checks that the outputs of a call have the types of their targets.
+///
+/// Returns `Mismatch` at `at` if an output has another type than its target, or `WrongCount` if there are fewer targets
+/// than outputs. Further targets are not checked: the caller has compared the counts.
 fn same_types(found: &[VariableType], wanted: &[VariableType], at: Span) -> Result<(), TypeFault>
     ensures { Judges (λ _. tt) result (steps.same_types (map type_of found.now) (map type_of wanted.now) at) }
 {
@@ -114,7 +127,11 @@ fn same_types(found: &[VariableType], wanted: &[VariableType], at: Span) -> Resu
     Ok(())
 }
 
-/// The one target of a call with one output; `WrongCount`, at the called name, where there are more or none.
+/// Returns the type of the only target of a call that has one output.
+///
+/// # Errors
+///
+/// Returns `WrongCount` at the called name if there is not exactly one target.
 fn only_target(targets: &[VariableType], at: Span) -> Result<VariableType, TypeFault>
     ensures { Judges type_of result (steps.only_target (map type_of targets.now) at) }
 {
@@ -127,11 +144,11 @@ fn only_target(targets: &[VariableType], at: Span) -> Result<VariableType, TypeF
     }
 }
 
-/// A call whose outputs go to variables of these types.
+/// Checks a call whose outputs are assigned to variables of the types in `targets`.
 fn several<A: Allocator>(
     functions: &Functions,
     scope: &Scope,
-    settled: &mut Vec<Settled>,
+    settled: &mut Vec<NameEntry>,
     call: &Call<A>,
     targets: &[VariableType],
 ) -> Result<(), TypeFault>
@@ -168,12 +185,12 @@ fn several<A: Allocator>(
     }
 }
 
-/// A call that is a statement: of a function without outputs, of `printf` or of `assert`.
+/// Checks a call that is a statement: of a function without outputs, of `printf` or of `assert`.
 fn call_statement<A: Allocator>(
     alloc: Global,
     functions: &Functions,
     scope: &Scope,
-    settled: &mut Vec<Settled>,
+    settled: &mut Vec<NameEntry>,
     call: &Call<A>,
 ) -> Result<(), TypeFault>
     ensures { Gives (λ _. tt) result settled.new.items
@@ -201,12 +218,12 @@ fn call_statement<A: Allocator>(
     }
 }
 
-/// The arguments of a built-in function that is called as a statement, at `at`.
+/// Checks the arguments of a built-in function that is called as a statement. `at`: the called name.
 fn builtin_statement<A: Allocator>(
     alloc: Global,
     functions: &Functions,
     scope: &Scope,
-    settled: &mut Vec<Settled>,
+    settled: &mut Vec<NameEntry>,
     builtin: Builtin,
     given: &Vec<Expr<A>, A>,
     at: Span,
@@ -236,12 +253,12 @@ fn builtin_statement<A: Allocator>(
     }
 }
 
-/// The arguments of `printf`, which is called at `at`: a format, and one for each of its conversions.
+/// Checks the arguments of `printf`: a format, and one argument for each of its conversions. `at`: the called name.
 fn print<A: Allocator>(
     alloc: Global,
     functions: &Functions,
     scope: &Scope,
-    settled: &mut Vec<Settled>,
+    settled: &mut Vec<NameEntry>,
     given: &Vec<Expr<A>, A>,
     at: Span,
 ) -> Result<(), TypeFault>
@@ -258,7 +275,12 @@ fn print<A: Allocator>(
     arguments(functions, scope, settled, given, 1, wanted.as_slice(), at)
 }
 
-/// The types that the conversions of a format take; `BadFormat`, at the argument, where it is no string literal that is a format, or `Memory`.
+/// Returns the types that the conversions of a format take.
+///
+/// # Errors
+///
+/// Returns `BadFormat` at the argument if it is not a string literal with a valid format, or `Memory` if an allocation
+/// fails.
 fn conversions<A: Allocator>(
     alloc: Global,
     format: &Expr<A>,
@@ -274,33 +296,37 @@ fn conversions<A: Allocator>(
     };
     match Format::read(alloc, bytes.as_slice()) {
         Ok(format) => Ok(wanted(alloc, &format)?),
-        Err(FormatFault::Unreadable) => Err(TypeFault::BadFormat(at)),
-        Err(FormatFault::Memory) => Err(TypeFault::Memory),
+        Err(FormatError::Unreadable) => Err(TypeFault::BadFormat(at)),
+        Err(FormatError::Memory) => Err(TypeFault::Memory),
     }
 }
 
-/// The types that the conversions of a format that was read take; the only refusal is that of memory.
+/// Returns the types that the conversions of a parsed format take.
+///
+/// # Errors
+///
+/// Returns `AllocError` if an allocation fails.
 fn wanted(alloc: Global, format: &Format) -> Result<Vec<VariableType>, AllocError>
     ensures { IfOk result (λ types. map type_of types.items ≡ typing.wanted format.now) }
 {
     let mut types = Vec::new(alloc);
     for piece in format.pieces() {
         match piece {
-            Piece::Byte(_) => {}
-            Piece::Number => types.push(one_of(Base::Int))?,
-            Piece::Text => types.push(one_of(Base::Text))?,
+            FormatPiece::Byte(_) => {}
+            FormatPiece::Number => types.push(one_of(Base::Int))?,
+            FormatPiece::Text => types.push(one_of(Base::Text))?,
         }
     }
     Ok(types)
 }
 
-/// What a loop goes over, with the types of the values and of the keys that it gives to its body.
+/// Checks the source of a loop, and returns the types of the value variable and of the key variable.
 fn source<A: Allocator>(
     functions: &Functions,
     scope: &Scope,
-    settled: &mut Vec<Settled>,
+    settled: &mut Vec<NameEntry>,
     source: &Source<A>,
-) -> Result<Elements, TypeFault>
+) -> Result<ElementTypes, TypeFault>
     ensures { Gives (λ given. given) result settled.new.items
         (steps.source (signatures_of functions.now) (around_of scope.now) (over_of source.now) settled.old.items) }
 {
@@ -313,30 +339,30 @@ fn source<A: Allocator>(
     }
 }
 
-/// The bounds and the step of a range, which are numbers, as its values and its keys are.
+/// Checks that the bounds and the step of a range are numbers. Its values and its keys are numbers too.
 fn range<A: Allocator>(
     functions: &Functions,
     scope: &Scope,
-    settled: &mut Vec<Settled>,
+    settled: &mut Vec<NameEntry>,
     range: &Range<A>,
-) -> Result<Elements, TypeFault>
+) -> Result<ElementTypes, TypeFault>
     ensures { Gives (λ given. given) result settled.new.items
         (steps.source (signatures_of functions.now) (around_of scope.now) (range_of range.now) settled.old.items) }
 {
     expect(functions, scope, settled, &range.low, Base::Int)?;
     expect(functions, scope, settled, &range.high, Base::Int)?;
     step(functions, scope, settled, &range.step)?;
-    Ok(Elements {
+    Ok(ElementTypes {
         value: Base::Int,
         key: Base::Int,
     })
 }
 
-/// The step of a range, where it has one.
+/// Checks that the step of a range is a number, if the range has a step.
 fn step<A: Allocator>(
     functions: &Functions,
     scope: &Scope,
-    settled: &mut Vec<Settled>,
+    settled: &mut Vec<NameEntry>,
     step: &Option<Expr<A>>,
 ) -> Result<(), TypeFault>
     ensures { Gives (λ _. tt) result settled.new.items
@@ -348,7 +374,11 @@ fn step<A: Allocator>(
     }
 }
 
-/// Refuses variables of a loop that are visible already, or that have one name.
+/// Checks that the variables of a loop are not yet visible and that their names differ.
+///
+/// # Errors
+///
+/// Returns `Declared` at the first name that is already visible, or at the key if it has the name of the value.
 fn fresh_variables<A: Allocator>(
     scope: &Scope,
     value: &Name<A>,
@@ -369,15 +399,17 @@ fn fresh_variables<A: Allocator>(
     }
 }
 
-/// Makes the variables of a loop visible, which are new and have two names. Where memory runs out, the first one may be visible.
+/// Adds the variables of a loop to the scope. Their names are not yet visible, and they differ.
+///
+/// If an allocation fails, the first variable may already have been added.
 fn add_variables<A: Allocator>(
     alloc: Global,
     scope: &mut Scope,
     value: &Name<A>,
     key: &Option<Name<A>>,
-    given: Elements,
+    given: ElementTypes,
 ) -> Result<(), AllocError>
-    requires { (settled : List Settled) → steps.fresh_variables (around_of scope.old) (word_of value.now) (option_map word_of key.now)
+    requires { (settled : List NameEntry) → steps.fresh_variables (around_of scope.old) (word_of value.now) (option_map word_of key.now)
         settled ≡ got tt settled }
     ensures { OnOk result (around_of scope.new ≡ steps.with_key (steps.declared (around_of scope.old) (word_of value.now) (scopes.one_of given.value))
         (option_map word_of key.now) given.key) }
@@ -386,7 +418,7 @@ fn add_variables<A: Allocator>(
         alloc,
         scope,
         value,
-        Owned::Local(value.number),
+        Binding::Local(value.number),
         one_of(given.value),
     )?;
     if let Some(key) = key {
@@ -394,21 +426,21 @@ fn add_variables<A: Allocator>(
             alloc,
             scope,
             key,
-            Owned::Local(key.number),
+            Binding::Local(key.number),
             one_of(given.key),
         )?;
     }
     Ok(())
 }
 
-/// A statement, with the variable that it declares.
+/// Checks a statement, and adds the variable that it declares to the scope.
 #[tactic(auto, unfolding(crate::specs::Statements::stated))]
 #[cycle(stmt)]
 pub fn stmt<A: Allocator>(
     alloc: Global,
     functions: &Functions,
     scope: &mut Scope,
-    settled: &mut Vec<Settled>,
+    settled: &mut Vec<NameEntry>,
     stmt: &Stmt<A>,
 ) -> Result<(), TypeFault>
     ensures { Gives (λ _. around_of scope.new) result settled.new.items
@@ -417,13 +449,13 @@ pub fn stmt<A: Allocator>(
     command(alloc, functions, scope, settled, &stmt.kind)
 }
 
-/// The form of a statement.
+/// Checks a statement by its form.
 #[cycle(stmt)]
 fn command<A: Allocator>(
     alloc: Global,
     functions: &Functions,
     scope: &mut Scope,
-    settled: &mut Vec<Settled>,
+    settled: &mut Vec<NameEntry>,
     kind: &StmtKind<A>,
 ) -> Result<(), TypeFault>
     ensures { Gives (λ _. around_of scope.new) result settled.new.items
@@ -451,13 +483,13 @@ fn command<A: Allocator>(
     }
 }
 
-/// A declaration: its name is visible in its own right side.
+/// Checks a declaration. The declared name is already visible in its own right side.
 #[tactic(auto, unfolding(crate::specs::Statements::commanded))]
 fn declaration<A: Allocator>(
     alloc: Global,
     functions: &Functions,
     scope: &mut Scope,
-    settled: &mut Vec<Settled>,
+    settled: &mut Vec<NameEntry>,
     decl: &Decl<A>,
     value: &Option<Right<A>>,
 ) -> Result<(), TypeFault>
@@ -469,18 +501,18 @@ fn declaration<A: Allocator>(
         alloc,
         scope,
         &decl.name,
-        Owned::Local(decl.name.number),
+        Binding::Local(decl.name.number),
         declared(decl),
     )?;
     initial(functions, scope, settled, value, declared(decl))?;
     Ok(())
 }
 
-/// The right side of a declaration, where it has one.
+/// Checks the right side of a declaration, if there is one.
 fn initial<A: Allocator>(
     functions: &Functions,
     scope: &Scope,
-    settled: &mut Vec<Settled>,
+    settled: &mut Vec<NameEntry>,
     value: &Option<Right<A>>,
     target: VariableType,
 ) -> Result<(), TypeFault>
@@ -493,12 +525,12 @@ fn initial<A: Allocator>(
     }
 }
 
-/// An assignment of one variable.
+/// Checks an assignment to one variable.
 #[tactic(auto, unfolding(crate::specs::Statements::commanded))]
 fn assignment<A: Allocator>(
     functions: &Functions,
     scope: &Scope,
-    settled: &mut Vec<Settled>,
+    settled: &mut Vec<NameEntry>,
     name: &Name<A>,
     value: &Right<A>,
 ) -> Result<(), TypeFault>
@@ -510,12 +542,12 @@ fn assignment<A: Allocator>(
     Ok(())
 }
 
-/// A write of one element of an array.
+/// Checks a write of one array element.
 #[tactic(auto, unfolding(crate::specs::Statements::commanded))]
 fn write<A: Allocator>(
     functions: &Functions,
     scope: &Scope,
-    settled: &mut Vec<Settled>,
+    settled: &mut Vec<NameEntry>,
     name: &Name<A>,
     index: &Expr<A>,
     value: &Expr<A>,
@@ -530,13 +562,13 @@ fn write<A: Allocator>(
     Ok(())
 }
 
-/// An assignment of several variables by one call.
+/// Checks an assignment of several variables by one call.
 #[tactic(auto, unfolding(crate::specs::Statements::commanded))]
 fn assignments<A: Allocator>(
     alloc: Global,
     functions: &Functions,
     scope: &Scope,
-    settled: &mut Vec<Settled>,
+    settled: &mut Vec<NameEntry>,
     names: &Vec<Name<A>, A>,
     call: &Call<A>,
 ) -> Result<(), TypeFault>
@@ -549,13 +581,13 @@ fn assignments<A: Allocator>(
     Ok(())
 }
 
-/// A call that is a statement, of any priority.
+/// Checks a call that is a statement, with any priority.
 #[tactic(auto, unfolding(crate::specs::Statements::commanded))]
 fn called_alone<A: Allocator>(
     alloc: Global,
     functions: &Functions,
     scope: &Scope,
-    settled: &mut Vec<Settled>,
+    settled: &mut Vec<NameEntry>,
     priority: i32,
     call: &Call<A>,
 ) -> Result<(), TypeFault>
@@ -566,14 +598,14 @@ fn called_alone<A: Allocator>(
     Ok(())
 }
 
-/// An `if`, and what stands behind its `else`.
+/// Checks an `if`, with its `else` if there is one.
 #[tactic(auto, unfolding(crate::specs::Statements::commanded))]
 #[cycle(stmt)]
 fn choice<A: Allocator>(
     alloc: Global,
     functions: &Functions,
     scope: &mut Scope,
-    settled: &mut Vec<Settled>,
+    settled: &mut Vec<NameEntry>,
     condition: &Expr<A>,
     then: &Block<A>,
     other: &Option<Box<Block<A>, A>>,
@@ -590,14 +622,14 @@ fn choice<A: Allocator>(
     Ok(())
 }
 
-/// A loop: its body sees its variables, which are new.
+/// Checks a loop. Its variables have to be new, and only its body sees them.
 #[tactic(auto, unfolding(crate::specs::Statements::commanded))]
 #[cycle(stmt)]
 fn repetition<A: Allocator>(
     alloc: Global,
     functions: &Functions,
     scope: &mut Scope,
-    settled: &mut Vec<Settled>,
+    settled: &mut Vec<NameEntry>,
     header: &Header<A>,
     body: &Block<A>,
 ) -> Result<(), TypeFault>
@@ -615,14 +647,14 @@ fn repetition<A: Allocator>(
     Ok(())
 }
 
-/// A block that waits for variables.
+/// Checks a `wait` statement: its variables, then its body.
 #[tactic(auto, unfolding(crate::specs::Statements::commanded))]
 #[cycle(stmt)]
 fn waiting<A: Allocator>(
     alloc: Global,
     functions: &Functions,
     scope: &mut Scope,
-    settled: &mut Vec<Settled>,
+    settled: &mut Vec<NameEntry>,
     names: &Vec<Name<A>, A>,
     body: &Block<A>,
 ) -> Result<(), TypeFault>
@@ -634,13 +666,13 @@ fn waiting<A: Allocator>(
     Ok(())
 }
 
-/// A block one step further in.
+/// Checks a block that is nested one level deeper than `scope`, and restores the scope.
 #[cycle(stmt)]
 fn branch<A: Allocator>(
     alloc: Global,
     functions: &Functions,
     scope: &mut Scope,
-    settled: &mut Vec<Settled>,
+    settled: &mut Vec<NameEntry>,
     body: &Block<A>,
 ) -> Result<(), TypeFault>
     ensures gives { Gives (λ _. tt) result settled.new.items
@@ -654,7 +686,7 @@ fn branch<A: Allocator>(
     Ok(())
 }
 
-/// Closes a block, before which so many variables were visible.
+/// Closes a block: drops the names that were added after the first `visible` ones.
 fn leave(scope: &mut Scope, visible: usize)
     ensures { around_of scope.new ≡ outside (around_of scope.old) visible }
 {
@@ -662,14 +694,14 @@ fn leave(scope: &mut Scope, visible: usize)
     let _closed = scope.blocks.pop();
 }
 
-/// The statements of a block, whose variables are not visible behind it.
+/// Checks the statements of a block. Variables that they declare are not visible after the block.
 #[tactic(auto, unfolding(crate::specs::Statements::enclosed))]
 #[cycle(stmt)]
 pub fn block<A: Allocator>(
     alloc: Global,
     functions: &Functions,
     scope: &mut Scope,
-    settled: &mut Vec<Settled>,
+    settled: &mut Vec<NameEntry>,
     body: &Block<A>,
 ) -> Result<(), TypeFault>
     ensures gives { Gives (λ _. tt) result settled.new.items
@@ -682,14 +714,14 @@ pub fn block<A: Allocator>(
     Ok(())
 }
 
-/// Statements one after another.
+/// Checks statements in order.
 #[tactic(auto, unfolding(crate::specs::Statements::in_order))]
 #[cycle(stmt)]
 fn each<A: Allocator>(
     alloc: Global,
     functions: &Functions,
     scope: &mut Scope,
-    settled: &mut Vec<Settled>,
+    settled: &mut Vec<NameEntry>,
     statements: &Vec<Stmt<A>, A>,
 ) -> Result<(), TypeFault>
     ensures gives { Gives (λ _. tt) result settled.new.items

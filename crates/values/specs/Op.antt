@@ -1,4 +1,4 @@
--- The operation that a node of a program stands for.
+-- The operation of a node of a program.
 use Rattle.values.specs.declared.op.Op.{Op}
 use Rattle.values.specs.declared.op.Op.TheVariants.{Sum, Product, Compare, Equal, Unequal, And, Or, Not, Negate, Join, FromInt, ToInt, Size, Printf, Assert, Literal}
 use Rattle.values.specs.Operators.{Operation, sum_of, product_of, compare, equal, unequal, all_true, any_true, not_true, negate, join, from_int, to_int, size, printf, assert, literal}

@@ -1,7 +1,7 @@
 -- Actions with one block in the place of another that is seen alike.
 use Rattle.std.proofs.Common.{rules, true, ◌≡◌, ◌&&◌, ◌++◌, Option, option_map, map, List, [], ◌∷◌, refl, ap, sym, ◌∙◌, Vec, Box}
 use Rattle.flow.specs.declared.name.Name.{Name}
-use Rattle.flow.specs.declared.cell.Outer.{Outer}
+use Rattle.flow.specs.declared.cell.OuterCell.{OuterCell}
 use Rattle.flow.specs.declared.statement.Variable.{Variable}
 use Rattle.flow.specs.declared.statement.Header.{Header}
 use Rattle.flow.specs.declared.statement.Range.{Range as Ranged}
@@ -9,25 +9,25 @@ use Rattle.flow.specs.declared.statement.Block.{Block}
 use Rattle.flow.specs.declared.statement.Statement.{Statement, out-Statement, roll-Statement}
 use Rattle.flow.specs.declared.statement.Action.{Action, When, Choose, Range, Each, Wait, the_lemmas}
 use Rattle.flow.specs.View.{action_view, awaited_view, block_view, statement_view, waits_around}
-use Rattle.flow_listed.specs.Cells.{action_anchors, statement_anchors}
-use Rattle.flow_listed.proofs.Anchors.{anchors_statement}
-use Rattle.flow_listed.specs.Listed.{Listed, declared, action_listed, block_listed, statement_listed, content, looping, other, waiting, whole}
+use Rattle.flow.specs.Cells.{action_anchors, statement_anchors}
+use Rattle.flow.proofs.Anchors.{anchors_statement}
+use Rattle.flow.specs.Listed.{Listed, declared, action_listed, block_listed, statement_listed, content, looping, other, waiting, whole}
 use Rattle.flow.specs.Shapes.{Declared, action_declared, block_declared, statement_declared}
 use Rattle.language.specs.Core as core
 use Rattle.wait_merge.specs.Merged.{action_seen, block_seen, statement_seen}
 
 module _ {A : Type 0} where
-  view_when : (e : Box (Outer A) A) (b b' : Box (Block A) A) → block_view b'.value ≡ block_view b.value → action_view (When e b') ≡ action_view (When e b)
+  view_when : (e : Box (OuterCell A) A) (b b' : Box (Block A) A) → block_view b'.value ≡ block_view b.value → action_view (When e b') ≡ action_view (When e b)
   view_when e b b' same = search (rules, the_lemmas)
 
-  pub when_core : (a : Action A) (e : Box (Outer A) A) (b b' : Box (Block A) A) → a ≡ When e b → block_view b'.value ≡ block_view b.value → action_view (When e b') ≡ action_view a
+  pub when_core : (a : Action A) (e : Box (OuterCell A) A) (b b' : Box (Block A) A) → a ≡ When e b → block_view b'.value ≡ block_view b.value → action_view (When e b') ≡ action_view a
   when_core a e b b' is same = view_when e b b' same ∙ sym (ap action_view is)
 
-  view_choose : (e : Box (Outer A) A) (b b' d d' : Box (Block A) A) → block_view b'.value ≡ block_view b.value → block_view d'.value ≡ block_view d.value
+  view_choose : (e : Box (OuterCell A) A) (b b' d d' : Box (Block A) A) → block_view b'.value ≡ block_view b.value → block_view d'.value ≡ block_view d.value
       → action_view (Choose e b' d') ≡ action_view (Choose e b d)
   view_choose e b b' d d' same also = search (rules, the_lemmas)
 
-  pub choose_core : (a : Action A) (e : Box (Outer A) A) (b b' d d' : Box (Block A) A) → a ≡ Choose e b d → block_view b'.value ≡ block_view b.value → block_view d'.value ≡ block_view d.value
+  pub choose_core : (a : Action A) (e : Box (OuterCell A) A) (b b' d d' : Box (Block A) A) → a ≡ Choose e b d → block_view b'.value ≡ block_view b.value → block_view d'.value ≡ block_view d.value
       → action_view (Choose e b' d') ≡ action_view a
   choose_core a e b b' d d' is same also = view_choose e b b' d d' same also ∙ sym (ap action_view is)
 
@@ -47,10 +47,10 @@ module _ {A : Type 0} where
       → action_view (Each n v k b') ≡ action_view a
   each_core a n v k b b' is same = view_each n v k b b' same ∙ sym (ap action_view is)
 
-  pub when_declared : (e : Box (Outer A) A) (b : Box (Block A) A) → action_declared (When e b) ≡ block_declared b.value
+  pub when_declared : (e : Box (OuterCell A) A) (b : Box (Block A) A) → action_declared (When e b) ≡ block_declared b.value
   when_declared e b = search (rules, the_lemmas)
 
-  pub choose_declared : (e : Box (Outer A) A) (b d : Box (Block A) A) → action_declared (Choose e b d) ≡ block_declared b.value ++ block_declared d.value
+  pub choose_declared : (e : Box (OuterCell A) A) (b d : Box (Block A) A) → action_declared (Choose e b d) ≡ block_declared b.value ++ block_declared d.value
   choose_declared e b d = search (rules, the_lemmas)
 
   pub range_declared : (r : Box (Ranged A) A) (v : Variable A) (k : Option (Variable A)) (b : Box (Block A) A) → action_declared (Range r v k b) ≡ block_declared b.value
@@ -59,10 +59,10 @@ module _ {A : Type 0} where
   pub each_declared : (n : Name) (v : Variable A) (k : Option (Variable A)) (b : Box (Block A) A) → action_declared (Each n v k b) ≡ block_declared b.value
   each_declared n v k b = search (rules, the_lemmas)
 
-  pub when_merged : (e : Box (Outer A) A) (b : Box (Block A) A) → (action_seen (When e b)).merged ≡ (block_seen b.value).merged
+  pub when_merged : (e : Box (OuterCell A) A) (b : Box (Block A) A) → (action_seen (When e b)).merged ≡ (block_seen b.value).merged
   when_merged e b = search (rules, the_lemmas)
 
-  pub choose_merged : (e : Box (Outer A) A) (b d : Box (Block A) A) → (action_seen (Choose e b d)).merged ≡ (block_seen b.value).merged && (block_seen d.value).merged
+  pub choose_merged : (e : Box (OuterCell A) A) (b d : Box (Block A) A) → (action_seen (Choose e b d)).merged ≡ (block_seen b.value).merged && (block_seen d.value).merged
   choose_merged e b d = search (rules, the_lemmas)
 
   pub range_merged : (r : Box (Ranged A) A) (v : Variable A) (k : Option (Variable A)) (b : Box (Block A) A) → (action_seen (Range r v k b)).merged ≡ (block_seen b.value).merged
@@ -73,10 +73,10 @@ module _ {A : Type 0} where
 
   -- WHAT A LISTING SHOWS
 
-  pub when_listed : (e : Box (Outer A) A) (b : Box (Block A) A) → action_listed (When e b) ≡ other (whole (block_listed b.value))
+  pub when_listed : (e : Box (OuterCell A) A) (b : Box (Block A) A) → action_listed (When e b) ≡ other (whole (block_listed b.value))
   when_listed e b = search (rules, the_lemmas)
 
-  pub choose_listed : (e : Box (Outer A) A) (b d : Box (Block A) A) → action_listed (Choose e b d) ≡ other (whole (block_listed b.value) ++ whole (block_listed d.value))
+  pub choose_listed : (e : Box (OuterCell A) A) (b d : Box (Block A) A) → action_listed (Choose e b d) ≡ other (whole (block_listed b.value) ++ whole (block_listed d.value))
   choose_listed e b d = search (rules, the_lemmas)
 
   pub range_listed : (r : Box (Ranged A) A) (v : Variable A) (k : Option (Variable A)) (b : Box (Block A) A) → action_listed (Range r v k b) ≡ looping (declared v) (option_map declared k) (block_listed b.value)

@@ -8,10 +8,10 @@ use Rattle.flow.specs.declared.statement.Action.{the_lemmas}
 use Rattle.flow.specs.View.{block_view, block_of, statement_view}
 use Rattle.flow.specs.Shapes.{block_declared, statement_declared, together}
 use Rattle.flow.specs.declared.statement.Statement.{out-Statement}
-use Rattle.flow_listed.specs.Cells.{block_anchors, statement_anchors}
-use Rattle.flow_listed.proofs.Anchors.{anchors_block}
-use Rattle.flow_listed.specs.Listed as shows
-use Rattle.flow_listed.specs.Listed.{Listed, block_listed, content, statement_listed}
+use Rattle.flow.specs.Cells.{block_anchors, statement_anchors}
+use Rattle.flow.proofs.Anchors.{anchors_block}
+use Rattle.flow.specs.Listed as shows
+use Rattle.flow.specs.Listed.{Listed, block_listed, content, statement_listed}
 use Rattle.language.specs.Core as core
 use Rattle.wait_merge.proofs.Actions.{listed_statement, seen_statement}
 use Rattle.wait_merge.proofs.Forms.{same_wait}

@@ -6,7 +6,7 @@ use Rattle.flow.specs.declared.statement.Block.{Block}
 use Rattle.flow.specs.declared.statement.Statement.{Statement}
 use Rattle.flow.specs.declared.statement.Action.{Action, Action-F, Wait, out-Action, roll-Action, the_lemmas}
 use Rattle.flow.specs.declared.statement.Action.TheOpen as Does
-use Rattle.flow_listed.specs.Listed.{action_listed}
+use Rattle.flow.specs.Listed.{action_listed}
 use Rattle.wait_merge.specs.Merged.{action_seen}
 
 rolled : (A : Type 0) (a : Action A) → a ≡ roll-Action A (out-Action A a)

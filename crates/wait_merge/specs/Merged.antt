@@ -7,12 +7,12 @@ use Rattle.flow.specs.declared.statement.Statement.{Statement, Statement-F, fold
 use Rattle.flow.specs.declared.script.Function.{Function}
 use Rattle.flow.specs.declared.script.Flow.{Flow}
 
--- of a statement, whether it is a `wait`, and of a block, whether it is exactly one; and whether all waits in it are merged
+-- whether a statement is a `wait`, or a block exactly one `wait`; and whether all waits in it are merged
 pub record Seen : Type 0 where
   pub wait : Bool
   pub merged : Bool
 
--- a statement that is no `wait`
+-- a statement other than a `wait`
 abbrev pub other : Bool → Seen
 other m = record { wait = false; merged = m }
 

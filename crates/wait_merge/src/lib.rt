@@ -1,4 +1,5 @@
-//! Waits one in another, merged: a `wait` whose content is exactly one `wait` becomes one, which keeps the headers of both.
+//! Merging of nested waits in a flow: a `wait` whose content is exactly one `wait` absorbs it and keeps the headers of
+//! both.
 #![tactic(auto)]
 
 pub mod script;

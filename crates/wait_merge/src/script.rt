@@ -1,21 +1,22 @@
-//! Whole scripts.
+//! Merging of waits in whole scripts.
 ghost use Rattle.std.specs.Prelude.{◌≡◌, IfOk, IsTrue, OnOk, map};
 ghost use Rattle.flow.specs.View.{core_of, function_view};
 ghost use Rattle.flow.specs.Shapes.{block_declared, declared_of, kinds_of, kinds_of_function};
-ghost use Rattle.flow_listed.specs.Cells.{anchors_of, function_anchors};
-ghost use Rattle.flow_listed.specs.Listed.{function_shown, shown_of};
+ghost use Rattle.flow.specs.Cells.{anchors_of, function_anchors};
+ghost use Rattle.flow.specs.Listed.{function_shown, shown_of};
 ghost use Rattle.wait_merge.specs.Merged.{functions_merged, IsMerged};
 
-use crate::statement::block;
+use crate::statement::merge_block;
 use flow::script::{Flow, Function};
 use std::alloc::{AllocError, Allocator};
 
-/// The flow with its waits merged, as often as there is one to merge: a `wait` whose content is exactly one `wait` becomes one,
-/// which keeps the headers of both, outermost first. The flow stays that of the same script.
+/// Returns the flow with its nested waits merged, until none is left to merge. The flow stays that of the same script.
+///
+/// A `wait` whose content is exactly one `wait` absorbs it and keeps the headers of both, outermost first.
 ///
 /// # Errors
 ///
-/// Want of memory for a list of headers that grows.
+/// Returns `AllocError` if a list of headers cannot grow.
 pub fn merge<A: Allocator>(flow: Flow<A>) -> Result<Flow<A>, AllocError>
     ensures core { IfOk result (λ merged. core_of merged ≡ core_of flow) }
     ensures declared { IfOk result (λ merged. declared_of merged ≡ declared_of flow) }
@@ -28,12 +29,12 @@ pub fn merge<A: Allocator>(flow: Flow<A>) -> Result<Flow<A>, AllocError>
         mut body,
         mut functions,
     } = flow;
-    block(&mut body)?;
+    merge_block(&mut body)?;
     each(&mut functions)?;
     Ok(Flow { body, functions })
 }
 
-/// Merges the waits of functions.
+/// Merges the nested waits of functions.
 fn each<A: Allocator>(functions: &mut Vec<Function<A>, A>) -> Result<(), AllocError>
     ensures core { OnOk result (map function_view functions.new.items ≡ map function_view functions.old.items) }
     ensures declared { OnOk result (map (λ f. block_declared f.body) functions.new.items ≡ map (λ f. block_declared f.body) functions.old.items) }
@@ -44,7 +45,7 @@ fn each<A: Allocator>(functions: &mut Vec<Function<A>, A>) -> Result<(), AllocEr
 {
     for i in 0..functions.len() {
         let function = &mut functions[i];
-        block(&mut function.body)?;
+        merge_block(&mut function.body)?;
     }
     Ok(())
 }

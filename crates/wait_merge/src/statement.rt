@@ -1,10 +1,10 @@
-//! Statements and the blocks inside them.
+//! Merging of waits in statements and nested blocks.
 ghost use Rattle.std.specs.Prelude.{◌≡◌, ◌∷◌, [], IsTrue, IsFalse, OnOk, map, true, false};
 ghost use Rattle.flow.specs.View.{action_view, awaited_view, block_view, statement_view, statements_view, waits_around};
 ghost use Rattle.flow.specs.Shapes.{action_declared, block_declared, statement_declared};
 ghost use Rattle.language.specs.Core as core;
-ghost use Rattle.flow_listed.specs.Cells.{action_anchors, block_anchors, statement_anchors};
-ghost use Rattle.flow_listed.specs.Listed.{action_listed, block_listed, content as inside, statement_listed};
+ghost use Rattle.flow.specs.Cells.{action_anchors, block_anchors, statement_anchors};
+ghost use Rattle.flow.specs.Listed.{action_listed, block_listed, content as inside, statement_listed};
 ghost use Rattle.wait_merge.specs.Merged.{action_seen, all_merged, block_seen, statement_seen};
 
 use flow::statement::{Action, Block, Header, Statement};
@@ -12,14 +12,14 @@ use std::alloc::{AllocError, Allocator};
 
 // A WAIT INSIDE A WAIT
 
-/// Whether an action is a `wait`.
+/// Returns true if an action is a `wait`.
 fn is_wait<A: Allocator>(action: &Action<A>) -> bool
     ensures { result ≡ (action_seen action.now).wait }
 {
     matches!(action, Action::Wait { .. })
 }
 
-/// Whether a block is exactly one `wait`.
+/// Returns true if a block consists of exactly one `wait`.
 fn is_one_wait<A: Allocator>(block: &Block<A>) -> bool
     ensures { result ≡ (block_seen block.now).wait }
 {
@@ -29,9 +29,9 @@ fn is_one_wait<A: Allocator>(block: &Block<A>) -> bool
     }
 }
 
-/// Merges a `wait` that is the whole content of another one into that: its header stands behind those that are there, with its
-/// own merged ones behind it, and its content takes the place of the content.
-fn take_in<A: Allocator>(
+/// Absorbs a `wait` that is the whole content of another. Appends its header and its own merged headers to `inner`, and
+/// replaces the content by its content.
+fn absorb_headers<A: Allocator>(
     inner: &mut Vec<Header<A>, A>,
     content: &mut Box<Block<A>, A>,
     only: Statement<A>,
@@ -61,7 +61,7 @@ fn take_in<A: Allocator>(
     }
 }
 
-/// Merges the content of a `wait` into it, where that is exactly one `wait`.
+/// Absorbs the content of a `wait` if it is exactly one `wait`.
 fn absorb<A: Allocator>(
     inner: &mut Vec<Header<A>, A>,
     content: &mut Box<Block<A>, A>,
@@ -79,7 +79,7 @@ fn absorb<A: Allocator>(
     match content.statements.pop() {
         None => Ok(()),
         Some(only) => {
-            take_in(inner, content, only)?;
+            absorb_headers(inner, content, only)?;
             Ok(())
         }
     }
@@ -87,7 +87,7 @@ fn absorb<A: Allocator>(
 
 // STATEMENTS AND BLOCKS
 
-/// Merges the waits inside an action.
+/// Merges the waits nested in an action.
 #[cycle(merged)]
 fn action<A: Allocator>(action: &mut Action<A>) -> Result<(), AllocError>
     ensures core { OnOk result (action_view action.new ≡ action_view action.old) }
@@ -98,24 +98,24 @@ fn action<A: Allocator>(action: &mut Action<A>) -> Result<(), AllocError>
 {
     match action {
         Action::When { then, .. } => {
-            block(then)?;
+            merge_block(then)?;
             Ok(())
         }
         Action::Choose { then, other, .. } => {
-            block(then)?;
-            block(other)?;
+            merge_block(then)?;
+            merge_block(other)?;
             Ok(())
         }
         Action::Range { body, .. } => {
-            block(body)?;
+            merge_block(body)?;
             Ok(())
         }
         Action::Each { body, .. } => {
-            block(body)?;
+            merge_block(body)?;
             Ok(())
         }
         Action::Wait { inner, content, .. } => {
-            block(content)?;
+            merge_block(content)?;
             absorb(inner, content)?;
             Ok(())
         }
@@ -141,7 +141,7 @@ fn each<A: Allocator>(statements: &mut Vec<Statement<A>, A>) -> Result<(), Alloc
 
 /// Merges the waits of a block.
 #[cycle(merged)]
-pub fn block<A: Allocator>(block: &mut Block<A>) -> Result<(), AllocError>
+pub fn merge_block<A: Allocator>(block: &mut Block<A>) -> Result<(), AllocError>
     ensures core { OnOk result (block_view block.new ≡ block_view block.old) }
     ensures declared { OnOk result (block_declared block.new ≡ block_declared block.old) }
     ensures listed { OnOk result (block_listed block.new ≡ block_listed block.old) }

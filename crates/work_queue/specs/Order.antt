@@ -2,16 +2,16 @@
 use Rattle.std.specs.Prelude.{Bool}
 use Rattle.std.specs.declared.cmp.Ordering.{Ordering}
 use Rattle.std.specs.Ordering.{nat_cmp, int_cmp, on, flip_args, then_cmp, is_lt, is_eq}
-use Rattle.work_queue.specs.declared.entry.Entry.{Entry}
+use Rattle.work_queue.specs.declared.entry.QueueEntry.{QueueEntry}
 
--- the greater priority first, and at one priority the smaller number
-abbrev pub order : Entry → Entry → Ordering
+-- greater priority first, and at one priority the smaller number
+abbrev pub order : QueueEntry → QueueEntry → Ordering
 order = then_cmp (flip_args (on (λ e. e.priority) int_cmp)) (on (λ e. e.no) nat_cmp)
 
--- whether x is taken before y
-abbrev pub precedes : Entry → Entry → Bool
+-- x is taken before y
+abbrev pub precedes : QueueEntry → QueueEntry → Bool
 precedes x y = is_lt (order x y)
 
--- whether x and y have one priority and one number
-abbrev pub same : Entry → Entry → Bool
+-- x and y have the same priority and number
+abbrev pub same : QueueEntry → QueueEntry → Bool
 same x y = is_eq (order x y)

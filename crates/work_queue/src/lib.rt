@@ -1,10 +1,13 @@
-//! Two queues of entries, one for control and one for leaf items, each taken by the greatest priority
-//! and then by the smallest number.
+//! Two priority queues of ready items, one of control items and one of leaf items, ordered by greatest priority and
+//! then by smallest number.
+//!
+//! `queue` has the public type. `kind_queue` keeps the entries of one kind in a sorted run (`sorted_run`, `slot`).
+//! Entries that do not fit there are kept in a balanced search tree (`tree`).
 #![tactic(auto)]
 
 pub mod entry;
-mod pile;
+mod kind_queue;
 pub mod queue;
-mod run;
 mod slot;
+mod sorted_run;
 mod tree;

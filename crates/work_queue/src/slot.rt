@@ -1,46 +1,46 @@
-//! Slots in a row: each has an entry, which waits or has left. The entries rise, also those that have left.
+//! Slots of a sorted run: entries in strictly ascending order, each queued or removed.
 ghost use Rattle.std.specs.Prelude.{◌≡◌, ◌++◌, false, true, map, MatchOption, OnOk};
 ghost use Rattle.std.specs.Bool.{OnTrue, OnFalse};
 ghost use Rattle.work_queue.specs.Entries.{inserted, erased, holds, listed};
 ghost use Rattle.work_queue.specs.Slots.{entry_in, waiting, IsAhead, IsBehind, IsRising, IsRun, IsAt};
 
-use crate::entry::{Entry, Kind};
+use crate::entry::{Kind, QueueEntry};
 use std::alloc::AllocError;
 use std::collections::VecDeque;
 
-/// An entry, and whether it waits.
+/// An entry, and whether it is queued.
 #[derive(Clone, Copy)]
-pub struct Slot {
+pub struct EntrySlot {
     pub no: u64,
     pub priority: i32,
     pub waits: bool,
 }
 
-impl Slot {
-    /// A slot in which the entry waits.
-    pub fn of(entry: Entry) -> Slot
+impl EntrySlot {
+    /// Creates a slot in which the entry is queued.
+    pub fn of(entry: QueueEntry) -> EntrySlot
         ensures entry { entry_in result ≡ entry }
         ensures waits { result.waits ≡ true }
     {
-        Slot {
+        EntrySlot {
             no: entry.no,
             priority: entry.priority,
             waits: true,
         }
     }
 
-    pub fn entry(&self) -> Entry
+    pub fn entry(&self) -> QueueEntry
         ensures { result ≡ entry_in self.now }
     {
-        Entry {
+        QueueEntry {
             priority: self.priority,
             no: self.no,
         }
     }
 }
 
-/// Whether the entry is taken after all those of the slots.
-pub fn comes_last(slots: &VecDeque<Slot>, entry: &Entry) -> bool
+/// Returns true if the entry is taken after the entries of all slots.
+pub fn comes_last(slots: &VecDeque<EntrySlot>, entry: &QueueEntry) -> bool
     requires { IsRising slots.now.items }
     ensures { OnTrue result (IsBehind entry.now slots.now.items) }
 {
@@ -50,8 +50,8 @@ pub fn comes_last(slots: &VecDeque<Slot>, entry: &Entry) -> bool
     }
 }
 
-/// Whether the entry is taken before all those of the slots.
-pub fn comes_first(slots: &VecDeque<Slot>, entry: &Entry) -> bool
+/// Returns true if the entry is taken before the entries of all slots.
+pub fn comes_first(slots: &VecDeque<EntrySlot>, entry: &QueueEntry) -> bool
     requires { IsRising slots.now.items }
     ensures { OnTrue result (IsAhead entry.now slots.now.items) }
 {
@@ -61,8 +61,8 @@ pub fn comes_first(slots: &VecDeque<Slot>, entry: &Entry) -> bool
     }
 }
 
-// The place of the slot of an entry, by halving.
-fn search(slots: &VecDeque<Slot>, entry: &Entry) -> Option<usize>
+// Returns the index of the slot of an entry, by binary search.
+fn search(slots: &VecDeque<EntrySlot>, entry: &QueueEntry) -> Option<usize>
     requires { IsRising slots.now.items }
     ensures { MatchOption result (holds entry.now (waiting slots.now.items) ≡ false) (λ k. IsAt entry.now slots.now.items k) }
 {
@@ -72,9 +72,9 @@ fn search(slots: &VecDeque<Slot>, entry: &Entry) -> Option<usize>
     }
 }
 
-/// The place of the slot of an entry. Where numbers follow one another, it is as far behind the first
-/// slot as its number is above the first number.
-pub fn find(slots: &VecDeque<Slot>, entry: &Entry) -> Option<usize>
+/// Returns the index of the slot of an entry. It first tries the index that is right if the numbers are consecutive,
+/// then a binary search.
+pub fn find(slots: &VecDeque<EntrySlot>, entry: &QueueEntry) -> Option<usize>
     requires { IsRising slots.now.items }
     ensures { MatchOption result (holds entry.now (waiting slots.now.items) ≡ false) (λ k. IsAt entry.now slots.now.items k) }
 {
@@ -86,8 +86,8 @@ pub fn find(slots: &VecDeque<Slot>, entry: &Entry) -> Option<usize>
     search(slots, entry)
 }
 
-/// Lets the entry of a slot wait again, if there is one with this entry and it has left.
-pub fn wake(slots: &mut VecDeque<Slot>, entry: &Entry) -> bool
+/// Queues the entry again in its slot, and returns true, if it has a slot from which it was removed.
+pub fn wake(slots: &mut VecDeque<EntrySlot>, entry: &QueueEntry) -> bool
     requires { IsRun slots.old.items }
     ensures run { IsRun slots.new.items }
     ensures woken { OnTrue result (waiting slots.new.items ≡ inserted entry.now (waiting slots.old.items)) }
@@ -104,8 +104,8 @@ pub fn wake(slots: &mut VecDeque<Slot>, entry: &Entry) -> bool
     true
 }
 
-/// Marks the slot of an entry as left, if there is one and the entry waits.
-pub fn rest(slots: &mut VecDeque<Slot>, entry: &Entry) -> bool
+/// Marks the slot of an entry as removed, and returns true, if the entry is queued.
+pub fn rest(slots: &mut VecDeque<EntrySlot>, entry: &QueueEntry) -> bool
     requires { IsRising slots.old.items }
     ensures rising { IsRising slots.new.items }
     ensures found { result ≡ holds entry.now (waiting slots.old.items) }
@@ -123,8 +123,8 @@ pub fn rest(slots: &mut VecDeque<Slot>, entry: &Entry) -> bool
     true
 }
 
-/// Adds a slot behind the others, if there is place.
-pub fn add_last(slots: &mut VecDeque<Slot>, entry: Entry) -> bool
+/// Appends a slot at the end, and returns true, if there is capacity.
+pub fn add_last(slots: &mut VecDeque<EntrySlot>, entry: QueueEntry) -> bool
     requires run { IsRun slots.old.items }
     requires behind { IsBehind entry slots.old.items }
     ensures run { IsRun slots.new.items }
@@ -134,12 +134,12 @@ pub fn add_last(slots: &mut VecDeque<Slot>, entry: Entry) -> bool
     if slots.len() == slots.capacity() {
         return false;
     }
-    slots.push_back_reserved(Slot::of(entry));
+    slots.push_back_reserved(EntrySlot::of(entry));
     true
 }
 
-/// Adds a slot in front of the others, if there is place.
-pub fn add_first(slots: &mut VecDeque<Slot>, entry: Entry) -> bool
+/// Prepends a slot at the front, and returns true, if there is capacity.
+pub fn add_first(slots: &mut VecDeque<EntrySlot>, entry: QueueEntry) -> bool
     requires run { IsRun slots.old.items }
     requires ahead { IsAhead entry slots.old.items }
     ensures run { IsRun slots.new.items }
@@ -149,13 +149,14 @@ pub fn add_first(slots: &mut VecDeque<Slot>, entry: Entry) -> bool
     if slots.len() == slots.capacity() {
         return false;
     }
-    slots.push_front_reserved(Slot::of(entry));
+    slots.push_front_reserved(EntrySlot::of(entry));
     true
 }
 
-/// Adds an entry behind the others, in front of them, or in a slot that has it and whose entry has left.
+/// Adds an entry at the end, at the front, or in its own slot from which it was removed. Returns false if none of these
+/// is possible.
 #[inline(always)]
-pub fn put(slots: &mut VecDeque<Slot>, entry: &Entry) -> bool
+pub fn put(slots: &mut VecDeque<EntrySlot>, entry: &QueueEntry) -> bool
     requires { IsRun slots.old.items }
     ensures run { IsRun slots.new.items }
     ensures added { OnTrue result (waiting slots.new.items ≡ inserted entry.now (waiting slots.old.items)) }
@@ -170,8 +171,8 @@ pub fn put(slots: &mut VecDeque<Slot>, entry: &Entry) -> bool
     }
 }
 
-/// Drops the slots in front whose entries have left.
-pub fn trim(slots: &mut VecDeque<Slot>)
+/// Drops the slots at the front whose entries were removed.
+pub fn trim(slots: &mut VecDeque<EntrySlot>)
     requires { IsRising slots.old.items }
     ensures run { IsRun slots.new.items }
     ensures same { waiting slots.new.items ≡ waiting slots.old.items }
@@ -181,9 +182,9 @@ pub fn trim(slots: &mut VecDeque<Slot>)
     }
 }
 
-/// Drops all slots whose entries have left, if there is no place for a further one and so many wait as to
-/// leave half of the places free.
-pub fn tidy(slots: &mut VecDeque<Slot>, used: usize)
+/// Drops all slots of removed entries, if the capacity is used up and at most half of the slots are queued. `used`: the
+/// number of queued entries.
+pub fn tidy(slots: &mut VecDeque<EntrySlot>, used: usize)
     requires { IsRun slots.old.items }
     ensures run { IsRun slots.new.items }
     ensures same { waiting slots.new.items ≡ waiting slots.old.items }
@@ -193,9 +194,9 @@ pub fn tidy(slots: &mut VecDeque<Slot>, used: usize)
     }
 }
 
-/// Adds the entries that wait to the end of the list, in order.
+/// Appends the queued entries to the list, in order.
 pub fn append_to(
-    slots: &VecDeque<Slot>,
+    slots: &VecDeque<EntrySlot>,
     kind: Kind,
     list: &mut Vec<(Kind, i32, u64)>,
 ) -> Result<(), AllocError>

@@ -1,9 +1,11 @@
-//! A balanced search tree of entries, seen as the list of them in order.
+//! A balanced binary search tree of entries, rebalanced by rotations as an AVL tree.
+//!
+//! Its view is the list of its entries in order.
 ghost use Rattle.std.specs.Prelude.{◌≡◌, ◌+◌, ◌<◌, ◌≤◌, [], ◌∷◌, ◌++◌, MatchOption, is_some, map, OnOk};
 ghost use Rattle.work_queue.specs.Entries.{IsInOrder, inserted, erased, holds, first_of, listed};
 ghost use Rattle.work_queue.specs.Node.{of_node, of_top};
 
-use crate::entry::{Entry, Kind};
+use crate::entry::{Kind, QueueEntry};
 use std::alloc::AllocError;
 use std::cmp::Ordering;
 use std::marker::Model;
@@ -25,19 +27,19 @@ pub enum Top {
 #[cycle(tree)]
 #[derive(Drop)]
 pub struct Node {
-    pub entry: Entry,
+    pub entry: QueueEntry,
     left: Tree,
     right: Tree,
-    // Kept here, so that no side is read but for a change in it.
+    // The heights are stored here, so that a child is read only if it changes.
     left_height: u8,
     right_height: u8,
 }
 
 impl Model for Tree {
     ghost use Rattle.std.specs.Prelude.{ℕ, List, length};
-    ghost use Rattle.work_queue.specs.declared.entry.Entry.{Entry};
+    ghost use Rattle.work_queue.specs.declared.entry.QueueEntry.{QueueEntry};
 
-    ghost Value = { List Entry };
+    ghost Value = { List QueueEntry };
 
     ghost use Rattle.work_queue.specs.Node.{of_top};
 
@@ -65,7 +67,7 @@ impl Tree {
         }
     }
 
-    /// Takes the whole tree apart.
+    /// Removes and returns the whole tree.
     fn take(&mut self) -> Top
         ensures top { of_top result ≡ self.old }
         ensures rest { self.new ≡ [] }
@@ -73,8 +75,8 @@ impl Tree {
         mem::replace(&mut self.top, Top::Leaf)
     }
 
-    /// The entry that is taken first.
-    pub fn first(&self) -> Option<Entry>
+    /// Returns the entry that is taken first, or `None` if the tree is empty.
+    pub fn first(&self) -> Option<QueueEntry>
         ensures { result ≡ first_of self.now }
     {
         match &self.top {
@@ -86,7 +88,7 @@ impl Tree {
         }
     }
 
-    /// Adds all to the end of the list, in order.
+    /// Appends all entries to the list, in order.
     pub fn append_to(&self, kind: Kind, list: &mut Vec<(Kind, i32, u64)>) -> Result<(), AllocError>
         ensures { OnOk result (list.new.items ≡ list.old.items ++ map (listed kind) self.now) }
     {
@@ -100,8 +102,8 @@ impl Tree {
         }
     }
 
-    /// Puts an entry in its place, in a node that is lent for it.
-    pub fn put(&mut self, entry: Entry, mut spare: Box<Node>)
+    /// Inserts an entry in order, in the node `spare`.
+    pub fn put(&mut self, entry: QueueEntry, mut spare: Box<Node>)
         requires { IsInOrder self.old }
         ensures { self.new ≡ inserted entry self.old }
     {
@@ -123,7 +125,7 @@ impl Tree {
         }
     }
 
-    /// Takes out the node of the first entry.
+    /// Removes and returns the node of the first entry.
     pub fn take_first(&mut self) -> Option<Box<Node>>
         ensures { MatchOption result ((self.old ≡ []) × (self.new ≡ [])) (λ node. self.old ≡ node.value.entry ∷ self.new) }
     {
@@ -143,8 +145,8 @@ impl Tree {
         }
     }
 
-    /// Takes out the node of an entry, if the entry is there.
-    pub fn remove(&mut self, entry: Entry) -> Option<Box<Node>>
+    /// Removes and returns the node of an entry, or `None` if the entry is not in the tree.
+    pub fn remove(&mut self, entry: QueueEntry) -> Option<Box<Node>>
         requires { IsInOrder self.old }
         ensures found { is_some result ≡ holds entry self.old }
         ensures entries { self.new ≡ erased entry self.old }
@@ -183,8 +185,8 @@ impl Tree {
 }
 
 impl Node {
-    /// A node with nothing below it.
-    pub fn single(entry: Entry) -> Node
+    /// Creates a node without children.
+    pub fn single(entry: QueueEntry) -> Node
         ensures { of_node result ≡ entry ∷ [] }
     {
         Node {
@@ -201,7 +203,7 @@ impl Node {
     }
 }
 
-// The left child comes to the top.
+// Rotates right: the left child becomes the root.
 fn turned_right(mut node: Box<Node>) -> Box<Node>
     ensures { of_node result.value ≡ of_node node.value }
 {
@@ -217,7 +219,7 @@ fn turned_right(mut node: Box<Node>) -> Box<Node>
     }
 }
 
-// The right child comes to the top.
+// Rotates left: the right child becomes the root.
 fn turned_left(mut node: Box<Node>) -> Box<Node>
     ensures { of_node result.value ≡ of_node node.value }
 {
@@ -233,7 +235,7 @@ fn turned_left(mut node: Box<Node>) -> Box<Node>
     }
 }
 
-// Mends a left side that is two higher than the right one.
+// Rebalances a node whose left side is two higher than the right one.
 fn mended_left(mut node: Box<Node>) -> Box<Node>
     ensures { of_node result.value ≡ of_node node.value }
 {
@@ -247,7 +249,7 @@ fn mended_left(mut node: Box<Node>) -> Box<Node>
     }
 }
 
-// Mends a right side that is two higher than the left one.
+// Rebalances a node whose right side is two higher than the left one.
 fn mended_right(mut node: Box<Node>) -> Box<Node>
     ensures { of_node result.value ≡ of_node node.value }
 {
@@ -261,7 +263,7 @@ fn mended_right(mut node: Box<Node>) -> Box<Node>
     }
 }
 
-// Makes the heights of the sides differ by one at most, where they differ by two at most.
+// Rebalances a node whose sides differ in height by at most two, so that they differ by at most one.
 fn balanced(node: Box<Node>) -> Box<Node>
     ensures { of_node result.value ≡ of_node node.value }
 {
@@ -274,7 +276,7 @@ fn balanced(node: Box<Node>) -> Box<Node>
     }
 }
 
-// All of the left entries come before those of the right.
+// Joins two trees, where all entries of the left one come before those of the right one.
 fn joined(left: Tree, mut right: Tree) -> Tree
     ensures { result ≡ left ++ right }
 {

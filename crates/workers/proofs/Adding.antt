@@ -6,8 +6,8 @@ use mathlib.Core.List.{IsPrefix}
 use prog.Atomic.{either}
 use Rattle.logbook.specs.Pages.{Cell, cell, keeps, no_nib, step, Moves, Goes}
 use Rattle.board_work.specs.Assigned.{Assigned}
-use Rattle.workers.specs.Begun.{IsCounted, Adds}
-use Rattle.workers.proofs.Fronts.{prefix_whole}
+use Rattle.workers.specs.StartLog.{IsCounted, Adds}
+use Rattle.workers.proofs.Prefixes.{prefix_of_same_length}
 
 abbrev pub shown : List Assigned → List Assigned
 shown log = []
@@ -20,7 +20,7 @@ pub adds_goes : (log v : List Assigned) (e : Assigned) (old : ℕ) → length v 
     → Goes IsCounted shown moved 0 (v, (no_nib, None)) (λ n. either (n == old) (old + 1) n) (Adds (step 0 old (old + 1) e) (v, (no_nib, None))) ((length log, true) ∷ (0, true) ∷ []) log
 adds_goes log v e old len pre true is =
     let here : length log ≡ old = grind (arith, nat_tests) in
-    let same : v ≡ log = prefix_whole v log pre (omega arith) in
+    let same : v ≡ log = prefix_of_same_length v log pre (omega arith) in
     let n : either (length log == old) (old + 1) (length log) ≡ length (log ++ e ∷ []) = rw is (omega (arith, length-append log (e ∷ []))) in (
       keeps,
       e ∷ [],

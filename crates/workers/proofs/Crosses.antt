@@ -16,44 +16,44 @@ use Rattle.values.proofs.value.Scalar.TheSendSync as scalar
 use Rattle.task_code.proofs.Crosses.{code_send, code_sync, entry_send, entry_sync}
 use Rattle.task_code.proofs.event.Event.TheSendSync as event
 use Rattle.task_code.proofs.entry.Kind.TheSendSync as kinds
-use Rattle.rules.proofs.listing.Rules.TheSendSync as rules
-use Rattle.work_queue.proofs.entry.Entry.TheSendSync as queued
-use Rattle.work_queue.proofs.run.Run.TheSendSync as waiting
+use Rattle.rules.proofs.rules_table.Rules.TheSendSync as rules
+use Rattle.work_queue.proofs.entry.QueueEntry.TheSendSync as queued
+use Rattle.work_queue.proofs.sorted_run.SortedRun.TheSendSync as waiting
 use Rattle.work_queue.proofs.tree.Tree.TheLaws.TheKnot.{send-Tree}
 use Rattle.work_queue.specs.contracts.tree.Tree as tree
 use Rattle.work_queue.specs.contracts.tree.Node as node
-use Rattle.work_queue.specs.contracts.pile.Pile as pile
+use Rattle.work_queue.specs.contracts.kind_queue.KindQueue as pile
 use Rattle.work_queue.specs.contracts.queue.Queue as queue
-use Rattle.board_work.specs.contracts.work.Job as job
+use Rattle.board_work.specs.contracts.work.WorkTask as job
 use Rattle.board_work.specs.contracts.work.Work as work
 use Rattle.board_work.specs.contracts.work.Done as done
-use Rattle.board_compute.proofs.answer.Answer.TheSendSync as answer
-use Rattle.board_compute.proofs.outcome.Outcome.TheSendSync as outcome
-use Rattle.board_program.specs.contracts.program.Laid as laid
+use Rattle.board_work.proofs.answer.Answer.TheSendSync as answer
+use Rattle.board_work.proofs.outcome.Outcome.TheSendSync as outcome
+use Rattle.board_program.specs.contracts.program.ProgramTables as laid
 use Rattle.board_program.specs.contracts.program.Program as program
 use Rattle.board_program.proofs.program.EntryTable.TheSendSync as entry_table
 use Rattle.board_program.proofs.program.BodyTable.TheSendSync as body_table
-use Rattle.board_instances.proofs.item.Item.TheSendSync as item
+use Rattle.board_instances.proofs.item.ItemRecord.TheSendSync as item
 use Rattle.paths.proofs.faults.Fault.TheSendSync as fault
 use Rattle.board_items.specs.contracts.items.Items as items
-use Rattle.board_changes.proofs.world.World.TheSendSync as world
-use Rattle.board.specs.contracts.state.Core as core
+use Rattle.board_changes.proofs.data_state.DataState.TheSendSync as data_state
+use Rattle.board.specs.contracts.state.BoardState as core
 use Rattle.board.specs.contracts.board.Board as board
-use Rattle.pool_offers.proofs.Offers.TheSendSync as offers
+use Rattle.pool.proofs.offers.Offers.TheSendSync as offers
 use Rattle.logbook.proofs.word.Word.TheSendSync as word
 use Rattle.logbook.proofs.tokens.Seen.TheSendSync as seen
-use Rattle.workers.specs.declared.job.Job as jobs
-use Rattle.workers.specs.contracts.begun.Begun as begun
-use Rattle.workers.specs.contracts.begun.Finished as finished
-use Rattle.workers.specs.contracts.book.Book as log
-use Rattle.workers.specs.contracts.book.Front as front
-use Rattle.workers.specs.contracts.desk.Desk as desk
-use Rattle.workers.specs.contracts.floor.Floor as floor
-use Rattle.workers.specs.contracts.hand.Hand as hand
-use Rattle.workers.specs.contracts.idle.Idle as idle
-use Rattle.workers.specs.contracts.recent.Recent as recent
-use Rattle.workers.proofs.crowd.Crowds.TheSendSync as crowds
-use Rattle.workers.proofs.floor.Shift.TheSendSync as shift
+use Rattle.workers.specs.declared.gate.RunParams as jobs
+use Rattle.workers.specs.contracts.items.StartedItem as begun
+use Rattle.workers.specs.contracts.items.CompletedItem as finished
+use Rattle.workers.specs.contracts.start_log.StartLog as log
+use Rattle.workers.specs.contracts.start_log.LogPrefix as front
+use Rattle.workers.specs.contracts.audited_board.AuditedBoard as audited_board
+use Rattle.workers.specs.contracts.scheduler.Scheduler as shared
+use Rattle.workers.specs.contracts.worker_state.WorkerState as worker_state
+use Rattle.workers.specs.contracts.idle_workers.IdleWorkers as idle
+use Rattle.workers.specs.contracts.ready_hints.ReadyHints as recent
+use Rattle.workers.proofs.counters.RunCounters.TheSendSync as counters
+use Rattle.workers.proofs.scheduler.ActiveThreads.TheSendSync as shift
 
 pub job_send : IsSend (job.the_field).row
 job_send = search (entry_send, entry_sync, crosses, sendable) depth 60 fits 4000
@@ -91,7 +91,7 @@ items_send : IsSend (items.the_field).row
 items_send = search (queue_send, rules.the_send, item.the_send, crosses, sendable) depth 60 fits 4000
 
 core_send : IsSend (core.the_field).row
-core_send = search (items_send, world.the_field_send, option.the_field_send, scalar.the_send, fault.the_send, crosses, sendable) depth 60 fits 4000
+core_send = search (items_send, data_state.the_field_send, option.the_field_send, scalar.the_send, fault.the_send, crosses, sendable) depth 60 fits 4000
 
 pub board_send : IsSend (board.the_field).row
 board_send = search (program_send, core_send, event.the_send, answer.the_send, crosses, sendable) depth 60 fits 4000
@@ -113,18 +113,18 @@ module _ (J : RattleType) (g : jobs.Ghosts J.Denot) where
   finished_send = search (done_send, front_send, crosses, sendable) depth 60 fits 4000
 
 module _ (J E N : RattleType) (g : jobs.Ghosts J.Denot) (h : ledger.Ghosts E.Denot) (k : ledger.Ghosts N.Denot) where
-  desk_send : IsSend (desk.the_row J E N g h k)
+  desk_send : IsSend (audited_board.the_row J E N g h k)
   desk_send = search (board_send, log_send, front_send, book.the_send, crosses, sendable) depth 60 fits 4000
 
-  hand_send : IsSend (hand.the_field J E N g h k).row
+  hand_send : IsSend (worker_state.the_field J E N g h k).row
   hand_send = search (begun_send, finished_send, offers.the_field_send, share.the_send, kinds.the_field_send, crosses, sendable) depth 60 fits 4000
 
   idle_send : IsSend (idle.the_row J E N g h k)
   idle_send = search (hand_send, Box-send, crosses, sendable) depth 60 fits 4000
 
   -- its fields in place of a search: a search looks into a desk, and into each hand, more than once
-  pub floor_send : IsSend (floor.the_row J E N g h k)
-  floor_send = declared_send (floor.the_type J E N g h k) (desk_send, (crowds.the_send, (idle_send, (recent_send, (shift.the_send, tt)))))
+  pub floor_send : IsSend (shared.the_row J E N g h k)
+  floor_send = declared_send (shared.the_type J E N g h k) (desk_send, (counters.the_send, (idle_send, (recent_send, (shift.the_send, tt)))))
 
 parts_send : (Ts : List RattleType) → AllSend Ts → FieldsHave IsSend (parts Ts)
 parts_send [] s = tt

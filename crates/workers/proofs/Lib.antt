@@ -2,6 +2,6 @@ mod Added
 mod Crosses
 mod Listing
 mod Tallied
-mod Threads
+mod SharedFacts
 mod Adding
-mod Fronts
+mod Prefixes

@@ -5,7 +5,7 @@ use Rattle.std.proofs.lemmas.Bool.Decides.{eqb_tells}
 use Rattle.std.proofs.lemmas.Grind.{common_steps}
 use Rattle.std.proofs.lemmas.List.Sums.{sum_by-cons, sum_by-set}
 use Rattle.task_code.specs.Code.{Control, Kind, Leaf}
-use Rattle.workers.specs.Threads.{IsPlace}
+use Rattle.workers.specs.Threads.{MayRun}
 
 its_own : (v w t : ℕ) → v ≡ w → (if nat_eq v w then t else 0) ≡ t
 its_own v w t same = grind (arith, common_steps)
@@ -48,6 +48,6 @@ pub sum_set : (ts : List ℕ) (v t : ℕ) → v < length ts → sum (slice_set t
 sum_set ts v t within = let e = sum_by-set (λ (x : ℕ). x) ts v (slice_index ts v + t) 0 within in omega (arith, e)
 
 -- whoever has a place is one of theirs
-pub theirs : (e k w : ℕ) (kind : Kind) → IsPlace e k w kind → w < e + k
+pub theirs : (e k w : ℕ) (kind : Kind) → MayRun e k w kind → w < e + k
 theirs e k w Control p = let a = p.engine refl in omega (arith, a)
 theirs e k w Leaf p = let a = p.worker refl in omega (arith, a.1)

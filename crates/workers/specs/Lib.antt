@@ -1,4 +1,4 @@
-pub mod Begun
+pub mod StartLog
 pub mod Offering
 pub mod Reports
 pub mod Threads

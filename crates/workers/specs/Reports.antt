@@ -1,4 +1,4 @@
--- What a report of a run on threads says.
+-- The report of a run on threads.
 use Rattle.std.specs.Prelude.{◌≡◌, ◌≤◌, ◌<◌, ℕ, ◌+◌, length, slice_index}
 use Rattle.dataflow.specs.Events.{backs, tally}
 use Rattle.task_code.specs.Code.{Code}
@@ -9,9 +9,9 @@ use Rattle.board_runs.specs.declared.report.Report.{Report}
 use Rattle.workers.specs.declared.run.PoolCount.{PoolCount}
 use Rattle.workers.specs.Threads.{RunsTo}
 
--- the report tells what a board shows whose history is a run of the code, no longer than the limit: each item is begun by whom it is for, and none is given back;
--- each worker has as many events as are told of it; how often an item can begin after an event and could not before it, so often one was offered or found no hole,
--- and what was offered was drawn or is left, in the pool's 96 holes
+-- The report describes a board whose history is a run of the code within the limit. Each item is begun by a worker of
+-- its kind, and none is given back. The tally of each worker is its number of events. Each newly ready item was offered
+-- to the pool or found no hole. Each offered item was drawn, or is left in one of the pool's 96 holes.
 pub record IsReport (C : Code) (limit engines workers : ℕ) (r : Report) (p : PoolCount) : Type 0 where
   pub board : Seen
   pub code : board.code ≡ C

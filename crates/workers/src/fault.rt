@@ -1,21 +1,21 @@
-//! Why a run on threads gives no report.
+//! Faults of a run on threads.
 
 use std::alloc::AllocError;
 use thiserror::Error;
 
-/// Why a run on threads gives no report.
+/// A fault that ends a run on threads without a report.
 #[derive(Clone, Copy, PartialEq, Eq, Debug, Drop, Error)]
 pub enum RunFault {
-    /// There is no engine or no worker, or there are more than 64 of both.
+    /// There is no engine or no worker, or there are more than 64 in total.
     #[error("R1 BadCount")]
     BadCount,
-    /// What the threads counted is not what the board shows, or the board refused what is an item's own.
+    /// The counts of the threads differ from those of the board, or the board refused an item's own work.
     #[error("R2 Stranger")]
     Stranger,
     /// A thread could not be started.
     #[error("R3 Spawn")]
     Spawn,
-    /// Memory that was asked for was refused.
+    /// An allocation failed.
     #[error("no memory")]
     Memory,
 }

@@ -1,18 +1,23 @@
-//! Runs of code on threads: engines run control items, workers leaf items, over one board under a lock and a pool of numbers outside of it.
+//! Multi-threaded execution of compiled code: engines run control items and workers run leaf items, over a
+//! mutex-guarded board and a lock-free pool.
+//!
+//! The entry point is `run_threads` in `run`. The scheduling policy is in `scheduler`, `counters`, `ready_hints`,
+//! `idle_workers` and `wake_signal`; `threads` holds the main loop of a thread. The proof of the report rests on
+//! `audited_board`, `start_log`, `worker_state` and `totals`.
 #![tactic(auto)]
 
-mod begun;
-mod bell;
-mod book;
-mod crowd;
-mod desk;
+mod audited_board;
+mod counters;
 pub mod fault;
-mod floor;
-mod fresh;
-mod hand;
-mod idle;
-pub mod job;
-mod recent;
+pub mod gate;
+mod idle_workers;
+mod items;
+mod ready_hints;
+mod ready_items;
 pub mod run;
-mod sums;
-mod work;
+mod scheduler;
+mod start_log;
+mod threads;
+mod totals;
+mod wake_signal;
+mod worker_state;

@@ -1,4 +1,4 @@
-//! A run of code on threads.
+//! The run of a program on threads, from the creation of the board to the audited report.
 ghost use Rattle.std.specs.Prelude.{ℕ, ◌≡◌, ◌≢◌, ◌+◌, ◌<◌, ◌≤◌, ◌^◌, None, Err, ◌↔◌, ◌⊎◌, [], if◌then◌else◌, All, IsTrue, IfOk, IfErr, OnErr, OnOk, count_by, length, nat_eq, nat_lt, slice_index, sum_by, vec_len, sum, map};
 ghost use Rattle.dataflow.specs.Machine.{start};
 ghost use Rattle.pool.specs.Seats.{view, seat_pool, pool_id, seats_of, IsSeatOf};
@@ -7,18 +7,18 @@ ghost use Rattle.task_code.specs.System.{code_system};
 ghost use Rattle.board_runs.specs.Report.{Reports, Tells};
 ghost use Rattle.workers.specs.Reports.{IsReport};
 
-use crate::bell::Bell;
-use crate::book::Opened;
-use crate::crowd::Crowds;
-use crate::desk::{Desk, StopReason};
+use crate::audited_board::{AuditedBoard, StopReason};
+use crate::counters::RunCounters;
 use crate::fault::RunFault;
-use crate::floor::{Floor, Shift};
-use crate::hand::{Ended, Hand};
-use crate::idle::Idle;
-use crate::job::{Gate, Job};
-use crate::recent::Recent;
-use crate::sums::Sums;
-use crate::work::crew;
+use crate::gate::{Gate, RunParams};
+use crate::idle_workers::IdleWorkers;
+use crate::ready_hints::ReadyHints;
+use crate::scheduler::{ActiveThreads, Scheduler};
+use crate::start_log::NewLog;
+use crate::threads::run_team;
+use crate::totals::RunTotals;
+use crate::wake_signal::WakeSignal;
+use crate::worker_state::{DrainedWorker, WorkerState};
 use board::board::Board;
 use board_program::program::Program;
 use board_runs::report::{Report, last_report};
@@ -30,8 +30,8 @@ use std::sync::{Mutex, Wait};
 use std::thread::Threads;
 use task_code::entry::Kind;
 
-/// Of the items that came to be ready: how many were offered to the pool, and how many found no hole there; how many numbers were
-/// drawn from it, and how many are left.
+/// Pool counts of a run. Of the items that became ready, some were offered to the pool and the others found no hole. Of
+/// the offered items, some were drawn and the others are left.
 #[derive(Clone, Copy, Debug, PartialEq, Eq, Drop)]
 pub struct PoolCount {
     pub offered: u64,
@@ -40,118 +40,138 @@ pub struct PoolCount {
     pub left: u64,
 }
 
-/// The hand of this number, with a part of the shares: the first so many are engines'.
-fn hand_of<J: Job, E: Ledger, N: Ledger>(
+/// Creates the state of the worker with this number, with one part of each share. Numbers below `engines` are engines.
+fn new_worker_state<J: RunParams, E: Ledger, N: Ledger>(
     alloc: Global,
     engines: u8,
     worker: u8,
     seat: PoolSeat,
     events: &mut Share<E>,
-    news: &mut Share<N>,
-) -> Hand<J, E, N>
+    enabled: &mut Share<N>,
+) -> WorkerState<J, E, N>
     requires places { (engines ≡ J.engines) × (worker < J.engines + J.workers) }
     requires seat { (seat_pool seat ≡ J.pool) × (view seat ≡ beginner 1) }
-    requires parts { (0 < events.old.parts) × (0 < news.old.parts) }
-    requires amounts { (events.old.amount ≡ 0) × (news.old.amount ≡ 0) }
-    ensures parts { (events.new.parts + 1 ≡ events.old.parts) × (news.new.parts + 1 ≡ news.old.parts) }
-    ensures amounts { (events.new.amount ≡ 0) × (news.new.amount ≡ 0) }
+    requires parts { (0 < events.old.parts) × (0 < enabled.old.parts) }
+    requires amounts { (events.old.amount ≡ 0) × (enabled.old.amount ≡ 0) }
+    ensures parts { (events.new.parts + 1 ≡ events.old.parts) × (enabled.new.parts + 1 ≡ enabled.old.parts) }
+    ensures amounts { (events.new.amount ≡ 0) × (enabled.new.amount ≡ 0) }
 {
     let kind = if worker < engines {
         Kind::Control
     } else {
         Kind::Leaf
     };
-    let (mine, told) = (events.split_off(1, 0), news.split_off(1, 0));
-    Hand::new(alloc, worker, kind, seat, mine, told)
+    let (own_events, own_enabled) = (events.split_off(1, 0), enabled.split_off(1, 0));
+    WorkerState::new(alloc, worker, kind, seat, own_events, own_enabled)
 }
 
-/// A hand for each seat, which nobody has yet: the first so many are engines'.
-fn hands_of<J: Job, E: Ledger, N: Ledger>(
+/// Creates an idle worker state for each seat. Numbers below `engines` are engines.
+///
+/// # Errors
+///
+/// Returns `AllocError` if an allocation fails.
+fn new_idle_workers<J: RunParams, E: Ledger, N: Ledger>(
     alloc: Global,
     engines: u8,
     mut seats: Vec<PoolSeat>,
     events: &mut Share<E>,
-    news: &mut Share<N>,
-) -> Result<Idle<J, E, N>, AllocError>
+    enabled: &mut Share<N>,
+) -> Result<IdleWorkers<J, E, N>, AllocError>
     requires places { (engines ≡ J.engines) × (vec_len seats ≡ J.engines + J.workers) × (vec_len seats ≤ 64) }
     requires seats { All (λ s. (seat_pool s ≡ J.pool) × (view s ≡ beginner 1)) seats.items }
-    requires parts { (events.old.parts ≡ vec_len seats) × (news.old.parts ≡ vec_len seats) }
-    requires amounts { (events.old.amount ≡ 0) × (news.old.amount ≡ 0) }
-    ensures parts { OnOk result ((events.new.parts ≡ 0) × (news.new.parts ≡ 0)) }
-    ensures amounts { OnOk result ((events.new.amount ≡ 0) × (news.new.amount ≡ 0)) }
+    requires parts { (events.old.parts ≡ vec_len seats) × (enabled.old.parts ≡ vec_len seats) }
+    requires amounts { (events.old.amount ≡ 0) × (enabled.old.amount ≡ 0) }
+    ensures parts { OnOk result ((events.new.parts ≡ 0) × (enabled.new.parts ≡ 0)) }
+    ensures amounts { OnOk result ((events.new.amount ≡ 0) × (enabled.new.amount ≡ 0)) }
 {
-    let mut idle = Idle::new(alloc, seats.len())?;
+    let mut idle = IdleWorkers::new(alloc, seats.len())?;
     let mut worker = 0u8;
     while let Some(seat) = seats.pop() {
-        let hand = hand_of(alloc, engines, worker, seat, events, news);
-        idle.lay(Box::new(alloc, hand)?);
+        let worker_state = new_worker_state(alloc, engines, worker, seat, events, enabled);
+        idle.push(Box::new(alloc, worker_state)?);
         worker += 1;
     }
     Ok(idle)
 }
 
-/// A hand once all that it had to offer is offered.
-fn told<J: Job, E: Ledger, N: Ledger>(pool: &Pool, hand: Box<Hand<J, E, N>>) -> Ended<J, E, N>
+/// Offers all pending items of a worker state to the pool, and returns the drained worker.
+fn drain<J: RunParams, E: Ledger, N: Ledger>(
+    pool: &Pool,
+    worker_state: Box<WorkerState<J, E, N>>,
+) -> DrainedWorker<J, E, N>
     requires { pool_id pool.now ≡ J.pool }
 {
-    let mut hand = Box::into_inner(hand);
-    hand.offer_all(pool);
-    Ended::new(hand)
+    let mut worker_state = Box::into_inner(worker_state);
+    worker_state.offer_all(pool);
+    DrainedWorker::new(worker_state)
 }
 
-/// All hands of a run, once no thread has one, with all told that they had to offer.
-fn take_back<J: Job, E: Ledger, N: Ledger>(
+/// Drains the states of all `count` workers of a run, after all threads have released them.
+///
+/// # Errors
+///
+/// Returns `Memory` if an allocation fails or a state is missing.
+fn drain_all<J: RunParams, E: Ledger, N: Ledger>(
     alloc: Global,
     pool: &Pool,
-    idle: &mut Idle<J, E, N>,
+    idle: &mut IdleWorkers<J, E, N>,
     count: usize,
-) -> Result<Vec<Ended<J, E, N>>, RunFault>
+) -> Result<Vec<DrainedWorker<J, E, N>>, RunFault>
     requires { pool_id pool.now ≡ J.pool }
     ensures len { IfOk result (λ back. vec_len back ≡ count) }
     ensures fault { IfErr result (λ e. e ≢ RunFault.BadCount) }
 {
     let mut back = Vec::with_capacity(alloc, count)?;
     for _ in 0..count {
-        let Some(hand) = idle.take_any() else {
+        let Some(worker_state) = idle.pop_any() else {
             return Err(RunFault::Memory);
         };
-        back.push_reserved(told(pool, hand));
+        back.push_reserved(drain(pool, worker_state));
     }
     Ok(back)
 }
 
-/// What all hands brought back.
-fn gather<J: Job, E: Ledger, N: Ledger>(
+/// Merges the shares and counts of all drained workers.
+///
+/// # Errors
+///
+/// Returns `AllocError` if an allocation fails.
+fn collect_totals<J: RunParams, E: Ledger, N: Ledger>(
     alloc: Global,
-    desk: &mut Desk<J, E, N>,
-    hands: Vec<Ended<J, E, N>>,
+    audited_board: &mut AuditedBoard<J, E, N>,
+    worker_states: Vec<DrainedWorker<J, E, N>>,
     events: Share<E>,
-    news: Share<N>,
-) -> Result<Sums<J, E, N>, AllocError>
-    requires { (events.parts ≡ 0) × (news.parts ≡ 0) × (events.amount ≡ 0) × (news.amount ≡ 0) }
-    ensures seats { IfOk result (λ s. vec_len s.seats ≡ vec_len hands) }
-    ensures own { IfOk result (λ s. (w : ℕ) → w < 64 → slice_index s.tallies w ≡ sum_by (λ h. if nat_eq h.hand.worker w then h.hand.tally else 0) hands.items) }
+    enabled: Share<N>,
+) -> Result<RunTotals<J, E, N>, AllocError>
+    requires { (events.parts ≡ 0) × (enabled.parts ≡ 0) × (events.amount ≡ 0) × (enabled.amount ≡ 0) }
+    ensures seats { IfOk result (λ s. vec_len s.seats ≡ vec_len worker_states) }
+    ensures own { IfOk result (λ s. (w : ℕ) → w < 64 → slice_index s.tallies w ≡ sum_by (λ h. if nat_eq h.worker_state.worker w then h.worker_state.tally else 0) worker_states.items) }
 {
-    let mut sums = Sums::new(alloc, events, news);
-    for hand in hands {
-        sums.add(desk, hand)?;
+    let mut totals = RunTotals::new(alloc, events, enabled);
+    for worker_state in worker_states {
+        totals.add(audited_board, worker_state)?;
     }
-    Ok(sums)
+    Ok(totals)
 }
 
-/// Whether each thread counted the events that a report tells of it.
-fn is_counted(told: &[u32; 64], tallies: &[u64; 64]) -> bool
-    ensures { IsTrue result ↔ (told.now ≡ tallies.now) }
+/// Returns true if the reported tallies equal those that the workers counted.
+fn tallies_match(reported: &[u32; 64], tallies: &[u64; 64]) -> bool
+    ensures { IsTrue result ↔ (reported.now ≡ tallies.now) }
 {
     for worker in 0..64usize {
-        if told[worker] as u64 != tallies[worker] {
+        if reported[worker] as u64 != tallies[worker] {
             return false;
         }
     }
     true
 }
 
-/// The report of a board on which nothing is left to be done, where no item was lost on its way to the pool, and why there is none else.
+/// Creates the report of a board on which no event is left to happen.
+///
+/// # Errors
+///
+/// Returns the fault of the stop reason if the run was stopped. Returns `Stranger` if the run is not over, and `Memory`
+/// if offers were lost or an allocation fails.
 fn report(
     alloc: Global,
     board: Board,
@@ -178,38 +198,42 @@ fn report(
     Ok(last_report(alloc, board)?)
 }
 
-/// The report, where each thread counted the events that it tells of it.
-fn agreed(report: Report, tallies: &[u64; 64]) -> Result<Report, RunFault>
+/// Checks that the tallies of a report equal those that the workers counted, and returns the report.
+///
+/// # Errors
+///
+/// Returns `Stranger` if they differ.
+fn check_tallies(report: Report, tallies: &[u64; 64]) -> Result<Report, RunFault>
     ensures same { IfOk result (λ r. r ≡ report) }
     ensures counted { OnOk result (report.tallies ≡ tallies.now) }
     ensures differs { OnErr result (report.tallies ≢ tallies.now) }
     ensures fault { IfErr result (λ e. e ≡ RunFault.Stranger) }
 {
-    if is_counted(&report.tallies, tallies) {
+    if tallies_match(&report.tallies, tallies) {
         Ok(report)
     } else {
         Err(RunFault::Stranger)
     }
 }
 
-/// The numbers added up.
-fn added(numbers: &[u64]) -> u64
+/// Returns the sum of the numbers.
+fn sum_of(numbers: &[u64]) -> u64
     requires { sum numbers.now < 2 ^ 64 }
     ensures { result ≡ sum numbers.now }
 {
     numbers.iter().sum()
 }
 
-/// How many holes have a number.
-fn filled(holes: &[u64; 96]) -> u64
+/// Returns the number of occupied holes.
+fn occupied_holes(holes: &[u64; 96]) -> u64
     ensures count { result ≡ count_by (λ n. nat_lt 0 n) holes.now }
     ensures few { result ≤ 96 }
 {
     holes.iter().filter(|n| **n > 0).count() as u64
 }
 
-/// What the pool's counts come to, where the offered numbers are those that were drawn with those that are left.
-fn counted(offered: u64, full: u64, draws: &[u64], holes: &[u64; 96]) -> PoolCount
+/// Creates the pool counts of a run. The offered numbers were either drawn or are left in a hole.
+fn pool_count(offered: u64, full: u64, draws: &[u64], holes: &[u64; 96]) -> PoolCount
     requires { offered ≡ sum draws.now + count_by (λ n. nat_lt 0 n) holes.now }
     ensures offers { (result.offered ≡ offered) × (result.full ≡ full) }
     ensures draws { (result.drawn ≡ sum draws.now) × (result.left ≡ count_by (λ n. nat_lt 0 n) holes.now) }
@@ -219,29 +243,34 @@ fn counted(offered: u64, full: u64, draws: &[u64], holes: &[u64; 96]) -> PoolCou
     PoolCount {
         offered,
         full,
-        drawn: added(draws),
-        left: filled(holes),
+        drawn: sum_of(draws),
+        left: occupied_holes(holes),
     }
 }
 
-/// The report of a run, once all threads have ended.
-fn settle<J: Job, E: Ledger, N: Ledger>(
+/// Closes the ledgers and the pool after all threads have ended, and returns the report with the pool counts.
+///
+/// # Errors
+///
+/// Returns the fault of the stop reason, `Stranger` if the counts differ, and `Memory` if offers were lost or an
+/// allocation fails.
+fn finish_run<J: RunParams, E: Ledger, N: Ledger>(
     alloc: Global,
     pool: Pool,
-    desk: Desk<J, E, N>,
-    sums: Sums<J, E, N>,
+    audited_board: AuditedBoard<J, E, N>,
+    totals: RunTotals<J, E, N>,
 ) -> Result<(Report, PoolCount), RunFault>
     requires pool { pool_id pool ≡ J.pool }
-    requires seats { seats_of pool ≡ vec_len sums.seats }
-    requires parts { (E.parts ≡ vec_len sums.seats) × (N.parts ≡ vec_len sums.seats) }
+    requires seats { seats_of pool ≡ vec_len totals.seats }
+    requires parts { (E.parts ≡ vec_len totals.seats) × (N.parts ≡ vec_len totals.seats) }
     ensures report { IfOk result (λ r. IsReport J.code J.limit J.engines J.workers r.0 r.1) }
-    ensures own { IfOk result (λ r. r.0.tallies ≡ sums.tallies) }
-    ensures counts { IfOk result (λ r. (r.1.offered ≡ sums.offered) × (r.1.full ≡ sums.full) × (r.1.drawn ≡ sum sums.draws.items)) }
+    ensures own { IfOk result (λ r. r.0.tallies ≡ totals.tallies) }
+    ensures counts { IfOk result (λ r. (r.1.offered ≡ totals.offered) × (r.1.full ≡ totals.full) × (r.1.drawn ≡ sum totals.draws.items)) }
     ensures fault { IfErr result (λ e. e ≢ RunFault.BadCount) }
 {
-    let Sums {
+    let RunTotals {
         mut events,
-        mut news,
+        mut enabled,
         seats,
         tallies,
         draws,
@@ -249,18 +278,22 @@ fn settle<J: Job, E: Ledger, N: Ledger>(
         full,
         lost,
         of: _,
-    } = sums;
-    let (board, stop) = desk.close(&mut events, &mut news);
+    } = totals;
+    let (board, stop) = audited_board.close(&mut events, &mut enabled);
     let rest = pool.close(seats);
     let report = report(alloc, board, stop, lost)?;
-    let report = agreed(report, &tallies)?;
-    let count = counted(offered, full, draws.as_slice(), &rest.holes);
+    let report = check_tallies(report, &tallies)?;
+    let count = pool_count(offered, full, draws.as_slice(), &rest.holes);
     Ok((report, count))
 }
 
-/// What a crew brought back that worked on a floor until the run was over.
-fn run_on<
-    J: Job + Send + Sync,
+/// Runs a team of `count` threads until the run is over, and merges what the workers counted.
+///
+/// # Errors
+///
+/// Returns `Memory` if an allocation fails or a worker state is missing.
+fn run_and_collect<
+    J: RunParams + Send + Sync,
     E: Ledger + Send + Sync,
     N: Ledger + Send + Sync,
     R: Threads + Wait + Sync,
@@ -269,28 +302,36 @@ fn run_on<
     rt: &R,
     alloc: Global,
     pool: &Pool,
-    floor: &mut Mutex<Floor<J, E, N>>,
+    shared: &mut Mutex<Scheduler<J, E, N>>,
     events: Share<E>,
-    news: Share<N>,
+    enabled: Share<N>,
     count: usize,
     gate: &G,
-) -> Result<Sums<J, E, N>, RunFault>
-    requires shares { (events.parts ≡ 0) × (news.parts ≡ 0) × (events.amount ≡ 0) × (news.amount ≡ 0) }
+) -> Result<RunTotals<J, E, N>, RunFault>
+    requires shares { (events.parts ≡ 0) × (enabled.parts ≡ 0) × (events.amount ≡ 0) × (enabled.amount ≡ 0) }
     requires pool { pool_id pool.now ≡ J.pool }
     ensures seats { IfOk result (λ s. vec_len s.seats ≡ count) }
     ensures fault { IfErr result (λ e. e ≢ RunFault.BadCount) }
 {
-    let bell = Bell::new();
-    crew(rt, alloc, floor, &bell, pool, gate, count)?;
-    let Floor { desk, idle, .. } = floor.get_mut();
-    let back = take_back(alloc, pool, idle, count)?;
-    let sums = gather(alloc, desk, back, events, news)?;
-    Ok(sums)
+    let signal = WakeSignal::new();
+    run_team(rt, alloc, shared, &signal, pool, gate, count)?;
+    let Scheduler {
+        audited_board,
+        idle,
+        ..
+    } = shared.get_mut();
+    let back = drain_all(alloc, pool, idle, count)?;
+    let totals = collect_totals(alloc, audited_board, back, events, enabled)?;
+    Ok(totals)
 }
 
-/// A run with its books and its pool.
+/// Runs a board with its ledgers, pool and log, and returns its report.
+///
+/// # Errors
+///
+/// Returns a `RunFault` other than `BadCount`.
 fn run<
-    J: Job + Send + Sync,
+    J: RunParams + Send + Sync,
     E: Ledger + Send + Sync,
     N: Ledger + Send + Sync,
     R: Threads + Wait + Sync,
@@ -301,16 +342,16 @@ fn run<
     pool: Pool,
     seats: Vec<PoolSeat>,
     board: Board,
-    opened: Opened,
+    opened: NewLog,
     events: Blank,
-    news: Blank,
+    enabled: Blank,
     engines: u8,
     count: usize,
     gate: &G,
 ) -> Result<(Report, PoolCount), RunFault>
     requires count { (count ≤ 64) × (engines ≡ J.engines) × (count ≡ J.engines + J.workers) × (vec_len seats ≡ count) × (seats_of pool ≡ count) }
-    requires ledgers { (events.name ≡ E.name) × (events.parts ≡ E.parts) × (news.name ≡ N.name) × (news.parts ≡ N.parts) }
-    requires parts { (events.parts ≡ count) × (news.parts ≡ count) }
+    requires ledgers { (events.name ≡ E.name) × (events.parts ≡ E.parts) × (enabled.name ≡ N.name) × (enabled.parts ≡ N.parts) }
+    requires parts { (events.parts ≡ count) × (enabled.parts ≡ count) }
     requires pool { pool_id pool ≡ J.pool }
     requires seats { All (λ s. IsSeatOf pool s × (view s ≡ beginner 1)) seats.items }
     requires opened { opened.seen.book ≡ J.book }
@@ -318,33 +359,49 @@ fn run<
     ensures report { IfOk result (λ r. IsReport J.code J.limit J.engines J.workers r.0 r.1) }
     ensures fault { IfErr result (λ e. e ≢ RunFault.BadCount) }
 {
-    let (event_book, mut all_events) = events.open::<E>();
-    let (news_book, mut all_news) = news.open::<N>();
-    let desk = Desk::<J, E, N>::new(board, opened, event_book, news_book);
-    let idle = hands_of::<J, E, N>(alloc, engines, seats, &mut all_events, &mut all_news)?;
-    let crowds = Crowds::new(engines as usize, count.saturating_sub(engines as usize));
-    let mut floor = Mutex::new(Floor {
-        desk,
-        crowds,
-        idle,
-        recent: Recent::new(alloc),
-        shift: Shift::new(),
-    });
-    let sums = run_on(
-        rt, alloc, &pool, &mut floor, all_events, all_news, count, gate,
+    let (event_ledger, mut all_events) = events.open::<E>();
+    let (enabled_ledger, mut all_enabled) = enabled.open::<N>();
+    let audited_board = AuditedBoard::<J, E, N>::new(board, opened, event_ledger, enabled_ledger);
+    let idle = new_idle_workers::<J, E, N>(
+        alloc,
+        engines,
+        seats,
+        &mut all_events,
+        &mut all_enabled,
     )?;
-    let Floor { desk, .. } = floor.into_inner();
-    settle(alloc, pool, desk, sums)
+    let counters = RunCounters::new(engines as usize, count.saturating_sub(engines as usize));
+    let mut shared = Mutex::new(Scheduler {
+        audited_board,
+        counters,
+        idle,
+        hints: ReadyHints::new(alloc),
+        active: ActiveThreads::new(),
+    });
+    let totals = run_and_collect(
+        rt,
+        alloc,
+        &pool,
+        &mut shared,
+        all_events,
+        all_enabled,
+        count,
+        gate,
+    )?;
+    let Scheduler { audited_board, .. } = shared.into_inner();
+    finish_run(alloc, pool, audited_board, totals)
 }
 
-/// Runs the program on threads: engines, with the numbers from 0 on, run control items, and workers, which follow, leaf items. At most
-/// `limit` events happen. What an item does is computed by the gate, outside of the lock. The report is that of a run of its code.
+/// Runs a program on threads, and returns its report with the pool counts.
+///
+/// Engines have the numbers from 0 on and run control items; workers follow and run leaf items. At most `limit` events
+/// happen. The gate computes each item outside the lock. Blocks until all threads have ended.
 ///
 /// # Errors
 ///
-/// `BadCount` exactly where there is no engine, no worker or more than 64 of both. `Spawn` where a thread could not be started; the others
-/// stop then. `Stranger` where the threads' counts are not what the board shows. `Memory` where memory that was asked for was refused: a
-/// worker that finds none gives its item back, and the run stops.
+/// Returns `BadCount` if and only if there is no engine or no worker, or more than 64 in total. Returns `Spawn` if a
+/// thread could not be started; the other threads then stop. Returns `Stranger` if the counts of the threads differ
+/// from those of the board. Returns `Memory` if an allocation fails: the worker returns its item to the board, and the
+/// run stops.
 pub fn run_threads<R: Threads + Wait + Sync, G: Gate>(
     rt: &R,
     alloc: Global,
@@ -366,16 +423,16 @@ pub fn run_threads<R: Threads + Wait + Sync, G: Gate>(
     let (pool, seats) = Pool::new(alloc, count)?;
     let board = Board::new(alloc, program.share()?, limit)?;
     let events = Blank::new(count as u64);
-    let news = Blank::new(count as u64);
+    let enabled = Blank::new(count as u64);
     run::<Brand, Brand, Brand, R, G>(
         rt,
         alloc,
         pool,
         seats,
         board,
-        Opened::new(),
+        NewLog::new(),
         events,
-        news,
+        enabled,
         engines,
         count,
         gate,

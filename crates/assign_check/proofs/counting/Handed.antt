@@ -8,7 +8,7 @@ use Rattle.language.specs.Core.{Owned}
 use Rattle.language.specs.Members.{◌∈◌}
 use Rattle.language.proofs.Members.{to_left, to_right}
 use Rattle.types.specs.Typed.{owned_name}
-use Rattle.assign_check.specs.declared.count.Part.{Part}
+use Rattle.assign_check.specs.declared.count.AssignCounts.{AssignCounts}
 use Rattle.assign_check.specs.declared.fault.AssignFault.{AssignFault}
 use Rattle.assign_check.specs.declared.fault.AssignFault.TheVariants.{PartlyAssigned}
 use Rattle.assign_check.specs.Outline.{Kind, named, Outline, nothing, followed, outlined, Step, declares, uses, splits, repeats, encloses}
@@ -22,7 +22,7 @@ use Rattle.std.proofs.lemmas.Bool.{false_from_ne_true}
 
 -- PARTS
 
-pub pushed_part : (x : Owned) (ps : List Part) (p : Part) → Same (part_sums x (ps ++ p ∷ [])) (sums (part_sums x ps) (cond (same (owned_name p.of) x) (numbers p.set.items) (0 ∷ [])))
+pub pushed_part : (x : Owned) (ps : List AssignCounts) (p : AssignCounts) → Same (part_sums x (ps ++ p ∷ [])) (sums (part_sums x ps) (cond (same (owned_name p.of) x) (numbers p.set.items) (0 ∷ [])))
 pushed_part x [] p = by (same (owned_name p.of) x)
   where
     by : (b : Bool) → Same (cond b (sums (numbers p.set.items) (0 ∷ [])) (0 ∷ [])) (sums (0 ∷ []) (cond b (numbers p.set.items) (0 ∷ [])))
@@ -39,7 +39,7 @@ pushed_part x (q ∷ ps) p = by (same (owned_name q.of) x) (pushed_part x ps p)
         (turned (sums_group (numbers q.set.items) (part_sums x ps) one))
     by false h = h
 
-pub no_part : (x : Owned) (ps : List Part) → is_among x (names ps) ≡ false → part_sums x ps ≡ 0 ∷ []
+pub no_part : (x : Owned) (ps : List AssignCounts) → is_among x (names ps) ≡ false → part_sums x ps ≡ 0 ∷ []
 no_part x [] h = refl
 no_part x (p ∷ ps) h = by (same (owned_name p.of) x) h (λ k. no_part x ps k)
   where
@@ -48,13 +48,13 @@ no_part x (p ∷ ps) h = by (same (owned_name p.of) x) h (λ k. no_part x ps k)
     by false k rec = rec k
 
 -- a variable of no part is not that of one of them
-pub not_named : (x : Owned) (ps : List Part) (i : ℕ) (p : Part) → i < length ps → p ≡ get_or ps i p → is_among x (names ps) ≡ false → same (owned_name p.of) x ≡ false
+pub not_named : (x : Owned) (ps : List AssignCounts) (i : ℕ) (p : AssignCounts) → i < length ps → p ≡ get_or ps i p → is_among x (names ps) ≡ false → same (owned_name p.of) x ≡ false
 not_named x [] i p below is h = absurd (omega arith)
 not_named x (q ∷ ps) zero p below is h = by (same (owned_name q.of) x) refl h
   where
     by : (b : Bool) → same (owned_name q.of) x ≡ b → (b || is_among x (names ps)) ≡ false → same (owned_name p.of) x ≡ false
     by true e k = absurd (cc (k))
-    by false e k = ap (λ (z : Part). same (owned_name z.of) x) is ∙ e
+    by false e k = ap (λ (z : AssignCounts). same (owned_name z.of) x) is ∙ e
 not_named x (q ∷ ps) (suc i) p below is h = by (same (owned_name q.of) x) h (λ k. not_named x ps i p (omega arith) is k)
   where
     by : (b : Bool) → (b || is_among x (names ps)) ≡ false → (is_among x (names ps) ≡ false → same (owned_name p.of) x ≡ false) → same (owned_name p.of) x ≡ false
@@ -77,7 +77,7 @@ added_part x y old new sum set rest is adds = by (same y x) refl is
 -- HANDING UP
 
 -- one more part is handed up, and its sets are emptied
-pub handed_part : (x : Owned) (up : List Part) (p : Part) (up' : List Part) (one other one' other' of_one of_other : List Bool) → up' ≡ up ++ p ∷ []
+pub handed_part : (x : Owned) (up : List AssignCounts) (p : AssignCounts) (up' : List AssignCounts) (one other one' other' of_one of_other : List Bool) → up' ≡ up ++ p ∷ []
     → (owned_name p.of ≡ x → (of_one ≡ one) × (of_other ≡ other)) → Same (numbers p.set.items) (numbers of_one ++ numbers of_other)
     → one' ≡ cond (same (owned_name p.of) x) [] one → other' ≡ cond (same (owned_name p.of) x) [] other
     → Same (sums (part_sums x up') (numbers one' ++ numbers other')) (sums (part_sums x up) (numbers one ++ numbers other))
@@ -109,17 +109,17 @@ emptied x y ns old new is = by (same y x) is (is_among x ns)
     by false q true = refl
     by false q false = q
 
-pub names_more : (ps : List Part) (i : ℕ) (p : Part) → i < length ps → p ≡ get_or ps i p → names (drop i ps) ≡ owned_name p.of ∷ names (drop (i + 1) ps)
-names_more ps i p below is = ap names (drop_more ps i p below) ∙ ap (λ (z : Part). owned_name z.of ∷ names (drop (i + 1) ps)) (sym is)
+pub names_more : (ps : List AssignCounts) (i : ℕ) (p : AssignCounts) → i < length ps → p ≡ get_or ps i p → names (drop i ps) ≡ owned_name p.of ∷ names (drop (i + 1) ps)
+names_more ps i p below is = ap names (drop_more ps i p below) ∙ ap (λ (z : AssignCounts). owned_name z.of ∷ names (drop (i + 1) ps)) (sym is)
 
-pub sums_more : (x : Owned) (ps : List Part) (i : ℕ) (p : Part) → i < length ps → p ≡ get_or ps i p
+pub sums_more : (x : Owned) (ps : List AssignCounts) (i : ℕ) (p : AssignCounts) → i < length ps → p ≡ get_or ps i p
     → part_sums x (drop i ps) ≡ cond (same (owned_name p.of) x) (sums (numbers p.set.items) (part_sums x (drop (i + 1) ps))) (part_sums x (drop (i + 1) ps))
 sums_more x ps i p below is =
     ap (part_sums x) (drop_more ps i p below)
-    ∙ ap (λ (z : Part). cond (same (owned_name z.of) x) (sums (numbers z.set.items) (part_sums x (drop (i + 1) ps))) (part_sums x (drop (i + 1) ps))) (sym is)
+    ∙ ap (λ (z : AssignCounts). cond (same (owned_name z.of) x) (sums (numbers z.set.items) (part_sums x (drop (i + 1) ps))) (part_sums x (drop (i + 1) ps))) (sym is)
 
 -- both branches are handed up, and the sets are empty again
-pub both_handed : (x : Owned) (ps qs : List Part) (one other one' other' one'' other'' : List Bool) → (is_among x (names ps) ≡ false → one ≡ []) → (is_among x (names qs) ≡ false → other ≡ [])
+pub both_handed : (x : Owned) (ps qs : List AssignCounts) (one other one' other' one'' other'' : List Bool) → (is_among x (names ps) ≡ false → one ≡ []) → (is_among x (names qs) ≡ false → other ≡ [])
     → one' ≡ cond (is_among x (names ps)) [] one → one'' ≡ cond (is_among x (names qs)) [] one' → other' ≡ cond (is_among x (names ps)) [] other → other'' ≡ cond (is_among x (names qs)) [] other'
     → (one'' ≡ []) × (other'' ≡ [])
 both_handed x ps qs one other one' other' one'' other'' h k a b c d = by (is_among x (names ps)) refl (is_among x (names qs)) refl a b c d
@@ -211,7 +211,7 @@ behind_and true b h = h
 behind_and false b h = absurd (cc (h))
 
 -- what two lists of parts tell of an `if` is what its branches tell
-pub same_branches : (l : Option ℕ) (n : ℕ) (p q : Outline) (ps qs : List Part) → ((x : Owned) → Same (part_sums x ps) (counts l x p)) → ((x : Owned) → Same (part_sums x qs) (counts l x q))
+pub same_branches : (l : Option ℕ) (n : ℕ) (p q : Outline) (ps qs : List AssignCounts) → ((x : Owned) → Same (part_sums x ps) (counts l x p)) → ((x : Owned) → Same (part_sums x qs) (counts l x q))
     → list_any (parts_apart n ps qs) (names ps ++ names qs) ≡ list_any (is_uneven l n p q) (way l p ++ way l q)
 same_branches l n p q ps qs one other = any_same (parts_apart n ps qs) (is_uneven l n p q) (names ps ++ names qs) (way l p ++ way l q) alike in_names in_way
   where
@@ -256,7 +256,7 @@ no_more_part ms n e = turned (same_on (same_from (ap (λ (k : ℕ). sums ms (k �
 pub outer_times : (l : Option ℕ) (k : Kind) (x y : Owned) → k ≡ named → true ≡ is_outer l y → times x (named_by l k y) ≡ 0
 outer_times l k x y e out = ap (λ (z : Kind). times x (named_by l z y)) e ∙ ap (λ (b : Bool). times x (cond b [] (y ∷ []))) (sym out)
 
-pub target_part : (l : Option ℕ) (k : Kind) (x : Owned) (ps qs : List Part) (p : Part) → k ≡ named → is_outer l (owned_name p.of) ≡ false → p.set.items ≡ false ∷ true ∷ [] → qs ≡ ps ++ p ∷ []
+pub target_part : (l : Option ℕ) (k : Kind) (x : Owned) (ps qs : List AssignCounts) (p : AssignCounts) → k ≡ named → is_outer l (owned_name p.of) ≡ false → p.set.items ≡ false ∷ true ∷ [] → qs ≡ ps ++ p ∷ []
     → Same (part_sums x qs) (sums (part_sums x ps) (times x (named_by l k (owned_name p.of)) ∷ []))
 target_part l k x ps qs p e out once is =
     same_on (same_from (ap (part_sums x) is)) (same_on (pushed_part x ps p) (same_from (ap (sums (part_sums x ps)) one)))

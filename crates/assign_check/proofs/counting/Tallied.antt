@@ -9,7 +9,7 @@ use Rattle.language.specs.declared.tree.Shape.TheVariants.{Scalar, Array}
 use Rattle.language.specs.Core.{Owned}
 use Rattle.assign_check.specs.declared.fault.AssignFault.{AssignFault}
 use Rattle.assign_check.specs.declared.fault.AssignFault.TheVariants.{NeverAssigned, WholeAndElements, OutputUnassigned}
-use Rattle.assign_check.specs.declared.tally.Tally.{Tally}
+use Rattle.assign_check.specs.declared.use_summary.UseSummary.{UseSummary}
 use Rattle.assign_check.specs.Outline.{Kind, named, written, read, Use, Role, own, result, given, Declared}
 use Rattle.assign_check.specs.Faults as faults
 use Rattle.assign_check.specs.Faults.{same, is_kind, is_used, form_faults, role_faults, variable_faults}
@@ -21,8 +21,8 @@ or_twice : (a b c : Bool) → ((a || b) || c) ≡ (a || (b || c))
 or_twice true b c = refl
 or_twice false b c = refl
 
-flagged : (f : Tally → Bool) (k : Kind) → ((b : Bool) (t : Tally) (j : Kind) (at : Span) → f (more_if b t j at) ≡ (f t || (is_kind j k && b)))
-    → (t : Tally) (x : Owned) (us : List Use) → f (tally_from t x us) ≡ (f t || is_used k x us)
+flagged : (f : UseSummary → Bool) (k : Kind) → ((b : Bool) (t : UseSummary) (j : Kind) (at : Span) → f (more_if b t j at) ≡ (f t || (is_kind j k && b)))
+    → (t : UseSummary) (x : Owned) (us : List Use) → f (tally_from t x us) ≡ (f t || is_used k x us)
 flagged f k step t x [] = or_none (f t)
   where
     or_none : (b : Bool) → b ≡ (b || false)
@@ -41,7 +41,7 @@ or_false : (b : Bool) → b ≡ (b || false)
 or_false true = refl
 or_false false = refl
 
-reads : (b : Bool) (t : Tally) (j : Kind) (at : Span) → (more_if b t j at).read ≡ (t.read || (is_kind j read && b))
+reads : (b : Bool) (t : UseSummary) (j : Kind) (at : Span) → (more_if b t j at).read ≡ (t.read || (is_kind j read && b))
 reads true t read at = or_true t.read
 reads true t named at = or_false t.read
 reads true t written at = or_false t.read
@@ -53,7 +53,7 @@ there_now : (o : Option Span) (at : Span) → not (is_none (first_of o at)) ≡ 
 there_now None at = refl
 there_now (Some s) at = refl
 
-names : (b : Bool) (t : Tally) (j : Kind) (at : Span) → not (is_none (more_if b t j at).named) ≡ (not (is_none t.named) || (is_kind j named && b))
+names : (b : Bool) (t : UseSummary) (j : Kind) (at : Span) → not (is_none (more_if b t j at).named) ≡ (not (is_none t.named) || (is_kind j named && b))
 names true t read at = or_false (not (is_none t.named))
 names true t named at = there_now t.named at
 names true t written at = or_false (not (is_none t.named))
@@ -61,7 +61,7 @@ names false t read at = or_false (not (is_none t.named))
 names false t named at = or_false (not (is_none t.named))
 names false t written at = or_false (not (is_none t.named))
 
-writes : (b : Bool) (t : Tally) (j : Kind) (at : Span) → not (is_none (more_if b t j at).written) ≡ (not (is_none t.written) || (is_kind j written && b))
+writes : (b : Bool) (t : UseSummary) (j : Kind) (at : Span) → not (is_none (more_if b t j at).written) ≡ (not (is_none t.written) || (is_kind j written && b))
 writes true t read at = or_false (not (is_none t.written))
 writes true t named at = or_false (not (is_none t.written))
 writes true t written at = there_now t.written at
@@ -85,19 +85,19 @@ is_written x us = sym (twice_not (is_none (tally_from unused x us).written)) ∙
 -- FORMS
 
 -- a tally where both forms are there, one of them, or none
-abbrev whole_then : Bool → Span → Span → Tally
+abbrev whole_then : Bool → Span → Span → UseSummary
 whole_then r a s = record { read = r; named = Some a; written = Some s; named_first = true }
 
-abbrev elements_then : Bool → Span → Span → Tally
+abbrev elements_then : Bool → Span → Span → UseSummary
 elements_then r a s = record { read = r; named = Some a; written = Some s; named_first = false }
 
-abbrev whole_only : Bool → Span → Tally
+abbrev whole_only : Bool → Span → UseSummary
 whole_only r a = record { read = r; named = Some a; written = None; named_first = true }
 
-abbrev elements_only : Bool → Span → Tally
+abbrev elements_only : Bool → Span → UseSummary
 elements_only r s = record { read = r; named = None; written = Some s; named_first = false }
 
-abbrev no_target : Bool → Tally
+abbrev no_target : Bool → UseSummary
 no_target r = record { read = r; named = None; written = None; named_first = false }
 
 after_whole : (r : Bool) (a s : Span) (x : Owned) (us : List Use) → other_form (tally_from (whole_then r a s) x us) ≡ Some s
@@ -154,21 +154,21 @@ both_forms r x (u ∷ us) = step (same u.of x) u.kind u.span (λ q. both_forms q
     step true written at ih = one_by_elements r at x us
 
 -- a variable that counts as assigned whole
-still_written : (t : Tally) (s : Span) (x : Owned) (us : List Use) → t.written ≡ Some s → (tally_from t x us).written ≡ Some s
+still_written : (t : UseSummary) (s : Span) (x : Owned) (us : List Use) → t.written ≡ Some s → (tally_from t x us).written ≡ Some s
 still_written t s x [] is = is
 still_written t s x (u ∷ us) is = still_written (more_if (same u.of x) t u.kind u.span) s x us (step (same u.of x) t u.kind u.span is)
   where
-    step : (b : Bool) (t : Tally) (k : Kind) (at : Span) → t.written ≡ Some s → (more_if b t k at).written ≡ Some s
+    step : (b : Bool) (t : UseSummary) (k : Kind) (at : Span) → t.written ≡ Some s → (more_if b t k at).written ≡ Some s
     step false t k at is = is
     step true t read at is = is
     step true t named at is = is
     step true t written at is = ap (λ o. first_of o at) is
 
-given_form : (t : Tally) (x : Owned) (us : List Use) → t.written ≡ None → place_faults (tally_from t x us).written ≡ faults.other_form named x us
+given_form : (t : UseSummary) (x : Owned) (us : List Use) → t.written ≡ None → place_faults (tally_from t x us).written ≡ faults.other_form named x us
 given_form t x [] is = ap place_faults is
 given_form t x (u ∷ us) is = step (same u.of x) u.kind u.span (λ t' is'. given_form t' x us is')
   where
-    step : (b : Bool) (k : Kind) (at : Span) → ((t' : Tally) → t'.written ≡ None → place_faults (tally_from t' x us).written ≡ faults.other_form named x us)
+    step : (b : Bool) (k : Kind) (at : Span) → ((t' : UseSummary) → t'.written ≡ None → place_faults (tally_from t' x us).written ≡ faults.other_form named x us)
         → place_faults (tally_from (more_if b t k at) x us).written ≡ cond (b && not (is_kind k read) && not (is_kind k named)) (WholeAndElements at ∷ []) (faults.other_form named x us)
     step false k at ih = ih t is
     step true read at ih = ih (more t read at) is
@@ -196,7 +196,7 @@ tallied result s x at us =
 tallied given s x at us = given_form unused x us refl
 
 -- of all that are declared
-pub all_tallied : (f : Owned → Tally) (us : List Use) → ((x : Owned) → f x ≡ tally_from unused x us) → (ds : List Declared)
+pub all_tallied : (f : Owned → UseSummary) (us : List Use) → ((x : Owned) → f x ≡ tally_from unused x us) → (ds : List Declared)
     → flat_map (λ d. tally_faults d.role d.shape d.span (f d.what)) ds ≡ flat_map (variable_faults us) ds
 all_tallied f us is [] = refl
 all_tallied f us is (d ∷ ds) =
@@ -209,20 +209,20 @@ among x us = list_any (λ u. same u.of x) us
 
 still_unused : (x : Owned) (us : List Use) → cleared unused x us ≡ unused
 still_unused x [] = refl
-still_unused x (u ∷ us) = ap (λ (t : Tally). cleared t x us) (either (same u.of x)) ∙ still_unused x us
+still_unused x (u ∷ us) = ap (λ (t : UseSummary). cleared t x us) (either (same u.of x)) ∙ still_unused x us
   where
     either : (b : Bool) → cond b unused unused ≡ unused
     either true = refl
     either false = refl
 
 -- a variable that was tallied by these uses
-pub all_cleared : (t : Tally) (x : Owned) (us : List Use) → t ≡ tally_from unused x us → cleared t x us ≡ unused
-all_cleared t x us is = ap (λ (z : Tally). cleared z x us) is ∙ gone x us unused refl
+pub all_cleared : (t : UseSummary) (x : Owned) (us : List Use) → t ≡ tally_from unused x us → cleared t x us ≡ unused
+all_cleared t x us is = ap (λ (z : UseSummary). cleared z x us) is ∙ gone x us unused refl
   where
-    gone : (x : Owned) (us : List Use) (t : Tally) → t ≡ unused → cleared (tally_from t x us) x us ≡ unused
+    gone : (x : Owned) (us : List Use) (t : UseSummary) → t ≡ unused → cleared (tally_from t x us) x us ≡ unused
     gone x [] t none = none
     gone x (u ∷ us) t none = step (same u.of x) u.kind u.span (λ (e : unused ≡ unused). gone x us unused e)
       where
         step : (b : Bool) (k : Kind) (at : Span) → (unused ≡ unused → cleared (tally_from unused x us) x us ≡ unused) → cleared (cond b unused (tally_from (more_if b t k at) x us)) x us ≡ unused
         step true k at ih = still_unused x us
-        step false k at ih = ap (λ (z : Tally). cleared (tally_from z x us) x us) none ∙ ih refl
+        step false k at ih = ap (λ (z : UseSummary). cleared (tally_from z x us) x us) none ∙ ih refl

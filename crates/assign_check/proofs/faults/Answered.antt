@@ -5,9 +5,9 @@ use Rattle.std.proofs.Math.Seq.{take-append_seam}
 use Rattle.std.proofs.lemmas.List.{drop_more, append-nil}
 use Rattle.lexer.specs.declared.token.Span.{Span}
 use Rattle.language.specs.Core.{Owned}
-use Rattle.assign_check.specs.declared.outline.Step.{Declares, Splits, Repeats, Encloses, the_lemmas}
-use Rattle.assign_check.specs.declared.outline.Declared.{Declared}
-use Rattle.assign_check.specs.declared.outline.Step.{Step as Code}
+use Rattle.assign_check.specs.declared.outline.OutlineStep.{Declares, Splits, Repeats, Encloses, the_lemmas}
+use Rattle.assign_check.specs.declared.outline.Declaration.{Declaration}
+use Rattle.assign_check.specs.declared.outline.OutlineStep.{OutlineStep as Code}
 use Rattle.assign_check.specs.Outline.{Outline, followed, Step, declares, splits, repeats, encloses, outlined}
 use Rattle.assign_check.specs.View.{declared_view, step_view}
 use Rattle.assign_check.specs.declared.fault.AssignFault.{AssignFault}
@@ -53,7 +53,7 @@ view-Repeats n b = search (rules, the_lemmas)
 pub view-Splits : (n : ℕ) (at : Span) (b d : Vec Code Global) → step_view (Splits n at b d) ≡ splits n at (outlined (map step_view b.items)) (outlined (map step_view d.items))
 view-Splits n at b d = search (rules, the_lemmas)
 
-pub view-Declares : (d : Declared) → step_view (Declares d) ≡ declares (declared_view d)
+pub view-Declares : (d : Declaration) → step_view (Declares d) ≡ declares (declared_view d)
 view-Declares d = search (rules, the_lemmas)
 
 pub view-Encloses : (b : Vec Code Global) → step_view (Encloses b) ≡ encloses (outlined (map step_view b.items))

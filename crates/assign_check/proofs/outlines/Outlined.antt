@@ -7,7 +7,7 @@ use Rattle.language.specs.Core.{Owned}
 use Rattle.language.specs.Table.{Table}
 use Rattle.language.specs.Tree.{Part, import, function, single}
 use Rattle.assign_check.specs.declared.fault.AssignFault.{AssignFault}
-use Rattle.assign_check.specs.declared.tally.Tally.{Tally}
+use Rattle.assign_check.specs.declared.use_summary.UseSummary.{UseSummary}
 use Rattle.assign_check.specs.Outline.{Outline, Step, outlined, Use, Declared, function_outlines, function_steps}
 use Rattle.assign_check.specs.Faults.{precedes, first_among, way_faults, split_faults, uses_in, declared_in, variable_faults, faults_of}
 use Rattle.assign_check.specs.Tallies.{unused, tally_from, tally_faults}
@@ -27,7 +27,7 @@ pub none_answered : (fs : List AssignFault) → first_among None fs ≡ None →
 none_answered [] is = refl
 none_answered (f ∷ fs) is = absurd (some_stays f fs is)
 
-pub outline_best : (o : Outline) (b walked counted a : Option AssignFault) (w : List Owned) (us : List Use) (ds : List Declared) (f : Owned → Tally)
+pub outline_best : (o : Outline) (b walked counted a : Option AssignFault) (w : List Owned) (us : List Use) (ds : List Declared) (f : Owned → UseSummary)
     → w ≡ [] → walked ≡ first_among b (way_faults None w o) → counted ≡ first_among walked (split_faults None o) → us ≡ uses_in o → ds ≡ declared_in o → ((x : Owned) → f x ≡ tally_from unused x us)
     → a ≡ first_among counted (flat_map (λ d. tally_faults d.role d.shape d.span (f d.what)) ds) → a ≡ first_among b (faults_of o)
 outline_best o b walked counted a w us ds f empty ways splits used declared tallies adds =

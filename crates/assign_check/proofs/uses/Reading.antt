@@ -2,7 +2,7 @@
 use Rattle.std.specs.Prelude.{◌≡◌, ◌⊎◌, ℕ, List, [], ◌∷◌, ◌++◌, refl}
 use Rattle.std.proofs.Common.{inl, inr, sym, ap, subst}
 use Rattle.values.specs.Operators.{Operation}
-use Rattle.values.specs.declared.format.Piece.{Piece}
+use Rattle.values.specs.declared.format.FormatPiece.{FormatPiece}
 use Rattle.language.specs.declared.tree.Base.{Base}
 use Rattle.language.specs.declared.tree.Operator.{Operator}
 use Rattle.language.specs.declared.tree.Keys.{Keys}
@@ -209,11 +209,11 @@ abbrev pub AllOne : List Typ → Type 0
 AllOne [] = Unit {0}
 AllOne (τ ∷ τs) = (τ.shape ≡ Scalar) × AllOne τs
 
-pub wanted_one : (ps : List Piece) → AllOne (wanted ps)
+pub wanted_one : (ps : List FormatPiece) → AllOne (wanted ps)
 wanted_one [] = tt
-wanted_one (Piece.Byte c ∷ ps) = wanted_one ps
-wanted_one (Piece.Number ∷ ps) = (refl, wanted_one ps)
-wanted_one (Piece.Text ∷ ps) = (refl, wanted_one ps)
+wanted_one (FormatPiece.Byte c ∷ ps) = wanted_one ps
+wanted_one (FormatPiece.Number ∷ ps) = (refl, wanted_one ps)
+wanted_one (FormatPiece.Text ∷ ps) = (refl, wanted_one ps)
 
 -- a scalar argument of a composite call is a cell
 argument_cell : {fs : List Signature} {t : Table} {g : Scope} {e : Expression} {b : Base} → HasType fs t g e b → (f : Formed) → as_argument t e f ≡ (as_cell (number_of e) f, here (number_of e))

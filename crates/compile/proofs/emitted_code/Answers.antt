@@ -1,4 +1,4 @@
-use Rattle.code_layout.proofs.Accepted.{accepted_code}
+use Rattle.code_laws.proofs.Accepted.{accepted_code}
 use Rattle.compile.proofs.Whole.{exact_rights, headline_emitted, whole_emitted}
 use Rattle.compile.proofs.emitted_code.Goals as goal
 

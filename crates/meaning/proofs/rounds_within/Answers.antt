@@ -20,7 +20,7 @@ loop-round-init g c =
     let made = c.in_ok-state.ensures in
     record {
       between = λ bytes t tree r w single e. subst (λ (z : Core). IsBetween {A = A} z 0 c.in_ok-state.state) e
-          (starts_between {A = A} (core_of {A = A} c.args.flow.now) c.in_ok-state.state made.learned made.tasks made.fresh made.passed.0 made.passed.1 made.arrays);
+          (starts_between {A = A} (core_of {A = A} c.args.flow.now) c.in_ok-state.state made.fact_base made.tasks made.fresh made.passed.0 made.passed.1 made.arrays);
       flow = made.flow;
     }
 
@@ -29,9 +29,9 @@ loop-round-preserved g c =
     let A = g.row.A.Denot in
     let n = c.loop-round.round in
     let known = c.in_ok-news.ensures in
-    let asks : IsAsking {A = g.row.A.Denot} c.settle.new.state c.news.new.self = record {
+    let asks : IsAsking {A = g.row.A.Denot} c.compute_fixpoint.new.state c.news.new.self = record {
       heard = c.in_ok-news.ensures.heard;
-      learned = c.news.ensures.learned;
+      fact_base = c.news.ensures.fact_base;
       tasks = c.news.ensures.tasks;
       arrays = c.news.ensures.arrays;
       waiting = c.news.ensures.waiting;
@@ -51,13 +51,13 @@ loop-round-preserved g c =
       between = λ bytes t tree r w single e. (
           let s = core t tree in
           let same : s ≡ core_of {A = A} c.loop-round.state.flow.now = sym e ∙ ap (core_of {A = A}) (sym c.loop-round.invariant.flow) in
-          let settled = c.in_ok-settle.ensures.so s n same (accepted_formed bytes t tree r w single) single (offsets_apart t tree (read_placed bytes tree r)) (c.loop-round.invariant.between bytes t tree r w single e) in
+          let settled = c.in_ok-compute_fixpoint.ensures.so s n same (accepted_formed bytes t tree r w single) single (offsets_apart t tree (read_placed bytes tree r)) (c.loop-round.invariant.between bytes t tree r w single e) in
           let one : suc n ≡ n + 1 = omega arith in
           subst (λ (z : ℕ). IsBetween {A = A} s z c.learn-in-loop-round.new.self) one
-          (next_between bytes t tree r w single {A = A} n c.settle.new.state c.news.new.self c.learn-in-loop-round.new.self c.in_ok-news.news.items settled.0 settled.1 known.inside (known.round bytes t tree r w single n settled.1)
+          (next_between bytes t tree r w single {A = A} n c.compute_fixpoint.new.state c.news.new.self c.learn-in-loop-round.new.self c.in_ok-news.news.items settled.0 settled.1 known.inside (known.round bytes t tree r w single n settled.1)
           asks learns)
           );
-      flow = c.learn-in-loop-round.ensures.flow ∙ c.news.ensures.flow ∙ c.settle.ensures.flow ∙ c.loop-round.invariant.flow;
+      flow = c.learn-in-loop-round.ensures.flow ∙ c.news.ensures.flow ∙ c.compute_fixpoint.ensures.flow ∙ c.loop-round.invariant.flow;
     }
 
 pub returns-then-is_empty : goal.returns-then-is_empty
@@ -72,13 +72,13 @@ returns-then-is_empty g c =
       known = λ bytes t tree r w single e. (
           let s = core t tree in
           let same : s ≡ core_of {A = A} c.loop-round.state.flow.now = sym e ∙ ap (core_of {A = A}) (sym c.loop-round.invariant.flow) in
-          let settled = c.in_ok-settle.ensures.so s n same (accepted_formed bytes t tree r w single) single (offsets_apart t tree (read_placed bytes tree r)) (c.loop-round.invariant.between bytes t tree r w single e) in
-          let l = c.settle.new.state.learned in
-          let ls = tasks_of {A = A} c.settle.new.state in
-          let telling = telling_of {A = A} c.settle.new.state in
+          let settled = c.in_ok-compute_fixpoint.ensures.so s n same (accepted_formed bytes t tree r w single) single (offsets_apart t tree (read_placed bytes tree r)) (c.loop-round.invariant.between bytes t tree r w single e) in
+          let l = c.compute_fixpoint.new.state.fact_base in
+          let ls = tasks_of {A = A} c.compute_fixpoint.new.state in
+          let telling = telling_of {A = A} c.compute_fixpoint.new.state in
           let round = c.in_ok-news.ensures.round bytes t tree r w single n settled.1 in
-          is_known bytes t tree r w single n l ls telling settled.1 settled.0.stands.good.holds k made.rounds (made.learned ∙ c.news.ensures.learned)
-          (made.stuck ∙ same_stuck c.news.new.self.learned l (tasks_of {A = A} c.news.new.self) ls c.news.ensures.learned c.news.ensures.tasks)
+          is_known bytes t tree r w single n l ls telling settled.1 settled.0.stands.good.holds k made.rounds (made.fact_base ∙ c.news.ensures.fact_base)
+          (made.stuck ∙ same_stuck c.news.new.self.fact_base l (tasks_of {A = A} c.news.new.self) ls c.news.ensures.fact_base c.news.ensures.tasks)
           (λ f. finished_so bytes t tree r w single n l ls telling settled.1 settled.0.stands.good.holds c.in_ok-news.news.items round empty) (λ f. absurd (not_both (sym made.finished ∙ f)))
           );
       within = let rounds = made.rounds in (omega (arith, rounds, below), λ f. absurd (not_both (sym made.finished ∙ f)));
@@ -99,13 +99,13 @@ returns g c =
           let s = core t tree in
           let same : s ≡ core_of {A = A} c.loop-round.state.flow.now = sym e ∙ ap (core_of {A = A}) (sym c.loop-round.invariant.flow) in
           let between = subst (λ (z : ℕ). IsBetween {A = A} s z c.loop-round.state) ended (c.loop-round.invariant.between bytes t tree r w single e) in
-          let settled = c.in_ok-settle-2.ensures.so s n same (accepted_formed bytes t tree r w single) single (offsets_apart t tree (read_placed bytes tree r)) between in
-          let l = c.settle-2.new.state.learned in
-          let ls = tasks_of {A = A} c.settle-2.new.state in
-          let telling = telling_of {A = A} c.settle-2.new.state in
+          let settled = c.in_ok-compute_fixpoint-2.ensures.so s n same (accepted_formed bytes t tree r w single) single (offsets_apart t tree (read_placed bytes tree r)) between in
+          let l = c.compute_fixpoint-2.new.state.fact_base in
+          let ls = tasks_of {A = A} c.compute_fixpoint-2.new.state in
+          let telling = telling_of {A = A} c.compute_fixpoint-2.new.state in
           let round = c.in_ok-last.ensures.round bytes t tree r w single n settled.1 in
-          is_known bytes t tree r w single n l ls telling settled.1 settled.0.stands.good.holds k made.rounds (made.learned ∙ c.news-2.ensures.learned)
-          (made.stuck ∙ same_stuck c.news-2.new.self.learned l (tasks_of {A = A} c.news-2.new.self) ls c.news-2.ensures.learned c.news-2.ensures.tasks)
+          is_known bytes t tree r w single n l ls telling settled.1 settled.0.stands.good.holds k made.rounds (made.fact_base ∙ c.news-2.ensures.fact_base)
+          (made.stuck ∙ same_stuck c.news-2.new.self.fact_base l (tasks_of {A = A} c.news-2.new.self) ls c.news-2.ensures.fact_base c.news-2.ensures.tasks)
           (λ f. finished_so bytes t tree r w single n l ls telling settled.1 settled.0.stands.good.holds news round (empty_so news k.finished test f))
           (λ f. unfinished_so bytes t tree r w single n l ls telling settled.1 settled.0.stands.good.holds news round c.in_ok-last.ensures.told (not_empty news k.finished test f))
           );
@@ -113,33 +113,33 @@ returns g c =
       large = tt;
     }
 
-pub returns-in_err-settle-clause-large : goal.returns-in_err-settle-clause-large
-returns-in_err-settle-clause-large g c =
+pub returns-in_err-compute_fixpoint-clause-large : goal.returns-in_err-compute_fixpoint-clause-large
+returns-in_err-compute_fixpoint-clause-large g c =
     let A = g.row.A.Denot in
     let n = c.loop-round.round in
     let less : n < c.args.limit = search rules in
     let below : n ≤ c.args.limit = omega (arith, less) in
-    answer_passes c.in_err-settle.field-0.0 c.from_residual-in_err-settle.result c.from_residual-in_err-settle.ensures.1
+    answer_passes c.in_err-compute_fixpoint.field-0.0 c.from_residual-in_err-compute_fixpoint.result c.from_residual-in_err-compute_fixpoint.ensures.1
     (λ q bytes t tree r w single e. (
     let s = core t tree in
     let same : s ≡ core_of {A = A} c.loop-round.state.flow.now = sym e ∙ ap (core_of {A = A}) (sym c.loop-round.invariant.flow) in
-    let large = c.in_err-settle.ensures.large q s n same (accepted_formed bytes t tree r w single) single (offsets_apart t tree (read_placed bytes tree r))
+    let large = c.in_err-compute_fixpoint.ensures.large q s n same (accepted_formed bytes t tree r w single) single (offsets_apart t tree (read_placed bytes tree r))
     (c.loop-round.invariant.between bytes t tree r w single e) in
     (n, (below, large))
     ))
 
-pub returns-in_err-settle-2-clause-large : goal.returns-in_err-settle-2-clause-large
-returns-in_err-settle-2-clause-large g c =
+pub returns-in_err-compute_fixpoint-2-clause-large : goal.returns-in_err-compute_fixpoint-2-clause-large
+returns-in_err-compute_fixpoint-2-clause-large g c =
     let A = g.row.A.Denot in
     let n = c.args.limit in
     let ended : c.loop-round.round ≡ n = search rules in
     let within : n ≤ n = omega arith in
-    answer_passes c.in_err-settle-2.field-0.0 c.from_residual-in_err-settle-2.result c.from_residual-in_err-settle-2.ensures.1
+    answer_passes c.in_err-compute_fixpoint-2.field-0.0 c.from_residual-in_err-compute_fixpoint-2.result c.from_residual-in_err-compute_fixpoint-2.ensures.1
     (λ q bytes t tree r w single e. (
     let s = core t tree in
     let same : s ≡ core_of {A = A} c.loop-round.state.flow.now = sym e ∙ ap (core_of {A = A}) (sym c.loop-round.invariant.flow) in
     let between = subst (λ (z : ℕ). IsBetween {A = A} s z c.loop-round.state) ended (c.loop-round.invariant.between bytes t tree r w single e) in
-    let large = c.in_err-settle-2.ensures.large q s n same (accepted_formed bytes t tree r w single) single (offsets_apart t tree (read_placed bytes tree r)) between in
+    let large = c.in_err-compute_fixpoint-2.ensures.large q s n same (accepted_formed bytes t tree r w single) single (offsets_apart t tree (read_placed bytes tree r)) between in
     (n, (within, large))
     ))
 

@@ -6,9 +6,9 @@ use Rattle.std.specs.Str.{bytes_eq}
 use Rattle.std.specs.Prelude.{codes}
 use Rattle.lexer.specs.declared.token.Span.{Span}
 use Rattle.types.specs.declared.fault.TypeFault.TheVariants.{Mismatch, WrongCount}
-use Rattle.types.specs.declared.typed.Settled.{Settled}
-use Rattle.types.specs.declared.typed.Elements.{Elements}
-use Rattle.types.specs.declared.typed.Meaning.TheVariants.{Called}
+use Rattle.types.specs.declared.typed.NameEntry.{NameEntry}
+use Rattle.types.specs.declared.typed.ElementTypes.{ElementTypes}
+use Rattle.types.specs.declared.typed.NameMeaning.TheVariants.{Called}
 use Rattle.types.specs.declared.typed.Callee.TheVariants.{Function, BuiltIn}
 use Rattle.types.specs.declared.typed.Builtin.{Builtin}
 use Rattle.types.specs.declared.typed.Builtin.TheVariants as Named
@@ -38,25 +38,25 @@ abbrev made : Base → Shape → Typ
 made b h = record { base = b; shape = h }
 
 -- an answer that is known, and what holds of it
-pub known : {A : Type 0} (P : A → Type 0) (t : Table) (x y : A) (s s' : List Settled) → got x s ≡ got y s' → Agrees t s' → P x → Agrees t s × P y
+pub known : {A : Type 0} (P : A → Type 0) (t : Table) (x y : A) (s s' : List NameEntry) → got x s ≡ got y s' → Agrees t s' → P x → Agrees t s × P y
 known P t x y s s' is all holds =
     let same : x ≡ y = cc in
     let end : s ≡ s' = cc in
     (subst (Agrees t) (sym end) all, subst P same holds)
 
-pub kept : (t : Table) (s s' : List Settled) → s ≡ s' → Agrees t s' → Agrees t s
+pub kept : (t : Table) (s s' : List NameEntry) → s ≡ s' → Agrees t s' → Agrees t s
 kept t s s' same all = subst (Agrees t) (sym same) all
 
 -- SMALL TESTS
 
-pub given_got : (o : Operator) (b c : Base) (at : Span) (s s' : List Settled) → given_by o b at s ≡ got c s' → rules.Operates o b c × (s ≡ s')
+pub given_got : (o : Operator) (b c : Base) (at : Span) (s s' : List NameEntry) → given_by o b at s ≡ got c s' → rules.Operates o b c × (s ≡ s')
 given_got o b c at s s' is =
     elim (gives o b) as (λ v. gives o b ≡ v → given_or v at s ≡ got c s' → rules.Operates o b c × (s ≡ s')) [
       | None ↦ λ none refusal. absurd (cc)
       | Some d ↦ λ some here. let same : d ≡ c = cc in (gives_sound o b c (some ∙ ap Some same), cc)
     ] refl is
 
-pub array_name_got : (τ : Typ) (e : Expression) (a : Elements) (s s' : List Settled) → array_name τ e s ≡ got a s' → (named e ≡ true) × (κ : Keys) × (τ ≡ many_of κ a.value) × (s ≡ s')
+pub array_name_got : (τ : Typ) (e : Expression) (a : ElementTypes) (s s' : List NameEntry) → array_name τ e s ≡ got a s' → (named e ≡ true) × (κ : Keys) × (τ ≡ many_of κ a.value) × (s ≡ s')
 array_name_got τ e a s s' is =
     elim (named e) as (λ v. named e ≡ v → cond v (elements_of τ (first_of e) s) (refused (Mismatch (first_of e))) ≡ got a s' → (named e ≡ true) × (κ : Keys) × (τ ≡ many_of κ a.value) × (s ≡ s')) [
       | true ↦ λ it_is here. let r = elements_got τ (first_of e) s s' a here in (it_is, r.0, r.1, r.3)
@@ -93,7 +93,7 @@ pub call_type : (fs : List Signature) (t : Table) (g : Scope) (nd : Node) (w : W
 call_type fs t g nd w es Scalar b gives = rules.of_call gives.1 gives.2 gives.3
 call_type fs t g nd w es (Array κ) b gives = gives
 
-pub fits_sound : (fs : List Signature) (t : Table) (g : Scope) (e : Expression) (τ σ : Typ) (h : Shape) (s s' : List Settled)
+pub fits_sound : (fs : List Signature) (t : Table) (g : Scope) (e : Expression) (τ σ : Typ) (h : Shape) (s s' : List NameEntry)
     → σ.shape ≡ h → fits_by h τ σ e s ≡ got (tt {0}) s' → (s ≡ s') × (WholeType fs t g e τ.shape τ.base → Fits fs t g e h σ.base)
 fits_sound fs t g e τ σ Scalar s s' shape is =
     let one = bind_got (scalar τ (first_of e) s) (λ c. has_base c σ.base (first_of e)) (tt {0}) s' is in
@@ -141,7 +141,7 @@ size_type fs t g (expression nd (call w ds)) κ b is = absurd is
 size_type fs t g (expression nd (prefixed p e)) κ b is = absurd is
 size_type fs t g (expression nd (chain os ds)) κ b is = absurd is
 
-pub of_one_sound : (fs : List Signature) (t : Table) (g : Scope) (f : Builtin) (τ : Typ) (e : Expression) (at : Span) (b : Base) (s s' : List Settled)
+pub of_one_sound : (fs : List Signature) (t : Table) (g : Scope) (f : Builtin) (τ : Typ) (e : Expression) (at : Span) (b : Base) (s s' : List NameEntry)
     → of_one f τ e at s ≡ got b s' → (s ≡ s') × (WholeType fs t g e τ.shape τ.base → BuiltinType fs t g (builtin_name f) (and_expression e no_expressions) b)
 of_one_sound fs t g Named.FromInt τ e at b s s' is =
     let all = bind_got (scalar τ (first_of e) s >>= λ c. has_base c Int (first_of e)) (λ u. got Text) b s' is in
@@ -222,7 +222,7 @@ builtin_named letters f is =
     ] refl is
 
 -- the length of a function that is called
-pub call_counted : (fs : List Signature) (w : Word) (n m : ℕ) (f : Signature) (s s' : List Settled) → function_called fs w n m s ≡ got f s'
+pub call_counted : (fs : List Signature) (w : Word) (n m : ℕ) (f : Signature) (s s' : List NameEntry) → function_called fs w n m s ≡ got f s'
     → (length f.inputs ≡ n) × (length f.outputs ≡ m)
 call_counted fs w n m f s s' is =
     elim (find fs w.text) as (λ o. counted w n m o s ≡ got f s' → (length f.inputs ≡ n) × (length f.outputs ≡ m)) [
@@ -242,22 +242,22 @@ call_counted fs w n m f s s' is =
     ] is
 
 -- a called name of a built-in function, which is settled
-pub builtin_called : (t : Table) (w : Word) (f : Builtin) (s : List Settled) → builtin_of w.text ≡ Some f → Agrees t (settles w (Called (BuiltIn f)) s)
+pub builtin_called : (t : Table) (w : Word) (f : Builtin) (s : List NameEntry) → builtin_of w.text ≡ Some f → Agrees t (settles w (Called (BuiltIn f)) s)
     → Agrees t s × CallsBuiltin t w (builtin_name f)
 builtin_called t w f s is all =
     let agreed = agrees_last t s (record { number = w.number; meaning = Called (BuiltIn f) }) all in
     (agreed.0, record { same = builtin_named w.text f is; named = agreed.1 })
 
 -- the one output
-pub output_got : (τs : List Typ) (at : Span) (τ : Typ) (s s' : List Settled) → output_of τs at s ≡ got τ s' → length τs ≡ 1 → (τs ≡ τ ∷ []) × (s ≡ s')
+pub output_got : (τs : List Typ) (at : Span) (τ : Typ) (s s' : List NameEntry) → output_of τs at s ≡ got τ s' → length τs ≡ 1 → (τs ≡ τ ∷ []) × (s ≡ s')
 output_got [] at τ s s' is one = absurd (cc)
 output_got (σ ∷ []) at τ s s' is one = let same : σ ≡ τ = cc in (ap (λ x. x ∷ []) same, cc)
 output_got (σ ∷ ρ ∷ σs) at τ s s' is one = absurd (omega arith)
 
 -- a built-in function's type, from what holds of its arguments as texts and as one argument
-builtin_by_sound : (fs : List Signature) (g : Around) (t : Table) (f : Builtin) (es : Expressions) (at : Span) (b : Base) (s s' : List Settled)
-    → ((r r' : List Settled) → elements fs g es (Some Text) r ≡ got (tt {0}) r' → Agrees t r' → Agrees t r × AllHaveType fs t (scope_of g) es Text)
-    → ((c : Base) (r r' : List Settled) → only fs g es f at r ≡ got c r' → Agrees t r' → Agrees t r × BuiltinType fs t (scope_of g) (builtin_name f) es c)
+builtin_by_sound : (fs : List Signature) (g : Around) (t : Table) (f : Builtin) (es : Expressions) (at : Span) (b : Base) (s s' : List NameEntry)
+    → ((r r' : List NameEntry) → elements fs g es (Some Text) r ≡ got (tt {0}) r' → Agrees t r' → Agrees t r × AllHaveType fs t (scope_of g) es Text)
+    → ((c : Base) (r r' : List NameEntry) → only fs g es f at r ≡ got c r' → Agrees t r' → Agrees t r × BuiltinType fs t (scope_of g) (builtin_name f) es c)
     → builtin_type fs g f es at s ≡ got b s' → Agrees t s' → Agrees t s × BuiltinType fs t (scope_of g) (builtin_name f) es b
 builtin_by_sound fs g t Named.Strcat no_expressions at b s s' texts one is all = absurd (cc)
 builtin_by_sound fs g t Named.Strcat (and_expression e es) at b s s' texts one is all =
@@ -277,11 +277,11 @@ builtin_by_sound fs g t Named.Assert es at b s s' texts one is all = absurd (cc)
 mutual
   unfolding whole typed expected whole_form chained further elements arguments only
 
-  pub whole_sound : (fs : List Signature) (g : Around) (t : Table) (e : Expression) (τ : Typ) (s s' : List Settled) → whole fs g e s ≡ got τ s' → Agrees t s'
+  pub whole_sound : (fs : List Signature) (g : Around) (t : Table) (e : Expression) (τ : Typ) (s s' : List NameEntry) → whole fs g e s ≡ got τ s' → Agrees t s'
       → Agrees t s × WholeType fs t (scope_of g) e τ.shape τ.base
   whole_sound fs g t (expression nd f) τ s s' is all = form_sound fs g t nd f τ s s' is all
 
-  pub typed_sound : (fs : List Signature) (g : Around) (t : Table) (e : Expression) (b : Base) (s s' : List Settled) → typed fs g e s ≡ got b s' → Agrees t s'
+  pub typed_sound : (fs : List Signature) (g : Around) (t : Table) (e : Expression) (b : Base) (s s' : List NameEntry) → typed fs g e s ≡ got b s' → Agrees t s'
       → Agrees t s × HasType fs t (scope_of g) e b
   typed_sound fs g t (expression nd f) b s s' is all =
       let one = bind_got (whole_form fs g f nd.first s) (λ τ. scalar τ nd.first) b s' is in
@@ -289,7 +289,7 @@ mutual
       let has = form_sound fs g t nd f one.0 s one.1 one.2 (kept t one.1 s' type.1 all) in
       (has.0, scalar_sound fs t (scope_of g) (expression nd f) one.0 b type.0 has.1)
 
-  pub expected_sound : (fs : List Signature) (g : Around) (t : Table) (e : Expression) (b : Base) (s s' : List Settled) → expected fs g e b s ≡ got (tt {0}) s' → Agrees t s'
+  pub expected_sound : (fs : List Signature) (g : Around) (t : Table) (e : Expression) (b : Base) (s s' : List NameEntry) → expected fs g e b s ≡ got (tt {0}) s' → Agrees t s'
       → Agrees t s × HasType fs t (scope_of g) e b
   expected_sound fs g t (expression nd f) b s s' is all =
       let two = bind_got (whole_form fs g f nd.first s >>= λ τ. scalar τ nd.first) (λ c. has_base c b nd.first) (tt {0}) s' is in
@@ -299,7 +299,7 @@ mutual
       let has = form_sound fs g t nd f one.0 s one.1 one.2 (kept t one.1 s' (type.1 ∙ base.1) all) in
       (has.0, scalar_sound fs t (scope_of g) (expression nd f) one.0 b (type.0 ∙ ap one_of base.0) has.1)
 
-  form_sound : (fs : List Signature) (g : Around) (t : Table) (nd : Node) (f : Form) (τ : Typ) (s s' : List Settled) → whole_form fs g f nd.first s ≡ got τ s' → Agrees t s'
+  form_sound : (fs : List Signature) (g : Around) (t : Table) (nd : Node) (f : Form) (τ : Typ) (s s' : List NameEntry) → whole_form fs g f nd.first s ≡ got τ s' → Agrees t s'
       → Agrees t s × WholeType fs t (scope_of g) (expression nd f) τ.shape τ.base
   form_sound fs g t nd (number z) τ s s' is all = known (λ (σ : Typ). WholeType fs t (scope_of g) (expression nd (number z)) σ.shape σ.base) t (one_of Int) τ s s' is all rules.of_number
   form_sound fs g t nd (text bytes) τ s s' is all = known (λ (σ : Typ). WholeType fs t (scope_of g) (expression nd (text bytes)) σ.shape σ.base) t (one_of Text) τ s s' is all rules.of_text
@@ -353,7 +353,7 @@ mutual
             (calls.0, whole_type.1)
       ] refl is
 
-  only_sound : (fs : List Signature) (g : Around) (t : Table) (es : Expressions) (f : Builtin) (at : Span) (b : Base) (s s' : List Settled)
+  only_sound : (fs : List Signature) (g : Around) (t : Table) (es : Expressions) (f : Builtin) (at : Span) (b : Base) (s s' : List NameEntry)
       → only fs g es f at s ≡ got b s' → Agrees t s' → Agrees t s × BuiltinType fs t (scope_of g) (builtin_name f) es b
   only_sound fs g t no_expressions f at b s s' is all = absurd (cc)
   only_sound fs g t (and_expression e no_expressions) f at b s s' is all =
@@ -363,7 +363,7 @@ mutual
       (type.0, it.1 type.1)
   only_sound fs g t (and_expression e (and_expression d es)) f at b s s' is all = absurd (cc)
 
-  pub arguments_sound : (fs : List Signature) (g : Around) (t : Table) (es : Expressions) (τs : List Typ) (at : Span) (s s' : List Settled)
+  pub arguments_sound : (fs : List Signature) (g : Around) (t : Table) (es : Expressions) (τs : List Typ) (at : Span) (s s' : List NameEntry)
       → arguments fs g es τs at s ≡ got (tt {0}) s' → Agrees t s' → count es ≡ length τs → Agrees t s × ArgumentTypes fs t (scope_of g) es τs
   arguments_sound fs g t no_expressions [] at s s' is all many = (kept t s s' (cc) all, rules.no_argument)
   arguments_sound fs g t no_expressions (τ ∷ τs) at s s' is all many = absurd (omega arith)
@@ -377,7 +377,7 @@ mutual
       let type = whole_sound fs g t e one.0 s one.1 one.2 (kept t one.1 two.1 fit.0 others.0) in
       (type.0, one_argument fs t (scope_of g) e es τ.shape τ.base τs (fit.1 type.1) others.1)
 
-  pub elements_sound : (fs : List Signature) (g : Around) (t : Table) (es : Expressions) (b : Base) (s s' : List Settled)
+  pub elements_sound : (fs : List Signature) (g : Around) (t : Table) (es : Expressions) (b : Base) (s s' : List NameEntry)
       → elements fs g es (Some b) s ≡ got (tt {0}) s' → Agrees t s' → Agrees t s × AllHaveType fs t (scope_of g) es b
   elements_sound fs g t no_expressions b s s' is all = (kept t s s' (cc) all, rules.none_left)
   elements_sound fs g t (and_expression e es) b s s' is all =
@@ -391,7 +391,7 @@ mutual
       let scalar_type = scalar_sound fs t (scope_of g) e one.0 three.0 type.0 has.1 in
       (has.0, rules.one_more (subst (λ (c : Base). HasType fs t (scope_of g) e c) base.0 scalar_type) others.1)
 
-  chained_sound : (fs : List Signature) (g : Around) (t : Table) (nd : Node) (es : Expressions) (os : List Operator) (at : Span) (c : Base) (s s' : List Settled)
+  chained_sound : (fs : List Signature) (g : Around) (t : Table) (nd : Node) (es : Expressions) (os : List Operator) (at : Span) (c : Base) (s s' : List NameEntry)
       → chained fs g es os at s ≡ got c s' → Agrees t s' → Agrees t s × HasType fs t (scope_of g) (expression nd (chain os es)) c
   chained_sound fs g t nd no_expressions os at c s s' is all = absurd (cc)
   chained_sound fs g t nd (and_expression e es) [] at c s s' is all =
@@ -408,7 +408,7 @@ mutual
       let type = known (λ (b : Base). HasType fs t (scope_of g) (expression nd (chain (o ∷ os) (and_expression e es))) b) t two.0 c three.1 s' three.3 all (rules.of_chain has.1 rest.1) in
       (has.0, type.1)
 
-  further_sound : (fs : List Signature) (g : Around) (t : Table) (es : Expressions) (os : List Operator) (b c : Base) (before : Span) (s s' : List Settled)
+  further_sound : (fs : List Signature) (g : Around) (t : Table) (es : Expressions) (os : List Operator) (b c : Base) (before : Span) (s s' : List NameEntry)
       → further fs g es os b c before s ≡ got (tt {0}) s' → Agrees t s' → Agrees t s × Rests fs t (scope_of g) os es b c
   further_sound fs g t no_expressions [] b c before s s' is all = (kept t s s' (cc) all, tt)
   further_sound fs g t no_expressions (o ∷ os) b c before s s' is all = absurd (cc)
@@ -423,6 +423,6 @@ mutual
       let has = expected_sound fs g t e b two.1 three.1 three.2 rest.0 in
       (kept t s two.1 (given.1 ∙ base.1) has.0, rest_more fs t (scope_of g) o os e es b c (subst (rules.Operates o b) base.0 given.0) has.1 rest.1)
 
-pub builtin_sound : (fs : List Signature) (g : Around) (t : Table) (f : Builtin) (es : Expressions) (at : Span) (b : Base) (s s' : List Settled)
+pub builtin_sound : (fs : List Signature) (g : Around) (t : Table) (f : Builtin) (es : Expressions) (at : Span) (b : Base) (s s' : List NameEntry)
     → builtin_type fs g f es at s ≡ got b s' → Agrees t s' → Agrees t s × BuiltinType fs t (scope_of g) (builtin_name f) es b
 builtin_sound fs g t f es at b s s' is all = builtin_by_sound fs g t f es at b s s' (elements_sound fs g t es Text) (only_sound fs g t es f at) is all

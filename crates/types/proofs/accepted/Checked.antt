@@ -5,9 +5,9 @@ use Rattle.std.proofs.lemmas.Bool.Decides.{Decides-ltb}
 use Rattle.std.proofs.lemmas.List.{length-append}
 use Rattle.std.specs.Str.{bytes_eq}
 use Rattle.types.specs.declared.fault.TypeFault.TheVariants.{Declared}
-use Rattle.types.specs.declared.typed.Owned.{Owned}
-use Rattle.types.specs.declared.typed.Owned.TheVariants.{Input, Output}
-use Rattle.types.specs.declared.typed.Settled.{Settled}
+use Rattle.types.specs.declared.typed.Binding.{Binding}
+use Rattle.types.specs.declared.typed.Binding.TheVariants.{Input, Output}
+use Rattle.types.specs.declared.typed.NameEntry.{NameEntry}
 use Rattle.std.proofs.lemmas.Slice.Eq.{bytes_eq-Decides}
 use Rattle.language.specs.Core as core
 use Rattle.language.specs.Members.{◌∈◌}
@@ -33,7 +33,7 @@ use Rattle.types.proofs.accepted.Stated.{stated_sound, enclosed_sound}
 
 -- PARAMETERS
 
-parameters_sound : (made : ℕ → Owned) (owned : ℕ → core.Owned) → ((i : ℕ) → owned_name (made i) ≡ owned i) → (g h : Around) (i : ℕ) (ds : List Declaration) (s s' : List Settled)
+parameters_sound : (made : ℕ → Binding) (owned : ℕ → core.Owned) → ((i : ℕ) → owned_name (made i) ≡ owned i) → (g h : Around) (i : ℕ) (ds : List Declaration) (s s' : List NameEntry)
     → parameters made g i ds s ≡ got h s' → Inside g → Parameters owned (scope_of g) i ds (scope_of h) × (s ≡ s') × Inside h
 parameters_sound made owned named g h i [] s s' is low =
     let same : g ≡ h = cc in
@@ -63,7 +63,7 @@ not_builtin x none size is = absurd (cc (ap builtin_of is))
 not_builtin x none printf is = absurd (cc (ap builtin_of is))
 not_builtin x none assert is = absurd (cc (ap builtin_of is))
 
-new_name : (fs : List Signature) (above : ℕ) (names : List (List ℕ)) (w : Word) (s s' : List Settled) → Above fs above names
+new_name : (fs : List Signature) (above : ℕ) (names : List (List ℕ)) (w : Word) (s s' : List NameEntry) → Above fs above names
     → name_by (find fs w.text) above w s ≡ got (tt {0}) s' → (¬ (w.text ∈ names)) × (s ≡ s')
 new_name fs above names w s s' higher is =
     elim (find fs w.text) as (λ o. find fs w.text ≡ o → name_by o above w s ≡ got (tt {0}) s' → (¬ (w.text ∈ names)) × (s ≡ s')) [
@@ -84,7 +84,7 @@ new_name fs above names w s s' higher is =
           ] refl here
     ] refl is
 
-name_sound : (fs : List Signature) (above : ℕ) (names : List (List ℕ)) (w : Word) (s s' : List Settled) → Above fs above names
+name_sound : (fs : List Signature) (above : ℕ) (names : List (List ℕ)) (w : Word) (s s' : List NameEntry) → Above fs above names
     → name_of (builtin_of w.text) fs above w s ≡ got (tt {0}) s' → (¬ (w.text ∈ names)) × (¬ IsBuiltinName w.text) × (s ≡ s')
 name_sound fs above names w s s' higher is =
     elim (builtin_of w.text) as (λ o. builtin_of w.text ≡ o → name_of o fs above w s ≡ got (tt {0}) s' → (¬ (w.text ∈ names)) × (¬ IsBuiltinName w.text) × (s ≡ s')) [
@@ -123,7 +123,7 @@ above_more fs above names pre f rest is many higher x m =
 
 -- FUNCTIONS AND SCRIPTS
 
-function_sound : (fs : List Signature) (above : ℕ) (names : List (List ℕ)) (t : Table) (f : Composite) (s s' : List Settled) → Above fs above names
+function_sound : (fs : List Signature) (above : ℕ) (names : List (List ℕ)) (t : Table) (f : Composite) (s s' : List NameEntry) → Above fs above names
     → function_checked fs above f s ≡ got (tt {0}) s' → Agrees t s' → Agrees t s × FunctionTyped fs t names f
 function_sound fs above names t f s s' higher is all =
     let one = bind_got (parameters Output nowhere 0 f.outputs s) (λ g r. name_of (builtin_of f.name.text) fs above f.name r >>= λ u r. parameters Input g 0 f.inputs r >>= λ h. enclosed fs h f.body) (tt {0}) s' is in
@@ -135,7 +135,7 @@ function_sound fs above names t f s s' higher is all =
     let content = enclosed_sound fs three.0 t f.body three.1 s' ins.2 three.3 all in
     (kept t s three.1 (outs.1 ∙ name.2 ∙ ins.1) content.0, rules.function_typed name.0 name.1 outs.0 ins.0 content.1)
 
-parts_sound : (fs : List Signature) (above : ℕ) (names : List (List ℕ)) (t : Table) (g : Around) (pre : List Signature) (ps : Tree) (s s' : List Settled)
+parts_sound : (fs : List Signature) (above : ℕ) (names : List (List ℕ)) (t : Table) (g : Around) (pre : List Signature) (ps : Tree) (s s' : List NameEntry)
     → fs ≡ pre ++ signatures ps → above ≡ length pre → Above fs above names → Inside g
     → parts_checked fs above g ps s ≡ got (tt {0}) s' → Agrees t s' → Agrees t s × PartsTyped fs t names (scope_of g) ps
 parts_sound fs above names t g pre [] s s' these many higher low is all = (kept t s s' (cc) all, rules.no_parts)

@@ -4,8 +4,8 @@ use Rattle.std.specs.Prelude.{Some, None, cond, nat_eq}
 use Rattle.std.specs.Str.{bytes_eq}
 use Rattle.lexer.specs.declared.token.Span.{Span}
 use Rattle.types.specs.declared.fault.TypeFault.TheVariants.{WrongCount}
-use Rattle.types.specs.declared.typed.Settled.{Settled}
-use Rattle.types.specs.declared.typed.Meaning.TheVariants.{Called}
+use Rattle.types.specs.declared.typed.NameEntry.{NameEntry}
+use Rattle.types.specs.declared.typed.NameMeaning.TheVariants.{Called}
 use Rattle.types.specs.declared.typed.Callee.TheVariants.{Function, BuiltIn}
 use Rattle.types.specs.declared.typed.Builtin.{Builtin}
 use Rattle.types.specs.declared.typed.Builtin.TheVariants as Named
@@ -29,7 +29,7 @@ use Rattle.types.proofs.accepted.Typing.{bind_got, has_base_got, scalar_got, ele
 
 -- NAMES
 
-pub refer_type : (g : Around) (w : Word) (τ : Typ) (s s' : List Settled) → refer g w s ≡ got τ s' → OfType (scope_of g) w τ
+pub refer_type : (g : Around) (w : Word) (τ : Typ) (s s' : List NameEntry) → refer g w s ≡ got τ s' → OfType (scope_of g) w τ
 refer_type g w τ s s' is =
     elim (seen g.names w.text) as (λ o. seen g.names w.text ≡ o → referred g w o s ≡ got τ s' → OfType (scope_of g) w τ) [
       | None ↦ λ none here. absurd (cc)
@@ -51,7 +51,7 @@ found_in n (h ∷ hs) x p f is =
     ] refl is
 
 -- a function that is called is the one that was found
-counted_found : (w : Word) (n m : ℕ) (o : Found) (f : Signature) (s s' : List Settled) → counted w n m o s ≡ got f s' → (p : ℕ) × (o ≡ found p f)
+counted_found : (w : Word) (n m : ℕ) (o : Found) (f : Signature) (s s' : List NameEntry) → counted w n m o s ≡ got f s' → (p : ℕ) × (o ≡ found p f)
 counted_found w n m missing f s s' is = absurd (cc)
 counted_found w n m (found p x) f s s' is =
     elim (nat_eq (length x.inputs) n) as (λ b. cond b (cond (nat_eq (length x.outputs) m) (got x (settles w (Called (Function p)) s)) (refused (WrongCount w.span))) (refused (WrongCount w.span)) ≡ got f s' → (q : ℕ) × (found p x ≡ found q f)) [
@@ -63,12 +63,12 @@ counted_found w n m (found p x) f s s' is =
       | false ↦ λ refusal. absurd (cc)
     ] is
 
-pub function_found : (fs : List Signature) (w : Word) (n m : ℕ) (f : Signature) (s s' : List Settled) → function_called fs w n m s ≡ got f s' → (f ∈ fs) × (f.text ≡ w.text)
+pub function_found : (fs : List Signature) (w : Word) (n m : ℕ) (f : Signature) (s s' : List NameEntry) → function_called fs w n m s ≡ got f s' → (f ∈ fs) × (f.text ≡ w.text)
 function_found fs w n m f s s' is = let it = counted_found w n m (find fs w.text) f s s' is in found_in 0 fs w.text it.0 f it.1
 
 -- BUILT-IN FUNCTIONS
 
-one_value : (f : Builtin) (τ : Typ) (e : Expression) (at : Span) (b : Base) (s s' : List Settled) → of_one f τ e at s ≡ got b s' → value_of (builtin_name f) ≡ Some b
+one_value : (f : Builtin) (τ : Typ) (e : Expression) (at : Span) (b : Base) (s s' : List NameEntry) → of_one f τ e at s ≡ got b s' → value_of (builtin_name f) ≡ Some b
 one_value Named.FromInt τ e at b s s' is =
     let one = bind_got (scalar τ (first_of e) s >>= λ c. has_base c Int (first_of e)) (λ u. got Text) b s' is in
     let last : got Text one.1 ≡ got b s' = one.3 in cc
@@ -82,14 +82,14 @@ one_value Named.Strcat τ e at b s s' is = absurd (cc)
 one_value Named.Printf τ e at b s s' is = absurd (cc)
 one_value Named.Assert τ e at b s s' is = absurd (cc)
 
-only_value : (fs : List Signature) (g : Around) (es : Expressions) (f : Builtin) (at : Span) (b : Base) (s s' : List Settled) → only fs g es f at s ≡ got b s' → value_of (builtin_name f) ≡ Some b
+only_value : (fs : List Signature) (g : Around) (es : Expressions) (f : Builtin) (at : Span) (b : Base) (s s' : List NameEntry) → only fs g es f at s ≡ got b s' → value_of (builtin_name f) ≡ Some b
 unfolding only
 only_value fs g no_expressions f at b s s' is = absurd (cc)
 only_value fs g (and_expression e no_expressions) f at b s s' is =
     let one = bind_got (whole fs g e s) (λ τ. of_one f τ e at) b s' is in one_value f one.0 e at b one.1 s' one.3
 only_value fs g (and_expression e (and_expression d es)) f at b s s' is = absurd (cc)
 
-pub builtin_value : (fs : List Signature) (g : Around) (f : Builtin) (es : Expressions) (at : Span) (b : Base) (s s' : List Settled) → builtin_type fs g f es at s ≡ got b s' → value_of (builtin_name f) ≡ Some b
+pub builtin_value : (fs : List Signature) (g : Around) (f : Builtin) (es : Expressions) (at : Span) (b : Base) (s s' : List NameEntry) → builtin_type fs g f es at s ≡ got b s' → value_of (builtin_name f) ≡ Some b
 builtin_value fs g Named.FromInt es at b s s' is = only_value fs g es Named.FromInt at b s s' is
 builtin_value fs g Named.ToInt es at b s s' is = only_value fs g es Named.ToInt at b s s' is
 builtin_value fs g Named.Size es at b s s' is = only_value fs g es Named.Size at b s s' is
@@ -104,16 +104,16 @@ builtin_value fs g Named.Assert es at b s s' is = absurd (cc)
 mutual
   unfolding whole typed expected whole_form chained
 
-  pub whole_gives : (fs : List Signature) (g : Around) (e : Expression) (τ : Typ) (s s' : List Settled) → whole fs g e s ≡ got τ s' → Gives fs (scope_of g) e τ
+  pub whole_gives : (fs : List Signature) (g : Around) (e : Expression) (τ : Typ) (s s' : List NameEntry) → whole fs g e s ≡ got τ s' → Gives fs (scope_of g) e τ
   whole_gives fs g (expression nd f) τ s s' is = form_gives fs g nd f τ s s' is
 
-  pub typed_gives : (fs : List Signature) (g : Around) (e : Expression) (b : Base) (s s' : List Settled) → typed fs g e s ≡ got b s' → Gives fs (scope_of g) e (one_of b)
+  pub typed_gives : (fs : List Signature) (g : Around) (e : Expression) (b : Base) (s s' : List NameEntry) → typed fs g e s ≡ got b s' → Gives fs (scope_of g) e (one_of b)
   typed_gives fs g (expression nd f) b s s' is =
       let one = bind_got (whole_form fs g f nd.first s) (λ τ. scalar τ nd.first) b s' is in
       let type = scalar_got one.0 nd.first one.1 s' b one.3 in
       subst (Gives fs (scope_of g) (expression nd f)) type.0 (form_gives fs g nd f one.0 s one.1 one.2)
 
-  pub form_gives : (fs : List Signature) (g : Around) (nd : Node) (f : Form) (τ : Typ) (s s' : List Settled) → whole_form fs g f nd.first s ≡ got τ s' → Gives fs (scope_of g) (expression nd f) τ
+  pub form_gives : (fs : List Signature) (g : Around) (nd : Node) (f : Form) (τ : Typ) (s s' : List NameEntry) → whole_form fs g f nd.first s ≡ got τ s' → Gives fs (scope_of g) (expression nd f) τ
   form_gives fs g nd (number z) τ s s' is = let same : one_of Int ≡ τ = cc in subst (Gives fs (scope_of g) (expression nd (number z))) same gives_number
   form_gives fs g nd (text z) τ s s' is = let same : one_of Text ≡ τ = cc in subst (Gives fs (scope_of g) (expression nd (text z))) same gives_text
   form_gives fs g nd (truth z) τ s s' is = let same : one_of Boolean ≡ τ = cc in subst (Gives fs (scope_of g) (expression nd (truth z))) same gives_truth
@@ -156,7 +156,7 @@ mutual
             (builtin_value fs g f es w.span one.0 (settles w (Called (BuiltIn f)) s) one.1 one.2)))
       ] refl is
 
-  chain_gives : (fs : List Signature) (g : Around) (nd : Node) (es : Expressions) (os : List Operator) (c : Base) (s s' : List Settled) → chained fs g es os nd.first s ≡ got c s'
+  chain_gives : (fs : List Signature) (g : Around) (nd : Node) (es : Expressions) (os : List Operator) (c : Base) (s s' : List NameEntry) → chained fs g es os nd.first s ≡ got c s'
       → Gives fs (scope_of g) (expression nd (chain os es)) (one_of c)
   chain_gives fs g nd no_expressions os c s s' is = absurd (cc)
   chain_gives fs g nd (and_expression e es) [] c s s' is =
@@ -172,7 +172,7 @@ mutual
       let op = given_got o one.0 two.0 (first_of e) one.1 two.1 two.2 in
       gives_chain (typed_gives fs g e one.0 s one.1 one.2) (subst (Operates o one.0) same op.0)
 
-pub expected_gives : (fs : List Signature) (g : Around) (e : Expression) (b : Base) (s s' : List Settled) → expected fs g e b s ≡ got (tt {0}) s' → Gives fs (scope_of g) e (one_of b)
+pub expected_gives : (fs : List Signature) (g : Around) (e : Expression) (b : Base) (s s' : List NameEntry) → expected fs g e b s ≡ got (tt {0}) s' → Gives fs (scope_of g) e (one_of b)
 unfolding expected
 expected_gives fs g (expression nd f) b s s' is =
     let one = bind_got (whole_form fs g f nd.first s >>= λ τ. scalar τ nd.first) (λ c. has_base c b nd.first) (tt {0}) s' is in

@@ -6,10 +6,10 @@ use Rattle.std.specs.Str.{bytes_eq}
 use Rattle.values.specs.Formats.{pieces}
 use Rattle.lexer.specs.declared.token.Span.{Span}
 use Rattle.types.specs.declared.fault.TypeFault.TheVariants.{Declared, Mismatch, WrongCount}
-use Rattle.types.specs.declared.typed.Settled.{Settled}
-use Rattle.types.specs.declared.typed.Elements.{Elements}
-use Rattle.types.specs.declared.typed.Owned.TheVariants.{Local}
-use Rattle.types.specs.declared.typed.Meaning.TheVariants.{Called}
+use Rattle.types.specs.declared.typed.NameEntry.{NameEntry}
+use Rattle.types.specs.declared.typed.ElementTypes.{ElementTypes}
+use Rattle.types.specs.declared.typed.Binding.TheVariants.{Local}
+use Rattle.types.specs.declared.typed.NameMeaning.TheVariants.{Called}
 use Rattle.types.specs.declared.typed.Callee.TheVariants.{BuiltIn}
 use Rattle.types.specs.declared.typed.Builtin.{Builtin}
 use Rattle.types.specs.declared.typed.Builtin.TheVariants as Named
@@ -57,11 +57,11 @@ right_type fs t g (expression nd (element w i)) (Array κ) b has = absurd has
 right_type fs t g (expression nd (prefixed p e)) (Array κ) b has = absurd has
 right_type fs t g (expression nd (chain os es)) (Array κ) b has = absurd has
 
-pub numbers_got : (κ : Keys) (at : Span) (s s' : List Settled) → under_numbers κ at s ≡ got (tt {0}) s' → (κ ≡ Numbers) × (s ≡ s')
+pub numbers_got : (κ : Keys) (at : Span) (s s' : List NameEntry) → under_numbers κ at s ≡ got (tt {0}) s' → (κ ≡ Numbers) × (s ≡ s')
 numbers_got Numbers at s s' is = (refl, cc)
 numbers_got Texts at s s' is = absurd (cc)
 
-literal_sound : (fs : List Signature) (g : Around) (t : Table) (h : Shape) (b : Base) (es : List Expression) (nd : Node) (s s' : List Settled)
+literal_sound : (fs : List Signature) (g : Around) (t : Table) (h : Shape) (b : Base) (es : List Expression) (nd : Node) (s s' : List NameEntry)
     → literal_by h fs g b es nd s ≡ got (tt {0}) s' → Agrees t s' → Agrees t s × RightType fs t (scope_of g) (list nd es) (made b h)
 literal_sound fs g t (Array κ) b es nd s s' is all =
     let one = bind_got (elements fs g (expressions_of es) (Some b) s) (λ u. under_numbers κ nd.first) (tt {0}) s' is in
@@ -72,7 +72,7 @@ literal_sound fs g t Scalar b es nd s s' is all =
     let one = bind_got (elements fs g (expressions_of es) None s) (λ u r. refused (Mismatch nd.first)) (tt {0}) s' is in
     absurd (cc (one.3))
 
-pub right_sound : (fs : List Signature) (g : Around) (t : Table) (r : RightSide) (τ : Typ) (s s' : List Settled)
+pub right_sound : (fs : List Signature) (g : Around) (t : Table) (r : RightSide) (τ : Typ) (s s' : List NameEntry)
     → right fs g r τ s ≡ got (tt {0}) s' → Agrees t s' → Agrees t s × RightType fs t (scope_of g) r τ
 right_sound fs g t (value e) τ s s' is all =
     let one = bind_got (whole fs g e s) (λ found. has_type found τ (first_of e)) (tt {0}) s' is in
@@ -83,7 +83,7 @@ right_sound fs g t (list nd es) τ s s' is all = literal_sound fs g t τ.shape �
 
 -- CALLS
 
-pub refer_all_sound : (g : Around) (t : Table) (ws : List Word) (τs : List Typ) (s s' : List Settled)
+pub refer_all_sound : (g : Around) (t : Table) (ws : List Word) (τs : List Typ) (s s' : List NameEntry)
     → refer_all g ws s ≡ got τs s' → Agrees t s' → Agrees t s × ReferAll t (scope_of g) ws τs
 refer_all_sound g t [] τs s s' is all =
     let none : [] ≡ τs = cc in
@@ -97,7 +97,7 @@ refer_all_sound g t (w ∷ ws) τs s s' is all =
     let same : one.0 ∷ two.0 ≡ τs = cc in
     (refers.0, subst (ReferAll t (scope_of g) (w ∷ ws)) same (rules.one_name refers.1 others.1))
 
-pub same_types_got : (τs σs : List Typ) (at : Span) (s s' : List Settled) → same_types τs σs at s ≡ got (tt {0}) s' → length τs ≡ length σs → (τs ≡ σs) × (s ≡ s')
+pub same_types_got : (τs σs : List Typ) (at : Span) (s s' : List NameEntry) → same_types τs σs at s ≡ got (tt {0}) s' → length τs ≡ length σs → (τs ≡ σs) × (s ≡ s')
 same_types_got [] [] at s s' is many = (refl, cc)
 same_types_got [] (σ ∷ σs) at s s' is many = absurd (omega arith)
 same_types_got (τ ∷ τs) [] at s s' is many = absurd (cc)
@@ -108,7 +108,7 @@ same_types_got (τ ∷ τs) (σ ∷ σs) at s s' is many =
     let others = same_types_got τs σs at one.1 s' one.3 fewer in
     (ap₂ (λ (x : Typ) (xs : List Typ). x ∷ xs) here.0 others.0, here.1 ∙ others.1)
 
-pub only_got : (τs : List Typ) (at : Span) (τ : Typ) (s s' : List Settled) → only_target τs at s ≡ got τ s' → (τs ≡ τ ∷ []) × (s ≡ s')
+pub only_got : (τs : List Typ) (at : Span) (τ : Typ) (s s' : List NameEntry) → only_target τs at s ≡ got τ s' → (τs ≡ τ ∷ []) × (s ≡ s')
 only_got [] at τ s s' is = absurd (cc)
 only_got (σ ∷ []) at τ s s' is = let same : σ ≡ τ = cc in (ap (λ (x : Typ). x ∷ []) same, cc)
 only_got (σ ∷ ρ ∷ ρs) at τ s s' is = absurd (cc)
@@ -119,7 +119,7 @@ CallsFor fs t g c τs =
     ((f : Signature) × Calls fs t c.name f × ArgumentTypes fs t g (expressions_of c.arguments) f.inputs × (f.outputs ≡ τs))
     ⊎ ((f : Builtin) × (b : Base) × CallsBuiltin t c.name (builtin_name f) × BuiltinType fs t g (builtin_name f) (expressions_of c.arguments) b × (τs ≡ one_of b ∷ []))
 
-several_sound : (fs : List Signature) (g : Around) (t : Table) (c : Calling) (τs : List Typ) (s s' : List Settled)
+several_sound : (fs : List Signature) (g : Around) (t : Table) (c : Calling) (τs : List Typ) (s s' : List NameEntry)
     → several fs g c τs s ≡ got (tt {0}) s' → Agrees t s' → Agrees t s × CallsFor fs t (scope_of g) c τs
 several_sound fs g t c τs s s' is all =
     elim (builtin_of c.name.text) as (λ o. builtin_of c.name.text ≡ o →
@@ -171,14 +171,14 @@ all_fit rules.no_argument = tt
 all_fit (rules.scalar_argument has others) = (has, all_fit others)
 all_fit (rules.array_argument refers others) = (refers, all_fit others)
 
-assert_sound : (fs : List Signature) (g : Around) (t : Table) (w : Word) (es : List Expression) (at : Span) (s s' : List Settled) → CallsBuiltin t w (builtin_name Named.Assert)
+assert_sound : (fs : List Signature) (g : Around) (t : Table) (w : Word) (es : List Expression) (at : Span) (s s' : List NameEntry) → CallsBuiltin t w (builtin_name Named.Assert)
     → length es ≡ 2 → ArgumentTypes fs t (scope_of g) (expressions_of es) (one_of Boolean ∷ one_of Text ∷ []) → CallTyped fs t (scope_of g) w es
 assert_sound fs g t w [] at s s' found two given = absurd (omega arith)
 assert_sound fs g t w (a ∷ []) at s s' found two given = absurd (omega arith)
 assert_sound fs g t w (a ∷ b ∷ []) at s s' found two given = let fit = all_fit given in rules.assert_called found fit.0 fit.1.0
 assert_sound fs g t w (a ∷ b ∷ c ∷ cs) at s s' found two given = absurd (omega arith)
 
-format_sound : (fs : List Signature) (g : Around) (t : Table) (w : Word) (nd : Node) (bytes : List ℕ) (es : List Expression) (at : Span) (s s' : List Settled)
+format_sound : (fs : List Signature) (g : Around) (t : Table) (w : Word) (nd : Node) (bytes : List ℕ) (es : List Expression) (at : Span) (s s' : List NameEntry)
     → (format_by (pieces false bytes) (record { from = nd.first.from; to = nd.to }) s >>= λ τs r. cond (nat_eq (length es) (length τs)) (arguments fs g (expressions_of es) τs at r) (refused (WrongCount at))) ≡ got (tt {0}) s'
     → Agrees t s' → Agrees t s × (CallsBuiltin t w (builtin_name Named.Printf) → CallTyped fs t (scope_of g) w (expression nd (text bytes) ∷ es))
 format_sound fs g t w nd bytes es at s s' is all =
@@ -195,7 +195,7 @@ format_sound fs g t w nd bytes es at s s' is all =
           ] refl here
     ] refl is
 
-print_sound : (fs : List Signature) (g : Around) (t : Table) (w : Word) (es : List Expression) (at : Span) (s s' : List Settled)
+print_sound : (fs : List Signature) (g : Around) (t : Table) (w : Word) (es : List Expression) (at : Span) (s s' : List NameEntry)
     → print fs g es at s ≡ got (tt {0}) s' → Agrees t s' → Agrees t s × (CallsBuiltin t w (builtin_name Named.Printf) → CallTyped fs t (scope_of g) w es)
 print_sound fs g t w [] at s s' is all = absurd (cc)
 print_sound fs g t w (expression nd (text bytes) ∷ es) at s s' is all = format_sound fs g t w nd bytes es at s s' is all
@@ -207,7 +207,7 @@ print_sound fs g t w (expression nd (call v ds) ∷ es) at s s' is all = absurd 
 print_sound fs g t w (expression nd (prefixed p e) ∷ es) at s s' is all = absurd (cc)
 print_sound fs g t w (expression nd (chain os ds) ∷ es) at s s' is all = absurd (cc)
 
-builtin_statement_sound : (fs : List Signature) (g : Around) (t : Table) (w : Word) (f : Builtin) (es : List Expression) (at : Span) (s s' : List Settled)
+builtin_statement_sound : (fs : List Signature) (g : Around) (t : Table) (w : Word) (f : Builtin) (es : List Expression) (at : Span) (s s' : List NameEntry)
     → builtin_statement f fs g es at s ≡ got (tt {0}) s' → Agrees t s' → Agrees t s × (CallsBuiltin t w (builtin_name f) → CallTyped fs t (scope_of g) w es)
 builtin_statement_sound fs g t w Named.Printf es at s s' is all = print_sound fs g t w es at s s' is all
 builtin_statement_sound fs g t w Named.Assert es at s s' is all =
@@ -228,7 +228,7 @@ no_outputs : (τs : List Typ) → length τs ≡ 0 → τs ≡ []
 no_outputs [] none = refl
 no_outputs (τ ∷ τs) none = absurd (omega arith)
 
-call_alone_sound : (fs : List Signature) (g : Around) (t : Table) (c : Calling) (s s' : List Settled)
+call_alone_sound : (fs : List Signature) (g : Around) (t : Table) (c : Calling) (s s' : List NameEntry)
     → call_alone fs g c s ≡ got (tt {0}) s' → Agrees t s' → Agrees t s × CallTyped fs t (scope_of g) c.name c.arguments
 call_alone_sound fs g t c s s' is all =
     elim (builtin_of c.name.text) as (λ o. builtin_of c.name.text ≡ o →
@@ -249,15 +249,15 @@ call_alone_sound fs g t c s s' is all =
 
 -- LOOPS
 
-step_sound : (fs : List Signature) (g : Around) (t : Table) (e : Option Expression) (s s' : List Settled)
+step_sound : (fs : List Signature) (g : Around) (t : Table) (e : Option Expression) (s s' : List NameEntry)
     → step_of fs g e s ≡ got (tt {0}) s' → Agrees t s' → Agrees t s × StepType fs t (scope_of g) e
 step_sound fs g t None s s' is all = (kept t s s' (cc) all, rules.no_step)
 step_sound fs g t (Some e) s s' is all = let has = expected_sound fs g t e Int s s' is all in (has.0, rules.a_step has.1)
 
-abbrev pub numbers : Elements
+abbrev pub numbers : ElementTypes
 numbers = record { value = Int; key = Int }
 
-source_sound : (fs : List Signature) (g : Around) (t : Table) (o : Over) (a : Elements) (s s' : List Settled)
+source_sound : (fs : List Signature) (g : Around) (t : Table) (o : Over) (a : ElementTypes) (s s' : List NameEntry)
     → source fs g o s ≡ got a s' → Agrees t s' → Agrees t s × SourceType fs t (scope_of g) o a.value a.key
 source_sound fs g t (array w) a s s' is all =
     let one = bind_got (refer g w s) (λ τ. elements_of τ w.span) a s' is in
@@ -273,12 +273,12 @@ source_sound fs g t (range low high step) a s s' is all =
     let last = step_sound fs g t step two.1 three.1 three.2 (kept t three.1 s' end all) in
     let h = expected_sound fs g t high Int one.1 two.1 two.2 last.0 in
     let l = expected_sound fs g t low Int s one.1 one.2 h.0 in
-    (l.0, subst (λ (x : Elements). SourceType fs t (scope_of g) (range low high step) x.value x.key) same (rules.of_range l.1 h.1 last.1))
+    (l.0, subst (λ (x : ElementTypes). SourceType fs t (scope_of g) (range low high step) x.value x.key) same (rules.of_range l.1 h.1 last.1))
 
 declares : (g : Around) (w : Word) (τ : Typ) → ¬ IsVisible (scope_of g) w.text → Declares (scope_of g) w τ (scope_of (declared g w τ))
 declares g w τ new = subst (Declares (scope_of g) w τ) (sym (scope_declared g w τ)) (rules.fresh new)
 
-loop_with : (g : Around) (v : Word) (k : Option Word) (a : Elements) (s s' : List Settled) → Inside g → ¬ IsVisible (scope_of (inside g)) v.text → fresh_key g v k s ≡ got (tt {0}) s'
+loop_with : (g : Around) (v : Word) (k : Option Word) (a : ElementTypes) (s s' : List NameEntry) → Inside g → ¬ IsVisible (scope_of (inside g)) v.text → fresh_key g v k s ≡ got (tt {0}) s'
     → LoopScope (scope_of g) v a.value k a.key (scope_of (loop_scope g v k a)) × (s ≡ s')
 loop_with g v None a s s' low new is =
     (rules.value_only (subst (λ (x : Scope). Declares x v (one_of a.value) (scope_of (declared (inside g) v (one_of a.value)))) (scope_inside g low) (declares (inside g) v (one_of a.value) new)), cc)
@@ -295,13 +295,13 @@ loop_with g v (Some k) a s s' low new is =
           (rules.with_key (subst (λ (x : Scope). Declares x v (one_of a.value) (scope_of (declared (inside g) v (one_of a.value)))) (scope_inside g low) (declares (inside g) v (one_of a.value) new)) (declares (declared (inside g) v (one_of a.value)) k (one_of a.key) unseen), key.1 ∙ end)
     ] refl one.3
 
-pub loop_inside : (g : Around) (v : Word) (k : Option Word) (a : Elements) → Inside g → Inside (loop_scope g v k a)
+pub loop_inside : (g : Around) (v : Word) (k : Option Word) (a : ElementTypes) → Inside g → Inside (loop_scope g v k a)
 loop_inside g v None a low = inside_added (inside g) v (Local v.number) (one_of a.value) (inside_more g low)
 loop_inside g v (Some k) a low = inside_added (declared (inside g) v (one_of a.value)) k (Local k.number) (one_of a.key) (inside_added (inside g) v (Local v.number) (one_of a.value) (inside_more g low))
 
 -- STATEMENTS
 
-initial_sound : (fs : List Signature) (g : Around) (t : Table) (nd : Node) (d : Declaration) (r : Option RightSide) (s s' : List Settled) → ¬ IsVisible (scope_of g) d.name.text
+initial_sound : (fs : List Signature) (g : Around) (t : Table) (nd : Node) (d : Declaration) (r : Option RightSide) (s s' : List NameEntry) → ¬ IsVisible (scope_of g) d.name.text
     → initial fs (declared g d.name (declared_type d)) r (declared_type d) s ≡ got (tt {0}) s' → Agrees t s'
     → Agrees t s × StatementTyped fs t (scope_of g) (statement nd (declare d r)) (scope_of (declared g d.name (declared_type d)))
 initial_sound fs g t nd d None s s' new is all = (kept t s s' (cc) all, rules.declaration (declares g d.name (declared_type d) new))
@@ -310,7 +310,7 @@ initial_sound fs g t nd d (Some r) s s' new is all =
     (has.0, rules.definition (declares g d.name (declared_type d) new) has.1)
 
 -- a statement that leaves its scope as it was
-same_scope : (fs : List Signature) (t : Table) (g h : Around) (st : Statement) (s s' : List Settled) → got g s ≡ got h s' → Inside g
+same_scope : (fs : List Signature) (t : Table) (g h : Around) (st : Statement) (s s' : List NameEntry) → got g s ≡ got h s' → Inside g
     → Inside h × (Agrees t s' → Agrees t s) × (StatementTyped fs t (scope_of g) st (scope_of g) → StatementTyped fs t (scope_of g) st (scope_of h))
 same_scope fs t g h st s s' is low =
     let same : g ≡ h = cc in
@@ -320,11 +320,11 @@ same_scope fs t g h st s s' is low =
 mutual
   unfolding stated commanded enclosed in_order
 
-  pub stated_sound : (fs : List Signature) (g h : Around) (t : Table) (st : Statement) (s s' : List Settled) → Inside g → stated fs g st s ≡ got h s'
+  pub stated_sound : (fs : List Signature) (g h : Around) (t : Table) (st : Statement) (s s' : List NameEntry) → Inside g → stated fs g st s ≡ got h s'
       → Inside h × (Agrees t s' → Agrees t s × StatementTyped fs t (scope_of g) st (scope_of h))
   stated_sound fs g h t (statement nd c) s s' low is = commanded_sound fs g h t nd c s s' low is
 
-  commanded_sound : (fs : List Signature) (g h : Around) (t : Table) (nd : Node) (c : Command) (s s' : List Settled) → Inside g → commanded fs g c s ≡ got h s'
+  commanded_sound : (fs : List Signature) (g h : Around) (t : Table) (nd : Node) (c : Command) (s s' : List NameEntry) → Inside g → commanded fs g c s ≡ got h s'
       → Inside h × (Agrees t s' → Agrees t s × StatementTyped fs t (scope_of g) (statement nd c) (scope_of h))
   commanded_sound fs g h t nd (declare d r) s s' low is =
       let one = bind_got (fresh g d.name s) (λ u r'. initial fs (declared g d.name (declared_type d)) r (declared_type d) r' >>= λ u. got (declared g d.name (declared_type d))) h s' is in
@@ -427,13 +427,13 @@ mutual
             (refers.0, same.2 (rules.wait_statement refers.1 content.1)),
       )
 
-  pub enclosed_sound : (fs : List Signature) (g : Around) (t : Table) (b : Body) (s s' : List Settled) → Inside g → enclosed fs g b s ≡ got (tt {0}) s' → Agrees t s'
+  pub enclosed_sound : (fs : List Signature) (g : Around) (t : Table) (b : Body) (s s' : List NameEntry) → Inside g → enclosed fs g b s ≡ got (tt {0}) s' → Agrees t s'
       → Agrees t s × BodyTyped fs t (scope_of g) b
   enclosed_sound fs g t (body from ss) s s' low is all =
       let has = in_order_sound fs g t ss s s' low is all in
       (has.0, rules.in_braces has.1)
 
-  in_order_sound : (fs : List Signature) (g : Around) (t : Table) (ss : Statements) (s s' : List Settled) → Inside g → in_order fs g ss s ≡ got (tt {0}) s' → Agrees t s'
+  in_order_sound : (fs : List Signature) (g : Around) (t : Table) (ss : Statements) (s s' : List NameEntry) → Inside g → in_order fs g ss s ≡ got (tt {0}) s' → Agrees t s'
       → Agrees t s × StatementsTyped fs t (scope_of g) ss
   in_order_sound fs g t no_statements s s' low is all = (kept t s s' (cc) all, rules.no_more_statements)
   in_order_sound fs g t (and_statement st ss) s s' low is all =

@@ -3,8 +3,8 @@ use Rattle.std.proofs.Common.{◌≡◌, true, false, List, refl, ap, ap₂, sub
 use Rattle.std.specs.Prelude.{Some, cond}
 use Rattle.lexer.specs.declared.token.Span.{Span}
 use Rattle.types.specs.declared.fault.TypeFault.TheVariants.{Mismatch}
-use Rattle.types.specs.declared.typed.Settled.{Settled}
-use Rattle.types.specs.declared.typed.Elements.{Elements}
+use Rattle.types.specs.declared.typed.NameEntry.{NameEntry}
+use Rattle.types.specs.declared.typed.ElementTypes.{ElementTypes}
 use Rattle.language.specs.declared.tree.Base.{Base}
 use Rattle.language.specs.declared.tree.Base.TheVariants.{Int, Text, Boolean}
 use Rattle.language.specs.declared.tree.Keys.{Keys}
@@ -22,8 +22,8 @@ use Rattle.types.specs.Outcomes.{Outcome, refused, got, Check, ◌>>=◌}
 use Rattle.types.specs.Expressions.{same_base, same_keys, same_shape, has_base, has_type, scalar, scalar_by, elements_of, elements_by, gives, base_of, number_only, truth_only, sum_of}
 
 -- an answer of two checks in a row comes from an answer of the first and one of the second
-pub bind_got : {A B : Type 0} (o : Outcome A) (k : A → Check B) (b : B) (s : List Settled) → (o >>= k) ≡ got b s
-    → (a : A) × (r : List Settled) × (o ≡ got a r) × (k a r ≡ got b s)
+pub bind_got : {A B : Type 0} (o : Outcome A) (k : A → Check B) (b : B) (s : List NameEntry) → (o >>= k) ≡ got b s
+    → (a : A) × (r : List NameEntry) × (o ≡ got a r) × (k a r ≡ got b s)
 bind_got (refused f) k b s is = absurd (cc)
 bind_got (got a r) k b s is = (a, r, refl, is)
 
@@ -38,7 +38,7 @@ base_same Boolean Int is = absurd (cc)
 base_same Boolean Text is = absurd (cc)
 base_same Boolean Boolean is = refl
 
-pub has_base_got : (b c : Base) (at : Span) (s s' : List Settled) → has_base b c at s ≡ got (tt {0}) s' → (b ≡ c) × (s ≡ s')
+pub has_base_got : (b c : Base) (at : Span) (s s' : List NameEntry) → has_base b c at s ≡ got (tt {0}) s' → (b ≡ c) × (s ≡ s')
 has_base_got b c at s s' is =
     elim (same_base b c) as (λ v. same_base b c ≡ v → cond v (got (tt {0}) s) (refused (Mismatch at)) ≡ got (tt {0}) s' → (b ≡ c) × (s ≡ s')) [
       | true ↦ λ same here. (base_same b c same, cc)
@@ -48,7 +48,7 @@ has_base_got b c at s s' is =
 abbrev made : Base → Shape → Typ
 made b h = record { base = b; shape = h }
 
-pub scalar_got : (τ : Typ) (at : Span) (s s' : List Settled) (b : Base) → scalar τ at s ≡ got b s' → (τ ≡ one_of b) × (s ≡ s')
+pub scalar_got : (τ : Typ) (at : Span) (s s' : List NameEntry) (b : Base) → scalar τ at s ≡ got b s' → (τ ≡ one_of b) × (s ≡ s')
 scalar_got τ at s s' b is =
     elim τ.shape as (λ h. τ.shape ≡ h → scalar_by h τ.base at s ≡ got b s' → (τ ≡ one_of b) × (s ≡ s')) [
       | Scalar ↦ λ shape here. let base : τ.base ≡ b = cc in (ap₂ made base shape, cc)
@@ -56,13 +56,13 @@ scalar_got τ at s s' b is =
     ] refl is
 
 -- what an array gives is what its type says
-pub elements_got : (τ : Typ) (at : Span) (s s' : List Settled) (a : Elements) → elements_of τ at s ≡ got a s' → (κ : Keys) × (τ ≡ many_of κ a.value) × (base_of_keys κ ≡ a.key) × (s ≡ s')
+pub elements_got : (τ : Typ) (at : Span) (s s' : List NameEntry) (a : ElementTypes) → elements_of τ at s ≡ got a s' → (κ : Keys) × (τ ≡ many_of κ a.value) × (base_of_keys κ ≡ a.key) × (s ≡ s')
 elements_got τ at s s' a is =
     elim τ.shape as (λ h. τ.shape ≡ h → elements_by h τ.base at s ≡ got a s' → (κ : Keys) × (τ ≡ many_of κ a.value) × (base_of_keys κ ≡ a.key) × (s ≡ s')) [
       | Scalar ↦ λ shape here. absurd (cc)
       | Array κ ↦ λ shape here.
-          let same : ◌≡◌ {A = Elements} (record { value = τ.base; key = base_of_keys κ }) a = cc in
-          (κ, ap₂ made (ap (λ (x : Elements). x.value) same) shape, ap (λ (x : Elements). x.key) same, cc)
+          let same : ◌≡◌ {A = ElementTypes} (record { value = τ.base; key = base_of_keys κ }) a = cc in
+          (κ, ap₂ made (ap (λ (x : ElementTypes). x.value) same) shape, ap (λ (x : ElementTypes). x.key) same, cc)
     ] refl is
 
 keys_same : (κ ι : Keys) → same_keys κ ι ≡ true → κ ≡ ι
@@ -77,7 +77,7 @@ shape_same Scalar (Array ι) is = absurd (cc)
 shape_same (Array κ) Scalar is = absurd (cc)
 shape_same (Array κ) (Array ι) is = ap Array (keys_same κ ι is)
 
-pub has_type_got : (τ σ : Typ) (at : Span) (s s' : List Settled) → has_type τ σ at s ≡ got (tt {0}) s' → (τ ≡ σ) × (s ≡ s')
+pub has_type_got : (τ σ : Typ) (at : Span) (s s' : List NameEntry) → has_type τ σ at s ≡ got (tt {0}) s' → (τ ≡ σ) × (s ≡ s')
 has_type_got τ σ at s s' is =
     elim (same_base τ.base σ.base) as (λ v. same_base τ.base σ.base ≡ v → cond v (cond (same_shape τ.shape σ.shape) (got (tt {0}) s) (refused (Mismatch at))) (refused (Mismatch at)) ≡ got (tt {0}) s' → (τ ≡ σ) × (s ≡ s')) [
       | true ↦ λ base here.

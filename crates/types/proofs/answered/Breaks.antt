@@ -6,8 +6,8 @@ use Rattle.std.specs.Str.{bytes_eq}
 use Rattle.lexer.specs.declared.token.Span.{Span}
 use Rattle.types.specs.declared.fault.TypeFault.{TypeFault}
 use Rattle.types.specs.declared.fault.TypeFault.TheVariants.{Unknown, Declared, Mismatch, WrongCount, NotAFunction}
-use Rattle.types.specs.declared.typed.Settled.{Settled}
-use Rattle.types.specs.declared.typed.Meaning.TheVariants.{Called}
+use Rattle.types.specs.declared.typed.NameEntry.{NameEntry}
+use Rattle.types.specs.declared.typed.NameMeaning.TheVariants.{Called}
 use Rattle.types.specs.declared.typed.Callee.TheVariants.{Function, BuiltIn}
 use Rattle.types.specs.declared.typed.Builtin.{Builtin}
 use Rattle.types.specs.declared.typed.Builtin.TheVariants as Named
@@ -41,7 +41,7 @@ use Rattle.types.proofs.accepted.Checked.{not_builtin}
 
 -- a refusal of two checks in a row comes from a refusal of the first, or of the second behind what the first found
 pub bind_refused : {A B : Type 0} (o : Outcome A) (k : A → Check B) (y : TypeFault) → (o >>= k) ≡ refused y
-    → (o ≡ refused y) ⊎ ((a : A) × (r : List Settled) × (o ≡ got a r) × (k a r ≡ refused y))
+    → (o ≡ refused y) ⊎ ((a : A) × (r : List NameEntry) × (o ≡ got a r) × (k a r ≡ refused y))
 bind_refused (refused f) k y is = let same : f ≡ y = cc in inl (ap refused same)
 bind_refused (got a r) k y is = inr (a, r, refl, is)
 
@@ -71,7 +71,7 @@ shape_self : (h : Shape) → same_shape h h ≡ true
 shape_self Scalar = refl
 shape_self (Array κ) = keys_self κ
 
-pub has_type_refused : (τ σ : Typ) (at : Span) (s : List Settled) (y : TypeFault) → has_type τ σ at s ≡ refused y → (Mismatch at ≡ y) × (τ ≢ σ)
+pub has_type_refused : (τ σ : Typ) (at : Span) (s : List NameEntry) (y : TypeFault) → has_type τ σ at s ≡ refused y → (Mismatch at ≡ y) × (τ ≢ σ)
 has_type_refused τ σ at s y is =
     elim (same_base τ.base σ.base) as (λ v. same_base τ.base σ.base ≡ v → cond v (cond (same_shape τ.shape σ.shape) (got (tt {0}) s) (refused (Mismatch at))) (refused (Mismatch at)) ≡ refused y → (Mismatch at ≡ y) × (τ ≢ σ)) [
       | true ↦ λ bases here. elim (same_shape τ.shape σ.shape) as (λ v. same_shape τ.shape σ.shape ≡ v → cond v (got (tt {0}) s) (refused (Mismatch at)) ≡ refused y → (Mismatch at ≡ y) × (τ ≢ σ)) [
@@ -81,21 +81,21 @@ has_type_refused τ σ at s y is =
       | false ↦ λ other here. (cc, λ same. let it : same_base τ.base σ.base ≡ true = subst (λ (x : Typ). same_base τ.base x.base ≡ true) same (same_self τ.base) in absurd (cc))
     ] refl is
 
-has_base_refused : (b c : Base) (at : Span) (s : List Settled) (y : TypeFault) → has_base b c at s ≡ refused y → (Mismatch at ≡ y) × (b ≢ c)
+has_base_refused : (b c : Base) (at : Span) (s : List NameEntry) (y : TypeFault) → has_base b c at s ≡ refused y → (Mismatch at ≡ y) × (b ≢ c)
 has_base_refused b c at s y is =
     elim (same_base b c) as (λ v. same_base b c ≡ v → cond v (got (tt {0}) s) (refused (Mismatch at)) ≡ refused y → (Mismatch at ≡ y) × (b ≢ c)) [
       | true ↦ λ same here. absurd (cc)
       | false ↦ λ other here. (cc, base_apart b c other)
     ] refl is
 
-scalar_refused : (τ : Typ) (at : Span) (s : List Settled) (y : TypeFault) → scalar τ at s ≡ refused y → (Mismatch at ≡ y) × (τ.shape ≢ Scalar)
+scalar_refused : (τ : Typ) (at : Span) (s : List NameEntry) (y : TypeFault) → scalar τ at s ≡ refused y → (Mismatch at ≡ y) × (τ.shape ≢ Scalar)
 scalar_refused τ at s y is =
     elim τ.shape as (λ h. scalar_by h τ.base at s ≡ refused y → (Mismatch at ≡ y) × (h ≢ Scalar)) [
       | Scalar ↦ λ here. absurd (cc)
       | Array κ ↦ λ here. (cc, λ same. absurd (cc))
     ] is
 
-pub elements_refused : (τ : Typ) (at : Span) (s : List Settled) (y : TypeFault) → elements_of τ at s ≡ refused y → (Mismatch at ≡ y) × (τ.shape ≡ Scalar)
+pub elements_refused : (τ : Typ) (at : Span) (s : List NameEntry) (y : TypeFault) → elements_of τ at s ≡ refused y → (Mismatch at ≡ y) × (τ.shape ≡ Scalar)
 elements_refused τ at s y is =
     elim τ.shape as (λ h. elements_by h τ.base at s ≡ refused y → (Mismatch at ≡ y) × (h ≡ Scalar)) [
       | Scalar ↦ λ here. (cc, refl)
@@ -103,7 +103,7 @@ elements_refused τ at s y is =
     ] is
 
 -- a scalar of a type that is wanted
-type_refused : (τ : Typ) (b : Base) (at : Span) (s : List Settled) (y : TypeFault) → (scalar τ at s >>= λ c. has_base c b at) ≡ refused y → (Mismatch at ≡ y) × (τ ≢ one_of b)
+type_refused : (τ : Typ) (b : Base) (at : Span) (s : List NameEntry) (y : TypeFault) → (scalar τ at s >>= λ c. has_base c b at) ≡ refused y → (Mismatch at ≡ y) × (τ ≢ one_of b)
 type_refused τ b at s y is =
     elim (bind_refused (scalar τ at s) (λ c. has_base c b at) y is) [
       | inl a ↦ let it = scalar_refused τ at s y a in (it.0, array_apart τ b it.1)
@@ -113,14 +113,14 @@ type_refused τ b at s y is =
           (it.0, λ same. other_base a.0 b it.1 (sym type.0 ∙ same))
     ]
 
-given_refused : (o : Operator) (b : Base) (at : Span) (s : List Settled) (y : TypeFault) → given_by o b at s ≡ refused y → (Mismatch at ≡ y) × ((c : Base) → ¬ Operates o b c)
+given_refused : (o : Operator) (b : Base) (at : Span) (s : List NameEntry) (y : TypeFault) → given_by o b at s ≡ refused y → (Mismatch at ≡ y) × ((c : Base) → ¬ Operates o b c)
 given_refused o b at s y is =
     elim (gives o b) as (λ v. gives o b ≡ v → given_or v at s ≡ refused y → (Mismatch at ≡ y) × ((c : Base) → ¬ Operates o b c)) [
       | None ↦ λ none here. (cc, λ c rule. let some : gives o b ≡ Some c = gives_complete o b c rule in absurd (cc))
       | Some d ↦ λ some here. absurd (cc)
     ] refl is
 
-takes_refused : (o : Operator) (b c : Base) (at : Span) (s : List Settled) (y : TypeFault) → takes o b c at s ≡ refused y → (Mismatch at ≡ y) × (¬ Operates o b c)
+takes_refused : (o : Operator) (b c : Base) (at : Span) (s : List NameEntry) (y : TypeFault) → takes o b c at s ≡ refused y → (Mismatch at ≡ y) × (¬ Operates o b c)
 takes_refused o b c at s y is =
     elim (bind_refused (given_by o b at s) (λ d. has_base d c at) y is) [
       | inl a ↦ let it = given_refused o b at s y a in (it.0, it.1 c)
@@ -133,7 +133,7 @@ takes_refused o b c at s y is =
 is_name : (e : Expression) → IsName e → named e ≡ true
 is_name e name = ap named name.2
 
-name_refused : (τ : Typ) (e : Expression) (s : List Settled) (y : TypeFault) → array_name τ e s ≡ refused y → (Mismatch (first_of e) ≡ y) × (¬ Meets any_array e τ)
+name_refused : (τ : Typ) (e : Expression) (s : List NameEntry) (y : TypeFault) → array_name τ e s ≡ refused y → (Mismatch (first_of e) ≡ y) × (¬ Meets any_array e τ)
 name_refused τ e s y is =
     elim (named e) as (λ v. named e ≡ v → cond v (elements_of τ (first_of e) s) (refused (Mismatch (first_of e))) ≡ refused y → (Mismatch (first_of e) ≡ y) × (¬ Meets any_array e τ)) [
       | true ↦ λ it_is here.
@@ -142,7 +142,7 @@ name_refused τ e s y is =
       | false ↦ λ other here. (cc, λ meets. let it : named e ≡ true = is_name e meets.0 in absurd (cc))
     ] refl is
 
-pub fits_refused : (h : Shape) (τ σ : Typ) (e : Expression) (s : List Settled) (y : TypeFault) → σ.shape ≡ h → fits_by h τ σ e s ≡ refused y
+pub fits_refused : (h : Shape) (τ σ : Typ) (e : Expression) (s : List NameEntry) (y : TypeFault) → σ.shape ≡ h → fits_by h τ σ e s ≡ refused y
     → (Mismatch (first_of e) ≡ y) × (¬ Meets (argument_by h σ.base) e τ)
 fits_refused Scalar τ σ e s y shape is = type_refused τ σ.base (first_of e) s y is
 fits_refused (Array κ) τ σ e s y shape is =
@@ -169,7 +169,7 @@ chain_broken fs g e y same = subst (Broken fs g (uneven e)) same no_chain
 
 -- NAMES
 
-pub refer_broken : (fs : List Signature) (g : Around) (w : Word) (s : List Settled) (y : TypeFault) → refer g w s ≡ refused y → Broken fs (scope_of g) (used w) y
+pub refer_broken : (fs : List Signature) (g : Around) (w : Word) (s : List NameEntry) (y : TypeFault) → refer g w s ≡ refused y → Broken fs (scope_of g) (used w) y
 refer_broken fs g w s y is =
     elim (seen g.names w.text) as (λ o. seen g.names w.text ≡ o → referred g w o s ≡ refused y → Broken fs (scope_of g) (used w) y) [
       | None ↦ λ none here.
@@ -178,14 +178,14 @@ refer_broken fs g w s y is =
       | Some k ↦ λ some here. absurd (cc)
     ] refl is
 
-pub fresh_visible : (g : Around) (w : Word) (s : List Settled) (y : TypeFault) → fresh g w s ≡ refused y → IsVisible (scope_of g) w.text × (Declared w.span ≡ y)
+pub fresh_visible : (g : Around) (w : Word) (s : List NameEntry) (y : TypeFault) → fresh g w s ≡ refused y → IsVisible (scope_of g) w.text × (Declared w.span ≡ y)
 fresh_visible g w s y is =
     elim (seen g.names w.text) as (λ o. seen g.names w.text ≡ o → free w o s ≡ refused y → IsVisible (scope_of g) w.text × (Declared w.span ≡ y)) [
       | None ↦ λ none here. absurd (cc)
       | Some k ↦ λ some here. let there = seen_in g.depth g.names [] w.text k some in ((visible_at g.depth k, there.0, there.1), cc)
     ] refl is
 
-pub fresh_broken : (fs : List Signature) (g : Around) (w : Word) (s : List Settled) (y : TypeFault) → fresh g w s ≡ refused y → Broken fs (scope_of g) (introduced w) y
+pub fresh_broken : (fs : List Signature) (g : Around) (w : Word) (s : List NameEntry) (y : TypeFault) → fresh g w s ≡ refused y → Broken fs (scope_of g) (introduced w) y
 fresh_broken fs g w s y is = let it = fresh_visible g w s y is in subst (Broken fs (scope_of g) (introduced w)) it.1 (visible_before it.0)
 
 -- CALLED NAMES
@@ -204,7 +204,7 @@ none_in n (h ∷ hs) x is f m =
 pub different : (n m : ℕ) → nat_eq n m ≡ false → ¬ (n ≡ m)
 different n m other same = let it : nat_eq n m ≡ true = eq-eqb n m same in absurd (cc)
 
-pub function_broken : (fs : List Signature) (g : Scope) (w : Word) (es : Expressions) (u : Purpose) (n m : ℕ) (s : List Settled) (y : TypeFault) → builtin_of w.text ≡ None
+pub function_broken : (fs : List Signature) (g : Scope) (w : Word) (es : Expressions) (u : Purpose) (n m : ℕ) (s : List NameEntry) (y : TypeFault) → builtin_of w.text ≡ None
     → count es ≡ n → outputs_for u ≡ m → function_called fs w n m s ≡ refused y → Broken fs g (call w es u) y
 function_broken fs g w es u n m s y no_builtin many outs is =
     elim (find fs w.text) as (λ o. find fs w.text ≡ o → counted w n m o s ≡ refused y → Broken fs g (call w es u) y) [
@@ -250,7 +250,7 @@ one_taken fs Named.Strcat name es counts one is = absurd (one refl)
 one_taken fs Named.Printf name es counts one is = let bad = counts.1 in absurd (cc)
 one_taken fs Named.Assert name es counts one is = let bad = counts.1 in absurd (cc)
 
-one_refused : (f : Builtin) (τ : Typ) (e : Expression) (at : Span) (s : List Settled) (y : TypeFault) → BuiltinCounts (builtin_name f) 1 (giving 1) → (f ≢ Named.Strcat) → of_one f τ e at s ≡ refused y
+one_refused : (f : Builtin) (τ : Typ) (e : Expression) (at : Span) (s : List NameEntry) (y : TypeFault) → BuiltinCounts (builtin_name f) 1 (giving 1) → (f ≢ Named.Strcat) → of_one f τ e at s ≡ refused y
     → (Mismatch (first_of e) ≡ y) × (¬ Meets (one_want f) e τ)
 one_refused Named.FromInt τ e at s y counts one is =
     elim (bind_refused (scalar τ (first_of e) s >>= λ c. has_base c Int (first_of e)) (λ u. got Text) y is) [
@@ -279,7 +279,7 @@ ArgumentBroken fs y g w es = (wants : List Want) × Takes fs w.text es wants × 
 abbrev pub CallBroken : List Signature → TypeFault → Scope → Word → Expressions → Purpose → Type 0
 CallBroken fs y g w es u = Broken fs g (call w es u) y ⊎ ArgumentBroken fs y g w es
 
-pub built_broken : (fs : List Signature) (g : Scope) (w : Word) (es : Expressions) (f : Builtin) (texts : Check (Unit {0})) (only : Check Base) (s : List Settled) (y : TypeFault)
+pub built_broken : (fs : List Signature) (g : Scope) (w : Word) (es : Expressions) (f : Builtin) (texts : Check (Unit {0})) (only : Check Base) (s : List NameEntry) (y : TypeFault)
     → builtin_of w.text ≡ Some f → (texts s ≡ refused y → InExpressions fs (Breaking fs y) g (each (of_type (one_of Text)) es) es)
     → ((BuiltinCounts (builtin_name f) 1 (giving 1)) → (f ≢ Named.Strcat) → ((n : ℕ) → BuiltinCounts (builtin_name f) n (giving 1) → n ≡ 1) → only s ≡ refused y → CallBroken fs y g w es (giving 1))
     → builtin_by f es texts only w.span s ≡ refused y → CallBroken fs y g w es (giving 1)
@@ -298,7 +298,7 @@ built_broken fs g w (and_expression e es) Named.Strcat texts only s y named in_t
       | inr a ↦ absurd (let here = a.3 in cc)
     ]
 
-output_there : (τs : List Typ) (at : Span) (s : List Settled) (y : TypeFault) → length τs ≡ 1 → output_of τs at s ≡ refused y → ⊥
+output_there : (τs : List Typ) (at : Span) (s : List NameEntry) (y : TypeFault) → length τs ≡ 1 → output_of τs at s ≡ refused y → ⊥
 output_there [] at s y one is = absurd (cc)
 output_there (τ ∷ τs) at s y one is = absurd (cc)
 
@@ -320,7 +320,7 @@ operator_apart e o b c other meets =
     let same : b ≡ meets.0 = ap (λ (x : Typ). x.base) meets.1 in
     other (subst (λ (x : Base). Operates o x c) (sym same) meets.2)
 
-wanted_refused : (τ : Typ) (o : Option Base) (e : Expression) (s : List Settled) (y : TypeFault) → has_wanted τ o (first_of e) s ≡ refused y
+wanted_refused : (τ : Typ) (o : Option Base) (e : Expression) (s : List NameEntry) (y : TypeFault) → has_wanted τ o (first_of e) s ≡ refused y
     → (Mismatch (first_of e) ≡ y) × (¬ Meets (element_want o) e τ)
 wanted_refused τ None e s y is = absurd (cc)
 wanted_refused τ (Some b) e s y is = type_refused τ b (first_of e) s y is
@@ -328,10 +328,10 @@ wanted_refused τ (Some b) e s y is = type_refused τ b (first_of e) s y is
 mutual
   unfolding whole typed expected whole_form chained further elements arguments only
 
-  pub whole_broken : (fs : List Signature) (g : Around) (e : Expression) (s : List Settled) (y : TypeFault) → whole fs g e s ≡ refused y → InExpression fs (Breaking fs y) (scope_of g) e
+  pub whole_broken : (fs : List Signature) (g : Around) (e : Expression) (s : List NameEntry) (y : TypeFault) → whole fs g e s ≡ refused y → InExpression fs (Breaking fs y) (scope_of g) e
   whole_broken fs g (expression nd f) s y is = form_broken fs g nd f s y is
 
-  typed_broken : (fs : List Signature) (g : Around) (e : Expression) (s : List Settled) (y : TypeFault) → typed fs g e s ≡ refused y
+  typed_broken : (fs : List Signature) (g : Around) (e : Expression) (s : List NameEntry) (y : TypeFault) → typed fs g e s ≡ refused y
       → InExpression fs (Breaking fs y) (scope_of g) e ⊎ NoScalar fs y (scope_of g) e
   typed_broken fs g (expression nd f) s y is =
       elim (bind_refused (whole_form fs g f nd.first s) (λ τ. scalar τ nd.first) y is) [
@@ -339,7 +339,7 @@ mutual
         | inr a ↦ let it = scalar_refused a.0 nd.first a.1 y a.3 in inr (a.0, form_gives fs g nd f a.0 s a.1 a.2, it.0, it.1)
       ]
 
-  pub expected_broken : (fs : List Signature) (g : Around) (e : Expression) (b : Base) (s : List Settled) (y : TypeFault) → expected fs g e b s ≡ refused y
+  pub expected_broken : (fs : List Signature) (g : Around) (e : Expression) (b : Base) (s : List NameEntry) (y : TypeFault) → expected fs g e b s ≡ refused y
       → InWanted fs (Breaking fs y) (scope_of g) (of_type (one_of b)) e
   expected_broken fs g (expression nd f) b s y is =
       elim (bind_refused (whole_form fs g f nd.first s >>= λ τ. scalar τ nd.first) (λ c. has_base c b nd.first) y is) [
@@ -356,7 +356,7 @@ mutual
             itself (type_broken fs (scope_of g) (expression nd f) (of_type (one_of b)) one.0 y (form_gives fs g nd f one.0 s one.1 one.2) (it.0, λ same. other_base c.0 b it.1 (sym type.0 ∙ same)))
       ]
 
-  form_broken : (fs : List Signature) (g : Around) (nd : Node) (f : Form) (s : List Settled) (y : TypeFault) → whole_form fs g f nd.first s ≡ refused y
+  form_broken : (fs : List Signature) (g : Around) (nd : Node) (f : Form) (s : List NameEntry) (y : TypeFault) → whole_form fs g f nd.first s ≡ refused y
       → InExpression fs (Breaking fs y) (scope_of g) (expression nd f)
   form_broken fs g nd (number z) s y is = absurd (cc)
   form_broken fs g nd (text bytes) s y is = absurd (cc)
@@ -415,7 +415,7 @@ mutual
             ]
       ] refl is
 
-  chained_broken : (fs : List Signature) (g : Around) (nd : Node) (es : Expressions) (os : List Operator) (s : List Settled) (y : TypeFault) → chained fs g es os nd.first s ≡ refused y
+  chained_broken : (fs : List Signature) (g : Around) (nd : Node) (es : Expressions) (os : List Operator) (s : List NameEntry) (y : TypeFault) → chained fs g es os nd.first s ≡ refused y
       → InExpression fs (Breaking fs y) (scope_of g) (expression nd (chain os es))
   chained_broken fs g nd no_expressions os s y is = no_operands (chain_broken fs (scope_of g) (expression nd (chain os no_expressions)) y (cc))
   chained_broken fs g nd (and_expression e es) [] s y is =
@@ -445,7 +445,7 @@ mutual
             ]
       ]
 
-  further_broken : (fs : List Signature) (g : Around) (d : Expression) (es : Expressions) (os : List Operator) (b c : Base) (s : List Settled) (y : TypeFault) → Gives fs (scope_of g) d (one_of b)
+  further_broken : (fs : List Signature) (g : Around) (d : Expression) (es : Expressions) (os : List Operator) (b c : Base) (s : List NameEntry) (y : TypeFault) → Gives fs (scope_of g) d (one_of b)
       → further fs g es os b c (first_of d) s ≡ refused y → InOperands fs (Breaking fs y) (scope_of g) b c d os es
   further_broken fs g d no_expressions [] b c s y it is = absurd (cc)
   further_broken fs g d no_expressions (o ∷ os) b c s y it is = too_few (chain_broken fs (scope_of g) d y (cc))
@@ -461,7 +461,7 @@ mutual
         ]
       ]
 
-  pub elements_broken : (fs : List Signature) (g : Around) (es : Expressions) (b : Option Base) (s : List Settled) (y : TypeFault) → elements fs g es b s ≡ refused y
+  pub elements_broken : (fs : List Signature) (g : Around) (es : Expressions) (b : Option Base) (s : List NameEntry) (y : TypeFault) → elements fs g es b s ≡ refused y
       → InExpressions fs (Breaking fs y) (scope_of g) (each (element_want b) es) es
   elements_broken fs g no_expressions b s y is = absurd (cc)
   elements_broken fs g (and_expression e es) b s y is =
@@ -473,7 +473,7 @@ mutual
         | inr a ↦ later_expression (elements_broken fs g es b a.1 y a.3)
       ]
 
-  pub arguments_broken : (fs : List Signature) (g : Around) (es : Expressions) (τs : List Typ) (at : Span) (s : List Settled) (y : TypeFault) → count es ≡ length τs
+  pub arguments_broken : (fs : List Signature) (g : Around) (es : Expressions) (τs : List Typ) (at : Span) (s : List NameEntry) (y : TypeFault) → count es ≡ length τs
       → arguments fs g es τs at s ≡ refused y → InExpressions fs (Breaking fs y) (scope_of g) (map argument τs) es
   arguments_broken fs g no_expressions τs at s y many is = absurd (cc)
   arguments_broken fs g (and_expression e es) [] at s y many is = absurd (cc)
@@ -487,7 +487,7 @@ mutual
         | inr a ↦ later_expression (arguments_broken fs g es τs at a.1 y fewer a.3)
       ]
 
-  pub only_broken : (fs : List Signature) (g : Around) (w : Word) (es : Expressions) (f : Builtin) (s : List Settled) (y : TypeFault) → builtin_of w.text ≡ Some f
+  pub only_broken : (fs : List Signature) (g : Around) (w : Word) (es : Expressions) (f : Builtin) (s : List NameEntry) (y : TypeFault) → builtin_of w.text ≡ Some f
       → BuiltinCounts (builtin_name f) 1 (giving 1) → (f ≢ Named.Strcat) → ((n : ℕ) → BuiltinCounts (builtin_name f) n (giving 1) → n ≡ 1)
       → only fs g es f w.span s ≡ refused y → CallBroken fs y (scope_of g) w es (giving 1)
   only_broken fs g w no_expressions f s y some counts one single is =
@@ -505,7 +505,7 @@ mutual
       inl (builtin_broken fs (scope_of g) w (and_expression e (and_expression d es)) (giving 1) f y some (cc) (λ c. let bad = single (suc (suc (count es))) c in absurd (cc)))
 
 -- a built-in function that is called for its value
-pub builtin_value_broken : (fs : List Signature) (g : Around) (w : Word) (f : Builtin) (es : Expressions) (s : List Settled) (y : TypeFault) → builtin_of w.text ≡ Some f
+pub builtin_value_broken : (fs : List Signature) (g : Around) (w : Word) (f : Builtin) (es : Expressions) (s : List NameEntry) (y : TypeFault) → builtin_of w.text ≡ Some f
     → builtin_type fs g f es w.span s ≡ refused y → CallBroken fs y (scope_of g) w es (giving 1)
 builtin_value_broken fs g w f es s y some is =
     built_broken fs (scope_of g) w es f (elements fs g es (Some Text)) (only fs g es f w.span) s y some (elements_broken fs g es (Some Text) s y)

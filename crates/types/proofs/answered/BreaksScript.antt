@@ -4,9 +4,9 @@ use Rattle.std.specs.Prelude.{◌⊎◌, Some, None, cond, nat_lt, zero, suc, sl
 use Rattle.std.proofs.lemmas.Bool.Decides.{Decides-ltb}
 use Rattle.types.specs.declared.fault.TypeFault.{TypeFault}
 use Rattle.types.specs.declared.fault.TypeFault.TheVariants.{Declared}
-use Rattle.types.specs.declared.typed.Settled.{Settled}
-use Rattle.types.specs.declared.typed.Owned.{Owned}
-use Rattle.types.specs.declared.typed.Owned.TheVariants.{Input, Output}
+use Rattle.types.specs.declared.typed.NameEntry.{NameEntry}
+use Rattle.types.specs.declared.typed.Binding.{Binding}
+use Rattle.types.specs.declared.typed.Binding.TheVariants.{Input, Output}
 use Rattle.language.specs.Members.{◌∈◌, first, later}
 use Rattle.language.specs.Core as core
 use Rattle.language.specs.Tree.{Word, Declaration, Statement, statement, Composite, Tree, import, function, single}
@@ -28,12 +28,12 @@ use Rattle.types.proofs.answered.BreaksStated.{statement_left, command_broken, e
 
 -- OUTPUTS AND INPUTS
 
-scope_parameter : (made : ℕ → Owned) (owned : ℕ → core.Owned) → ((i : ℕ) → owned_name (made i) ≡ owned i) → (g : Around) (i : ℕ) (d : Declaration)
+scope_parameter : (made : ℕ → Binding) (owned : ℕ → core.Owned) → ((i : ℕ) → owned_name (made i) ≡ owned i) → (g : Around) (i : ℕ) (d : Declaration)
     → scope_of (added g d.name (made i) (declared_type d)) ≡ parameter owned i d ∷ scope_of g
 scope_parameter made owned named g i d =
     scope_added g d.name (made i) (declared_type d) ∙ ap (λ (x : core.Owned). record { text = d.name.text; refers_to = record { up = 0; what = x }; type = declared_type d } ∷ scope_of g) (named i)
 
-parameters_broken : (fs : List Signature) (made : ℕ → Owned) (owned : ℕ → core.Owned) → ((i : ℕ) → owned_name (made i) ≡ owned i) → (g : Around) (i : ℕ) (ds : List Declaration) (s : List Settled) (y : TypeFault)
+parameters_broken : (fs : List Signature) (made : ℕ → Binding) (owned : ℕ → core.Owned) → ((i : ℕ) → owned_name (made i) ≡ owned i) → (g : Around) (i : ℕ) (ds : List Declaration) (s : List NameEntry) (y : TypeFault)
     → parameters made g i ds s ≡ refused y → InParameters (Breaking fs y) owned (scope_of g) i ds
 parameters_broken fs made owned named g i [] s y is = absurd (cc)
 parameters_broken fs made owned named g i (d ∷ ds) s y is =
@@ -45,7 +45,7 @@ parameters_broken fs made owned named g i (d ∷ ds) s y is =
           (parameters_broken fs made owned named (added g d.name (made i) (declared_type d)) (i + 1) ds a.1 y a.3)))
     ]
 
-parameters_left : (made : ℕ → Owned) (owned : ℕ → core.Owned) → ((i : ℕ) → owned_name (made i) ≡ owned i) → (g h : Around) (i : ℕ) (ds : List Declaration) (s s' : List Settled) → Inside g
+parameters_left : (made : ℕ → Binding) (owned : ℕ → core.Owned) → ((i : ℕ) → owned_name (made i) ≡ owned i) → (g h : Around) (i : ℕ) (ds : List Declaration) (s s' : List NameEntry) → Inside g
     → parameters made g i ds s ≡ got h s' → Inside h × (scope_of h ≡ with_parameters owned (scope_of g) i ds)
 parameters_left made owned named g h i [] s s' low is = let same : g ≡ h = cc in (subst Inside same low, ap scope_of (sym same))
 parameters_left made owned named g h i (d ∷ ds) s s' low is =
@@ -86,7 +86,7 @@ named_more fs above names pre f rest these many all x p h is less =
           subst (λ (z : List ℕ). z ∈ (f.text ∷ names)) (ap (λ (z : Signature). z.text) same ∙ there.3) first
     ]
 
-name_broken : (fs : List Signature) (g : Scope) (above : ℕ) (names : List (List ℕ)) (w : Word) (s : List Settled) (y : TypeFault) → Named fs above names
+name_broken : (fs : List Signature) (g : Scope) (above : ℕ) (names : List (List ℕ)) (w : Word) (s : List NameEntry) (y : TypeFault) → Named fs above names
     → name_of (builtin_of w.text) fs above w s ≡ refused y → Broken fs g (composite names w) y
 name_broken fs g above names w s y all is =
     elim (builtin_of w.text) as (λ o. builtin_of w.text ≡ o → name_of o fs above w s ≡ refused y → Broken fs g (composite names w) y) [
@@ -108,7 +108,7 @@ name_broken fs g above names w s y all is =
 
 -- FUNCTIONS AND SCRIPTS
 
-composite_broken : (fs : List Signature) (above : ℕ) (names : List (List ℕ)) (f : Composite) (s : List Settled) (y : TypeFault) → Named fs above names
+composite_broken : (fs : List Signature) (above : ℕ) (names : List (List ℕ)) (f : Composite) (s : List NameEntry) (y : TypeFault) → Named fs above names
     → function_checked fs above f s ≡ refused y → InFunction fs (Breaking fs y) names f
 composite_broken fs above names f s y all is =
     elim (bind_refused (parameters Output nowhere 0 f.outputs s) (λ g r. name_of (builtin_of f.name.text) fs above f.name r >>= λ u r. parameters Input g 0 f.inputs r >>= λ h. enclosed fs h f.body) y is) [
@@ -127,12 +127,12 @@ composite_broken fs above names f s y all is =
           ]
     ]
 
-single_broken : (fs : List Signature) (g : Around) (names : List (List ℕ)) (st : Statement) (ps : Tree) (s : List Settled) (y : TypeFault) → Inside g
+single_broken : (fs : List Signature) (g : Around) (names : List (List ℕ)) (st : Statement) (ps : Tree) (s : List NameEntry) (y : TypeFault) → Inside g
     → stated fs g st s ≡ refused y → InParts fs (Breaking fs y) names (scope_of g) (single st ∷ ps)
 unfolding stated
 single_broken fs g names (statement nd c) ps s y low is = in_statement (command_broken fs g c s y low is)
 
-parts_broken : (fs : List Signature) (above : ℕ) (names : List (List ℕ)) (g : Around) (pre : List Signature) (ps : Tree) (s : List Settled) (y : TypeFault)
+parts_broken : (fs : List Signature) (above : ℕ) (names : List (List ℕ)) (g : Around) (pre : List Signature) (ps : Tree) (s : List NameEntry) (y : TypeFault)
     → fs ≡ pre ++ signatures ps → above ≡ length pre → Named fs above names → Inside g
     → parts_checked fs above g ps s ≡ refused y → InParts fs (Breaking fs y) names (scope_of g) ps
 parts_broken fs above names g pre [] s y these many all low is = absurd (cc)

@@ -7,10 +7,10 @@ use Rattle.values.specs.Formats.{pieces}
 use Rattle.lexer.specs.declared.token.Span.{Span}
 use Rattle.types.specs.declared.fault.TypeFault.{TypeFault}
 use Rattle.types.specs.declared.fault.TypeFault.TheVariants.{Declared, Mismatch, WrongCount, BadFormat}
-use Rattle.types.specs.declared.typed.Settled.{Settled}
-use Rattle.types.specs.declared.typed.Elements.{Elements}
-use Rattle.types.specs.declared.typed.Owned.TheVariants.{Local}
-use Rattle.types.specs.declared.typed.Meaning.TheVariants.{Called}
+use Rattle.types.specs.declared.typed.NameEntry.{NameEntry}
+use Rattle.types.specs.declared.typed.ElementTypes.{ElementTypes}
+use Rattle.types.specs.declared.typed.Binding.TheVariants.{Local}
+use Rattle.types.specs.declared.typed.NameMeaning.TheVariants.{Called}
 use Rattle.types.specs.declared.typed.Callee.TheVariants.{BuiltIn}
 use Rattle.types.specs.declared.typed.Builtin.{Builtin}
 use Rattle.types.specs.declared.typed.Builtin.TheVariants as Named
@@ -47,11 +47,11 @@ use Rattle.types.proofs.answered.Breaks.{bind_refused, Breaking, has_type_refuse
 abbrev made : Base → Shape → Typ
 made b h = record { base = b; shape = h }
 
-numbers_refused : (κ : Keys) (at : Span) (s : List Settled) (y : TypeFault) → under_numbers κ at s ≡ refused y → (Mismatch at ≡ y) × (κ ≡ Texts)
+numbers_refused : (κ : Keys) (at : Span) (s : List NameEntry) (y : TypeFault) → under_numbers κ at s ≡ refused y → (Mismatch at ≡ y) × (κ ≡ Texts)
 numbers_refused Numbers at s y is = absurd (cc)
 numbers_refused Texts at s y is = (cc, refl)
 
-literal_broken : (fs : List Signature) (g : Around) (h : Shape) (b : Base) (es : List Expression) (nd : Node) (s : List Settled) (y : TypeFault) → literal_by h fs g b es nd s ≡ refused y
+literal_broken : (fs : List Signature) (g : Around) (h : Shape) (b : Base) (es : List Expression) (nd : Node) (s : List NameEntry) (y : TypeFault) → literal_by h fs g b es nd s ≡ refused y
     → InRight fs (Breaking fs y) (scope_of g) (made b h) (list nd es)
 literal_broken fs g (Array κ) b es nd s y is =
     elim (bind_refused (elements fs g (expressions_of es) (Some b) s) (λ u. under_numbers κ nd.first) y is) [
@@ -68,7 +68,7 @@ literal_broken fs g Scalar b es nd s y is =
           the_list (subst (Broken fs (scope_of g) (literal nd (made b Scalar))) same (literal_for_scalar refl))
     ]
 
-right_broken : (fs : List Signature) (g : Around) (r : RightSide) (τ : Typ) (s : List Settled) (y : TypeFault) → right fs g r τ s ≡ refused y → InRight fs (Breaking fs y) (scope_of g) τ r
+right_broken : (fs : List Signature) (g : Around) (r : RightSide) (τ : Typ) (s : List NameEntry) (y : TypeFault) → right fs g r τ s ≡ refused y → InRight fs (Breaking fs y) (scope_of g) τ r
 right_broken fs g (value e) τ s y is =
     elim (bind_refused (whole fs g e s) (λ x. has_type x τ (first_of e)) y is) [
       | inl a ↦ in_value (within (whole_broken fs g e s y a))
@@ -76,7 +76,7 @@ right_broken fs g (value e) τ s y is =
     ]
 right_broken fs g (list nd es) τ s y is = literal_broken fs g τ.shape τ.base es nd s y is
 
-initial_broken : (fs : List Signature) (g : Around) (d : Declaration) (r : Option RightSide) (s : List Settled) (y : TypeFault)
+initial_broken : (fs : List Signature) (g : Around) (d : Declaration) (r : Option RightSide) (s : List NameEntry) (y : TypeFault)
     → initial fs (declared g d.name (declared_type d)) r (declared_type d) s ≡ refused y → InCommand fs (Breaking fs y) (scope_of g) (declare d r)
 initial_broken fs g d None s y is = absurd (cc)
 initial_broken fs g d (Some r) s y is =
@@ -84,7 +84,7 @@ initial_broken fs g d (Some r) s y is =
 
 -- CALLS
 
-refer_all_broken : (fs : List Signature) (g : Around) (ws : List Word) (s : List Settled) (y : TypeFault) → refer_all g ws s ≡ refused y → InWords (Breaking fs y) (scope_of g) ws
+refer_all_broken : (fs : List Signature) (g : Around) (ws : List Word) (s : List NameEntry) (y : TypeFault) → refer_all g ws s ≡ refused y → InWords (Breaking fs y) (scope_of g) ws
 refer_all_broken fs g [] s y is = absurd (cc)
 refer_all_broken fs g (w ∷ ws) s y is =
     elim (bind_refused (refer g w s) (λ τ r. refer_all g ws r >>= λ τs. got (τ ∷ τs)) y is) [
@@ -95,7 +95,7 @@ refer_all_broken fs g (w ∷ ws) s y is =
       ]
     ]
 
-refer_all_many : (g : Around) (ws : List Word) (τs : List Typ) (s s' : List Settled) → refer_all g ws s ≡ got τs s' → length ws ≡ length τs
+refer_all_many : (g : Around) (ws : List Word) (τs : List Typ) (s s' : List NameEntry) → refer_all g ws s ≡ got τs s' → length ws ≡ length τs
 refer_all_many g [] τs s s' is = let none : [] ≡ τs = cc in ap length none
 refer_all_many g (w ∷ ws) τs s s' is =
     let one = bind_got (refer g w s) (λ τ r. refer_all g ws r >>= λ σs. got (τ ∷ σs)) τs s' is in
@@ -103,7 +103,7 @@ refer_all_many g (w ∷ ws) τs s s' is =
     let same : one.0 ∷ two.0 ≡ τs = cc in
     ap suc (refer_all_many g ws two.0 one.1 two.1 two.2) ∙ ap length same
 
-refer_all_types : (g : Around) (ws : List Word) (τs : List Typ) (s s' : List Settled) → refer_all g ws s ≡ got τs s' → OfTypes (scope_of g) ws τs
+refer_all_types : (g : Around) (ws : List Word) (τs : List Typ) (s s' : List NameEntry) → refer_all g ws s ≡ got τs s' → OfTypes (scope_of g) ws τs
 refer_all_types g [] τs s s' is = let none : [] ≡ τs = cc in subst (OfTypes (scope_of g) []) none no_names
 refer_all_types g (w ∷ ws) τs s s' is =
     let one = bind_got (refer g w s) (λ τ r. refer_all g ws r >>= λ σs. got (τ ∷ σs)) τs s' is in
@@ -112,7 +112,7 @@ refer_all_types g (w ∷ ws) τs s s' is =
     let same : one.0 ∷ two.0 ≡ τs = cc in
     subst (OfTypes (scope_of g) (w ∷ ws)) same (and_name (refer_type g w one.0 s one.1 one.2) (refer_all_types g ws two.0 one.1 two.1 two.2))
 
-same_types_refused : (τs σs : List Typ) (at : Span) (s : List Settled) (y : TypeFault) → length τs ≡ length σs → same_types τs σs at s ≡ refused y → (Mismatch at ≡ y) × (τs ≢ σs)
+same_types_refused : (τs σs : List Typ) (at : Span) (s : List NameEntry) (y : TypeFault) → length τs ≡ length σs → same_types τs σs at s ≡ refused y → (Mismatch at ≡ y) × (τs ≢ σs)
 same_types_refused [] σs at s y many is = absurd (cc)
 same_types_refused (τ ∷ τs) [] at s y many is = absurd (cc)
 same_types_refused (τ ∷ τs) (σ ∷ σs) at s y many is =
@@ -127,7 +127,7 @@ outputs_broken : (fs : List Signature) (g : Scope) (w : Word) (ws : List Word) (
     → (Mismatch w.span ≡ y) × (τs ≢ σs) → Broken fs g (outputs_to w ws) y
 outputs_broken fs g w ws τs σs y outs targets many why = subst (Broken fs g (outputs_to w ws)) why.0 (other_outputs outs targets many why.1)
 
-only_target_refused : (τs : List Typ) (at : Span) (s : List Settled) (y : TypeFault) → only_target τs at s ≡ refused y → (WrongCount at ≡ y) × (length τs ≢ 1)
+only_target_refused : (τs : List Typ) (at : Span) (s : List NameEntry) (y : TypeFault) → only_target τs at s ≡ refused y → (WrongCount at ≡ y) × (length τs ≢ 1)
 only_target_refused [] at s y is = (cc, λ one. absurd (cc))
 only_target_refused (τ ∷ []) at s y is = absurd (cc)
 only_target_refused (τ ∷ σ ∷ σs) at s y is = (cc, λ one. absurd (omega arith))
@@ -144,7 +144,7 @@ giving_one Named.Assert n m c = let it = c.1 in absurd (cc)
 abbrev SeveralBroken : List Signature → TypeFault → Scope → List Word → Calling → Type 0
 SeveralBroken fs y g ws c = CallBroken fs y g c.name (expressions_of c.arguments) (giving (length ws)) ⊎ Broken fs g (outputs_to c.name ws) y
 
-several_function_broken : (fs : List Signature) (g : Around) (ws : List Word) (c : Calling) (τs : List Typ) (s : List Settled) (y : TypeFault) → OfTypes (scope_of g) ws τs → length ws ≡ length τs → builtin_of c.name.text ≡ None
+several_function_broken : (fs : List Signature) (g : Around) (ws : List Word) (c : Calling) (τs : List Typ) (s : List NameEntry) (y : TypeFault) → OfTypes (scope_of g) ws τs → length ws ≡ length τs → builtin_of c.name.text ≡ None
     → (function_called fs c.name (length c.arguments) (length τs) s >>= λ f r. arguments fs g (expressions_of c.arguments) f.inputs c.name.span r >>= λ u. same_types f.outputs τs c.name.span) ≡ refused y
     → SeveralBroken fs y (scope_of g) ws c
 several_function_broken fs g ws c τs s y targets many none is =
@@ -163,7 +163,7 @@ several_function_broken fs g ws c τs s y targets many none is =
           ]
     ]
 
-several_builtin_broken : (fs : List Signature) (g : Around) (ws : List Word) (c : Calling) (τs : List Typ) (f : Builtin) (s : List Settled) (y : TypeFault) → OfTypes (scope_of g) ws τs → length ws ≡ length τs → builtin_of c.name.text ≡ Some f
+several_builtin_broken : (fs : List Signature) (g : Around) (ws : List Word) (c : Calling) (τs : List Typ) (f : Builtin) (s : List NameEntry) (y : TypeFault) → OfTypes (scope_of g) ws τs → length ws ≡ length τs → builtin_of c.name.text ≡ Some f
     → (only_target τs c.name.span s >>= λ target r. called c.name (BuiltIn f) r >>= λ u r. builtin_type fs g f (expressions_of c.arguments) c.name.span r >>= λ b. has_type (one_of b) target c.name.span) ≡ refused y
     → SeveralBroken fs y (scope_of g) ws c
 several_builtin_broken fs g ws c τs f s y targets many some is =
@@ -185,7 +185,7 @@ several_builtin_broken fs g ws c τs f s y targets many some is =
           ]
     ]
 
-several_broken : (fs : List Signature) (g : Around) (ws : List Word) (c : Calling) (τs : List Typ) (s : List Settled) (y : TypeFault) → OfTypes (scope_of g) ws τs → length ws ≡ length τs → several fs g c τs s ≡ refused y
+several_broken : (fs : List Signature) (g : Around) (ws : List Word) (c : Calling) (τs : List Typ) (s : List NameEntry) (y : TypeFault) → OfTypes (scope_of g) ws τs → length ws ≡ length τs → several fs g c τs s ≡ refused y
     → SeveralBroken fs y (scope_of g) ws c
 several_broken fs g ws c τs s y targets many is =
     elim (builtin_of c.name.text) as (λ o. builtin_of c.name.text ≡ o →
@@ -200,7 +200,7 @@ format_broken : (fs : List Signature) (g : Scope) (w : Word) (e : Expression) (e
     → BadFormat (whole_of e) ≡ y → CallBroken fs y g w (expressions_of (e ∷ es)) alone
 format_broken fs g w e es y some other is = inl (subst (Broken fs g (call w (expressions_of (e ∷ es)) alone)) is (no_format (builtin_named w.text Named.Printf some) other))
 
-text_broken : (fs : List Signature) (g : Around) (w : Word) (nd : Node) (bytes : List ℕ) (es : List Expression) (s : List Settled) (y : TypeFault) → builtin_of w.text ≡ Some Named.Printf
+text_broken : (fs : List Signature) (g : Around) (w : Word) (nd : Node) (bytes : List ℕ) (es : List Expression) (s : List NameEntry) (y : TypeFault) → builtin_of w.text ≡ Some Named.Printf
     → print fs g (expression nd (text bytes) ∷ es) w.span s ≡ refused y → CallBroken fs y (scope_of g) w (expressions_of (expression nd (text bytes) ∷ es)) alone
 text_broken fs g w nd bytes es s y some is =
     elim (pieces false bytes) as (λ o. pieces false bytes ≡ o
@@ -223,7 +223,7 @@ text_broken fs g w nd bytes es s y some is =
           ] refl here
     ] refl is
 
-print_broken : (fs : List Signature) (g : Around) (w : Word) (es : List Expression) (s : List Settled) (y : TypeFault) → builtin_of w.text ≡ Some Named.Printf
+print_broken : (fs : List Signature) (g : Around) (w : Word) (es : List Expression) (s : List NameEntry) (y : TypeFault) → builtin_of w.text ≡ Some Named.Printf
     → print fs g es w.span s ≡ refused y → CallBroken fs y (scope_of g) w (expressions_of es) alone
 print_broken fs g w [] s y some is = inl (builtin_broken fs (scope_of g) w no_expressions alone Named.Printf y some (cc) (λ c. c.0 refl))
 print_broken fs g w (expression nd (text bytes) ∷ es) s y some is = text_broken fs g w nd bytes es s y some is
@@ -235,7 +235,7 @@ print_broken fs g w (expression nd (tree.call v ds) ∷ es) s y some is = format
 print_broken fs g w (expression nd (prefixed p e) ∷ es) s y some is = format_broken fs (scope_of g) w (expression nd (prefixed p e)) es y some (λ it. let same = it.3 in absurd (cc)) (cc)
 print_broken fs g w (expression nd (chain os ds) ∷ es) s y some is = format_broken fs (scope_of g) w (expression nd (chain os ds)) es y some (λ it. let same = it.3 in absurd (cc)) (cc)
 
-statement_broken : (fs : List Signature) (g : Around) (w : Word) (f : Builtin) (es : List Expression) (s : List Settled) (y : TypeFault) → builtin_of w.text ≡ Some f
+statement_broken : (fs : List Signature) (g : Around) (w : Word) (f : Builtin) (es : List Expression) (s : List NameEntry) (y : TypeFault) → builtin_of w.text ≡ Some f
     → builtin_statement f fs g es w.span s ≡ refused y → CallBroken fs y (scope_of g) w (expressions_of es) alone
 statement_broken fs g w Named.Printf es s y some is = print_broken fs g w es s y some is
 statement_broken fs g w Named.Assert es s y some is =
@@ -253,7 +253,7 @@ statement_broken fs g w Named.FromInt es s y some is = inl (builtin_broken fs (s
 statement_broken fs g w Named.ToInt es s y some is = inl (builtin_broken fs (scope_of g) w (expressions_of es) alone Named.ToInt y some (cc) (λ c. let it = c.1 in absurd (cc)))
 statement_broken fs g w Named.Size es s y some is = inl (builtin_broken fs (scope_of g) w (expressions_of es) alone Named.Size y some (cc) (λ c. let it = c.1 in absurd (cc)))
 
-alone_broken : (fs : List Signature) (g : Around) (c : Calling) (s : List Settled) (y : TypeFault) → call_alone fs g c s ≡ refused y
+alone_broken : (fs : List Signature) (g : Around) (c : Calling) (s : List NameEntry) (y : TypeFault) → call_alone fs g c s ≡ refused y
     → CallBroken fs y (scope_of g) c.name (expressions_of c.arguments) alone
 alone_broken fs g c s y is =
     elim (builtin_of c.name.text) as (λ o. builtin_of c.name.text ≡ o →
@@ -273,7 +273,7 @@ alone_broken fs g c s y is =
 
 -- LOOPS
 
-source_values : (fs : List Signature) (g : Around) (o : Over) (a : Elements) (s s' : List Settled) → source fs g o s ≡ got a s' → Values (scope_of g) o a.value a.key
+source_values : (fs : List Signature) (g : Around) (o : Over) (a : ElementTypes) (s s' : List NameEntry) → source fs g o s ≡ got a s' → Values (scope_of g) o a.value a.key
 source_values fs g (array w) a s s' is =
     let one = bind_got (refer g w s) (λ τ. elements_of τ w.span) a s' is in
     let type = elements_got one.0 w.span one.1 s' a one.3 in
@@ -284,14 +284,14 @@ source_values fs g (range low high step) a s s' is =
     let three = bind_got (step_of fs g step two.1) (λ u. got numbers) a s' two.3 in
     let last : got numbers three.1 ≡ got a s' = three.3 in
     let same : numbers ≡ a = cc in
-    subst (λ (x : Elements). Values (scope_of g) (range low high step) x.value x.key) same of_range
+    subst (λ (x : ElementTypes). Values (scope_of g) (range low high step) x.value x.key) same of_range
 
-step_broken : (fs : List Signature) (g : Around) (low high : Expression) (e : Option Expression) (s : List Settled) (y : TypeFault) → step_of fs g e s ≡ refused y
+step_broken : (fs : List Signature) (g : Around) (low high : Expression) (e : Option Expression) (s : List NameEntry) (y : TypeFault) → step_of fs g e s ≡ refused y
     → InOver fs (Breaking fs y) (scope_of g) (range low high e)
 step_broken fs g low high None s y is = absurd (cc)
 step_broken fs g low high (Some e) s y is = by_step (expected_broken fs g e Int s y is)
 
-source_broken : (fs : List Signature) (g : Around) (o : Over) (s : List Settled) (y : TypeFault) → source fs g o s ≡ refused y → InOver fs (Breaking fs y) (scope_of g) o
+source_broken : (fs : List Signature) (g : Around) (o : Over) (s : List NameEntry) (y : TypeFault) → source fs g o s ≡ refused y → InOver fs (Breaking fs y) (scope_of g) o
 source_broken fs g (array w) s y is =
     elim (bind_refused (refer g w s) (λ τ. elements_of τ w.span) y is) [
       | inl a ↦ looped_name (refer_broken fs g w s y a)
@@ -314,7 +314,7 @@ key_visible : (fs : List Signature) (g : Scope) (v k : Word) (y : TypeFault) →
     → (τ : Typ) → Broken fs (own v τ ∷ g) (introduced k) y
 key_visible fs g v k y is visible τ = subst (Broken fs (own v τ ∷ g) (introduced k)) is (visible_before (visible τ))
 
-key_broken : (fs : List Signature) (g : Around) (v : Word) (k : Option Word) (o : Over) (b : Body) (s : List Settled) (y : TypeFault) → Inside g → fresh_key g v k s ≡ refused y
+key_broken : (fs : List Signature) (g : Around) (v : Word) (k : Option Word) (o : Over) (b : Body) (s : List NameEntry) (y : TypeFault) → Inside g → fresh_key g v k s ≡ refused y
     → InCommand fs (Breaking fs y) (scope_of g) (loop v k o b)
 key_broken fs g v None o b s y low is = absurd (cc)
 key_broken fs g v (Some k) o b s y low is =
@@ -330,7 +330,7 @@ key_broken fs g v (Some k) o b s y low is =
           ] refl a.3
     ]
 
-variables_broken : (fs : List Signature) (g : Around) (v : Word) (k : Option Word) (o : Over) (b : Body) (s : List Settled) (y : TypeFault) → Inside g → fresh_variables g v k s ≡ refused y
+variables_broken : (fs : List Signature) (g : Around) (v : Word) (k : Option Word) (o : Over) (b : Body) (s : List NameEntry) (y : TypeFault) → Inside g → fresh_variables g v k s ≡ refused y
     → InCommand fs (Breaking fs y) (scope_of g) (loop v k o b)
 variables_broken fs g v k o b s y low is =
     elim (bind_refused (fresh g v s) (λ u. fresh_key g v k) y is) [
@@ -338,7 +338,7 @@ variables_broken fs g v k o b s y low is =
       | inr a ↦ key_broken fs g v k o b a.1 y low a.3
     ]
 
-loop_scope_is : (g : Around) (v : Word) (k : Option Word) (a : Elements) → Inside g → scope_of (loop_scope g v k a) ≡ with_key (own v (one_of a.value) ∷ deeper (scope_of g)) k a.key
+loop_scope_is : (g : Around) (v : Word) (k : Option Word) (a : ElementTypes) → Inside g → scope_of (loop_scope g v k a) ≡ with_key (own v (one_of a.value) ∷ deeper (scope_of g)) k a.key
 loop_scope_is g v None a low = scope_declared (inside g) v (one_of a.value) ∙ ap (λ (x : Scope). own v (one_of a.value) ∷ x) (scope_inside g low)
 loop_scope_is g v (Some k) a low =
     scope_declared (declared (inside g) v (one_of a.value)) k (one_of a.key)
@@ -347,13 +347,13 @@ loop_scope_is g v (Some k) a low =
 -- STATEMENTS
 
 -- a check that leaves its scope as it was
-same_left : {A : Type 0} (o : Outcome A) (g h : Around) (s : List Settled) → Inside g → (o >>= λ u. got g) ≡ got h s → Inside h × (scope_of h ≡ scope_of g)
+same_left : {A : Type 0} (o : Outcome A) (g h : Around) (s : List NameEntry) → Inside g → (o >>= λ u. got g) ≡ got h s → Inside h × (scope_of h ≡ scope_of g)
 same_left o g h s low is =
     let one = bind_got o (λ u. got g) h s is in
     let same : g ≡ h = cc in
     (subst Inside same low, ap scope_of (sym same))
 
-command_left : (fs : List Signature) (g h : Around) (c : Command) (s s' : List Settled) → Inside g → commanded fs g c s ≡ got h s' → Inside h × (scope_of h ≡ behind_command (scope_of g) c)
+command_left : (fs : List Signature) (g h : Around) (c : Command) (s s' : List NameEntry) → Inside g → commanded fs g c s ≡ got h s' → Inside h × (scope_of h ≡ behind_command (scope_of g) c)
 unfolding commanded
 command_left fs g h (declare d r) s s' low is =
     let one = bind_got (fresh g d.name s) (λ u r'. initial fs (declared g d.name (declared_type d)) r (declared_type d) r' >>= λ u. got (declared g d.name (declared_type d))) h s' is in
@@ -386,14 +386,14 @@ command_left fs g h (waits ws b) s s' low is =
     let one = bind_got (refer_all g ws s) (λ τs r. enclosed fs g b r >>= λ u. got g) h s' is in
     same_left (enclosed fs g b one.1) g h s' low one.3
 
-pub statement_left : (fs : List Signature) (g h : Around) (st : Statement) (s s' : List Settled) → Inside g → stated fs g st s ≡ got h s' → Inside h × (scope_of h ≡ behind (scope_of g) st)
+pub statement_left : (fs : List Signature) (g h : Around) (st : Statement) (s s' : List NameEntry) → Inside g → stated fs g st s ≡ got h s' → Inside h × (scope_of h ≡ behind (scope_of g) st)
 unfolding stated
 statement_left fs g h (statement nd c) s s' low is = command_left fs g h c s s' low is
 
 mutual
   unfolding stated commanded enclosed in_order
 
-  pub command_broken : (fs : List Signature) (g : Around) (c : Command) (s : List Settled) (y : TypeFault) → Inside g → commanded fs g c s ≡ refused y → InCommand fs (Breaking fs y) (scope_of g) c
+  pub command_broken : (fs : List Signature) (g : Around) (c : Command) (s : List NameEntry) (y : TypeFault) → Inside g → commanded fs g c s ≡ refused y → InCommand fs (Breaking fs y) (scope_of g) c
   command_broken fs g (declare d r) s y low is =
       elim (bind_refused (fresh g d.name s) (λ u r'. initial fs (declared g d.name (declared_type d)) r (declared_type d) r' >>= λ u. got (declared g d.name (declared_type d))) y is) [
         | inl a ↦ its_declaration (fresh_broken fs g d.name s y a)
@@ -487,10 +487,10 @@ mutual
         ]
       ]
 
-  pub enclosed_broken : (fs : List Signature) (g : Around) (b : Body) (s : List Settled) (y : TypeFault) → Inside g → enclosed fs g b s ≡ refused y → InBody fs (Breaking fs y) (scope_of g) b
+  pub enclosed_broken : (fs : List Signature) (g : Around) (b : Body) (s : List NameEntry) (y : TypeFault) → Inside g → enclosed fs g b s ≡ refused y → InBody fs (Breaking fs y) (scope_of g) b
   enclosed_broken fs g (body from ss) s y low is = in_braces (in_order_broken fs g ss s y low is)
 
-  in_order_broken : (fs : List Signature) (g : Around) (ss : Statements) (s : List Settled) (y : TypeFault) → Inside g → in_order fs g ss s ≡ refused y
+  in_order_broken : (fs : List Signature) (g : Around) (ss : Statements) (s : List NameEntry) (y : TypeFault) → Inside g → in_order fs g ss s ≡ refused y
       → InStatements fs (Breaking fs y) (scope_of g) ss
   in_order_broken fs g no_statements s y low is = absurd (cc)
   in_order_broken fs g (and_statement (statement nd c) ss) s y low is =

@@ -1,7 +1,7 @@
 -- A script that is well typed breaks no rule.
 use Rattle.std.proofs.Common.{◌≡◌, ℕ, List, [], ◌∷◌, length, map, refl, sym, ap, ap₂, ◌∙◌, subst, inl, inr}
 use Rattle.std.specs.Prelude.{false, Some, suc}
-use Rattle.values.specs.declared.format.Piece.{Piece}
+use Rattle.values.specs.declared.format.FormatPiece.{FormatPiece}
 use Rattle.values.specs.Formats.{pieces}
 use Rattle.types.specs.declared.fault.TypeFault.{TypeFault}
 use Rattle.language.specs.declared.tree.Base.{Base}
@@ -92,7 +92,7 @@ alone_holds {fs} one (rules.printf_called calls has given) (wrong_count h m same
 alone_holds one (rules.printf_called {es = es} calls has given) (wrong_count_of_builtin b same not) =
     not (subst (λ (z : Builtin). BuiltinCounts z (suc (count (expressions_of es))) alone) (builtin_once printf b (sym calls.same ∙ same)) (λ none. absurd (cc), refl))
 alone_holds one (rules.printf_called calls has given) (wrong_count_of_conversions ps same has' not) =
-    not (many_arguments given ∙ ap (λ (z : List Piece). length (wanted z)) (some_once has has'))
+    not (many_arguments given ∙ ap (λ (z : List FormatPiece). length (wanted z)) (some_once has has'))
 alone_holds one (rules.printf_called {nd = nd} {bytes = bytes} {ps = ps} calls has given) (no_format same not) = not (nd, bytes, ps, refl, has)
 alone_holds one (rules.printf_called calls has given) (no_function none plain) = plain (printf, calls.same)
 alone_holds {fs} one (rules.assert_called calls c m) (wrong_count h k same not) = no_builtin_in fs h assert one k (same ∙ calls.same)
@@ -102,13 +102,13 @@ alone_holds one (rules.assert_called calls c m) (wrong_count_of_conversions ps s
 alone_holds one (rules.assert_called calls c m) (no_format same not) = let it : assert ≡ printf = builtin_once assert printf (sym calls.same ∙ same) in absurd (cc)
 alone_holds one (rules.assert_called calls c m) (no_function none plain) = plain (assert, calls.same)
 
-printed_hold : {fs : List Signature} {t : Table} {g : Scope} {nd : Node} {bytes : List ℕ} {ps : List Piece} {wants : List Want} {y : TypeFault} → (es : List Expression) → OneOfAName fs → Clear g
+printed_hold : {fs : List Signature} {t : Table} {g : Scope} {nd : Node} {bytes : List ℕ} {ps : List FormatPiece} {wants : List Want} {y : TypeFault} → (es : List Expression) → OneOfAName fs → Clear g
     → pieces false bytes ≡ Some ps → rules.ArgumentTypes fs t g (expressions_of es) (wanted ps) → BuiltinTakes printf (and_expression (expression nd (text bytes)) (expressions_of es)) wants
     → ¬ InExpressions fs (Breaking fs y) g wants (and_expression (expression nd (text bytes)) (expressions_of es))
 printed_hold es one clear has given (printf_takes ps has') (first_expression (itself x)) = want_holds one clear gives_text refl x
 printed_hold es one clear has given (printf_takes ps has') (first_expression (within x)) = elim x [ ]
 printed_hold {fs} {g = g} {y = y} es one clear has given (printf_takes ps has') (later_expression x) =
-    arguments_hold one clear given (subst (λ (z : List Piece). InExpressions fs (Breaking fs y) g (map argument (wanted z)) (expressions_of es)) (some_once has' has) x)
+    arguments_hold one clear given (subst (λ (z : List FormatPiece). InExpressions fs (Breaking fs y) g (map argument (wanted z)) (expressions_of es)) (some_once has' has) x)
 
 asserted_hold : {fs : List Signature} {t : Table} {g : Scope} {c m : Expression} {wants : List Want} {y : TypeFault} → OneOfAName fs → Clear g → rules.HasType fs t g c Boolean → rules.HasType fs t g m Text
     → BuiltinTakes assert (expressions_of (c ∷ m ∷ [])) wants → ¬ InExpressions fs (Breaking fs y) g wants (expressions_of (c ∷ m ∷ []))

@@ -5,9 +5,9 @@ use Rattle.std.specs.Map.{lookup}
 use Rattle.std.proofs.lemmas.Bool.Decides.{same_from_decides, Decides-like}
 use Rattle.std.proofs.lemmas.Slice.Eq.{bytes_eq-Decides}
 use Rattle.std.proofs.lemmas.List.{map-append}
-use Rattle.types.specs.declared.scope.Known.{Known}
+use Rattle.types.specs.declared.scope.VisibleVariable.{VisibleVariable}
 use Rattle.types.specs.declared.fault.TypeFault.TheVariants.{Declared}
-use Rattle.types.specs.declared.typed.Settled.{Settled}
+use Rattle.types.specs.declared.typed.NameEntry.{NameEntry}
 use Rattle.language.specs.Tree.{Word}
 use Rattle.types.specs.Known.{Seen, Around, seen_at, type_of}
 use Rattle.types.specs.Outcomes.{got, refused, ◌>>=◌}
@@ -19,7 +19,7 @@ pub bytes_eq-sym : (xs ys : List ℕ) → bytes_eq xs ys ≡ bytes_eq ys xs
 bytes_eq-sym xs ys = same_from_decides (bytes_eq xs ys) (bytes_eq ys xs) (bytes_eq-Decides xs ys) (Decides-like (bytes_eq ys xs) sym sym (bytes_eq-Decides ys xs))
 
 -- the first one of a text, in a list of keys with what is known of them
-pub seen_lookup : {K : Type 0} (text_of : K → List ℕ) (es : List (K × Known)) (text : List ℕ)
+pub seen_lookup : {K : Type 0} (text_of : K → List ℕ) (es : List (K × VisibleVariable)) (text : List ℕ)
     → seen (map (λ e. seen_at (text_of e.0) e.1) es) text ≡ option_map (seen_at text) (lookup (λ k. bytes_eq text (text_of k)) es)
 seen_lookup text_of [] text = refl
 seen_lookup {K} text_of (e ∷ es) text = by (bytes_eq text (text_of e.0)) refl (seen_lookup text_of es text)
@@ -36,23 +36,23 @@ seen_lookup {K} text_of (e ∷ es) text = by (bytes_eq text (text_of e.0)) refl 
         ∙ sym (ap (λ b. option_map (seen_at text) (cond b (Some e.1) (lookup (λ k. bytes_eq text (text_of k)) es))) is)
 
 -- one more at the end
-pub added_last : {K : Type 0} (text_of : K → List ℕ) (es : List (K × Known)) (key : K) (known : Known) (w : Word) (d : ℕ) → text_of key ≡ w.text → known.depth ≡ d
+pub added_last : {K : Type 0} (text_of : K → List ℕ) (es : List (K × VisibleVariable)) (key : K) (known : VisibleVariable) (w : Word) (d : ℕ) → text_of key ≡ w.text → known.depth ≡ d
     → made d (map (λ e. seen_at (text_of e.0) e.1) (es ++ (key, known) ∷ [])) ≡ added (made d (map (λ e. seen_at (text_of e.0) e.1) es)) w known.what (type_of known.of)
 added_last text_of es key known w d is deep =
     ap (made d) (map-append (λ e. seen_at (text_of e.0) e.1) es ((key, known) ∷ []))
     ∙ ap₂ (λ t n. made d (map (λ e. seen_at (text_of e.0) e.1) es ++ record { text = t; depth = n; what = known.what; of = type_of known.of } ∷ [])) is deep
 
-unseen_by : (o : Option Known) (text : List ℕ) → option_map (seen_at text) o ≡ None → o ≡ None
+unseen_by : (o : Option VisibleVariable) (text : List ℕ) → option_map (seen_at text) o ≡ None → o ≡ None
 unseen_by None text none = refl
 unseen_by (Some k) text none = cc
 
 -- a text that is not seen is no key
-pub unseen_lookup : {K : Type 0} (text_of : K → List ℕ) (es : List (K × Known)) (text : List ℕ)
+pub unseen_lookup : {K : Type 0} (text_of : K → List ℕ) (es : List (K × VisibleVariable)) (text : List ℕ)
     → seen (map (λ e. seen_at (text_of e.0) e.1) es) text ≡ None → lookup (λ k. bytes_eq text (text_of k)) es ≡ None
 unseen_lookup text_of es text none = unseen_by (lookup (λ k. bytes_eq text (text_of k)) es) text (sym (seen_lookup text_of es text) ∙ none)
 
 -- variables of a loop that may be declared: neither is seen, and they have two names
-pub unseen_value : (g : Around) (v : Word) (k : Option Word) → ((s : List Settled) → fresh_variables g v k s ≡ got tt s) → seen g.names v.text ≡ None
+pub unseen_value : (g : Around) (v : Word) (k : Option Word) → ((s : List NameEntry) → fresh_variables g v k s ≡ got tt s) → seen g.names v.text ≡ None
 unseen_value g v k new = by (seen g.names v.text) refl
   where
     by : (o : Option Seen) → seen g.names v.text ≡ o → seen g.names v.text ≡ None
@@ -61,10 +61,10 @@ unseen_value g v k new = by (seen g.names v.text) refl
         let fails : fresh_variables g v k [] ≡ refused (Declared v.span) = ap (λ (o : Option Seen). free v o [] >>= λ u. fresh_key g v k) is in
         absurd (cc (new []))
 
-free_key : (g : Around) (v k : Word) → ((s : List Settled) → fresh_variables g v (Some k) s ≡ got tt s) → (seen g.names k.text ≡ None) × (bytes_eq k.text v.text ≡ false)
+free_key : (g : Around) (v k : Word) → ((s : List NameEntry) → fresh_variables g v (Some k) s ≡ got tt s) → (seen g.names k.text ≡ None) × (bytes_eq k.text v.text ≡ false)
 free_key g v k new = by (seen g.names k.text) (bytes_eq k.text v.text) refl refl
   where
-    rest : (s : List Settled) → fresh_key g v (Some k) s ≡ got tt s
+    rest : (s : List NameEntry) → fresh_key g v (Some k) s ≡ got tt s
     rest s = sym (ap (λ (o : Option Seen). free v o s >>= λ u. fresh_key g v (Some k)) (unseen_value g v (Some k) new)) ∙ new s
 
     by : (o : Option Seen) (b : Bool) → seen g.names k.text ≡ o → bytes_eq k.text v.text ≡ b → (seen g.names k.text ≡ None) × (bytes_eq k.text v.text ≡ false)
@@ -89,7 +89,7 @@ seen_last (x ∷ ks) k text none other = by (bytes_eq x.text text) refl (λ ther
         ∙ rest (sym (ap (λ b. cond b (Some x) (seen ks text)) is) ∙ none)
 
 -- the second one is not seen behind the first
-pub unseen_key : (g : Around) (v k : Word) (x : Seen) → ((s : List Settled) → fresh_variables g v (Some k) s ≡ got tt s) → x.text ≡ v.text → seen (g.names ++ x ∷ []) k.text ≡ None
+pub unseen_key : (g : Around) (v k : Word) (x : Seen) → ((s : List NameEntry) → fresh_variables g v (Some k) s ≡ got tt s) → x.text ≡ v.text → seen (g.names ++ x ∷ []) k.text ≡ None
 unseen_key g v k x new is =
     let both = free_key g v k new in
     seen_last g.names x k.text both.0 (ap (λ t. bytes_eq t k.text) is ∙ bytes_eq-sym v.text k.text ∙ both.1)

@@ -3,15 +3,15 @@ use Rattle.std.proofs.Common.{◌≡◌, ℕ, ◌+◌, true, false, List, [], �
 use Rattle.std.specs.Prelude.{Option, Some, None, cond, nat_eq, option_map, sum_by, nat_lt}
 use Rattle.std.specs.Str.{bytes_eq}
 use Rattle.std.proofs.lemmas.List.Sums.{sum_by-cons}
-use Rattle.values.specs.declared.format.Piece.{Piece}
+use Rattle.values.specs.declared.format.FormatPiece.{FormatPiece}
 use Rattle.values.specs.Formats.{pieces}
 use Rattle.lexer.specs.declared.token.Span.{Span}
 use Rattle.types.specs.declared.fault.TypeFault.TheVariants.{Declared, Mismatch, WrongCount}
-use Rattle.types.specs.declared.typed.Settled.{Settled}
-use Rattle.types.specs.declared.typed.Elements.{Elements}
-use Rattle.types.specs.declared.typed.Meaning.TheVariants.{Called}
-use Rattle.types.specs.declared.typed.Owned.{Owned}
-use Rattle.types.specs.declared.typed.Owned.TheVariants.{Input, Output}
+use Rattle.types.specs.declared.typed.NameEntry.{NameEntry}
+use Rattle.types.specs.declared.typed.ElementTypes.{ElementTypes}
+use Rattle.types.specs.declared.typed.NameMeaning.TheVariants.{Called}
+use Rattle.types.specs.declared.typed.Binding.{Binding}
+use Rattle.types.specs.declared.typed.Binding.TheVariants.{Input, Output}
 use Rattle.types.specs.declared.typed.Callee.TheVariants.{BuiltIn}
 use Rattle.types.specs.declared.typed.Builtin.{Builtin}
 use Rattle.types.specs.declared.typed.Builtin.TheVariants as Named
@@ -44,19 +44,19 @@ size_list : (es : List Expression) → expressions_size (expressions_of es) ≡ 
 size_list [] = refl
 size_list (e ∷ es) = ap (λ (k : ℕ). expression_size e + k) (size_list es) ∙ sym (sum_by-cons expression_size e es)
 
-list_arguments : (fs : List Signature) (g : Around) (n : ℕ) (es : List Expression) (τs : List Typ) (at : Span) (s s' : List Settled)
+list_arguments : (fs : List Signature) (g : Around) (n : ℕ) (es : List Expression) (τs : List Typ) (at : Span) (s s' : List NameEntry)
     → arguments fs g (expressions_of (numbered_each numbered_expression expression_size n es)) τs at s ≡ got (tt {0}) s' → Rises n s → Rises (n + sum_by expression_size es) s'
 list_arguments fs g n es τs at s s' is rises =
     let same = ap (λ (x : Expressions). arguments fs g x τs at s) (sym (numbered_list n es)) ∙ is in
     subst (λ (k : ℕ). Rises (n + k) s') (size_list es) (arguments_rises fs g n (expressions_of es) τs at s s' same rises)
 
-list_elements : (fs : List Signature) (g : Around) (n : ℕ) (es : List Expression) (b : Option Base) (s s' : List Settled)
+list_elements : (fs : List Signature) (g : Around) (n : ℕ) (es : List Expression) (b : Option Base) (s s' : List NameEntry)
     → elements fs g (expressions_of (numbered_each numbered_expression expression_size n es)) b s ≡ got (tt {0}) s' → Rises n s → Rises (n + sum_by expression_size es) s'
 list_elements fs g n es b s s' is rises =
     let same = ap (λ (x : Expressions). elements fs g x b s) (sym (numbered_list n es)) ∙ is in
     subst (λ (k : ℕ). Rises (n + k) s') (size_list es) (elements_rises fs g n (expressions_of es) b s s' same rises)
 
-list_only : (fs : List Signature) (g : Around) (n : ℕ) (es : List Expression) (f : Builtin) (at : Span) (b : Base) (s s' : List Settled)
+list_only : (fs : List Signature) (g : Around) (n : ℕ) (es : List Expression) (f : Builtin) (at : Span) (b : Base) (s s' : List NameEntry)
     → only fs g (expressions_of (numbered_each numbered_expression expression_size n es)) f at s ≡ got b s' → Rises n s → Rises (n + sum_by expression_size es) s'
 list_only fs g n es f at b s s' is rises =
     let same = ap (λ (x : Expressions). only fs g x f at s) (sym (numbered_list n es)) ∙ is in
@@ -64,7 +64,7 @@ list_only fs g n es f at b s s' is rises =
 
 -- RIGHT SIDES
 
-literal_rises : (fs : List Signature) (g : Around) (n : ℕ) (h : Shape) (b : Base) (es : List Expression) (nd : Node) (s s' : List Settled)
+literal_rises : (fs : List Signature) (g : Around) (n : ℕ) (h : Shape) (b : Base) (es : List Expression) (nd : Node) (s s' : List NameEntry)
     → literal_by h fs g b (numbered_each numbered_expression expression_size n es) nd s ≡ got (tt {0}) s' → Rises n s → Rises (n + sum_by expression_size es) s'
 literal_rises fs g n (Array κ) b es nd s s' is rises =
     let one = bind_got (elements fs g (expressions_of (numbered_each numbered_expression expression_size n es)) (Some b) s) (λ u. under_numbers κ nd.first) (tt {0}) s' is in
@@ -73,7 +73,7 @@ literal_rises fs g n Scalar b es nd s s' is rises =
     let one = bind_got (elements fs g (expressions_of (numbered_each numbered_expression expression_size n es)) None s) (λ u r. refused (Mismatch nd.first)) (tt {0}) s' is in
     absurd (cc (one.3))
 
-right_rises : (fs : List Signature) (g : Around) (n : ℕ) (r : RightSide) (τ : Typ) (s s' : List Settled)
+right_rises : (fs : List Signature) (g : Around) (n : ℕ) (r : RightSide) (τ : Typ) (s s' : List NameEntry)
     → right fs g (numbered_right n r) τ s ≡ got (tt {0}) s' → Rises n s → Rises (n + right_size r) s'
 right_rises fs g n (value e) τ s s' is rises =
     let one = bind_got (whole fs g (numbered_expression n e) s) (λ found. has_type found τ (first_of (numbered_expression n e))) (tt {0}) s' is in
@@ -82,14 +82,14 @@ right_rises fs g n (value e) τ s s' is rises =
 right_rises fs g n (list nd es) τ s s' is rises =
     rises_on (n + (1 + sum_by expression_size es)) (literal_rises fs g (n + 1) τ.shape τ.base es (numbered_node n nd) s s' is (rises_on (n + 1) rises (omega arith))) (omega arith)
 
-initial_rises : (fs : List Signature) (g : Around) (n : ℕ) (r : Option RightSide) (τ : Typ) (s s' : List Settled)
+initial_rises : (fs : List Signature) (g : Around) (n : ℕ) (r : Option RightSide) (τ : Typ) (s s' : List NameEntry)
     → initial fs g (option_map (numbered_right n) r) τ s ≡ got (tt {0}) s' → Rises n s → Rises (n + option_size right_size r) s'
 initial_rises fs g n None τ s s' is rises = rises_same (n + 0) s s' (cc) (rises_on (n + 0) rises (omega arith))
 initial_rises fs g n (Some r) τ s s' is rises = right_rises fs g n r τ s s' is rises
 
 -- CALLS
 
-refer_all_rises : (g : Around) (n : ℕ) (ws : List Word) (τs : List Typ) (s s' : List Settled)
+refer_all_rises : (g : Around) (n : ℕ) (ws : List Word) (τs : List Typ) (s s' : List NameEntry)
     → refer_all g (numbered_each numbered_word word_size n ws) s ≡ got τs s' → Rises n s → Rises (n + sum_by word_size ws) s'
 refer_all_rises g n [] τs s s' is rises = rises_same (n + 0) s s' (cc) (rises_on (n + 0) rises (omega arith))
 refer_all_rises g n (w ∷ ws) τs s s' is rises =
@@ -99,7 +99,7 @@ refer_all_rises g n (w ∷ ws) τs s s' is rises =
     let more : sum_by word_size (w ∷ ws) ≡ 1 + sum_by word_size ws = sum_by-cons word_size w ws in
     rises_same (n + sum_by word_size (w ∷ ws)) two.1 s' end (rises_on (n + sum_by word_size (w ∷ ws)) (refer_all_rises g (n + 1) ws two.0 one.1 two.1 two.2 (refer_rises g w n one.0 s one.1 one.2 rises)) (omega arith))
 
-same_types_end : (τs σs : List Typ) (at : Span) (s s' : List Settled) → same_types τs σs at s ≡ got (tt {0}) s' → s ≡ s'
+same_types_end : (τs σs : List Typ) (at : Span) (s s' : List NameEntry) → same_types τs σs at s ≡ got (tt {0}) s' → s ≡ s'
 same_types_end [] σs at s s' is = cc
 same_types_end (τ ∷ τs) [] at s s' is = absurd (cc)
 same_types_end (τ ∷ τs) (σ ∷ σs) at s s' is =
@@ -110,14 +110,14 @@ abbrev args : ℕ → Calling → List Expression
 args n c = numbered_each numbered_expression expression_size (n + 1 + 1) c.arguments
 
 -- a built-in function whose name has the number behind that of its call
-built_rises : (fs : List Signature) (g : Around) (n : ℕ) (c : Calling) (f : Builtin) (at : Span) (b : Base) (s s' : List Settled)
+built_rises : (fs : List Signature) (g : Around) (n : ℕ) (c : Calling) (f : Builtin) (at : Span) (b : Base) (s s' : List NameEntry)
     → builtin_type fs g f (expressions_of (args n c)) at s ≡ got b s' → Rises (n + 1 + 1) s → Rises (n + calling_size c) s'
 built_rises fs g n c f at b s s' is rises =
     rises_on (n + calling_size c)
     (builtin_rises fs g f (expressions_of (args n c)) at (n + 1 + 1) (n + 1 + 1 + sum_by expression_size c.arguments) b s s' (list_elements fs g (n + 1 + 1) c.arguments (Some Text)) (list_only fs g (n + 1 + 1) c.arguments f at) is rises)
     (omega arith)
 
-several_rises : (fs : List Signature) (g : Around) (n : ℕ) (c : Calling) (τs : List Typ) (s s' : List Settled)
+several_rises : (fs : List Signature) (g : Around) (n : ℕ) (c : Calling) (τs : List Typ) (s s' : List NameEntry)
     → several fs g (numbered_calling n c) τs s ≡ got (tt {0}) s' → Rises n s → Rises (n + calling_size c) s'
 several_rises fs g n c τs s s' is rises =
     let w = numbered_word (n + 1) c.name in
@@ -141,11 +141,11 @@ several_rises fs g n c τs s s' is rises =
           rises_same (n + calling_size c) two.1 s' same.1 (built_rises fs g n c f c.name.span two.0 (settles w (Called (BuiltIn f)) one.1) two.1 two.2 name)
     ] is
 
-format_end : (o : Option (List Piece)) (at : Span) (τs : List Typ) (s s' : List Settled) → format_by o at s ≡ got τs s' → s ≡ s'
+format_end : (o : Option (List FormatPiece)) (at : Span) (τs : List Typ) (s s' : List NameEntry) → format_by o at s ≡ got τs s' → s ≡ s'
 format_end None at τs s s' is = absurd (cc)
 format_end (Some ps) at τs s s' is = cc
 
-conversions_end : (e : Expression) (τs : List Typ) (s s' : List Settled) → conversions e s ≡ got τs s' → s ≡ s'
+conversions_end : (e : Expression) (τs : List Typ) (s s' : List NameEntry) → conversions e s ≡ got τs s' → s ≡ s'
 conversions_end (expression nd (text bytes)) τs s s' is = format_end (pieces false bytes) (record { from = nd.first.from; to = nd.to }) τs s s' is
 conversions_end (expression nd (number z)) τs s s' is = absurd (cc)
 conversions_end (expression nd (truth z)) τs s s' is = absurd (cc)
@@ -155,7 +155,7 @@ conversions_end (expression nd (call w es)) τs s s' is = absurd (cc)
 conversions_end (expression nd (prefixed p e)) τs s s' is = absurd (cc)
 conversions_end (expression nd (chain os es)) τs s s' is = absurd (cc)
 
-print_rises : (fs : List Signature) (g : Around) (n : ℕ) (es : List Expression) (at : Span) (s s' : List Settled)
+print_rises : (fs : List Signature) (g : Around) (n : ℕ) (es : List Expression) (at : Span) (s s' : List NameEntry)
     → print fs g (numbered_each numbered_expression expression_size n es) at s ≡ got (tt {0}) s' → Rises n s → Rises (n + sum_by expression_size es) s'
 print_rises fs g n [] at s s' is rises = absurd (cc)
 print_rises fs g n (e ∷ es) at s s' is rises =
@@ -168,7 +168,7 @@ print_rises fs g n (e ∷ es) at s s' is rises =
       | false ↦ λ here. absurd (cc)
     ] one.3
 
-builtin_statement_rises : (fs : List Signature) (g : Around) (n : ℕ) (f : Builtin) (es : List Expression) (at : Span) (s s' : List Settled)
+builtin_statement_rises : (fs : List Signature) (g : Around) (n : ℕ) (f : Builtin) (es : List Expression) (at : Span) (s s' : List NameEntry)
     → builtin_statement f fs g (numbered_each numbered_expression expression_size n es) at s ≡ got (tt {0}) s' → Rises n s → Rises (n + sum_by expression_size es) s'
 builtin_statement_rises fs g n Named.Printf es at s s' is rises = print_rises fs g n es at s s' is rises
 builtin_statement_rises fs g n Named.Assert es at s s' is rises =
@@ -182,7 +182,7 @@ builtin_statement_rises fs g n Named.FromInt es at s s' is rises = absurd (cc)
 builtin_statement_rises fs g n Named.ToInt es at s s' is rises = absurd (cc)
 builtin_statement_rises fs g n Named.Size es at s s' is rises = absurd (cc)
 
-call_alone_rises : (fs : List Signature) (g : Around) (n : ℕ) (c : Calling) (s s' : List Settled)
+call_alone_rises : (fs : List Signature) (g : Around) (n : ℕ) (c : Calling) (s s' : List NameEntry)
     → call_alone fs g (numbered_calling n c) s ≡ got (tt {0}) s' → Rises n s → Rises (n + calling_size c) s'
 call_alone_rises fs g n c s s' is rises =
     let w = numbered_word (n + 1) c.name in
@@ -201,12 +201,12 @@ call_alone_rises fs g n c s s' is rises =
 
 -- LOOPS
 
-step_rises : (fs : List Signature) (g : Around) (n : ℕ) (e : Option Expression) (s s' : List Settled)
+step_rises : (fs : List Signature) (g : Around) (n : ℕ) (e : Option Expression) (s s' : List NameEntry)
     → step_of fs g (option_map (numbered_expression n) e) s ≡ got (tt {0}) s' → Rises n s → Rises (n + option_size expression_size e) s'
 step_rises fs g n None s s' is rises = rises_same (n + 0) s s' (cc) (rises_on (n + 0) rises (omega arith))
 step_rises fs g n (Some e) s s' is rises = expected_rises fs g n e Int s s' is rises
 
-source_rises : (fs : List Signature) (g : Around) (n : ℕ) (o : Over) (a : Elements) (s s' : List Settled)
+source_rises : (fs : List Signature) (g : Around) (n : ℕ) (o : Over) (a : ElementTypes) (s s' : List NameEntry)
     → source fs g (numbered_over n o) s ≡ got a s' → Rises n s → Rises (n + over_size o) s'
 source_rises fs g n (array w) a s s' is rises =
     let one = bind_got (refer g (numbered_word n w) s) (λ τ. elements_of τ w.span) a s' is in
@@ -225,7 +225,7 @@ source_rises fs g n (range low high step) a s s' is rises =
     let all = step_rises fs g n₃ step two.1 three.1 three.2 h in
     rises_same (n + (expression_size low + expression_size high + option_size expression_size step)) three.1 s' end (rises_on (n + (expression_size low + expression_size high + option_size expression_size step)) all (omega arith))
 
-key_end : (g : Around) (v : Word) (k : Option Word) (s s' : List Settled) → fresh_key g v k s ≡ got (tt {0}) s' → s ≡ s'
+key_end : (g : Around) (v : Word) (k : Option Word) (s s' : List NameEntry) → fresh_key g v k s ≡ got (tt {0}) s' → s ≡ s'
 key_end g v None s s' is = cc
 key_end g v (Some k) s s' is =
     let one = bind_got (fresh g k s) (λ u r. cond (bytes_eq k.text v.text) (refused (Declared k.span)) (got (tt {0}) r)) (tt {0}) s' is in
@@ -235,7 +235,7 @@ key_end g v (Some k) s s' is =
       | false ↦ λ here. let end : one.1 ≡ s' = cc in new.1 ∙ end
     ] one.3
 
-variables_end : (g : Around) (v : Word) (k : Option Word) (s s' : List Settled) → fresh_variables g v k s ≡ got (tt {0}) s' → s ≡ s'
+variables_end : (g : Around) (v : Word) (k : Option Word) (s s' : List NameEntry) → fresh_variables g v k s ≡ got (tt {0}) s' → s ≡ s'
 variables_end g v k s s' is =
     let one = bind_got (fresh g v s) (λ u. fresh_key g v k) (tt {0}) s' is in
     (fresh_got g v s one.1 one.2).1 ∙ key_end g v k one.1 s' one.3
@@ -245,10 +245,10 @@ variables_end g v k s s' is =
 mutual
   unfolding stated commanded enclosed in_order
 
-  pub stated_rises : (fs : List Signature) (g h : Around) (n : ℕ) (st : Statement) (s s' : List Settled) → stated fs g (numbered_statement n st) s ≡ got h s' → Rises n s → Rises (n + statement_size st) s'
+  pub stated_rises : (fs : List Signature) (g h : Around) (n : ℕ) (st : Statement) (s s' : List NameEntry) → stated fs g (numbered_statement n st) s ≡ got h s' → Rises n s → Rises (n + statement_size st) s'
   stated_rises fs g h n (statement nd c) s s' is rises = rises_on (n + (1 + command_size c)) (commanded_rises fs g h (n + 1) c s s' is (rises_on (n + 1) rises (omega arith))) (omega arith)
 
-  commanded_rises : (fs : List Signature) (g h : Around) (n : ℕ) (c : Command) (s s' : List Settled) → commanded fs g (numbered_command n c) s ≡ got h s' → Rises n s → Rises (n + command_size c) s'
+  commanded_rises : (fs : List Signature) (g h : Around) (n : ℕ) (c : Command) (s s' : List NameEntry) → commanded fs g (numbered_command n c) s ≡ got h s' → Rises n s → Rises (n + command_size c) s'
   commanded_rises fs g h n (declare d r) s s' is rises =
       let e = numbered_declaration n d in
       let one = bind_got (fresh g e.name s) (λ u r'. initial fs (declared g e.name (declared_type e)) (option_map (numbered_right (n + 1)) r) (declared_type e) r' >>= λ u. got (declared g e.name (declared_type e))) h s' is in
@@ -323,10 +323,10 @@ mutual
       let all = enclosed_rises fs g n₂ b one.1 two.1 two.2 (refer_all_rises g n ws one.0 s one.1 one.2 rises) in
       rises_same (n + (sum_by word_size ws + body_size b)) two.1 s' end (rises_on (n + (sum_by word_size ws + body_size b)) all (omega arith))
 
-  pub enclosed_rises : (fs : List Signature) (g : Around) (n : ℕ) (b : Body) (s s' : List Settled) → enclosed fs g (numbered_body n b) s ≡ got (tt {0}) s' → Rises n s → Rises (n + body_size b) s'
+  pub enclosed_rises : (fs : List Signature) (g : Around) (n : ℕ) (b : Body) (s s' : List NameEntry) → enclosed fs g (numbered_body n b) s ≡ got (tt {0}) s' → Rises n s → Rises (n + body_size b) s'
   enclosed_rises fs g n (body from ss) s s' is rises = in_order_rises fs g n ss s s' is rises
 
-  in_order_rises : (fs : List Signature) (g : Around) (n : ℕ) (ss : Statements) (s s' : List Settled) → in_order fs g (numbered_statements n ss) s ≡ got (tt {0}) s' → Rises n s → Rises (n + statements_size ss) s'
+  in_order_rises : (fs : List Signature) (g : Around) (n : ℕ) (ss : Statements) (s s' : List NameEntry) → in_order fs g (numbered_statements n ss) s ≡ got (tt {0}) s' → Rises n s → Rises (n + statements_size ss) s'
   in_order_rises fs g n no_statements s s' is rises = rises_same (n + 0) s s' (cc) (rises_on (n + 0) rises (omega arith))
   in_order_rises fs g n (and_statement st ss) s s' is rises =
       let n₂ = n + statement_size st in
@@ -335,13 +335,13 @@ mutual
 
 -- FUNCTIONS AND SCRIPTS
 
-parameters_end : (made : ℕ → Owned) (g h : Around) (i : ℕ) (ds : List Declaration) (s s' : List Settled) → parameters made g i ds s ≡ got h s' → s ≡ s'
+parameters_end : (made : ℕ → Binding) (g h : Around) (i : ℕ) (ds : List Declaration) (s s' : List NameEntry) → parameters made g i ds s ≡ got h s' → s ≡ s'
 parameters_end made g h i [] s s' is = cc
 parameters_end made g h i (d ∷ ds) s s' is =
     let one = bind_got (fresh g d.name s) (λ u. parameters made (added g d.name (made i) (declared_type d)) (i + 1) ds) h s' is in
     (fresh_got g d.name s one.1 one.2).1 ∙ parameters_end made (added g d.name (made i) (declared_type d)) h (i + 1) ds one.1 s' one.3
 
-name_end : (o : Option Builtin) (fs : List Signature) (above : ℕ) (w : Word) (s s' : List Settled) → name_of o fs above w s ≡ got (tt {0}) s' → s ≡ s'
+name_end : (o : Option Builtin) (fs : List Signature) (above : ℕ) (w : Word) (s s' : List NameEntry) → name_of o fs above w s ≡ got (tt {0}) s' → s ≡ s'
 name_end (Some b) fs above w s s' is = absurd (cc)
 name_end None fs above w s s' is =
     elim (find fs w.text) as (λ o. name_by o above w s ≡ got (tt {0}) s' → s ≡ s') [
@@ -353,7 +353,7 @@ name_end None fs above w s s' is =
           ] here
     ] is
 
-composite_rises : (fs : List Signature) (above n : ℕ) (f : Composite) (s s' : List Settled) → function_checked fs above (numbered_composite n f) s ≡ got (tt {0}) s' → Rises n s → Rises (n + composite_size f) s'
+composite_rises : (fs : List Signature) (above n : ℕ) (f : Composite) (s s' : List NameEntry) → function_checked fs above (numbered_composite n f) s ≡ got (tt {0}) s' → Rises n s → Rises (n + composite_size f) s'
 composite_rises fs above n f s s' is rises =
     let e = numbered_composite n f in
     let n₂ = n + 1 + sum_by declaration_size f.outputs + 1 + sum_by declaration_size f.inputs in
@@ -365,7 +365,7 @@ composite_rises fs above n f s s' is rises =
     let ins = parameters_end Input one.0 three.0 0 e.inputs two.1 three.1 three.2 in
     rises_on (n + composite_size f) (enclosed_rises fs three.0 n₂ f.body three.1 s' three.3 (rises_on n₂ (rises_same n s three.1 (outs ∙ name ∙ ins) rises) (omega arith))) (omega arith)
 
-parts_rises : (fs : List Signature) (above : ℕ) (g : Around) (n : ℕ) (ps : Tree) (s s' : List Settled) → parts_checked fs above g (numbered_each numbered_part part_size n ps) s ≡ got (tt {0}) s' → Rises n s
+parts_rises : (fs : List Signature) (above : ℕ) (g : Around) (n : ℕ) (ps : Tree) (s s' : List NameEntry) → parts_checked fs above g (numbered_each numbered_part part_size n ps) s ≡ got (tt {0}) s' → Rises n s
     → Rises (n + sum_by part_size ps) s'
 parts_rises fs above g n [] s s' is rises = rises_same (n + 0) s s' (cc) (rises_on (n + 0) rises (omega arith))
 parts_rises fs above g n (import sp ∷ ps) s s' is rises =
@@ -382,5 +382,5 @@ parts_rises fs above g n (single st ∷ ps) s s' is rises =
     let more : sum_by part_size (single st ∷ ps) ≡ statement_size st + sum_by part_size ps = sum_by-cons part_size (single st) ps in
     rises_on (n + sum_by part_size (single st ∷ ps)) (parts_rises fs above one.0 n₂ ps one.1 s' one.3 (stated_rises fs g one.0 n st s one.1 one.2 rises)) (omega arith)
 
-pub numbers_rise : (n : ℕ) (tree : Tree) (s : List Settled) → checked (numbered n tree) ≡ got (tt {0}) s → Rises (n + tree_size tree) s
+pub numbers_rise : (n : ℕ) (tree : Tree) (s : List NameEntry) → checked (numbered n tree) ≡ got (tt {0}) s → Rises (n + tree_size tree) s
 numbers_rise n tree s is = parts_rises (signatures (numbered n tree)) 0 nowhere n tree [] s is none_settled

@@ -3,9 +3,9 @@ use Rattle.std.proofs.Common.{◌≡◌, ℕ, ◌+◌, ◌-◌, ◌≤◌, true,
 use Rattle.std.specs.Prelude.{Option, Some, None, cond, nat_eq}
 use Rattle.lexer.specs.declared.token.Span.{Span}
 use Rattle.types.specs.declared.fault.TypeFault.TheVariants.{WrongCount}
-use Rattle.types.specs.declared.typed.Settled.{Settled}
-use Rattle.types.specs.declared.typed.Meaning.{Meaning}
-use Rattle.types.specs.declared.typed.Meaning.TheVariants.{Variable, Called}
+use Rattle.types.specs.declared.typed.NameEntry.{NameEntry}
+use Rattle.types.specs.declared.typed.NameMeaning.{NameMeaning}
+use Rattle.types.specs.declared.typed.NameMeaning.TheVariants.{Variable, Called}
 use Rattle.types.specs.declared.typed.Callee.TheVariants.{Function, BuiltIn}
 use Rattle.types.specs.declared.typed.Builtin.{Builtin}
 use Rattle.types.specs.declared.typed.Builtin.TheVariants as Named
@@ -28,19 +28,19 @@ use Rattle.types.proofs.accepted.Accepted.{given_got, fits_sound, of_one_sound}
 
 -- RISING NUMBERS
 
-pub rises_on : {n : ℕ} (m : ℕ) {ss : List Settled} → Rises n ss → n ≤ m → Rises m ss
+pub rises_on : {n : ℕ} (m : ℕ) {ss : List NameEntry} → Rises n ss → n ≤ m → Rises m ss
 rises_on m none_settled more = none_settled
 rises_on m (one_settled s less low high is) more = one_settled s less low (omega arith) is
 
-pub rises_same : (n : ℕ) (s s' : List Settled) → s ≡ s' → Rises n s → Rises n s'
+pub rises_same : (n : ℕ) (s s' : List NameEntry) → s ≡ s' → Rises n s → Rises n s'
 rises_same n s s' same rises = subst (Rises n) same rises
 
-pub settles_rises : (n : ℕ) (w : Word) (m : Meaning) (s : List Settled) → Rises n s → Rises (n + 1) (settles (numbered_word n w) m s)
+pub settles_rises : (n : ℕ) (w : Word) (m : NameMeaning) (s : List NameEntry) → Rises n s → Rises (n + 1) (settles (numbered_word n w) m s)
 settles_rises n w m s rises = one_settled (record { number = n; meaning = m }) rises (omega arith) (omega arith) refl
 
 -- NAMES
 
-pub refer_rises : (g : Around) (w : Word) (n : ℕ) (τ : Typ) (s s' : List Settled) → refer g (numbered_word n w) s ≡ got τ s' → Rises n s → Rises (n + 1) s'
+pub refer_rises : (g : Around) (w : Word) (n : ℕ) (τ : Typ) (s s' : List NameEntry) → refer g (numbered_word n w) s ≡ got τ s' → Rises n s → Rises (n + 1) s'
 refer_rises g w n τ s s' is rises =
     elim (seen g.names w.text) as (λ o. referred g (numbered_word n w) o s ≡ got τ s' → Rises (n + 1) s') [
       | None ↦ λ refusal. absurd (cc)
@@ -49,7 +49,7 @@ refer_rises g w n τ s s' is rises =
           rises_same (n + 1) (settles (numbered_word n w) (Variable (record { up = g.depth - k.depth; what = k.what }) k.of.shape) s) s' end (settles_rises n w (Variable (record { up = g.depth - k.depth; what = k.what }) k.of.shape) s rises)
     ] is
 
-pub function_rises : (fs : List Signature) (w : Word) (n k m : ℕ) (f : Signature) (s s' : List Settled) → function_called fs (numbered_word n w) k m s ≡ got f s' → Rises n s → Rises (n + 1) s'
+pub function_rises : (fs : List Signature) (w : Word) (n k m : ℕ) (f : Signature) (s s' : List NameEntry) → function_called fs (numbered_word n w) k m s ≡ got f s' → Rises n s → Rises (n + 1) s'
 function_rises fs w n k m f s s' is rises =
     elim (find fs w.text) as (λ o. counted (numbered_word n w) k m o s ≡ got f s' → Rises (n + 1) s') [
       | missing ↦ λ refusal. absurd (cc)
@@ -71,9 +71,9 @@ function_rises fs w n k m f s s' is rises =
 abbrev no_table : Table
 no_table = record { name_of = λ n. here 0; shape_of = λ n. Scalar; callee_of = λ n. composite 0 }
 
-pub builtin_rises : (fs : List Signature) (g : Around) (f : Builtin) (es : Expressions) (at : Span) (n m : ℕ) (b : Base) (s s' : List Settled)
-    → ((r r' : List Settled) → elements fs g es (Some Text) r ≡ got (tt {0}) r' → Rises n r → Rises m r')
-    → ((c : Base) (r r' : List Settled) → only fs g es f at r ≡ got c r' → Rises n r → Rises m r')
+pub builtin_rises : (fs : List Signature) (g : Around) (f : Builtin) (es : Expressions) (at : Span) (n m : ℕ) (b : Base) (s s' : List NameEntry)
+    → ((r r' : List NameEntry) → elements fs g es (Some Text) r ≡ got (tt {0}) r' → Rises n r → Rises m r')
+    → ((c : Base) (r r' : List NameEntry) → only fs g es f at r ≡ got c r' → Rises n r → Rises m r')
     → builtin_type fs g f es at s ≡ got b s' → Rises n s → Rises m s'
 builtin_rises fs g Named.Strcat no_expressions at n m b s s' texts one is rises = absurd (cc)
 builtin_rises fs g Named.Strcat (and_expression e es) at n m b s s' texts one is rises =
@@ -86,35 +86,35 @@ builtin_rises fs g Named.Size es at n m b s s' texts one is rises = one b s s' i
 builtin_rises fs g Named.Printf es at n m b s s' texts one is rises = absurd (cc)
 builtin_rises fs g Named.Assert es at n m b s s' texts one is rises = absurd (cc)
 
-pub output_end : (τs : List Typ) (at : Span) (τ : Typ) (s s' : List Settled) → output_of τs at s ≡ got τ s' → s ≡ s'
+pub output_end : (τs : List Typ) (at : Span) (τ : Typ) (s s' : List NameEntry) → output_of τs at s ≡ got τ s' → s ≡ s'
 output_end [] at τ s s' is = absurd (cc)
 output_end (σ ∷ σs) at τ s s' is = cc
 
-wanted_end : (τ : Typ) (b : Option Base) (at : Span) (s s' : List Settled) → has_wanted τ b at s ≡ got (tt {0}) s' → s ≡ s'
+wanted_end : (τ : Typ) (b : Option Base) (at : Span) (s s' : List NameEntry) → has_wanted τ b at s ≡ got (tt {0}) s' → s ≡ s'
 wanted_end τ None at s s' is = cc
 wanted_end τ (Some b) at s s' is =
     let one = bind_got (scalar τ at s) (λ c. has_base c b at) (tt {0}) s' is in
     (scalar_got τ at s one.1 one.0 one.2).1 ∙ (has_base_got one.0 b at one.1 s' one.3).1
 
-first_end : (os : List Operator) (b c : Base) (at : Span) (s s' : List Settled) → first_given os b at s ≡ got c s' → s ≡ s'
+first_end : (os : List Operator) (b c : Base) (at : Span) (s s' : List NameEntry) → first_given os b at s ≡ got c s' → s ≡ s'
 first_end [] b c at s s' is = absurd (cc)
 first_end (o ∷ os) b c at s s' is = (given_got o b c at s s' is).1
 
 mutual
   unfolding whole typed expected whole_form chained further elements arguments only
 
-  pub whole_rises : (fs : List Signature) (g : Around) (n : ℕ) (e : Expression) (τ : Typ) (s s' : List Settled) → whole fs g (numbered_expression n e) s ≡ got τ s' → Rises n s
+  pub whole_rises : (fs : List Signature) (g : Around) (n : ℕ) (e : Expression) (τ : Typ) (s s' : List NameEntry) → whole fs g (numbered_expression n e) s ≡ got τ s' → Rises n s
       → Rises (n + expression_size e) s'
   whole_rises fs g n (expression nd f) τ s s' is rises = rises_on (n + (1 + form_size f)) (form_rises fs g (n + 1) f nd.first τ s s' is (rises_on (n + 1) rises (omega arith))) (omega arith)
 
-  pub typed_rises : (fs : List Signature) (g : Around) (n : ℕ) (e : Expression) (b : Base) (s s' : List Settled) → typed fs g (numbered_expression n e) s ≡ got b s' → Rises n s
+  pub typed_rises : (fs : List Signature) (g : Around) (n : ℕ) (e : Expression) (b : Base) (s s' : List NameEntry) → typed fs g (numbered_expression n e) s ≡ got b s' → Rises n s
       → Rises (n + expression_size e) s'
   typed_rises fs g n (expression nd f) b s s' is rises =
       let one = bind_got (whole_form fs g (numbered_form (n + 1) f) nd.first s) (λ τ. scalar τ nd.first) b s' is in
       let type = scalar_got one.0 nd.first one.1 s' b one.3 in
       rises_same (n + (1 + form_size f)) one.1 s' type.1 (rises_on (n + (1 + form_size f)) (form_rises fs g (n + 1) f nd.first one.0 s one.1 one.2 (rises_on (n + 1) rises (omega arith))) (omega arith))
 
-  pub expected_rises : (fs : List Signature) (g : Around) (n : ℕ) (e : Expression) (b : Base) (s s' : List Settled) → expected fs g (numbered_expression n e) b s ≡ got (tt {0}) s' → Rises n s
+  pub expected_rises : (fs : List Signature) (g : Around) (n : ℕ) (e : Expression) (b : Base) (s s' : List NameEntry) → expected fs g (numbered_expression n e) b s ≡ got (tt {0}) s' → Rises n s
       → Rises (n + expression_size e) s'
   expected_rises fs g n (expression nd f) b s s' is rises =
       let two = bind_got (whole_form fs g (numbered_form (n + 1) f) nd.first s >>= λ τ. scalar τ nd.first) (λ c. has_base c b nd.first) (tt {0}) s' is in
@@ -123,7 +123,7 @@ mutual
       let type = scalar_got one.0 nd.first one.1 two.1 two.0 one.3 in
       rises_same (n + (1 + form_size f)) one.1 s' (type.1 ∙ base.1) (rises_on (n + (1 + form_size f)) (form_rises fs g (n + 1) f nd.first one.0 s one.1 one.2 (rises_on (n + 1) rises (omega arith))) (omega arith))
 
-  form_rises : (fs : List Signature) (g : Around) (n : ℕ) (f : Form) (at : Span) (τ : Typ) (s s' : List Settled) → whole_form fs g (numbered_form n f) at s ≡ got τ s' → Rises n s
+  form_rises : (fs : List Signature) (g : Around) (n : ℕ) (f : Form) (at : Span) (τ : Typ) (s s' : List NameEntry) → whole_form fs g (numbered_form n f) at s ≡ got τ s' → Rises n s
       → Rises (n + form_size f) s'
   form_rises fs g n (number z) at τ s s' is rises = rises_same (n + 0) s s' (cc) (rises_on (n + 0) rises (omega arith))
   form_rises fs g n (text z) at τ s s' is rises = rises_same (n + 0) s s' (cc) (rises_on (n + 0) rises (omega arith))
@@ -164,7 +164,7 @@ mutual
             rises_same (n + (1 + expressions_size es)) two.1 s' end (rises_on (n + (1 + expressions_size es)) given (omega arith))
       ] is
 
-  pub only_rises : (fs : List Signature) (g : Around) (n : ℕ) (es : Expressions) (f : Builtin) (at : Span) (b : Base) (s s' : List Settled) → only fs g (numbered_expressions n es) f at s ≡ got b s' → Rises n s
+  pub only_rises : (fs : List Signature) (g : Around) (n : ℕ) (es : Expressions) (f : Builtin) (at : Span) (b : Base) (s s' : List NameEntry) → only fs g (numbered_expressions n es) f at s ≡ got b s' → Rises n s
       → Rises (n + expressions_size es) s'
   only_rises fs g n no_expressions f at b s s' is rises = absurd (cc)
   only_rises fs g n (and_expression e no_expressions) f at b s s' is rises =
@@ -173,7 +173,7 @@ mutual
       rises_same (n + (expression_size e + 0)) one.1 s' it.0 (rises_on (n + (expression_size e + 0)) (whole_rises fs g n e one.0 s one.1 one.2 rises) (omega arith))
   only_rises fs g n (and_expression e (and_expression d es)) f at b s s' is rises = absurd (cc)
 
-  pub arguments_rises : (fs : List Signature) (g : Around) (n : ℕ) (es : Expressions) (τs : List Typ) (at : Span) (s s' : List Settled) → arguments fs g (numbered_expressions n es) τs at s ≡ got (tt {0}) s' → Rises n s
+  pub arguments_rises : (fs : List Signature) (g : Around) (n : ℕ) (es : Expressions) (τs : List Typ) (at : Span) (s s' : List NameEntry) → arguments fs g (numbered_expressions n es) τs at s ≡ got (tt {0}) s' → Rises n s
       → Rises (n + expressions_size es) s'
   arguments_rises fs g n no_expressions τs at s s' is rises = rises_same (n + 0) s s' (cc) (rises_on (n + 0) rises (omega arith))
   arguments_rises fs g n (and_expression e es) [] at s s' is rises = absurd (cc)
@@ -184,7 +184,7 @@ mutual
       let first = rises_same (n + expression_size e) one.1 two.1 fit.0 (whole_rises fs g n e one.0 s one.1 one.2 rises) in
       rises_on (n + (expression_size e + expressions_size es)) (arguments_rises fs g (n + expression_size e) es τs at two.1 s' two.3 first) (omega arith)
 
-  pub elements_rises : (fs : List Signature) (g : Around) (n : ℕ) (es : Expressions) (b : Option Base) (s s' : List Settled) → elements fs g (numbered_expressions n es) b s ≡ got (tt {0}) s' → Rises n s
+  pub elements_rises : (fs : List Signature) (g : Around) (n : ℕ) (es : Expressions) (b : Option Base) (s s' : List NameEntry) → elements fs g (numbered_expressions n es) b s ≡ got (tt {0}) s' → Rises n s
       → Rises (n + expressions_size es) s'
   elements_rises fs g n no_expressions b s s' is rises = rises_same (n + 0) s s' (cc) (rises_on (n + 0) rises (omega arith))
   elements_rises fs g n (and_expression e es) b s s' is rises =
@@ -194,7 +194,7 @@ mutual
       let first = rises_same (n + expression_size e) one.1 two.1 end (whole_rises fs g n e one.0 s one.1 one.2 rises) in
       rises_on (n + (expression_size e + expressions_size es)) (elements_rises fs g (n + expression_size e) es b two.1 s' two.3 first) (omega arith)
 
-  chained_rises : (fs : List Signature) (g : Around) (n : ℕ) (es : Expressions) (os : List Operator) (at : Span) (c : Base) (s s' : List Settled) → chained fs g (numbered_expressions n es) os at s ≡ got c s' → Rises n s
+  chained_rises : (fs : List Signature) (g : Around) (n : ℕ) (es : Expressions) (os : List Operator) (at : Span) (c : Base) (s s' : List NameEntry) → chained fs g (numbered_expressions n es) os at s ≡ got c s' → Rises n s
       → Rises (n + expressions_size es) s'
   chained_rises fs g n no_expressions os at c s s' is rises = absurd (cc)
   chained_rises fs g n (and_expression e es) os at c s s' is rises =
@@ -206,7 +206,7 @@ mutual
       let first = rises_same (n + expression_size e) one.1 two.1 given (typed_rises fs g n e one.0 s one.1 one.2 rises) in
       rises_same (n + (expression_size e + expressions_size es)) three.1 s' end (rises_on (n + (expression_size e + expressions_size es)) (further_rises fs g (n + expression_size e) es os one.0 two.0 (first_of (numbered_expression n e)) two.1 three.1 three.2 first) (omega arith))
 
-  further_rises : (fs : List Signature) (g : Around) (n : ℕ) (es : Expressions) (os : List Operator) (b c : Base) (before : Span) (s s' : List Settled) → further fs g (numbered_expressions n es) os b c before s ≡ got (tt {0}) s' → Rises n s
+  further_rises : (fs : List Signature) (g : Around) (n : ℕ) (es : Expressions) (os : List Operator) (b c : Base) (before : Span) (s s' : List NameEntry) → further fs g (numbered_expressions n es) os b c before s ≡ got (tt {0}) s' → Rises n s
       → Rises (n + expressions_size es) s'
   further_rises fs g n no_expressions [] b c before s s' is rises = rises_same (n + 0) s s' (cc) (rises_on (n + 0) rises (omega arith))
   further_rises fs g n no_expressions (o ∷ os) b c before s s' is rises = absurd (cc)

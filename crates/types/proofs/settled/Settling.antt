@@ -3,8 +3,8 @@ use Rattle.std.proofs.Common.{◌≡◌, ℕ, ◌-◌, ◌+◌, true, false, Lis
 use Rattle.std.specs.Prelude.{Some, None, cond, nat_eq, slice_get, suc}
 use Rattle.std.specs.Str.{bytes_eq}
 use Rattle.std.proofs.lemmas.Slice.Eq.{bytes_eq-Decides}
-use Rattle.types.specs.declared.typed.Settled.{Settled}
-use Rattle.types.specs.declared.typed.Meaning.TheVariants.{Variable, Called}
+use Rattle.types.specs.declared.typed.NameEntry.{NameEntry}
+use Rattle.types.specs.declared.typed.NameMeaning.TheVariants.{Variable, Called}
 use Rattle.types.specs.declared.typed.Callee.TheVariants.{Function}
 use Rattle.types.specs.declared.fault.TypeFault.TheVariants.{WrongCount}
 use Rattle.language.specs.Members.{◌∈◌, first, later}
@@ -15,7 +15,7 @@ use Rattle.types.specs.Outcomes.{refused, got}
 use Rattle.types.specs.Names.{seen, referred, settles, missing, found, find, find_from, counted}
 use Rattle.types.specs.Agrees.{Says, Agrees, visible_at, scope_onto, scope_of, ReferSound, CallSound}
 
-pub agrees_last : (t : Table) (ss : List Settled) (s : Settled) → Agrees t (ss ++ s ∷ []) → Agrees t ss × Says t s
+pub agrees_last : (t : Table) (ss : List NameEntry) (s : NameEntry) → Agrees t (ss ++ s ∷ []) → Agrees t ss × Says t s
 agrees_last t [] s all = (tt, all.0)
 agrees_last t (r ∷ rs) s all = let rest = agrees_last t rs s all.1 in ((all.0, rest.0), rest.1)
 

@@ -3,8 +3,8 @@ use Rattle.std.proofs.Common.{rules, ◌≡◌, ℕ, ◌+◌, ◌<◌, ◌≤◌
 use Rattle.std.specs.Prelude.{Option, Some, None, IsSome, option_map}
 use Rattle.types.specs.declared.fault.TypeFault.{TypeFault}
 use Rattle.types.specs.declared.fault.TypeFault.TheVariants.{Declared}
-use Rattle.types.specs.declared.typed.Settled.{Settled}
-use Rattle.types.specs.declared.typed.Owned.{Owned}
+use Rattle.types.specs.declared.typed.NameEntry.{NameEntry}
+use Rattle.types.specs.declared.typed.Binding.{Binding}
 use Rattle.syntax_trees.specs.declared.tree.Expr.{Expr}
 use Rattle.syntax_trees.specs.declared.tree.Block.{Block}
 use Rattle.syntax_trees.specs.declared.tree.StmtKind.{If, the_lemmas as statement_lemmas}
@@ -22,22 +22,22 @@ use Rattle.std.proofs.lemmas.List.{at_drop_all}
 
 -- STATEMENTS
 
-pub order_done : {X : Type 0} (fs : List Signature) (g : Around) (s : List Settled) (f : X → Statement) (xs : List X) (i : ℕ) → length xs ≤ i
+pub order_done : {X : Type 0} (fs : List Signature) (g : Around) (s : List NameEntry) (f : X → Statement) (xs : List X) (i : ℕ) → length xs ≤ i
     → in_order fs g (statements_of (map f (drop i xs))) s ≡ got (tt {0}) s
 unfolding in_order
 order_done fs g s f xs i past = at_drop_all (λ (ys : List _). in_order fs g (statements_of (map f ys)) s) xs i past
 
-order_now : {X : Type 0} (fs : List Signature) (g : Around) (s : List Settled) (f : X → Statement) (xs : List X) (i : ℕ) (x : X) → i < length xs → x ≡ get_or xs i x
+order_now : {X : Type 0} (fs : List Signature) (g : Around) (s : List NameEntry) (f : X → Statement) (xs : List X) (i : ℕ) (x : X) → i < length xs → x ≡ get_or xs i x
     → in_order fs g (statements_of (map f (drop i xs))) s ≡ (stated fs g (f x) s >>= λ h. in_order fs h (statements_of (map f (drop (i + 1) xs))))
 unfolding in_order
 order_now fs g s f xs i x below is = rest_more (λ (ys : List _). in_order fs g (statements_of (map f ys)) s) xs i x below is
 
-pub order_refused : {X : Type 0} (fs : List Signature) (g : Around) (s : List Settled) (f : X → Statement) (xs : List X) (i : ℕ) (x : X) (y : TypeFault) → i < length xs → x ≡ get_or xs i x
+pub order_refused : {X : Type 0} (fs : List Signature) (g : Around) (s : List NameEntry) (f : X → Statement) (xs : List X) (i : ℕ) (x : X) (y : TypeFault) → i < length xs → x ≡ get_or xs i x
     → stated fs g (f x) s ≡ refused y → in_order fs g (statements_of (map f (drop i xs))) s ≡ refused y
 order_refused fs g s f xs i x y below is fails =
     order_now fs g s f xs i x below is ∙ ap (λ (o : Outcome Around). o >>= λ h. in_order fs h (statements_of (map f (drop (i + 1) xs)))) fails
 
-pub order_next : {X : Type 0} (fs : List Signature) (g h : Around) (s r : List Settled) (f : X → Statement) (xs : List X) (i : ℕ) (x : X) → i < length xs → x ≡ get_or xs i x
+pub order_next : {X : Type 0} (fs : List Signature) (g h : Around) (s r : List NameEntry) (f : X → Statement) (xs : List X) (i : ℕ) (x : X) → i < length xs → x ≡ get_or xs i x
     → stated fs g (f x) s ≡ got h r → in_order fs g (statements_of (map f (drop i xs))) s ≡ in_order fs h (statements_of (map f (drop (i + 1) xs))) r
 order_next fs g h s r f xs i x below is has =
     order_now fs g s f xs i x below is ∙ ap (λ (o : Outcome Around). o >>= λ h. in_order fs h (statements_of (map f (drop (i + 1) xs)))) has
@@ -51,15 +51,15 @@ view-If e b (Some d) = search (rules, statement_lemmas)
 
 -- OUTPUTS AND INPUTS
 
-pub parameters_done : {X : Type 0} (owned : ℕ → Owned) (g : Around) (n : ℕ) (s : List Settled) (f : X → Declaration) (xs : List X) (i : ℕ) → length xs ≤ i
+pub parameters_done : {X : Type 0} (owned : ℕ → Binding) (g : Around) (n : ℕ) (s : List NameEntry) (f : X → Declaration) (xs : List X) (i : ℕ) → length xs ≤ i
     → parameters owned g n (map f (drop i xs)) s ≡ got g s
 parameters_done owned g n s f xs i past = at_drop_all (λ (ys : List _). parameters owned g n (map f ys) s) xs i past
 
-free_some : (w : Word) (o : Option Seen) (s : List Settled) → IsSome o → free w o s ≡ refused (Declared w.span)
+free_some : (w : Word) (o : Option Seen) (s : List NameEntry) → IsSome o → free w o s ≡ refused (Declared w.span)
 free_some w None s some = absurd (cc)
 free_some w (Some k) s some = refl
 
-pub parameters_refused : {X : Type 0} (owned : ℕ → Owned) (g : Around) (n : ℕ) (s : List Settled) (f : X → Declaration) (xs : List X) (i : ℕ) (x : X) → i < length xs → x ≡ get_or xs i x
+pub parameters_refused : {X : Type 0} (owned : ℕ → Binding) (g : Around) (n : ℕ) (s : List NameEntry) (f : X → Declaration) (xs : List X) (i : ℕ) (x : X) → i < length xs → x ≡ get_or xs i x
     → IsSome (seen g.names (f x).name.text) → parameters owned g n (map f (drop i xs)) s ≡ refused (Declared (f x).name.span)
 parameters_refused owned g n s f xs i x below is taken =
     rest_more (λ (ys : List _). parameters owned g n (map f ys) s) xs i x below is

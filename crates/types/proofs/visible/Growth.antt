@@ -2,9 +2,9 @@
 use Rattle.std.proofs.Common.{◌≡◌, ℕ, List, [], ◌∷◌, ◌++◌, take, map, length, refl, sym, ap, ap₂, ◌∙◌, subst, append_assoc}
 use Rattle.std.proofs.Math.Seq.{take-append_seam}
 use Rattle.std.proofs.lemmas.List.{append-nil, take-map, length-map}
-use Rattle.types.specs.declared.typed.Settled.{Settled}
-use Rattle.types.specs.declared.typed.Owned.{Owned}
-use Rattle.types.specs.declared.typed.Owned.TheVariants.{Local}
+use Rattle.types.specs.declared.typed.NameEntry.{NameEntry}
+use Rattle.types.specs.declared.typed.Binding.{Binding}
+use Rattle.types.specs.declared.typed.Binding.TheVariants.{Local}
 use Rattle.language.specs.declared.tree.Base.TheVariants.{Int, Boolean}
 use Rattle.language.specs.Tree.{Word, Statement, statement, Command, declare, assign, write, assign_all, calls, choice, choice_else, loop, waits}
 use Rattle.language.specs.Scopes.{Typ, declared_type, Signature}
@@ -29,7 +29,7 @@ grown_more {g} {h} {k} one two = record {
   names = two.names ∙ ap (λ ks. ks ++ two.later) one.names ∙ append_assoc g.names one.later two.later;
 }
 
-pub grown_added : (g : Around) (w : Word) (what : Owned) (τ : Typ) → Grown g (added g w what τ)
+pub grown_added : (g : Around) (w : Word) (what : Binding) (τ : Typ) → Grown g (added g w what τ)
 grown_added g w what τ = record { depth = refl; later = record { text = w.text; depth = g.depth; what = what; of = τ } ∷ []; names = refl }
 
 -- behind a block there is what there was before it
@@ -44,13 +44,13 @@ cut_back f d e n xs ys zs more many cut =
     ∙ first_grown more
 
 -- a check that leaves its scope as it was
-same_grown : {A : Type 0} (o : Outcome A) (g h : Around) (s : List Settled) → (o >>= λ u. got g) ≡ got h s → Grown g h
+same_grown : {A : Type 0} (o : Outcome A) (g h : Around) (s : List NameEntry) → (o >>= λ u. got g) ≡ got h s → Grown g h
 same_grown o g h s is =
     let one = bind_got o (λ u. got g) h s is in
     let same : g ≡ h = cc in
     subst (Grown g) same (grown_same g)
 
-commanded_grown : (fs : List Signature) (g h : Around) (c : Command) (s s' : List Settled) → commanded fs g c s ≡ got h s' → Grown g h
+commanded_grown : (fs : List Signature) (g h : Around) (c : Command) (s s' : List NameEntry) → commanded fs g c s ≡ got h s' → Grown g h
 unfolding commanded
 commanded_grown fs g h (declare d r) s s' is =
     let one = bind_got (fresh g d.name s) (λ u r'. initial fs (declared g d.name (declared_type d)) r (declared_type d) r' >>= λ u. got (declared g d.name (declared_type d))) h s' is in
@@ -84,6 +84,6 @@ commanded_grown fs g h (waits ws b) s s' is =
     same_grown (enclosed fs g b one.1) g h s' one.3
 
 -- a statement that is accepted adds to the scope
-pub stated_grown : (fs : List Signature) (g h : Around) (st : Statement) (s s' : List Settled) → stated fs g st s ≡ got h s' → Grown g h
+pub stated_grown : (fs : List Signature) (g h : Around) (st : Statement) (s s' : List NameEntry) → stated fs g st s ≡ got h s' → Grown g h
 unfolding stated
 stated_grown fs g h (statement nd c) s s' is = commanded_grown fs g h c s s' is

@@ -4,9 +4,9 @@ use Rattle.std.proofs.Common.{inl, inr}
 use Rattle.std.specs.Prelude.{Some, None, cond, suc}
 use Rattle.std.specs.Str.{bytes_eq}
 use Rattle.std.proofs.lemmas.Slice.Eq.{bytes_eq-Decides}
-use Rattle.types.specs.declared.typed.Owned.{Owned}
-use Rattle.types.specs.declared.typed.Owned.TheVariants.{Local}
-use Rattle.types.specs.declared.typed.Settled.{Settled}
+use Rattle.types.specs.declared.typed.Binding.{Binding}
+use Rattle.types.specs.declared.typed.Binding.TheVariants.{Local}
+use Rattle.types.specs.declared.typed.NameEntry.{NameEntry}
 use Rattle.language.proofs.Members.{split_in}
 use Rattle.language.specs.Tree.{Word}
 use Rattle.language.specs.Scopes.{Typ, Visible, Scope, deeper, own, IsVisible}
@@ -36,21 +36,21 @@ below_last d (x ∷ xs) k all low = (all.0, below_last d xs k all.1 low)
 pub inside_more : (g : Around) → Inside g → Inside (inside g)
 inside_more g all = below_more g.depth g.names all
 
-pub inside_added : (g : Around) (w : Word) (what : Owned) (τ : Typ) → Inside g → Inside (added g w what τ)
+pub inside_added : (g : Around) (w : Word) (what : Binding) (τ : Typ) → Inside g → Inside (added g w what τ)
 inside_added g w what τ all = below_last g.depth g.names (record { text = w.text; depth = g.depth; what = what; of = τ }) all (omega arith)
 
 -- a variable that is declared in a block
-abbrev pub owned : Word → Owned → Typ → Visible
+abbrev pub owned : Word → Binding → Typ → Visible
 owned w what τ = record { text = w.text; refers_to = record { up = 0; what = owned_name what }; type = τ }
 
 scope_last : (d : ℕ) (ks : List Seen) (k : Seen) (g : Scope) → scope_onto d (ks ++ k ∷ []) g ≡ visible_at d k ∷ scope_onto d ks g
 scope_last d [] k g = refl
 scope_last d (x ∷ xs) k g = scope_last d xs k (visible_at d x ∷ g)
 
-abbrev at_up : Word → Owned → Typ → Scope → ℕ → Scope
+abbrev at_up : Word → Binding → Typ → Scope → ℕ → Scope
 at_up w what τ g n = record { text = w.text; refers_to = record { up = n; what = owned_name what }; type = τ } ∷ g
 
-pub scope_added : (g : Around) (w : Word) (what : Owned) (τ : Typ) → scope_of (added g w what τ) ≡ owned w what τ ∷ scope_of g
+pub scope_added : (g : Around) (w : Word) (what : Binding) (τ : Typ) → scope_of (added g w what τ) ≡ owned w what τ ∷ scope_of g
 scope_added g w what τ =
     let here : g.depth - g.depth ≡ 0 = omega arith in
     scope_last g.depth g.names (record { text = w.text; depth = g.depth; what = what; of = τ }) [] ∙ ap (at_up w what τ (scope_of g)) here
@@ -91,7 +91,7 @@ unseen_onto d (k ∷ ks) g letters none here =
 pub none_visible : (letters : List ℕ) → ¬ IsVisible [] letters
 none_visible letters it = elim it.1 [ ]
 
-pub fresh_got : (g : Around) (w : Word) (s s' : List Settled) → fresh g w s ≡ got (tt {0}) s' → (¬ IsVisible (scope_of g) w.text) × (s ≡ s')
+pub fresh_got : (g : Around) (w : Word) (s s' : List NameEntry) → fresh g w s ≡ got (tt {0}) s' → (¬ IsVisible (scope_of g) w.text) × (s ≡ s')
 fresh_got g w s s' is =
     elim (seen g.names w.text) as (λ o. seen g.names w.text ≡ o → free w o s ≡ got (tt {0}) s' → (¬ IsVisible (scope_of g) w.text) × (s ≡ s')) [
       | None ↦ λ none here. (unseen_onto g.depth g.names [] w.text none (none_visible w.text), cc)

@@ -8,7 +8,7 @@ use Rattle.language.specs.Tree.{Statement, statements_of, declare, assign, write
 use Rattle.syntax_trees.proofs.Views.{size_of_element, block-size}
 use Rattle.types.specs.Typed.{table_of}
 use Rattle.assign_check.specs.Outline as outline
-use Rattle.assign_check.specs.declared.outline.Step.{Encloses}
+use Rattle.assign_check.specs.declared.outline.OutlineStep.{Encloses}
 use Rattle.assign_check.specs.View.{steps_view}
 use Rattle.language.proofs.Walks.{walked_more, walked_all}
 use Rattle.assign_check.proofs.outlines.Views.{view-Stmt, view-Declare, view-Assign, view-Write, view-AssignAll, view-Call, view-Wait, then_more, step_added, form_added}

@@ -3,8 +3,8 @@ use Rattle.std.proofs.lemmas.Grind.{common_steps}
 use Rattle.std.proofs.lemmas.List.{drop_all}
 use Rattle.std.proofs.lemmas.Result.{on_ok_weaker}
 use Rattle.language.specs.Core.{Owned}
-use Rattle.assign_check.specs.declared.count.Part.{Part}
-use Rattle.assign_check.specs.declared.outline.Step.{Step}
+use Rattle.assign_check.specs.declared.count.AssignCounts.{AssignCounts}
+use Rattle.assign_check.specs.declared.outline.OutlineStep.{OutlineStep}
 use Rattle.assign_check.specs.Outline as outline
 use Rattle.assign_check.specs.Faults.{first_among, split_faults, split_step, sums, counts, step_counts}
 use Rattle.assign_check.specs.Sets.{Same, part_sums}
@@ -36,7 +36,7 @@ count-returns-clause-sums t c = λ of.
     let steps = c.args.steps.now.items in
     let past : length steps ≤ c.loop-step.step-index = grind (arith, common_steps) in
     same_on (turned (zero_last (part_sums of c.loop-step.parts.items)))
-    (same_on (same_from (ap (λ (ss : List Step). sums (part_sums of c.loop-step.parts.items) (counts c.args.inside of (outline_view ss))) (sym (drop_all c.loop-step.step-index steps past))))
+    (same_on (same_from (ap (λ (ss : List OutlineStep). sums (part_sums of c.loop-step.parts.items) (counts c.args.inside of (outline_view ss))) (sym (drop_all c.loop-step.step-index steps past))))
     (c.loop-step.invariant.sums of))
 
 pub count_step-returns-in-Declares-clause-sums : goal.count_step-returns-in-Declares-clause-sums
@@ -52,10 +52,10 @@ count_step-returns-in_ok-uneven-in-Splits-clause-sums t c = λ of.
     let up = part_sums of c.args.parts.now.items in
     let one : Same (part_sums of c.as_slice.result.now) first =
     same_on (same_from (ap (part_sums of) c.as_slice.ensures.value)) (same_on (c.in_ok-count-in-Splits.ensures.sums of)
-    (same_on (same_from (ap (λ (ps : List Part). sums (part_sums of ps) first) c.new-one.ensures.items)) (zero_first first))) in
+    (same_on (same_from (ap (λ (ps : List AssignCounts). sums (part_sums of ps) first) c.new-one.ensures.items)) (zero_first first))) in
     let other : Same (part_sums of c.as_slice-in-Splits.result.now) second =
     same_on (same_from (ap (part_sums of) c.as_slice-in-Splits.ensures.value)) (same_on (c.in_ok-count-in-Splits-2.ensures.sums of)
-    (same_on (same_from (ap (λ (ps : List Part). sums (part_sums of ps) second) c.new-other.ensures.items)) (zero_first second))) in
+    (same_on (same_from (ap (λ (ps : List AssignCounts). sums (part_sums of ps) second) c.new-other.ensures.items)) (zero_first second))) in
     same_on (c.in_ok-uneven-in-Splits.ensures.sums of)
     (same_on (sums_same up up (part_sums of c.as_slice.result.now ++ part_sums of c.as_slice-in-Splits.result.now) (first ++ second) (same_self up)
     (both_same (part_sums of c.as_slice.result.now) first (part_sums of c.as_slice-in-Splits.result.now) second one other))
@@ -68,10 +68,10 @@ count_step-returns-in_ok-uneven-in-Splits-clause-best t c =
     let second = outline_view c.in-Splits.second.items in
     let one : (of : Owned) → Same (part_sums of c.as_slice.result.now) (counts c.args.inside of first) = λ of.
     same_on (same_from (ap (part_sums of) c.as_slice.ensures.value)) (same_on (c.in_ok-count-in-Splits.ensures.sums of)
-    (same_on (same_from (ap (λ (ps : List Part). sums (part_sums of ps) (counts c.args.inside of first)) c.new-one.ensures.items)) (zero_first (counts c.args.inside of first)))) in
+    (same_on (same_from (ap (λ (ps : List AssignCounts). sums (part_sums of ps) (counts c.args.inside of first)) c.new-one.ensures.items)) (zero_first (counts c.args.inside of first)))) in
     let other : (of : Owned) → Same (part_sums of c.as_slice-in-Splits.result.now) (counts c.args.inside of second) = λ of.
     same_on (same_from (ap (part_sums of) c.as_slice-in-Splits.ensures.value)) (same_on (c.in_ok-count-in-Splits-2.ensures.sums of)
-    (same_on (same_from (ap (λ (ps : List Part). sums (part_sums of ps) (counts c.args.inside of second)) c.new-other.ensures.items)) (zero_first (counts c.args.inside of second)))) in
+    (same_on (same_from (ap (λ (ps : List AssignCounts). sums (part_sums of ps) (counts c.args.inside of second)) c.new-other.ensures.items)) (zero_first (counts c.args.inside of second)))) in
     split_best c.args.inside c.in-Splits.number c.in-Splits.at first second c.args.best.now c.count.new.best c.count-in-Splits.new.best c.note_uneven.new.best c.in_ok-uneven-in-Splits.uneven
     c.in_ok-count-in-Splits.ensures.best c.in_ok-count-in-Splits-2.ensures.best
     (c.in_ok-uneven-in-Splits.ensures.uneven ∙ same_branches c.args.inside c.in-Splits.number first second c.as_slice.result.now c.as_slice-in-Splits.result.now one other) c.note_uneven.ensures

@@ -2,7 +2,7 @@ use Rattle.std.proofs.Common.{◌≡◌, ◌+◌, ◌<◌, List, Bool, drop, len
 use Rattle.std.proofs.lemmas.Grind.{common_steps}
 use Rattle.std.proofs.lemmas.List.{drop_all}
 use Rattle.types.specs.Typed.{owned_name}
-use Rattle.assign_check.specs.declared.count.Part.{Part}
+use Rattle.assign_check.specs.declared.count.AssignCounts.{AssignCounts}
 use Rattle.assign_check.specs.Faults.{sums}
 use Rattle.assign_check.specs.Sets.{numbers, set_at, part_sums}
 use Rattle.assign_check.proofs.counting.Handed.{added_part, sums_more, not_named}
@@ -30,5 +30,5 @@ loop-part-preserved c =
 pub returns-clause-sums : goal.returns-clause-sums
 returns-clause-sums c = λ of.
     same_on (turned (zero_last (numbers (set_at c.loop-part.sets of))))
-    (same_on (same_from (ap (λ (ps : List Part). sums (numbers (set_at c.loop-part.sets of)) (part_sums of ps)) (sym (drop_all c.loop-part.part-index c.args.parts.now c.loop-part-test.false))))
+    (same_on (same_from (ap (λ (ps : List AssignCounts). sums (numbers (set_at c.loop-part.sets of)) (part_sums of ps)) (sym (drop_all c.loop-part.part-index c.args.parts.now c.loop-part-test.false))))
     (c.loop-part.invariant.sums of))

@@ -1,6 +1,6 @@
 use Rattle.std.proofs.Common.{inl, inr, sym, ap, ◌∙◌}
 use Rattle.types.specs.Typed.{owned_name}
-use Rattle.assign_check.specs.declared.outline.Kind.{Kind}
+use Rattle.assign_check.specs.declared.outline.UseKind.{UseKind}
 use Rattle.assign_check.specs.Faults.{times, named_by}
 use Rattle.assign_check.specs.Sets.{part_sums}
 use Rattle.assign_check.specs.View.{kind_of}
@@ -16,8 +16,8 @@ pub returns-in-Written : goal.returns-in-Written
 returns-in-Written c = λ of.
     no_more_part (part_sums of c.args.parts.now.items) (times of (named_by c.args.inside (kind_of c.args.one.kind) (owned_name c.args.one.of)))
     (elim c.in-Written.is [
-      | inl e ↦ ap (λ (k : Kind). times of (named_by c.args.inside (kind_of k) (owned_name c.args.one.of))) e
-      | inr e ↦ ap (λ (k : Kind). times of (named_by c.args.inside (kind_of k) (owned_name c.args.one.of))) e
+      | inl e ↦ ap (λ (k : UseKind). times of (named_by c.args.inside (kind_of k) (owned_name c.args.one.of))) e
+      | inr e ↦ ap (λ (k : UseKind). times of (named_by c.args.inside (kind_of k) (owned_name c.args.one.of))) e
     ])
 
 pub returns-in_ok-push-in-Named : goal.returns-in_ok-push-in-Named

@@ -1,5 +1,5 @@
 use Rattle.std.proofs.Common.{◌≡◌, map, take}
-use Rattle.board_compute.specs.View.{answers_view}
+use Rattle.board_work.specs.View.{answers_view}
 use Rattle.board_instances.specs.Names.{led_slot}
 use Rattle.board_instances.specs.View.{frames_view}
 use Rattle.board_data.specs.Answered.{wanted_answer}

@@ -2,7 +2,7 @@ use Rattle.std.proofs.Common.{◌≡◌, ◌↔◌, ℕ, drop, map}
 use Rattle.std.specs.Prelude.{IsTrue}
 use Rattle.board_instances.specs.Names.{led_slot}
 use Rattle.board_instances.specs.View.{frames_view}
-use Rattle.board_compute.specs.View.{answers_view}
+use Rattle.board_work.specs.View.{answers_view}
 use Rattle.data_store.specs.Stores.{array_at}
 use Rattle.values.specs.Maps.{rising}
 use Rattle.board_data.specs.Answered.{wanted_answer}

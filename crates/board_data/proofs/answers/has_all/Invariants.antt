@@ -1,6 +1,6 @@
 use Rattle.std.proofs.Common.{◌≡◌, Some, drop}
 use Rattle.std.specs.List.{list_all}
-use Rattle.board_compute.specs.Same.{option_eq, scalar_eq}
+use Rattle.board_work.specs.Same.{option_eq, scalar_eq}
 use Rattle.data_store.specs.Stores.{array_at}
 use Rattle.values.specs.Maps.{found}
 use Rattle.values.specs.declared.map.Element.{Element}

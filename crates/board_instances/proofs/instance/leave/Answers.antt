@@ -7,8 +7,8 @@ loop-next-init c = λ nested there. (λ gs off. off, lies_there (frames_view c.a
 
 pub loop-next-preserved : goal.loop-next-preserved
 loop-next-preserved c = λ nested there. (
-  more_off (frames_view c.args.instances.now.slots) (frames_view c.loop-next.instances.slots) (frames_view c.leave_one-next.new.instances.slots) c.args.at c.in-Some.key c.loop-next.next c.leave_one-next.result c.in-Some.is (c.loop-next.invariant nested there).1 (c.loop-next.invariant nested there).0 c.leave_one-next.ensures.leaves,
-  more_lies (frames_view c.args.instances.now.slots) (frames_view c.loop-next.instances.slots) (frames_view c.leave_one-next.new.instances.slots) c.args.at c.in-Some.key c.loop-next.next c.leave_one-next.result c.in-Some.is (c.loop-next.invariant nested there).1 c.leave_one-next.ensures.goes,
+  more_off (frames_view c.args.instances.now.slots) (frames_view c.loop-next.instances.slots) (frames_view c.drop_instance-next.new.instances.slots) c.args.at c.in-Some.key c.loop-next.next c.drop_instance-next.result c.in-Some.is (c.loop-next.invariant nested there).1 (c.loop-next.invariant nested there).0 c.drop_instance-next.ensures.leaves,
+  more_lies (frames_view c.args.instances.now.slots) (frames_view c.loop-next.instances.slots) (frames_view c.drop_instance-next.new.instances.slots) c.args.at c.in-Some.key c.loop-next.next c.drop_instance-next.result c.in-Some.is (c.loop-next.invariant nested there).1 c.drop_instance-next.ensures.goes,
 )
 
 pub returns : goal.returns

@@ -3,15 +3,15 @@ use Rattle.std.proofs.lemmas.List.{length-map}
 use Rattle.std.proofs.lemmas.Result.{IfOk-weaker}
 use Rattle.flow.specs.Shapes.{declared_of, kinds_of}
 use Rattle.flow.specs.View.{core_of}
-use Rattle.flow_listed.specs.Cells.{Anchor, AreAmong, anchors_of}
+use Rattle.flow.specs.Cells.{Anchor, AreAmong, anchors_of}
 use Rattle.task_code.specs.Code.{Code}
 use Rattle.task_code.specs.View.{body_view, entry_view}
 use Rattle.code_rules.specs.Laying.{bare}
 use Rattle.emit_cells.specs.Marks.{marks_of}
 use Rattle.emit_rights.specs.Granted.{laid_code}
-use Rattle.code_layout.proofs.Bodies.{few_bodies}
-use Rattle.code_layout.proofs.Marks.{laid_marks}
-use Rattle.code_layout.proofs.Small.{laid_small}
+use Rattle.code_laws.proofs.Bodies.{few_bodies}
+use Rattle.code_laws.proofs.Marks.{laid_marks}
+use Rattle.code_laws.proofs.Small.{laid_small}
 use Rattle.emit.specs.Emits.{CanBeEmitted}
 use Rattle.emit.proofs.Marking.{same_marks}
 use Rattle.emit.proofs.script.emit.Goals as goal

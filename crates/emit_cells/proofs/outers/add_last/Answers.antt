@@ -3,7 +3,7 @@ use Rattle.std.proofs.lemmas.Result.{on_ok_weaker}
 use Rattle.flow.specs.Shapes.{kinds_of_function}
 use Rattle.flow.specs.View.{cell_view, parts_view}
 use Rattle.emit_cells.specs.Chunk.{Told}
-use Rattle.flow_listed.proofs.Growing.{grows_none}
+use Rattle.flow.proofs.Growing.{grows_none}
 use Rattle.emit_cells.proofs.Lasts.{last_told, last_there, plain_last}
 use Rattle.emit_cells.proofs.outers.add_last.Goals as goal
 

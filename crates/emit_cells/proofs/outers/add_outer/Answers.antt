@@ -1,5 +1,5 @@
 use Rattle.flow.specs.View.{parts_view}
-use Rattle.flow_listed.proofs.Growing.{grows_both}
+use Rattle.flow.proofs.Growing.{grows_both}
 use Rattle.emit_cells.proofs.Chunks.{added_both}
 use Rattle.emit_cells.proofs.Lasts.{inside_front}
 use Rattle.emit_cells.proofs.outers.add_outer.Goals as goal

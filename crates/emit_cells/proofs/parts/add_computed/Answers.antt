@@ -17,8 +17,8 @@ returns-clause-entry g c room =
     let ws = wanted k e in
     let noted : Noted ws c.note.new.needs.keys = c.in_ok-note.ensures room.0 [] (subst (Noted []) (sym c.new-needs.ensures.empty) noted_none) in
     let value = c.in_ok-value.ensures (ready ws c.note.new.needs.keys noted room.1) room.0 in
-    c.in_ok-put.ensures.entry ws noted
+    c.in_ok-push_entry.ensures.entry ws noted
     ∙ ap (λ v. map code_view.entry_view c.args.entries.now.items ++ made c.args.standing c.args.shown (each_once ws) (pure.Cell v) ∷ []) (value ∙ ap (λ ns. over k ns e) noted.are)
 
 pub returns-clause-marks : goal.returns-clause-marks
-returns-clause-marks g c = c.in_ok-put.ensures.marks
+returns-clause-marks g c = c.in_ok-push_entry.ensures.marks

@@ -1,7 +1,7 @@
 use Rattle.std.proofs.Common.{[], ◌∷◌, ◌++◌}
 use Rattle.language.specs.Core.{calls}
 use Rattle.flow.specs.View.{call_view, parts_view}
-use Rattle.flow_listed.proofs.Growing.{grows_still}
+use Rattle.flow.proofs.Growing.{grows_still}
 use Rattle.emit_cells.proofs.Chunks.{added_both}
 use Rattle.emit_cells.proofs.Lasts.{inside_front}
 use Rattle.emit_cells.proofs.Passing.{in_place, passes_both, passes_call}

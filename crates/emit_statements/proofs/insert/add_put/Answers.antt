@@ -37,9 +37,9 @@ returns-clause-own g c room priority =
     let value_is = c.in_ok-value.ensures ready room.1.1.1 in
     let does = ap (λ r. Put r place value) (c.named.ensures room.0) ∙ ap (λ e. Put array e value) place_is ∙ ap (λ e. Put array (over k (map need_of ks) first) e) value_is in
     let listed = subst (λ (ns : List Need). Noted ns ks) (wanted_both k first second) noted in
-    put_added s c.args.statement.node (name_view c.args.array) i o first second ks (Put target place value) c.args.entries.now.items c.put.new.entries.items priority
+    put_added s c.args.statement.node (name_view c.args.array) i o first second ks (Put target place value) c.args.entries.now.items c.push_entry.new.entries.items priority
     (ap (λ t. seen_as t i.cell.node i.cell.form) c.is_outer_plain-plain_index.ensures) (ap (λ t. seen_as t o.cell.node o.cell.form) c.is_outer_plain-plain_right.ensures) listed does
-    (c.in_ok-put.ensures.entry (flat_map (wanted k) (first ∷ second ∷ [])) listed)
+    (c.in_ok-push_entry.ensures.entry (flat_map (wanted k) (first ∷ second ∷ [])) listed)
 
 pub returns-clause-marks : goal.returns-clause-marks
-returns-clause-marks g c = c.in_ok-put.ensures.marks
+returns-clause-marks g c = c.in_ok-push_entry.ensures.marks

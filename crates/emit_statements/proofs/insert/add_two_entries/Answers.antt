@@ -1,7 +1,7 @@
 use Rattle.std.proofs.Common.{[], ◌∷◌}
 use Rattle.language.specs.Parts.{outer_parts}
 use Rattle.flow.specs.View.{outer_view}
-use Rattle.flow_listed.proofs.Growing.{grows_both}
+use Rattle.flow.proofs.Growing.{grows_both}
 use Rattle.emit_statements.proofs.Outers.{added_outer, inside_first, inside_rest, passes_outer}
 use Rattle.emit_statements.proofs.Starts.{inside_all, nothing_handed, passed_all}
 use Rattle.emit_statements.proofs.insert.add_two_entries.Goals as goal

@@ -1,7 +1,7 @@
 use Rattle.std.proofs.Common.{◌∷◌}
 use Rattle.std.specs.Prelude.{option_map, option_to_list}
 use Rattle.flow.specs.View.{outer_view}
-use Rattle.flow_listed.proofs.Growing.{grows_both}
+use Rattle.flow.proofs.Growing.{grows_both}
 use Rattle.emit_statements.proofs.Outers.{added_outer, inside_first, inside_rest}
 use Rattle.emit_statements.proofs.parts.add_bounds.Goals as goal
 

@@ -7,8 +7,8 @@ use Rattle.flow.specs.Shapes.{kinds_of_function}
 use Rattle.flow.specs.View.{outer_view}
 use Rattle.code_rules.specs.Room.{StepRoom}
 use Rattle.emit_cells.specs.Chunk.{Added, Inside, IsPassed}
-use Rattle.flow_listed.specs.Cells.{Anchor, step_anchors}
-use Rattle.flow_listed.proofs.Growing.{grows_none}
+use Rattle.flow.specs.Cells.{Anchor, step_anchors}
+use Rattle.flow.proofs.Growing.{grows_none}
 use Rattle.emit_cells.specs.Marks.{MarksGrow}
 use Rattle.emit_cells.proofs.Chunks.{added_none, chunk_none}
 use Rattle.emit_statements.proofs.steps.add_step.Goals as goal

@@ -2,7 +2,7 @@ use Rattle.std.proofs.Common.{rules, arith, ◌≡◌, ◌<◌, ◌++◌, length
 use Rattle.std.proofs.lemmas.Grind.{common_steps}
 use Rattle.std.specs.Prelude.{List}
 use Rattle.std.specs.Borrow.{Bor}
-use Rattle.flow.specs.declared.cell.Outer.{Outer}
+use Rattle.flow.specs.declared.cell.OuterCell.{OuterCell}
 use Rattle.flow.specs.View.{outer_view}
 use Rattle.meaning_cells.specs.Listed.{outers_listed}
 use Rattle.explain_inputs.specs.Inputs.{inputs_view, outer_inputs, outers_inputs}
@@ -15,6 +15,6 @@ loop-outer-preserved g c =
     let os = c.args.outers.now in
     let within : c.loop-outer.outer-index < length c.args.outers.now = grind (arith, common_steps) in
     let item : get_or c.args.outers.now c.loop-outer.outer-index c.outer-item.result ≡ c.outer-item.result = search rules in
-    one_more (λ (z : List (Bor (Outer A))). outers_inputs (outers_listed {A = A} z)) (λ (z : Bor (Outer A)). outer_inputs (outer_view {A = A} z.now)) (λ x ys. refl)
+    one_more (λ (z : List (Bor (OuterCell A))). outers_inputs (outers_listed {A = A} z)) (λ (z : Bor (OuterCell A)). outer_inputs (outer_view {A = A} z.now)) (λ x ys. refl)
     (inputs_view c.args.inputs.now.items ++ outers_inputs (outers_listed {A = A} os)) (inputs_view c.loop-outer.inputs.items) (inputs_view c.add_outer.new.inputs.items)
     os c.loop-outer.outer-index c.outer-item.result within item c.loop-outer.invariant c.in_ok-add_outer.ensures

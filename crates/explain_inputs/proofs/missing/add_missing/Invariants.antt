@@ -6,4 +6,4 @@ use Rattle.explain_inputs.proofs.missing.add_missing.Given as goal
 
 abbrev pub invariant-loop-input : goal.invariant-loop-input
 invariant-loop-input l =
-    inputs_view l.initial.found.items ++ not_seen (sight_of l.learned l.instance) (inputs_view l.inputs) ≡ inputs_view l.found.items ++ not_seen (sight_of l.learned l.instance) (inputs_view (drop l.input-index l.inputs))
+    inputs_view l.initial.found.items ++ not_seen (sight_of l.fact_base l.instance) (inputs_view l.inputs) ≡ inputs_view l.found.items ++ not_seen (sight_of l.fact_base l.instance) (inputs_view (drop l.input-index l.inputs))

@@ -6,5 +6,5 @@ use Rattle.explain_warnings.proofs.reads.+read.Given as goal
 
 abbrev pub invariant-read_all-loop-expr : goal.invariant-read_all-loop-expr
 invariant-read_all-loop-expr g l =
-    l.fn.mentions.items ++ all_reads (expressions_of (map expression_view l.exprs.items))
-    ≡ l.mentions.items ++ all_reads (expressions_of (map expression_view (drop l.expr-index l.exprs.items)))
+    l.fn.name_uses.items ++ all_reads (expressions_of (map expression_view l.exprs.items))
+    ≡ l.name_uses.items ++ all_reads (expressions_of (map expression_view (drop l.expr-index l.exprs.items)))

@@ -1,7 +1,7 @@
 use Rattle.std.proofs.Common.{arith, ◌≡◌, ◌<◌, ◌+◌, length, get_or, drop, true, false, subst, sym, ◌∙◌}
 use Rattle.std.proofs.lemmas.Grind.{common_steps}
 use Rattle.flow.specs.declared.name.Name.{Name}
-use Rattle.flow.specs.declared.name.Owned.TheVariants as Owned
+use Rattle.flow.specs.declared.name.NameBinding.TheVariants as Owned
 use Rattle.language.specs.declared.tree.Shape.{Shape}
 use Rattle.flow.specs.View.{name_view, names_view}
 use Rattle.flow.specs.Tests.{are_declared, is_declared}

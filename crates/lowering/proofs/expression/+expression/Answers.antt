@@ -9,13 +9,13 @@ use Rattle.language.specs.Resolved as rules
 use Rattle.language.specs.Table as table
 use Rattle.values.specs.Operators.{Operation}
 use Rattle.types.specs.Typed.{table_of, callee_name, builtin_name}
-use Rattle.flow.specs.declared.cell.Form.{Form}
+use Rattle.flow.specs.declared.cell.CellForm.{CellForm}
 use Rattle.flow.specs.View as seen
 use Rattle.flow.specs.View.{expr_view, exprs_view, names_view}
 use Rattle.lowering.specs.View.{Leaves}
 use Rattle.lowering.proofs.Operands.{before, from_on, operands_more, operands_all, arguments_more, arguments_all}
 use Rattle.syntax_trees.proofs.Views.{view-Call, view-Chain, view-Element, view-Prefixed}
-use Rattle.flow_listed.proofs.Growing.{grows_again, grows_among, grows_as, grows_still}
+use Rattle.flow.proofs.Growing.{grows_again, grows_among, grows_as, grows_still}
 use Rattle.lowering.specs.Nodes.{all_nodes, expression_nodes, form_nodes}
 use Rattle.lowering.proofs.Anchors.{call_stands, form_among, node_among, nodes_at, stays}
 use Rattle.lowering.proofs.Views.{view_operation, prefixed_found}
@@ -28,9 +28,9 @@ called-returns-in-BuiltIn-clause-leaves g t c =
     let es = expressions_of (map (expression_view {A = A}) c.args.arguments.now.items) in
     let w = word_of c.args.name.now in
     let P : table.Callee → Type 0 = λ f. IfOk c.built_in.result (λ x. Leaves c.args.parts.now.items c.built_in.new.parts.items (seen.form_view x) (rules.call_form tb w f es (rules.arguments_of tb es) (rules.operands_of tb es))) in
-    let told : Form A → Type 0 = λ x. (v : pure.Word) (passed : rules.Arguments)
+    let told : CellForm A → Type 0 = λ x. (v : pure.Word) (passed : rules.Arguments)
     → Leaves c.args.parts.now.items c.built_in.new.parts.items (seen.form_view x) (rules.call_form tb v (table.built_in (builtin_name c.in-BuiltIn.builtin)) es passed (rules.operands_of tb es)) in
-    let wanted : Form A → Type 0 = λ x. Leaves c.args.parts.now.items c.built_in.new.parts.items (seen.form_view x) (rules.call_form tb w (table.built_in (builtin_name c.in-BuiltIn.builtin)) es (rules.arguments_of tb es) (rules.operands_of tb es)) in
+    let wanted : CellForm A → Type 0 = λ x. Leaves c.args.parts.now.items c.built_in.new.parts.items (seen.form_view x) (rules.call_form tb w (table.built_in (builtin_name c.in-BuiltIn.builtin)) es (rules.arguments_of tb es) (rules.operands_of tb es)) in
     subst P (sym (ap callee_name c.in-BuiltIn.is) ∙ c.callee.ensures)
     (IfOk-weaker c.built_in.result told wanted (λ x is. is w (rules.arguments_of tb es)) c.built_in.ensures.leaves)
 

@@ -1,5 +1,5 @@
-use Rattle.flow_listed.proofs.Anchors.{assign_anchors}
-use Rattle.flow_listed.proofs.Growing.{among_as}
+use Rattle.flow.proofs.Anchors.{assign_anchors}
+use Rattle.flow.proofs.Growing.{among_as}
 use Rattle.lowering.proofs.right.assign.Goals as goal
 
 pub returns-clause-cells : goal.returns-clause-cells

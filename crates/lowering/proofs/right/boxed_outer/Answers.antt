@@ -1,6 +1,6 @@
 use Rattle.std.proofs.Common.{ap}
-use Rattle.flow_listed.specs.Cells.{outer_anchors}
-use Rattle.flow_listed.proofs.Growing.{among_as}
+use Rattle.flow.specs.Cells.{outer_anchors}
+use Rattle.flow.proofs.Growing.{among_as}
 use Rattle.lowering.proofs.right.boxed_outer.Goals as goal
 
 pub returns-clause-cells : goal.returns-clause-cells

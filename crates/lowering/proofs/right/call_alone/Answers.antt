@@ -6,10 +6,10 @@ use Rattle.language.specs.Core as core
 use Rattle.language.specs.Resolved as rules
 use Rattle.types.specs.Typed.{table_of}
 use Rattle.flow.specs.View.{call_view, parts_view, names_view}
-use Rattle.flow.specs.declared.cell.Part.{Part}
-use Rattle.flow_listed.specs.Cells.{AnchorsGrow, parts_anchors}
-use Rattle.flow_listed.proofs.Anchors.{call_anchors}
-use Rattle.flow_listed.proofs.Growing.{among_as}
+use Rattle.flow.specs.declared.cell.CellPart.{CellPart}
+use Rattle.flow.specs.Cells.{AnchorsGrow, parts_anchors}
+use Rattle.flow.proofs.Anchors.{call_anchors}
+use Rattle.flow.proofs.Growing.{among_as}
 use Rattle.lowering.specs.Nodes.{all_nodes}
 use Rattle.lowering.proofs.Actions.{view_call_alone, found_call}
 use Rattle.lowering.proofs.right.call_alone.Goals as goal
@@ -31,4 +31,4 @@ pub returns-clause-cells : goal.returns-clause-cells
 returns-clause-cells g c =
     let A = g.row.A.Denot in
     among_as (call_anchors _ c.call_of.new.parts c.in_ok-new.field-0)
-    (subst (λ (ps : List (Part A)). AnchorsGrow (parts_anchors ps) (parts_anchors c.call_of.new.parts.items) (all_nodes (map (expression_view {A = A}) c.args.arguments.now.items))) c.new-parts.ensures.items c.in_ok-call.ensures.cells).each
+    (subst (λ (ps : List (CellPart A)). AnchorsGrow (parts_anchors ps) (parts_anchors c.call_of.new.parts.items) (all_nodes (map (expression_view {A = A}) c.args.arguments.now.items))) c.new-parts.ensures.items c.in_ok-call.ensures.cells).each

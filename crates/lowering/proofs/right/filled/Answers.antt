@@ -1,5 +1,5 @@
 use Rattle.std.proofs.Common.{◌∙◌}
-use Rattle.flow_listed.proofs.Anchors.{fill_anchors}
+use Rattle.flow.proofs.Anchors.{fill_anchors}
 use Rattle.lowering.proofs.right.filled.Goals as goal
 
 pub returns-clause-cells : goal.returns-clause-cells

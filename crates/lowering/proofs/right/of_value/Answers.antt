@@ -10,8 +10,8 @@ use Rattle.flow.specs.declared.statement.Action.{Action}
 use Rattle.flow.specs.View.{action_view, name_view, names_view}
 use Rattle.syntax_trees.proofs.Views.{view-Call}
 use Rattle.lowering.proofs.Views.{view_expr}
-use Rattle.flow_listed.specs.Cells.{AreAmong, action_anchors}
-use Rattle.flow_listed.proofs.Growing.{among_as, among_equal, among_then}
+use Rattle.flow.specs.Cells.{AreAmong, action_anchors}
+use Rattle.flow.proofs.Growing.{among_as, among_equal, among_then}
 use Rattle.lowering.specs.Nodes.{all_nodes, expression_nodes, form_nodes}
 use Rattle.lowering.proofs.Anchors.{form_among, node_among}
 use Rattle.lowering.proofs.Actions.{value_called}

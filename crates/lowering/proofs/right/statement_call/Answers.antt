@@ -2,9 +2,9 @@ use Rattle.std.proofs.Common.{◌∷◌, [], map}
 use Rattle.std.proofs.lemmas.Result.{IfOk-weaker}
 use Rattle.syntax_trees.specs.View.{calling_of, expression_view}
 use Rattle.flow.specs.declared.statement.Action.{Action}
-use Rattle.flow_listed.specs.Cells.{AreAmong, action_anchors}
-use Rattle.flow_listed.proofs.Anchors.{assert_anchors, print_anchors}
-use Rattle.flow_listed.proofs.Growing.{among_as, among_right, among_then}
+use Rattle.flow.specs.Cells.{AreAmong, action_anchors}
+use Rattle.flow.proofs.Anchors.{assert_anchors, print_anchors}
+use Rattle.flow.proofs.Growing.{among_as, among_right, among_then}
 use Rattle.lowering.specs.Nodes.{all_nodes, calling_nodes, node_anchor}
 use Rattle.lowering.proofs.right.statement_call.Goals as goal
 

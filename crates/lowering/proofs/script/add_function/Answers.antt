@@ -1,7 +1,7 @@
 use Rattle.std.proofs.Common.{◌++◌, ◌∷◌, [], ◌≡◌, Bool, List, map, ap, sym, ◌∙◌}
 use Rattle.std.specs.List.{flat_map}
-use Rattle.flow_listed.specs.Cells.{Anchor, function_anchors}
-use Rattle.flow_listed.proofs.Growing.{among_equal, among_then, grows_among, grows_by}
+use Rattle.flow.specs.Cells.{Anchor, function_anchors}
+use Rattle.flow.proofs.Growing.{among_equal, among_then, grows_among, grows_by}
 use Rattle.lowering.specs.Nodes.{body_nodes, function_nodes}
 use Rattle.std.proofs.lemmas.List.{append-nil, map-append}
 use Rattle.syntax_trees.specs.declared.tree.Function.{Function as Composite'}
@@ -16,7 +16,7 @@ use Rattle.flow.specs.Shapes.{functions_declared, kinds_of_function}
 use Rattle.flow.specs.View.{function_view}
 use Rattle.lowering.specs.Shapes.{flagged, function_declarations, kinds_of_signature}
 use Rattle.std.proofs.lemmas.Grind.{flat_map-append}
-use Rattle.flow_listed.specs.Listed.{function_shown, functions_shown}
+use Rattle.flow.specs.Listed.{function_shown, functions_shown}
 use Rattle.lowering.specs.Listed.{composite_shown}
 use Rattle.lowering.proofs.Declaring.{one_more_function}
 use Rattle.lowering.proofs.Showing.{one_shown}

@@ -8,9 +8,9 @@ use Rattle.language.specs.Scopes.{signatures}
 use Rattle.flow.specs.Shapes.{functions_declared, kinds_of_function}
 use Rattle.flow.specs.View.{function_view}
 use Rattle.lowering.specs.Shapes.{flagged, function_declarations, kinds_of_signature}
-use Rattle.flow_listed.specs.Listed.{functions_shown}
+use Rattle.flow.specs.Listed.{functions_shown}
 use Rattle.lowering.specs.Listed.{composites_shown}
-use Rattle.flow_listed.proofs.Growing.{grows_again, grows_among, grows_none}
+use Rattle.flow.proofs.Growing.{grows_again, grows_among, grows_none}
 use Rattle.lowering.proofs.Anchors.{function_at}
 use Rattle.lowering.proofs.Declaring.{function_next, kinds_next}
 use Rattle.lowering.proofs.Showing.{shown_next}

@@ -6,9 +6,9 @@ use Rattle.flow.specs.View.{function_view}
 use Rattle.flow.specs.Shapes.{functions_declared, kinds_of_function}
 use Rattle.language.specs.Scopes.{signatures}
 use Rattle.std.specs.List.{flat_map}
-use Rattle.flow_listed.specs.Cells.{AnchorsGrow, function_anchors}
+use Rattle.flow.specs.Cells.{AnchorsGrow, function_anchors}
 use Rattle.lowering.specs.Nodes.{function_nodes}
-use Rattle.flow_listed.specs.Listed.{functions_shown}
+use Rattle.flow.specs.Listed.{functions_shown}
 use Rattle.lowering.specs.Listed.{composites_shown}
 use Rattle.lowering.specs.Shapes.{flagged, function_declarations, kinds_of_signature}
 use Rattle.lowering.proofs.script.add_functions.Given as goal

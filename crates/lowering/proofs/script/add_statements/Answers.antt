@@ -7,7 +7,7 @@ use Rattle.flow.specs.View.{statements_view}
 use Rattle.lowering.specs.Shapes.{declared_by, flagged, own_declarations}
 use Rattle.lowering.specs.View.{own_statements}
 use Rattle.lowering.specs.Listed.{listed_by, own_listed}
-use Rattle.flow_listed.proofs.Growing.{grows_again, grows_among, grows_none}
+use Rattle.flow.proofs.Growing.{grows_again, grows_among, grows_none}
 use Rattle.lowering.proofs.Anchors.{own_at}
 use Rattle.lowering.proofs.Declaring.{own_next}
 use Rattle.lowering.proofs.Showing as shows

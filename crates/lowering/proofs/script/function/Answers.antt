@@ -1,6 +1,6 @@
 use Rattle.std.proofs.Common.{◌≡◌, ap₂, arith, length, map, Bool, List}
 use Rattle.std.proofs.lemmas.Grind.{common_steps}
-use Rattle.flow_listed.specs.Listed.{block_listed}
+use Rattle.flow.specs.Listed.{block_listed}
 use Rattle.lowering.specs.Listed.{body_listed}
 use Rattle.lowering.proofs.Showing.{same_function_shown}
 use Rattle.language.specs.Resolved.{block_of}

@@ -1,11 +1,11 @@
 use Rattle.std.proofs.Common.{◌++◌, List, ap, ap₂, subst, ◌∙◌}
 use Rattle.std.specs.List.{flat_map}
-use Rattle.flow_listed.specs.Cells.{AnchorsGrow, function_anchors}
-use Rattle.flow_listed.proofs.Growing.{among_each}
+use Rattle.flow.specs.Cells.{AnchorsGrow, function_anchors}
+use Rattle.flow.proofs.Growing.{among_each}
 use Rattle.lowering.specs.Nodes.{function_nodes}
 use Rattle.syntax_trees.specs.View.{tree_of}
 use Rattle.flow.specs.declared.script.Function.{Function}
-use Rattle.flow_listed.specs.Listed.{Listed, Shown, functions_shown, whole}
+use Rattle.flow.specs.Listed.{Listed, Shown, functions_shown, whole}
 use Rattle.lowering.specs.Listed.{composites_shown}
 use Rattle.lowering.proofs.script.lower.Goals as goal
 

@@ -1,10 +1,10 @@
 use Rattle.std.proofs.Common.{List, ◌++◌, map, ap, subst, ◌∙◌}
 use Rattle.std.specs.List.{flat_map}
-use Rattle.flow_listed.specs.Cells.{AnchorsGrow, statement_anchors}
-use Rattle.flow_listed.proofs.Growing.{among_as}
+use Rattle.flow.specs.Cells.{AnchorsGrow, statement_anchors}
+use Rattle.flow.proofs.Growing.{among_as}
 use Rattle.lowering.specs.Nodes.{own_nodes}
 use Rattle.flow.specs.declared.statement.Statement.{Statement as Added}
-use Rattle.flow_listed.specs.Listed as shows
+use Rattle.flow.specs.Listed as shows
 use Rattle.lowering.specs.Listed.{listed_by, own_listed}
 use Rattle.language.specs.Resolved.{script_block}
 use Rattle.syntax_trees.specs.View.{part_of}

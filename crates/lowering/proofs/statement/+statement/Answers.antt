@@ -26,8 +26,8 @@ use Rattle.language_accepted.specs.Types.{statement_declarations, body_declarati
 use Rattle.flow.specs.Shapes.{block_declared}
 use Rattle.lowering.specs.Shapes.{among, declared_by, flagged}
 use Rattle.lowering.proofs.Declaring.{flagged_append, statement_next}
-use Rattle.flow_listed.specs.Listed as shows
-use Rattle.flow_listed.specs.Listed.{Listed, block_listed, looping, other, waiting, whole}
+use Rattle.flow.specs.Listed as shows
+use Rattle.flow.specs.Listed.{Listed, block_listed, looping, other, waiting, whole}
 use Rattle.language.specs.declared.tree.Shape.{Shape}
 use Rattle.lowering.specs.Listed.{all_listed, body_listed, command_listed, listed, listed_by}
 use Rattle.lowering.specs.View.{as_declared}
@@ -35,8 +35,8 @@ use Rattle.lowering.proofs.Showing.{listed_next, lists_form}
 use Rattle.std.specs.List.{flat_map}
 use Rattle.syntax_trees.specs.declared.tree.Expr.{Expr}
 use Rattle.syntax_trees.specs.declared.tree.Block.{Block}
-use Rattle.flow_listed.specs.Cells.{AreAmong, block_anchors, statement_anchors}
-use Rattle.flow_listed.proofs.Growing.{among_as, among_each, among_equal, among_self, among_then, grows_again, grows_among, grows_as, grows_none}
+use Rattle.flow.specs.Cells.{AreAmong, block_anchors, statement_anchors}
+use Rattle.flow.proofs.Growing.{among_as, among_each, among_equal, among_self, among_then, grows_again, grows_among, grows_as, grows_none}
 use Rattle.lowering.specs.Nodes.{body_nodes, calling_nodes, command_nodes, expression_nodes, over_nodes, statement_nodes}
 use Rattle.lowering.proofs.Anchors.{block_stands, form_stands, statement_at}
 use Rattle.lowering.proofs.Walks.{walked_more, walked_all}

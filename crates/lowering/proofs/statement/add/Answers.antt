@@ -1,9 +1,9 @@
 use Rattle.std.proofs.Common.{rules, List, [], ◌∷◌, ◌++◌, ap, ◌∙◌}
 use Rattle.std.proofs.lemmas.List.{map-append}
-use Rattle.flow_listed.specs.Listed.{Listed, statement_listed}
+use Rattle.flow.specs.Listed.{Listed, statement_listed}
 use Rattle.std.specs.List.{flat_map}
-use Rattle.flow_listed.specs.Cells.{Anchor, statement_anchors}
-use Rattle.flow_listed.proofs.Growing.{grows_by}
+use Rattle.flow.specs.Cells.{Anchor, statement_anchors}
+use Rattle.flow.proofs.Growing.{grows_by}
 use Rattle.lowering.specs.Listed.{listed_by}
 use Rattle.flow.specs.declared.statement.Statement.{the_lemmas}
 use Rattle.lowering.specs.Shapes.{declared_by}

@@ -6,8 +6,8 @@ use Rattle.flow.specs.declared.statement.Action.{Action}
 use Rattle.flow.specs.View.{action_view, statements_view}
 use Rattle.flow.specs.Shapes.{action_declared}
 use Rattle.lowering.specs.Shapes.{declared_by}
-use Rattle.flow_listed.specs.Listed.{action_listed}
-use Rattle.flow_listed.specs.Cells.{action_anchors}
+use Rattle.flow.specs.Listed.{action_listed}
+use Rattle.flow.specs.Cells.{action_anchors}
 use Rattle.lowering.specs.Nodes.{StatementsStand}
 use Rattle.lowering.specs.Listed.{listed_by}
 use Rattle.lowering.proofs.statement.add_made.Goals as goal

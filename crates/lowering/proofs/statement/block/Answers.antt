@@ -9,8 +9,8 @@ use Rattle.flow.specs.View.{statements_view}
 use Rattle.lowering.proofs.Statements.{block_found}
 use Rattle.language_accepted.specs.Types.{body_declarations}
 use Rattle.lowering.specs.Shapes.{among, declared_by, flagged}
-use Rattle.flow_listed.specs.Listed as shows
-use Rattle.flow_listed.proofs.Growing.{among_as}
+use Rattle.flow.specs.Listed as shows
+use Rattle.flow.proofs.Growing.{among_as}
 use Rattle.lowering.proofs.Anchors.{block_stands}
 use Rattle.lowering.specs.Listed.{all_listed, body_listed, listed_by}
 use Rattle.lowering.proofs.statement.block.Goals as goal

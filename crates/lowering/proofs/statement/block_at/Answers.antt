@@ -1,6 +1,6 @@
 use Rattle.std.proofs.Common.{rules, ◌∙◌}
 use Rattle.flow.specs.declared.statement.Statement.{the_lemmas}
-use Rattle.flow_listed.proofs.Anchors.{anchors_block}
+use Rattle.flow.proofs.Anchors.{anchors_block}
 use Rattle.lowering.proofs.statement.block_at.Goals as goal
 
 pub returns-clause-cells : goal.returns-clause-cells

@@ -1,6 +1,6 @@
 use Rattle.std.proofs.Common.{ap, ◌∙◌}
-use Rattle.flow_listed.specs.Cells.{block_anchors}
-use Rattle.flow_listed.specs.Listed.{block_listed}
+use Rattle.flow.specs.Cells.{block_anchors}
+use Rattle.flow.specs.Listed.{block_listed}
 use Rattle.lowering.proofs.statement.boxed_at.Goals as goal
 
 pub returns-clause-listed : goal.returns-clause-listed

@@ -1,5 +1,5 @@
-use Rattle.flow_listed.proofs.Anchors.{when_anchors}
-use Rattle.flow_listed.proofs.Growing.{among_as, among_each, among_self}
+use Rattle.flow.proofs.Anchors.{when_anchors}
+use Rattle.flow.proofs.Growing.{among_as, among_each, among_self}
 use Rattle.lowering.proofs.statement.choice.Goals as goal
 
 pub returns-clause-cells : goal.returns-clause-cells

@@ -6,10 +6,10 @@ use Rattle.types.specs.Typed.{table_of}
 use Rattle.flow.specs.declared.statement.Action.{Declare}
 use Rattle.flow.specs.View.{action_view, name_view, statements_view}
 use Rattle.lowering.proofs.Loops.{view_declare}
-use Rattle.flow_listed.specs.Listed.{action_listed, declares, other}
+use Rattle.flow.specs.Listed.{action_listed, declares, other}
 use Rattle.syntax_trees.specs.declared.tree.Right.{Right}
-use Rattle.flow_listed.proofs.Anchors.{declare_anchors}
-use Rattle.flow_listed.proofs.Growing.{among_as, among_equal, among_none, among_then, grows_again, grows_among}
+use Rattle.flow.proofs.Anchors.{declare_anchors}
+use Rattle.flow.proofs.Growing.{among_as, among_equal, among_none, among_then, grows_again, grows_among}
 use Rattle.lowering.specs.Nodes.{maybe_nodes, right_nodes}
 use Rattle.lowering.specs.Listed.{listed_by}
 use Rattle.lowering.specs.View.{Declared}

@@ -1,5 +1,5 @@
-use Rattle.flow_listed.proofs.Anchors.{insert_anchors}
-use Rattle.flow_listed.proofs.Growing.{among_as, among_each}
+use Rattle.flow.proofs.Anchors.{insert_anchors}
+use Rattle.flow.proofs.Growing.{among_as, among_each}
 use Rattle.lowering.proofs.statement.insert.Goals as goal
 
 pub returns-clause-cells : goal.returns-clause-cells

@@ -1,4 +1,4 @@
-use Rattle.flow_listed.proofs.Growing.{among_each}
+use Rattle.flow.proofs.Growing.{among_each}
 use Rattle.lowering.proofs.statement.range.Goals as goal
 
 pub returns-clause-cells : goal.returns-clause-cells

@@ -8,9 +8,9 @@ use Rattle.flow.specs.View.{block_view}
 use Rattle.lowering.proofs.Loops.{each_found, range_found}
 use Rattle.lowering.proofs.Declaring.{each_declared, range_declared}
 use Rattle.lowering.proofs.Showing.{each_shown, range_shown, same_loop}
-use Rattle.flow_listed.specs.Listed.{block_listed}
-use Rattle.flow_listed.proofs.Anchors.{each_anchors, range_loop_anchors}
-use Rattle.flow_listed.proofs.Growing.{among_as, among_each, among_equal, among_right, among_self, among_then}
+use Rattle.flow.specs.Listed.{block_listed}
+use Rattle.flow.proofs.Anchors.{each_anchors, range_loop_anchors}
+use Rattle.flow.proofs.Growing.{among_as, among_each, among_equal, among_right, among_self, among_then}
 use Rattle.lowering.specs.Nodes.{over_nodes}
 use Rattle.lowering.proofs.statement.repeated.Goals as goal
 

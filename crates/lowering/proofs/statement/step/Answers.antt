@@ -1,7 +1,7 @@
 use Rattle.std.proofs.Common.{Option, option_map, ap, sym}
 use Rattle.syntax_trees.specs.declared.tree.Expr.{Expr}
 use Rattle.syntax_trees.specs.View.{expression_view}
-use Rattle.flow_listed.proofs.Growing.{among_equal, among_none, among_then}
+use Rattle.flow.proofs.Growing.{among_equal, among_none, among_then}
 use Rattle.lowering.specs.Nodes.{expression_nodes, maybe_nodes}
 use Rattle.lowering.proofs.statement.step.Goals as goal
 

@@ -1,4 +1,4 @@
-use Rattle.flow_listed.proofs.Anchors.{wait_anchors}
+use Rattle.flow.proofs.Anchors.{wait_anchors}
 use Rattle.lowering.proofs.statement.waiting.Goals as goal
 
 pub returns-clause-cells : goal.returns-clause-cells

@@ -6,4 +6,4 @@ use Rattle.meaning_cells.proofs.choices.have_come.Given as goal
 
 abbrev pub invariant-loop-name : goal.invariant-loop-name
 invariant-loop-name l =
-    have_come_in (sight_of l.learned l.instance) (map awaited_view l.names) ≡ have_come_in (sight_of l.learned l.instance) (map awaited_view (drop l.name-index l.names))
+    have_come_in (sight_of l.fact_base l.instance) (map awaited_view l.names) ≡ have_come_in (sight_of l.fact_base l.instance) (map awaited_view (drop l.name-index l.names))

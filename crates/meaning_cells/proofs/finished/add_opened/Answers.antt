@@ -10,14 +10,14 @@ use Rattle.meaning_cells.proofs.finished.add_opened.Goals as goal
 
 pub returns-then-not-branch : goal.returns-then-not-branch
 returns-then-not-branch g c =
-    let l = c.args.learned.now in
+    let l = c.args.fact_base.now in
     let x = choice_view c.args.choice.now in
     let a = owned_view c.args.what in
     let b = block_view {A = g.row.A.Denot} c.args.block.now in
     let gs = goals_of {A = g.row.A.Denot} c.loop-i.tasks.items in
     let below : c.loop-i.i < count_in (choice_view c.args.choice.now) = grind (arith, common_steps) in
     let key : c.in_ok-key.key ≡ key_in (choice_view c.args.choice.now) c.loop-i.i = c.in_ok-key.ensures below in
-    let told : where_so false (goals_of {A = g.row.A.Denot} c.add_child.new.tasks.items) ≡ behind (goals_of {A = g.row.A.Denot} c.loop-i.tasks.items) (child_goals (child_at c.args.learned.now.instances c.args.instance c.args.at c.in_ok-key.key) (owned_view c.args.what) (block_view {A = g.row.A.Denot} c.args.block.now)) = search rules in
+    let told : where_so false (goals_of {A = g.row.A.Denot} c.add_child.new.tasks.items) ≡ behind (goals_of {A = g.row.A.Denot} c.loop-i.tasks.items) (child_goals (child_at c.args.fact_base.now.instances c.args.instance c.args.at c.in_ok-key.key) (owned_view c.args.what) (block_view {A = g.row.A.Denot} c.args.block.now)) = search rules in
     both_fail (behind (goals_of {A = g.row.A.Denot} c.args.tasks.now.items) (turn_goals l c.args.instance a c.args.at b x 0 (count_in x))) gs (goals_of {A = g.row.A.Denot} c.add_child.new.tasks.items)
     (child_goals (child_at l.instances c.args.instance c.args.at (key_in x c.loop-i.i)) a b) (turn_goals l c.args.instance a c.args.at b x (c.loop-i.i + 1) (count_in x - (c.loop-i.i + 1)))
     (c.loop-i.invariant ∙ ap (behind gs) (turn_step l c.args.instance a c.args.at b x c.loop-i.i (count_in x) below))
@@ -25,14 +25,14 @@ returns-then-not-branch g c =
 
 pub loop-i-preserved : goal.loop-i-preserved
 loop-i-preserved g c =
-    let l = c.args.learned.now in
+    let l = c.args.fact_base.now in
     let x = choice_view c.args.choice.now in
     let a = owned_view c.args.what in
     let b = block_view {A = g.row.A.Denot} c.args.block.now in
     let gs = goals_of {A = g.row.A.Denot} c.loop-i.tasks.items in
     let below : c.loop-i.i < count_in (choice_view c.args.choice.now) = grind (arith, common_steps) in
     let key : c.in_ok-key.key ≡ key_in (choice_view c.args.choice.now) c.loop-i.i = c.in_ok-key.ensures below in
-    let told : where_so true (goals_of {A = g.row.A.Denot} c.add_child.new.tasks.items) ≡ behind (goals_of {A = g.row.A.Denot} c.loop-i.tasks.items) (child_goals (child_at c.args.learned.now.instances c.args.instance c.args.at c.in_ok-key.key) (owned_view c.args.what) (block_view {A = g.row.A.Denot} c.args.block.now)) = search rules in
+    let told : where_so true (goals_of {A = g.row.A.Denot} c.add_child.new.tasks.items) ≡ behind (goals_of {A = g.row.A.Denot} c.loop-i.tasks.items) (child_goals (child_at c.args.fact_base.now.instances c.args.instance c.args.at c.in_ok-key.key) (owned_view c.args.what) (block_view {A = g.row.A.Denot} c.args.block.now)) = search rules in
     both_more (behind (goals_of {A = g.row.A.Denot} c.args.tasks.now.items) (turn_goals l c.args.instance a c.args.at b x 0 (count_in x))) gs (goals_of {A = g.row.A.Denot} c.add_child.new.tasks.items)
     (child_goals (child_at l.instances c.args.instance c.args.at (key_in x c.loop-i.i)) a b) (turn_goals l c.args.instance a c.args.at b x (c.loop-i.i + 1) (count_in x - (c.loop-i.i + 1)))
     (c.loop-i.invariant ∙ ap (behind gs) (turn_step l c.args.instance a c.args.at b x c.loop-i.i (count_in x) below))

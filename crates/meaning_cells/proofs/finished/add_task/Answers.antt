@@ -12,6 +12,6 @@ returns-in-Some g c =
     let b = block_view {A = g.row.A.Denot} c.args.task.block.now in
     let split : c.args.task.inner.now ≡ c.in-Some.header.now ∷ c.in-Some.inner.now = search rules in
     subst (λ (z : Goals). IfOk c.add_waiting.result (λ yes. where_so yes (goals_of {A = g.row.A.Denot} c.add_waiting.new.tasks.items) ≡ behind (goals_of {A = g.row.A.Denot} c.args.tasks.now.items) z))
-    (sym (wait_goals {A = g.row.A.Denot} s c.args.learned.now c.args.task.instance a c.in-Some.header.now c.in-Some.inner.now b)
-    ∙ ap (λ (z : List (Header g.row.A.Denot)). goals_in s c.args.learned.now c.args.task.instance a (waits_around z b)) (sym split))
+    (sym (wait_goals {A = g.row.A.Denot} s c.args.fact_base.now c.args.task.instance a c.in-Some.header.now c.in-Some.inner.now b)
+    ∙ ap (λ (z : List (Header g.row.A.Denot)). goals_in s c.args.fact_base.now c.args.task.instance a (waits_around z b)) (sym split))
     c.add_waiting.ensures

@@ -6,5 +6,5 @@ use Rattle.meaning_cells.proofs.finished.add_unfinished.Given as goal
 
 abbrev pub invariant-loop-statement : goal.invariant-loop-statement
 invariant-loop-statement g l =
-    behind (goals_of l.initial.tasks.items) (goals_in (core_of l.flow) l.learned l.instance (owned_view l.what) (block_view l.block))
-    ≡ behind (goals_of l.tasks.items) (goals_in (core_of l.flow) l.learned l.instance (owned_view l.what) (block_of (statements_view (drop l.statement-index (out-Block g.row.A.Denot l.block).statements.items))))
+    behind (goals_of l.initial.tasks.items) (goals_in (core_of l.flow) l.fact_base l.instance (owned_view l.what) (block_view l.block))
+    ≡ behind (goals_of l.tasks.items) (goals_in (core_of l.flow) l.fact_base l.instance (owned_view l.what) (block_of (statements_view (drop l.statement-index (out-Block g.row.A.Denot l.block).statements.items))))

@@ -5,4 +5,4 @@ use Rattle.meaning_cells.proofs.finished.is_finished.Given as goal
 
 abbrev pub invariant-loop : goal.invariant-loop
 invariant-loop g l =
-    IsLeft (core_of l.flow) l.learned (record { instance = l.fn.body.instance; what = owned_view l.fn.body.what; block = block_view l.fn.body.block.now }) (goals_of l.tasks.items)
+    IsLeft (core_of l.flow) l.fact_base (record { instance = l.fn.body.instance; what = owned_view l.fn.body.what; block = block_view l.fn.body.block.now }) (goals_of l.tasks.items)

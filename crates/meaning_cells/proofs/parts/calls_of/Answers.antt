@@ -5,7 +5,7 @@ use Rattle.std.proofs.lemmas.Result.{IfOk-weaker}
 use Rattle.language.specs.Core as core
 use Rattle.language.specs.Parts.{part_calls, parts}
 use Rattle.flow.specs.declared.cell.Call.{Call}
-use Rattle.flow.specs.declared.cell.Part.{Part}
+use Rattle.flow.specs.declared.cell.CellPart.{CellPart}
 use Rattle.flow.specs.View.{action_view, call_view, parts_view}
 use Rattle.meaning_cells.specs.Listed.{calls_listed}
 use Rattle.meaning_cells.proofs.Parting.{view_call}
@@ -21,7 +21,7 @@ returns-in-Call g c =
     IfOk-weaker c.called.result
     (λ (cs : Vec (Bor (Call A)) Global). calls_listed {A = A} cs.items ≡ part_calls (parts_view {A = A} c.as_slice.result.now ++ core.calls (call_view {A = A} c.deref.result.now) ∷ []))
     (λ (cs : Vec (Bor (Call A)) Global). calls_listed {A = A} cs.items ≡ part_calls (parts (action_view {A = A} c.args.action.now)))
-    (λ cs e. e ∙ ap (λ (z : List (Part A)). part_calls (parts_view {A = A} z ++ core.calls (call_view {A = A} c.deref.result.now) ∷ [])) inside
+    (λ cs e. e ∙ ap (λ (z : List (CellPart A)). part_calls (parts_view {A = A} z ++ core.calls (call_view {A = A} c.deref.result.now) ∷ [])) inside
     ∙ ap (λ (z : Call A). part_calls (parts_view {A = A} c.in-Call.parts.items ++ core.calls (call_view {A = A} z) ∷ [])) behind
     ∙ sym (ap (λ (z : core.Action). part_calls (parts z)) view))
     c.called.ensures

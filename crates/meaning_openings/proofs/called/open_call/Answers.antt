@@ -7,7 +7,7 @@ use Rattle.flow.specs.View.{block_view, call_view, function_view, names_view}
 use Rattle.language.specs.Core as core
 use Rattle.language.specs.Core.{Core}
 use Rattle.language.specs.Places.{most_steps}
-use Rattle.meaning_facts.specs.declared.instances.Given.{Given}
+use Rattle.meaning_facts.specs.declared.instances.InstanceBindings.{InstanceBindings}
 use Rattle.paths.specs.declared.steps.Step.{Step}
 use Rattle.meaning_facts.specs.Paths.{path_of}
 use Rattle.meaning_facts.specs.Store.{spots}
@@ -29,14 +29,14 @@ returns-clause-so g c =
     (slice_there c.deref.result.now c.args.call.now.function c.in-Some.function.now c.in-Some.ensures.lookup.3.0 c.in-Some.ensures.lookup.1) in
     let fv : core.Function = function_view {A = A} c.in-Some.function.now in
     let x : Step = record { offset = c.args.call.now.at; key = Key.Number (pos 0) } in
-    let given : Given = record { inputs = c.in_ok-places.field-0; outputs = c.in_ok-places-2.field-0; variables = c.new.result } in
-    let short : length (path_of c.args.state.now.learned.instances.all.items c.args.instance) < most_steps =
-    short_path (length (path_of c.args.state.now.learned.instances.all.items c.args.instance)) (sym c.if-is_deep.false ∙ c.is_deep.ensures) in
-    let ins : c.in_ok-places.field-0.items ≡ spots c.args.state.now.learned.instances.all.items c.args.instance (names_view c.args.call.now.inputs.items) = search rules in
-    let outs : c.in_ok-places-2.field-0.items ≡ spots c.args.state.now.learned.instances.all.items c.args.instance (names_view c.args.call.now.outputs.items) = search rules in
+    let given : InstanceBindings = record { inputs = c.in_ok-places.field-0; outputs = c.in_ok-places-2.field-0; variables = c.new.result } in
+    let short : length (path_of c.args.state.now.fact_base.instances.all.items c.args.instance) < most_steps =
+    short_path (length (path_of c.args.state.now.fact_base.instances.all.items c.args.instance)) (sym c.if-is_deep.false ∙ c.is_deep.ensures) in
+    let ins : c.in_ok-places.field-0.items ≡ spots c.args.state.now.fact_base.instances.all.items c.args.instance (names_view c.args.call.now.inputs.items) = search rules in
+    let outs : c.in_ok-places-2.field-0.items ≡ spots c.args.state.now.fact_base.instances.all.items c.args.instance (names_view c.args.call.now.outputs.items) = search rules in
     let none : c.new.result.items ≡ [] = search rules in
     λ s n e w good st m j. (
     let there : slice_get s.functions k ≡ Some fv = ap (λ (z : Core). slice_get z.functions k) e ∙ slice_get-map (function_view {A = A}) old.flow.now.functions.items k ∙ ap (option_map (function_view {A = A})) found in
     let step = call_step {A = A} s n old new i (call_view {A = A} c.args.call.now) (block_view {A = A} c.in-Some.function.now.body) fv x given w good st m j there refl short refl refl ins outs none c.in_ok-enter.ensures.entered in
-    (step.0, λ f q h. subst (λ (z : core.Function). HasBlock new.learned (tasks_of {A = A} new) i c.args.call.now.at (Key.Number (pos 0)) z.body) (one_function s k f fv q there) step.1)
+    (step.0, λ f q h. subst (λ (z : core.Function). HasBlock new.fact_base (tasks_of {A = A} new) i c.args.call.now.at (Key.Number (pos 0)) z.body) (one_function s k f fv q there) step.1)
     )

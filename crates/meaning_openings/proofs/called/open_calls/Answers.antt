@@ -9,7 +9,7 @@ use Rattle.language.specs.Core.{stmt}
 use Rattle.language.specs.Members.{◌∈◌}
 use Rattle.language.specs.Parts.{part_calls, parts}
 use Rattle.meaning_cells.specs.Listed.{calls_listed}
-use Rattle.meaning_round.specs.declared.state.Deed.{Deed}
+use Rattle.meaning_round.specs.declared.state.LiveAction.{LiveAction}
 use Rattle.meaning_round.specs.Standing.{active_of, deed_view}
 use Rattle.meaning_openings.specs.Opening.{HaveBodies}
 use Rattle.meaning_openings.proofs.Calling.{bodies_called, body_next, call_there, calls_more, no_bodies}
@@ -38,13 +38,13 @@ loop-call-preserved g c =
     let k = c.loop-call.call-index in
     let d = c.call-item.result in
     let site = c.args.task.now.site in
-    let st = stmt site.at site.node (deed_view {A = A} c.args.task.now.deed) in
+    let st = stmt site.at site.node (deed_view {A = A} c.args.task.now.live_action) in
     let within : c.loop-call.call-index < length c.deref-call-items.result.now = grind (arith, common_steps) in
     let item : c.call-item.result ≡ get_or c.deref-call-items.result.now c.loop-call.call-index c.call-item.result = search rules in
-    let listed : calls_listed {A = g.row.A.Denot} c.deref-call-items.result.now ≡ part_calls (parts (deed_view {A = g.row.A.Denot} c.args.task.now.deed)) =
-    ap (λ (z : List (Bor (Call g.row.A.Denot))). calls_listed {A = g.row.A.Denot} z) c.deref-call-items.ensures.value ∙ c.in_ok-calls.ensures ∙ ap (λ (z : Deed g.row.A.Denot). part_calls (parts (deed_view z))) (sym c.in-Does.is) in
-    let there : call_view {A = g.row.A.Denot} c.call-item.result.now ∈ part_calls (parts (deed_view {A = g.row.A.Denot} c.args.task.now.deed)) =
-    subst (λ (z : Bor (Call g.row.A.Denot)). call_view z.now ∈ part_calls (parts (deed_view {A = g.row.A.Denot} c.args.task.now.deed))) (sym item)
+    let listed : calls_listed {A = g.row.A.Denot} c.deref-call-items.result.now ≡ part_calls (parts (deed_view {A = g.row.A.Denot} c.args.task.now.live_action)) =
+    ap (λ (z : List (Bor (Call g.row.A.Denot))). calls_listed {A = g.row.A.Denot} z) c.deref-call-items.ensures.value ∙ c.in_ok-calls.ensures ∙ ap (λ (z : LiveAction g.row.A.Denot). part_calls (parts (deed_view z))) (sym c.in-Does.is) in
+    let there : call_view {A = g.row.A.Denot} c.call-item.result.now ∈ part_calls (parts (deed_view {A = g.row.A.Denot} c.args.task.now.live_action)) =
+    subst (λ (z : Bor (Call g.row.A.Denot)). call_view z.now ∈ part_calls (parts (deed_view {A = g.row.A.Denot} c.args.task.now.live_action))) (sym item)
     (subst (λ (z : List core.Call). call_view {A = g.row.A.Denot} (get_or c.deref-call-items.result.now c.loop-call.call-index c.call-item.result).now ∈ z) listed (call_there {A = A} cs k d within)) in
     let more = calls_more {A = A} cs k d within ∙ ap (λ (z : Bor (Call A)). calls_listed {A = A} (take k cs) ++ call_view {A = A} z.now ∷ []) (sym item) in
     record {
@@ -62,8 +62,8 @@ returns-clause-so g c =
     let A = g.row.A.Denot in
     let cs = c.deref-call-items.result.now in
     let full : take c.loop-call.call-index c.deref-call-items.result.now ≡ c.deref-call-items.result.now = grind (arith, common_steps) in
-    let listed : calls_listed {A = g.row.A.Denot} c.deref-call-items.result.now ≡ part_calls (parts (deed_view {A = g.row.A.Denot} c.args.task.now.deed)) =
-    ap (λ (z : List (Bor (Call g.row.A.Denot))). calls_listed {A = g.row.A.Denot} z) c.deref-call-items.ensures.value ∙ c.in_ok-calls.ensures ∙ ap (λ (z : Deed g.row.A.Denot). part_calls (parts (deed_view z))) (sym c.in-Does.is) in
+    let listed : calls_listed {A = g.row.A.Denot} c.deref-call-items.result.now ≡ part_calls (parts (deed_view {A = g.row.A.Denot} c.args.task.now.live_action)) =
+    ap (λ (z : List (Bor (Call g.row.A.Denot))). calls_listed {A = g.row.A.Denot} z) c.deref-call-items.ensures.value ∙ c.in_ok-calls.ensures ∙ ap (λ (z : LiveAction g.row.A.Denot). part_calls (parts (deed_view z))) (sym c.in-Does.is) in
     λ s n e w good live. bodies_called {A = A} s n c.args.state.now c.loop-call.state (active_of {A = A} c.args.task.now) good live
     (subst (λ (z : List core.Call). HaveBodies {A = A} s n c.args.state.now c.loop-call.state c.args.task.now.site.instance z)
     (ap (λ (z : List (Bor (Call A))). calls_listed {A = A} z) full ∙ listed) (c.loop-call.invariant.so s n e w good live))
@@ -71,9 +71,9 @@ returns-clause-so g c =
 pub returns-in_err-calls-clause-large : goal.returns-in_err-calls-clause-large
 returns-in_err-calls-clause-large g c = memory_is_small _ c.from_residual.result c.from_residual.ensures.1
 
-pub returns-in_err-hold-clause-large : goal.returns-in_err-hold-clause-large
-returns-in_err-hold-clause-large g c = answer_passes c.in_err-hold.field-0.0 c.from_residual-in_err-hold.result c.from_residual-in_err-hold.ensures.1
-    (λ e s n same w good live. c.in_err-hold.ensures e s n (c.loop-call.invariant.so s n same w good live).step.so)
+pub returns-in_err-check-clause-large : goal.returns-in_err-check-clause-large
+returns-in_err-check-clause-large g c = answer_passes c.in_err-check.field-0.0 c.from_residual-in_err-check.result c.from_residual-in_err-check.ensures.1
+    (λ e s n same w good live. c.in_err-check.ensures e s n (c.loop-call.invariant.so s n same w good live).step.so)
 
 pub returns-in_err-open_call-clause-large : goal.returns-in_err-open_call-clause-large
 returns-in_err-open_call-clause-large g c = memory_is_small _ c.from_residual-in_err-open_call.result c.from_residual-in_err-open_call.ensures.1

@@ -5,7 +5,7 @@ use Rattle.flow.specs.declared.script.Flow.{Flow}
 use Rattle.flow.specs.View.{core_of}
 use Rattle.meaning_round.specs.Made.{tasks_of}
 use Rattle.meaning_round.specs.Standing.{active_of}
-use Rattle.meaning_round.specs.declared.state.Task.{Task}
+use Rattle.meaning_round.specs.declared.state.LiveTask.{LiveTask}
 use Rattle.meaning_invariants.specs.Active.{Active}
 use Rattle.std.proofs.lemmas.Option.{slice_get-map, slice_get_past}
 use Rattle.meaning_cells.proofs.Ending.{slice_there}
@@ -37,7 +37,7 @@ loop-i-preserved g c =
     let new = c.open_header.new.state in
     let a = active_of {A = A} c.again-task.result in
     let item : slice_get c.loop-i.state.tasks.items c.loop-i.i ≡ Some c.in-Some.task.now =
-    subst (λ (z : List (Task g.row.A.Denot)). slice_get z c.loop-i.i ≡ Some c.in-Some.task.now) c.deref.ensures.value
+    subst (λ (z : List (LiveTask g.row.A.Denot)). slice_get z c.loop-i.i ≡ Some c.in-Some.task.now) c.deref.ensures.value
     (slice_there c.deref.result.now c.loop-i.i c.in-Some.task.now c.in-Some.ensures.lookup.3.0 c.in-Some.ensures.lookup.1) in
     let found = slice_get-map (active_of {A = A}) mid.tasks.items c.loop-i.i ∙ ap (option_map (active_of {A = A})) item ∙ ap (λ (z : Active). Some z) (sym c.again-task.ensures) in
     record {
@@ -54,7 +54,7 @@ returns-in_default-clause-so g c =
     let old = c.args.state.now in
     let mid = c.loop-i.state in
     let past : slice_get c.loop-i.state.tasks.items c.loop-i.i ≡ None =
-    subst (λ (z : List (Task g.row.A.Denot)). slice_get z c.loop-i.i ≡ None) c.deref.ensures.value (slice_get_past c.deref.result.now c.loop-i.i c.in_default.ensures.lookup.3) in
+    subst (λ (z : List (LiveTask g.row.A.Denot)). slice_get z c.loop-i.i ≡ None) c.deref.ensures.value (slice_get_past c.deref.result.now c.loop-i.i c.in_default.ensures.lookup.3) in
     let none = slice_get-map (active_of {A = A}) mid.tasks.items c.loop-i.i ∙ ap (option_map (active_of {A = A})) past in
     λ s n e w offsets good passed live. (
     let p = pass_all {A = A} s n old mid c.loop-i.i (c.loop-i.invariant.so s n e w offsets good passed live) none in
@@ -65,9 +65,9 @@ pub returns-in_err-open_waiting-clause-large : goal.returns-in_err-open_waiting-
 returns-in_err-open_waiting-clause-large g c = answer_passes c.in_err-open_waiting.field-0.0 c.from_residual.result c.from_residual.ensures.1
     (λ e s n same w offsets good passed live. c.in_err-open_waiting.ensures.large e s n w offsets good live)
 
-pub returns-in_err-hold-clause-large : goal.returns-in_err-hold-clause-large
-returns-in_err-hold-clause-large g c = answer_passes c.in_err-hold.field-0.0 c.from_residual-in_err-hold.result c.from_residual-in_err-hold.ensures.1
-    (λ e s n same w offsets good passed live. c.in_err-hold.ensures e s n (c.loop-i.invariant.so s n same w offsets good passed live).step.so)
+pub returns-in_err-check-clause-large : goal.returns-in_err-check-clause-large
+returns-in_err-check-clause-large g c = answer_passes c.in_err-check.field-0.0 c.from_residual-in_err-check.result c.from_residual-in_err-check.ensures.1
+    (λ e s n same w offsets good passed live. c.in_err-check.ensures e s n (c.loop-i.invariant.so s n same w offsets good passed live).step.so)
 
 pub returns-in_err-open_calls-clause-large : goal.returns-in_err-open_calls-clause-large
 returns-in_err-open_calls-clause-large g c =
@@ -75,7 +75,7 @@ returns-in_err-open_calls-clause-large g c =
     let mid = c.loop-i.state in
     let a = active_of {A = A} c.again-task.result in
     let item : slice_get c.loop-i.state.tasks.items c.loop-i.i ≡ Some c.in-Some.task.now =
-    subst (λ (z : List (Task g.row.A.Denot)). slice_get z c.loop-i.i ≡ Some c.in-Some.task.now) c.deref.ensures.value
+    subst (λ (z : List (LiveTask g.row.A.Denot)). slice_get z c.loop-i.i ≡ Some c.in-Some.task.now) c.deref.ensures.value
     (slice_there c.deref.result.now c.loop-i.i c.in-Some.task.now c.in-Some.ensures.lookup.3.0 c.in-Some.ensures.lookup.1) in
     let found = slice_get-map (active_of {A = A}) mid.tasks.items c.loop-i.i ∙ ap (option_map (active_of {A = A})) item ∙ ap (λ (z : Active). Some z) (sym c.again-task.ensures) in
     answer_passes c.in_err-open_calls.field-0.0 c.from_residual-in_err-open_calls.result c.from_residual-in_err-open_calls.ensures.1
@@ -88,7 +88,7 @@ returns-in_err-open_header-clause-large g c =
     let mid = c.loop-i.state in
     let a = active_of {A = A} c.again-task.result in
     let item : slice_get c.loop-i.state.tasks.items c.loop-i.i ≡ Some c.in-Some.task.now =
-    subst (λ (z : List (Task g.row.A.Denot)). slice_get z c.loop-i.i ≡ Some c.in-Some.task.now) c.deref.ensures.value
+    subst (λ (z : List (LiveTask g.row.A.Denot)). slice_get z c.loop-i.i ≡ Some c.in-Some.task.now) c.deref.ensures.value
     (slice_there c.deref.result.now c.loop-i.i c.in-Some.task.now c.in-Some.ensures.lookup.3.0 c.in-Some.ensures.lookup.1) in
     let found = slice_get-map (active_of {A = A}) mid.tasks.items c.loop-i.i ∙ ap (option_map (active_of {A = A})) item ∙ ap (λ (z : Active). Some z) (sym c.again-task.ensures) in
     answer_passes c.in_err-open_header.field-0.0 c.from_residual-in_err-open_header.result c.from_residual-in_err-open_header.ensures.1

@@ -13,7 +13,7 @@ use Rattle.meaning_openings.proofs.opening.open_all.Given as goal
 abbrev pub invariant-loop-i : goal.invariant-loop-i
 invariant-loop-i g l = record {
   so : (s : Core) (n : ℕ) → s ≡ core_of {A = g.row.A.Denot} l.fn.state.flow.now → WellFormed s → OffsetsApart s → IsGood {A = g.row.A.Denot} s n l.fn.state
-      → ArePassed s (Known s n) l.fn.state.learned (tasks_of {A = g.row.A.Denot} l.fn.state) (take l.fn.state.passed (tasks_of {A = g.row.A.Denot} l.fn.state)) (waiting_of {A = g.row.A.Denot} l.fn.state)
+      → ArePassed s (Known s n) l.fn.state.fact_base (tasks_of {A = g.row.A.Denot} l.fn.state) (take l.fn.state.passed (tasks_of {A = g.row.A.Denot} l.fn.state)) (waiting_of {A = g.row.A.Denot} l.fn.state)
       → ((a : Active) → a ∈ waiting_of {A = g.row.A.Denot} l.fn.state → a ∈ tasks_of {A = g.row.A.Denot} l.fn.state)
       → ArePassedBy {A = g.row.A.Denot} s n l.fn.state l.state (take l.i (tasks_of {A = g.row.A.Denot} l.state));
   more : IsMore {A = g.row.A.Denot} l.fn.state l.state;

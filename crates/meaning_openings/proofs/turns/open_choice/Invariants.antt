@@ -15,7 +15,7 @@ abbrev pub invariant-loop-i : goal.invariant-loop-i
 invariant-loop-i g l = record {
   so : (s : Core) (n : ℕ) → WellFormed s → OffsetsApart s → IsGood {A = g.row.A.Denot} s n l.fn.state → (node : ℕ)
       → active l.instance (stmt l.at node (action_view {A = g.row.A.Denot} l.action)) ∈ tasks_of {A = g.row.A.Denot} l.fn.state
-      → chosen_in (sight_of l.fn.state.learned l.instance) (action_view {A = g.row.A.Denot} l.action) ≡ Some (choice_view l.choice)
+      → chosen_in (sight_of l.fn.state.fact_base l.instance) (action_view {A = g.row.A.Denot} l.action) ≡ Some (choice_view l.choice)
       → AreTurned {A = g.row.A.Denot} s n l.fn.state l.state l.instance l.at (action_view {A = g.row.A.Denot} l.action) (choice_view l.choice) l.i;
   more : IsMore {A = g.row.A.Denot} l.fn.state l.state;
   flow : l.state.flow.now ≡ l.fn.state.flow.now;

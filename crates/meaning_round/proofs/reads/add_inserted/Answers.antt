@@ -10,7 +10,7 @@ use Rattle.meaning_round.proofs.reads.add_inserted.Goals as goal
 pub returns : goal.returns
 returns g c =
     let A = g.row.A.Denot in
-    let l = c.args.learned.now in
+    let l = c.args.fact_base.now in
     on_ok_weaker c.add_key.result
     (λ e. two_read l c.args.site (outer_view {A = A} c.args.index.now) (outer_view {A = A} c.args.right.now)
     (inserted_reads (lies l c.args.site.instance (name_view c.args.array)) (value_at l.facts (here c.args.site.instance c.args.index.now.cell.node)))

@@ -5,4 +5,4 @@ use Rattle.meaning_round.specs.Reads.{cells_reads}
 use Rattle.meaning_round.proofs.reads.add_parts.Given as goal
 
 abbrev pub invariant-loop-part : goal.invariant-loop-part
-invariant-loop-part g l = l.events.items ≡ l.fn.events.items ++ cells_reads l.learned l.site (part_cells (parts_view (take l.part-index l.parts.items)))
+invariant-loop-part g l = l.events.items ≡ l.fn.events.items ++ cells_reads l.fact_base l.site (part_cells (parts_view (take l.part-index l.parts.items)))

@@ -2,7 +2,7 @@ use Rattle.std.proofs.Common.{◌≡◌, ℕ, ◌<◌, ◌∷◌, ◌++◌, [], 
 use Rattle.dataflow.specs.System.{In}
 use Rattle.task_code.specs.Code.{Code, Name}
 use Rattle.task_code.specs.View.{name_view}
-use Rattle.ref_counting.specs.declared.openings.Opening.{Opening}
+use Rattle.ref_counting.specs.declared.openings.BodyOpening.{BodyOpening}
 use Rattle.ref_counting.specs.Leads.{name_of}
 use Rattle.ref_counting.specs.Rights.{Adds, ByHomes, ByOpenings}
 use Rattle.ref_counting.specs.Rows.{row}
@@ -21,7 +21,7 @@ pass_body-requires-clause-body c =
 pub loop-body-preserved : goal.loop-body-preserved
 loop-body-preserved c =
     let C : Code = c.args.code.now in
-    let os : List (List Opening) = c.args.index.now.openings in
+    let os : List (List BodyOpening) = c.args.index.now.openings in
     let q : Name = name_of c.args.lead in
     let bs : List ℕ = c.at-body-items.result.now in
     let i : ℕ = c.loop-body.body-index in

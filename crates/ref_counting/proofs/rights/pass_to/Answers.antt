@@ -10,7 +10,7 @@ use Rattle.ref_counting.proofs.rights.pass_to.Goals as goal
 pub outward-requires-clause-marks : goal.outward-requires-clause-marks
 outward-requires-clause-marks c = λ e. c.requires.marks c.args.opening.entry c.args.body (subst (λ w. In {X = Way × ℕ} (w, c.args.body) (ways (entry c.args.code.now c.args.opening.entry).act)) e c.requires.opens)
 
-pub returns-in_ok-put : goal.returns-in_ok-put
-returns-in_ok-put c =
+pub returns-in_ok-add_name : goal.returns-in_ok-add_name
+returns-in_ok-add_name c =
     adds_answer c.args.opening.entry (Sees c.args.code.now c.args.opening.entry (way_of c.args.opening.way) c.args.body (name_view c.args.name))
-    c.outward.result c.in-Some.outer c.args.leads.now.keys c.put.new.leads.keys c.outward.ensures c.in-Some.is c.in_ok-put.ensures.there c.in_ok-put.ensures.grows
+    c.outward.result c.in-Some.outer c.args.leads.now.keys c.add_name.new.leads.keys c.outward.ensures c.in-Some.is c.in_ok-add_name.ensures.there c.in_ok-add_name.ensures.grows

@@ -1,7 +1,7 @@
 use Rattle.std.proofs.Common.{rules, subst, ℕ, List, [], ◌∷◌, ◌++◌, append_assoc}
 use Rattle.values.specs.Sinks.{Beginning}
-use Rattle.pages.specs.Pages.{OnPage}
-use Rattle.pages.proofs.Beginnings.{in_front, lost_behind, more_on_page}
+use Rattle.values.specs.Pages.{OnPage}
+use Rattle.values.proofs.Beginnings.{in_front, lost_behind, more_on_page}
 use Rattle.swt_trace.specs.Report.{text_line}
 use Rattle.swt_trace.proofs.report.put_line.Goals as goal
 

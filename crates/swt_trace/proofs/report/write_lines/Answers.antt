@@ -2,8 +2,8 @@ use Rattle.std.proofs.Common.{rules, ◌≡◌, ◌<◌, ap, subst, length, get_
 use Rattle.std.proofs.lemmas.Grind.{common_steps}
 use Rattle.std.specs.List.{flat_map}
 use Rattle.values.specs.Sinks.{Beginning}
-use Rattle.pages.specs.Pages.{OnPage}
-use Rattle.pages.proofs.Beginnings.{lost, lost_behind, more_on_page}
+use Rattle.values.specs.Pages.{OnPage}
+use Rattle.values.proofs.Beginnings.{lost, lost_behind, more_on_page}
 use Rattle.swt_trace.specs.Report.{text_line}
 use Rattle.swt_trace.proofs.Parts.{in_front_texts, texts_so_far}
 use Rattle.swt_trace.proofs.report.write_lines.Goals as goal

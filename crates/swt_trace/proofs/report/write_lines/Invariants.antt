@@ -1,6 +1,6 @@
 use Rattle.std.proofs.Common.{◌≡◌, take}
 use Rattle.std.specs.List.{flat_map}
-use Rattle.pages.specs.Pages.{OnPage}
+use Rattle.values.specs.Pages.{OnPage}
 use Rattle.swt_trace.specs.Report.{text_line}
 use Rattle.swt_trace.proofs.report.write_lines.Given as goal
 

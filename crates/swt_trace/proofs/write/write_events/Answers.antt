@@ -2,8 +2,8 @@ use Rattle.std.proofs.Common.{rules, ◌≡◌, ◌++◌, ◌∙◌, [], refl, s
 use Rattle.std.proofs.lemmas.Grind.{common_steps}
 use Rattle.task_code.specs.declared.event.Event.{Event}
 use Rattle.values.specs.Sinks.{Beginning}
-use Rattle.pages.specs.Pages.{OnPage}
-use Rattle.pages.proofs.Beginnings.{lost, lost_behind, more_on_page}
+use Rattle.values.specs.Pages.{OnPage}
+use Rattle.values.proofs.Beginnings.{lost, lost_behind, more_on_page}
 use Rattle.swt_trace.specs.Trace.{ended, event_line, event_lines, first_line}
 use Rattle.swt_trace.proofs.Pieces.{beginning_in, in_front_lines, lines_so_far}
 use Rattle.swt_trace.proofs.write.write_events.Goals as goal

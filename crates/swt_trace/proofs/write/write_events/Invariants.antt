@@ -1,5 +1,5 @@
 use Rattle.std.proofs.Common.{◌≡◌, ◌++◌, [], take}
-use Rattle.pages.specs.Pages.{OnPage}
+use Rattle.values.specs.Pages.{OnPage}
 use Rattle.swt_trace.specs.Trace.{ended, first_line, event_lines}
 use Rattle.swt_trace.proofs.write.write_events.Given as goal
 

@@ -1,8 +1,8 @@
 use Rattle.std.proofs.Common.{rules, ◌≡◌, ℕ, List, ap, ◌∙◌}
 use Rattle.std.proofs.lemmas.Result.{IfOk-from_err, err_from_is_err_and}
 use Rattle.syntax_trees.specs.View.{tree_of}
-use Rattle.types.specs.declared.typed.Settled.{Settled}
-use Rattle.types.specs.declared.typed.Meaning.TheVariants.{Nothing}
+use Rattle.types.specs.declared.typed.NameEntry.{NameEntry}
+use Rattle.types.specs.declared.typed.NameMeaning.TheVariants.{Nothing}
 use Rattle.types.specs.Typed.{meaning_at, settled_at}
 use Rattle.types.specs.Outcomes.{refused, got}
 use Rattle.types.specs.Scripts.{checked}
@@ -23,7 +23,7 @@ pub returns-clause-typed : goal.returns-clause-typed
 returns-clause-typed g c =
     let exact : checked (tree_of {A = g.row.A.Denot} c.args.script.now) ≡ got (tt {0}) c.parts.new.settled.items = search rules in
     let says : (k : ℕ) → meaning_at c.in_ok-by_number.field-0 k ≡ settled_at c.parts.new.settled.items k Nothing =
-    λ k. c.in_ok-by_number.ensures k ∙ ap (λ (s : List Settled). settled_at s k Nothing) c.as_slice-3.ensures.value in
+    λ k. c.in_ok-by_number.ensures k ∙ ap (λ (s : List NameEntry). settled_at s k Nothing) c.as_slice-3.ensures.value in
     accepted_typed (tree_of {A = g.row.A.Denot} c.args.script.now) c.in_ok-by_number.field-0 c.parts.new.settled.items exact says
 
 pub returns-in_err-parts-clause-names : goal.returns-in_err-parts-clause-names

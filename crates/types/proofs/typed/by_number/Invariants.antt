@@ -1,5 +1,5 @@
 use Rattle.std.proofs.Common.{◌≡◌, ℕ, drop, slice_get}
-use Rattle.types.specs.declared.typed.Meaning.TheVariants.{Nothing}
+use Rattle.types.specs.declared.typed.NameMeaning.TheVariants.{Nothing}
 use Rattle.types.specs.Typed.{or_nothing, settled_at}
 use Rattle.types.proofs.typed.by_number.Given as goal
 

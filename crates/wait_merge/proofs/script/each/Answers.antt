@@ -1,6 +1,6 @@
 use Rattle.std.proofs.Common.{rules, refl, List, length, map, ap, arith}
-use Rattle.flow_listed.specs.Cells.{function_anchors}
-use Rattle.flow_listed.specs.Listed.{Listed, Shown, declared, function_of, function_shown}
+use Rattle.flow.specs.Cells.{function_anchors}
+use Rattle.flow.specs.Listed.{Listed, Shown, declared, function_of, function_shown}
 use Rattle.std.proofs.lemmas.Grind.{common_steps}
 use Rattle.flow.specs.declared.script.Function.{Function}
 use Rattle.flow.specs.View.{function_view}
@@ -21,10 +21,10 @@ loop-i-preserved g c =
     let listed : Listed → List Shown = λ b. function_of f.at f.name.items (map declared f.inputs.items) (map declared f.outputs.items) b in
     let changed : core.Block → core.Function = λ b. record { inputs = length f.inputs.items; outputs = length f.outputs.items; body = b } in (
       search rules,
-      kept_at (function_view {A = A}) xs olds i f _ c.loop-i.invariant.1 here (ap changed c.in_ok-block.ensures.core),
-      kept_at (λ (f : Function A). block_declared f.body) xs olds i f _ c.loop-i.invariant.2 here c.in_ok-block.ensures.declared,
+      kept_at (function_view {A = A}) xs olds i f _ c.loop-i.invariant.1 here (ap changed c.in_ok-merge_block.ensures.core),
+      kept_at (λ (f : Function A). block_declared f.body) xs olds i f _ c.loop-i.invariant.2 here c.in_ok-merge_block.ensures.declared,
       kept_at (kinds_of_function {A = A}) xs olds i f _ c.loop-i.invariant.3 here refl,
-      kept_at (function_shown {A = A}) xs olds i f _ c.loop-i.invariant.4 here (ap listed c.in_ok-block.ensures.listed),
-      kept_at (function_anchors {A = A}) xs olds i f _ c.loop-i.invariant.5 here c.in_ok-block.ensures.cells,
-      merged_more (λ (f : Function A). block_seen f.body) xs i _ c.loop-i.invariant.6 (grind (arith, common_steps)) c.in_ok-block.ensures.merged,
+      kept_at (function_shown {A = A}) xs olds i f _ c.loop-i.invariant.4 here (ap listed c.in_ok-merge_block.ensures.listed),
+      kept_at (function_anchors {A = A}) xs olds i f _ c.loop-i.invariant.5 here c.in_ok-merge_block.ensures.cells,
+      merged_more (λ (f : Function A). block_seen f.body) xs i _ c.loop-i.invariant.6 (grind (arith, common_steps)) c.in_ok-merge_block.ensures.merged,
     )

@@ -1,8 +1,8 @@
 use Rattle.std.proofs.Common.{◌≡◌, IsTrue, map, take, length}
 use Rattle.flow.specs.View.{function_view}
 use Rattle.flow.specs.Shapes.{block_declared, kinds_of_function}
-use Rattle.flow_listed.specs.Cells.{function_anchors}
-use Rattle.flow_listed.specs.Listed.{function_shown}
+use Rattle.flow.specs.Cells.{function_anchors}
+use Rattle.flow.specs.Listed.{function_shown}
 use Rattle.wait_merge.specs.Merged.{functions_merged}
 use Rattle.wait_merge.proofs.script.each.Given as goal
 

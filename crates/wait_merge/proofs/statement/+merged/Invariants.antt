@@ -1,8 +1,8 @@
 use Rattle.std.proofs.Common.{◌≡◌, IsTrue, map, take}
 use Rattle.flow.specs.View.{statement_view}
 use Rattle.flow.specs.Shapes.{statement_declared}
-use Rattle.flow_listed.specs.Cells.{statement_anchors}
-use Rattle.flow_listed.specs.Listed.{statement_listed}
+use Rattle.flow.specs.Cells.{statement_anchors}
+use Rattle.flow.specs.Listed.{statement_listed}
 use Rattle.wait_merge.specs.Merged.{all_merged, statement_seen}
 use Rattle.wait_merge.proofs.statement.+merged.Given as goal
 

@@ -4,7 +4,7 @@ use Rattle.board.specs.Board.{Seen}
 use Rattle.task_code.specs.Code.{Code}
 use Rattle.board_runs.specs.Report.{Reports}
 use Rattle.workers.specs.Reports.{IsReport}
-use Rattle.workers.proofs.Threads.{reports}
+use Rattle.workers.proofs.SharedFacts.{reports}
 use Rattle.workers.proofs.run.run_threads.Goals as goal
 
 pub returns-clause-report : goal.returns-clause-report

@@ -9,9 +9,9 @@ use Rattle.board_instances.specs.View.{frames_view, job_view, rows_view}
 use Rattle.board.specs.Board.{IsGoing, Seen}
 use Rattle.board.specs.Inside.{IsSound, Stand, seen_of}
 use Rattle.board.specs.Rows.{IsReady}
-use Rattle.board.specs.declared.state.Core.{Core}
+use Rattle.board.specs.declared.state.BoardState.{BoardState}
 use Rattle.board.specs.Working.{IsWorkAt}
-use Rattle.board_changes.specs.declared.world.World.{World}
+use Rattle.board_changes.specs.declared.data_state.DataState.{DataState}
 use Rattle.board.proofs.Own.{accepts_on, free_core, may_begin, may_not_begin, numbered, sorted_sound, sound_on}
 use Rattle.board.proofs.OwnWork.{job_there, own_seen, ready_live}
 use Rattle.board.proofs.board.Board.begin.Goals as goal
@@ -42,10 +42,10 @@ invariant_of-self-2 c =
     let here : IsGoing (seen_of c.self.inside) = subst (λ (b : Seen). IsGoing b) (sym c.self.view_is) going in
     let none = free_core c.self.inside.program c.self.invariant.whole (map event_view c.self.inside.history.items) c.self.inside.core c.self.invariant.stand here.0 in
     let sorted = c.sort_arrays.ensures in
-    let ready = subst (λ (k : Core). IsReady (rows_view k.items.rows.items) c.args.item (job_view c.in-Some.job)) (sym sorted) c.in-Some.ensures.some in
-    let free = subst (λ (k : Core). k.fault ≡ None) (sym sorted) none in
-    let stand = subst (λ (k : Core). Stand c.self.inside.program (map event_view c.self.inside.history.items) k) (sym sorted) c.self.invariant.stand in
-    let room = subst (λ (k : Core). vec_len c.self.inside.history + k.items.running ≤ vec_capacity c.self.inside.history) (sym sorted) (c.self.invariant.room none) in
+    let ready = subst (λ (k : BoardState). IsReady (rows_view k.items.rows.items) c.args.item (job_view c.in-Some.job)) (sym sorted) c.in-Some.ensures.some in
+    let free = subst (λ (k : BoardState). k.fault ≡ None) (sym sorted) none in
+    let stand = subst (λ (k : BoardState). Stand c.self.inside.program (map event_view c.self.inside.history.items) k) (sym sorted) c.self.invariant.stand in
+    let room = subst (λ (k : BoardState). vec_len c.self.inside.history + k.items.running ≤ vec_capacity c.self.inside.history) (sym sorted) (c.self.invariant.room none) in
     let fits : c.sort_arrays.new.self.items.running + 1 < 2 ^ 64 = grind (arith, common_steps, room) in
     sound_on c.self.inside c.self.invariant (record { program = c.self.inside.program; most_names = c.self.inside.most_names; limit = c.self.inside.limit; core = c.begin.new.self; history = c.push_reserved.new.self; known = c.self.inside.known; answers = c.replace-list.new.dest }) (Events.Begin c.args.worker c.args.item) refl refl refl (search rules)
     (c.begin.ensures.stand (map event_view c.self.inside.history.items) c.self.invariant.whole stand free ready fits)
@@ -60,10 +60,10 @@ returns-clause-accepted c =
     let here : IsGoing (seen_of c.self.inside) = subst (λ (b : Seen). IsGoing b) (sym c.self.view_is) going in
     let none = free_core c.self.inside.program c.self.invariant.whole (map event_view c.self.inside.history.items) c.self.inside.core c.self.invariant.stand here.0 in
     let sorted = c.sort_arrays.ensures in
-    let ready = subst (λ (k : Core). IsReady (rows_view k.items.rows.items) c.args.item (job_view c.in-Some.job)) (sym sorted) c.in-Some.ensures.some in
-    let free = subst (λ (k : Core). k.fault ≡ None) (sym sorted) none in
-    let stand = subst (λ (k : Core). Stand c.self.inside.program (map event_view c.self.inside.history.items) k) (sym sorted) c.self.invariant.stand in
-    let room = subst (λ (k : Core). vec_len c.self.inside.history + k.items.running ≤ vec_capacity c.self.inside.history) (sym sorted) (c.self.invariant.room none) in
+    let ready = subst (λ (k : BoardState). IsReady (rows_view k.items.rows.items) c.args.item (job_view c.in-Some.job)) (sym sorted) c.in-Some.ensures.some in
+    let free = subst (λ (k : BoardState). k.fault ≡ None) (sym sorted) none in
+    let stand = subst (λ (k : BoardState). Stand c.self.inside.program (map event_view c.self.inside.history.items) k) (sym sorted) c.self.invariant.stand in
+    let room = subst (λ (k : BoardState). vec_len c.self.inside.history + k.items.running ≤ vec_capacity c.self.inside.history) (sym sorted) (c.self.invariant.room none) in
     let fits : c.sort_arrays.new.self.items.running + 1 < 2 ^ 64 = grind (arith, common_steps, room) in
     rw (← c.self.view_is) (accepts_on c.self.inside c.self.invariant (record { program = c.self.inside.program; most_names = c.self.inside.most_names; limit = c.self.inside.limit; core = c.begin.new.self; history = c.push_reserved.new.self; known = c.self.inside.known; answers = c.replace-list.new.dest }) (Events.Begin c.args.worker c.args.item) refl refl (search rules)
     (c.begin.ensures.stand (map event_view c.self.inside.history.items) c.self.invariant.whole stand free ready fits) here)
@@ -74,10 +74,10 @@ returns-clause-work c =
     let here : IsGoing (seen_of c.self.inside) = subst (λ (b : Seen). IsGoing b) (sym c.self.view_is) going in
     let none = free_core c.self.inside.program c.self.invariant.whole (map event_view c.self.inside.history.items) c.self.inside.core c.self.invariant.stand here.0 in
     let sorted = c.sort_arrays.ensures in
-    let ready = subst (λ (k : Core). IsReady (rows_view k.items.rows.items) c.args.item (job_view c.in-Some.job)) (sym sorted) c.in-Some.ensures.some in
-    let free = subst (λ (k : Core). k.fault ≡ None) (sym sorted) none in
-    let stand = subst (λ (k : Core). Stand c.self.inside.program (map event_view c.self.inside.history.items) k) (sym sorted) c.self.invariant.stand in
-    let room = subst (λ (k : Core). vec_len c.self.inside.history + k.items.running ≤ vec_capacity c.self.inside.history) (sym sorted) (c.self.invariant.room none) in
+    let ready = subst (λ (k : BoardState). IsReady (rows_view k.items.rows.items) c.args.item (job_view c.in-Some.job)) (sym sorted) c.in-Some.ensures.some in
+    let free = subst (λ (k : BoardState). k.fault ≡ None) (sym sorted) none in
+    let stand = subst (λ (k : BoardState). Stand c.self.inside.program (map event_view c.self.inside.history.items) k) (sym sorted) c.self.invariant.stand in
+    let room = subst (λ (k : BoardState). vec_len c.self.inside.history + k.items.running ≤ vec_capacity c.self.inside.history) (sym sorted) (c.self.invariant.room none) in
     let fits : c.sort_arrays.new.self.items.running + 1 < 2 ^ 64 = grind (arith, common_steps, room) in
     let sound : IsSound (record { program = c.self.inside.program; most_names = c.self.inside.most_names; limit = c.self.inside.limit; core = c.begin.new.self; history = c.push_reserved.new.self; known = c.self.inside.known; answers = c.replace-list.new.dest }) =
     sound_on c.self.inside c.self.invariant (record { program = c.self.inside.program; most_names = c.self.inside.most_names; limit = c.self.inside.limit; core = c.begin.new.self; history = c.push_reserved.new.self; known = c.self.inside.known; answers = c.replace-list.new.dest }) (Events.Begin c.args.worker c.args.item) refl refl refl (search rules)
@@ -87,8 +87,8 @@ returns-clause-work c =
     c.requires
     (numbered (rows_view c.self.inside.core.items.rows.items) c.args.item _ c.in-Some.ensures.some, search rules) in
     let plain = c.in-Ok-work.ensures.own in
-    let at : IsWorkAt c.self.inside.program (frames_view c.begin.new.self.world.instances.slots) (cells_view c.begin.new.self.world.store.cells) (job_view c.in-Some.job) c.in-Ok-work.work =
-    subst (λ (v : World). IsWorkAt c.self.inside.program (frames_view v.instances.slots) (cells_view v.store.cells) (job_view c.in-Some.job) c.in-Ok-work.work) (sym c.begin.ensures.world) plain in
+    let at : IsWorkAt c.self.inside.program (frames_view c.begin.new.self.data_state.instances.slots) (cells_view c.begin.new.self.data_state.store.cells) (job_view c.in-Some.job) c.in-Ok-work.work =
+    subst (λ (v : DataState). IsWorkAt c.self.inside.program (frames_view v.instances.slots) (cells_view v.store.cells) (job_view c.in-Some.job) c.in-Ok-work.work) (sym c.begin.ensures.data_state) plain in
     own_seen (record { program = c.self.inside.program; most_names = c.self.inside.most_names; limit = c.self.inside.limit; core = c.begin.new.self; history = c.push_reserved.new.self; known = c.self.inside.known; answers = c.replace-list.new.dest }) sound (c.begin.ensures.fault ∙ free) c.args.worker c.args.item (job_view c.in-Some.job) (c.begin.ensures.runs ready) c.in-Ok-work.work c.in-Ok-work.ensures.number at
 
 pub invariant_of-self : goal.invariant_of-self

@@ -6,7 +6,7 @@ use Rattle.board.proofs.board.Board.is_quiet.Goals as goal
 pub returns-then-is_none : goal.returns-then-is_none
 returns-then-is_none c =
     let test : is_none c.self.inside.core.fault ≡ true = search rules in
-    let still = c.is_still.ensures in
+    let still = c.is_quiescent.ensures in
     rw (← c.self.view_is) (
       (λ t. let r = still.0 t in quiet_is c.self.inside c.self.invariant (none_of c.self.inside.core.fault test) r.0 r.1 r.2),
       (λ q. still.1 (quiet_still c.self.inside c.self.invariant q)),

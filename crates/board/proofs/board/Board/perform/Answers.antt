@@ -4,7 +4,7 @@ use Rattle.task_code.specs.View.{event_view}
 use Rattle.board_instances.specs.View.{job_view}
 use Rattle.board.specs.Board.{RefusesBegin}
 use Rattle.board.specs.Working.{IsThere}
-use Rattle.board.specs.declared.refusal.Refusal.TheVariants.{Memory}
+use Rattle.board.specs.declared.refusal.BoardRefusal.TheVariants.{Memory}
 use Rattle.board.proofs.Begun.{Begun, ended_accepts, ended_sound, has_begun, unended_accepts, unended_sound, with_fields}
 use Rattle.board.proofs.Own.{may_begin, may_not_begin, sorted_sound}
 use Rattle.board.proofs.OwnWork.{job_there, ready_live}
@@ -55,17 +55,17 @@ invariant_of-self-then-not-is_going-2 c = (begun (goal.at.invariant_of-self-then
 pub returns-then-not-is_going-2-clause-performed : goal.returns-then-not-is_going-2-clause-performed
 returns-then-not-is_going-2-clause-performed c = ((begun (goal.at.returns-then-not-is_going-2-clause-performed c).After-push_reserved).accepts, search rules)
 
-pub end_from-requires-clause-there : goal.end_from-requires-clause-there
-end_from-requires-clause-there c = there (goal.at.end_from-requires-clause-there c).In-Some
+pub end_computed-requires-clause-there : goal.end_computed-requires-clause-there
+end_computed-requires-clause-there c = there (goal.at.end_computed-requires-clause-there c).In-Some
 
-pub invariant_of-self-in_default-end_from : goal.invariant_of-self-in_default-end_from
-invariant_of-self-in_default-end_from c = unended_sound (begun (goal.at.invariant_of-self-in_default-end_from c).After-push_reserved) c.as_slice.ensures.value c.end_from.new.known c.in_default-end_from.ensures.same
+pub invariant_of-self-in_default-end_computed : goal.invariant_of-self-in_default-end_computed
+invariant_of-self-in_default-end_computed c = unended_sound (begun (goal.at.invariant_of-self-in_default-end_computed c).After-push_reserved) c.as_slice.ensures.value c.end_computed.new.known c.in_default-end_computed.ensures.same
 
-pub returns-in_default-end_from-clause-refused : goal.returns-in_default-end_from-clause-refused
-returns-in_default-end_from-clause-refused c = inr (unended_accepts (begun (goal.at.returns-in_default-end_from-clause-refused c).After-push_reserved) c.as_slice.ensures.value c.end_from.new.known c.in_default-end_from.ensures.same, refl)
+pub returns-in_default-end_computed-clause-refused : goal.returns-in_default-end_computed-clause-refused
+returns-in_default-end_computed-clause-refused c = inr (unended_accepts (begun (goal.at.returns-in_default-end_computed-clause-refused c).After-push_reserved) c.as_slice.ensures.value c.end_computed.new.known c.in_default-end_computed.ensures.same, refl)
 
 pub invariant_of-self-3 : goal.invariant_of-self-3
-invariant_of-self-3 c = ended_sound (begun (goal.at.invariant_of-self-3 c).After-push_reserved) c.as_slice.ensures.value c.end_from.new.known c.in-Ok-end_from.ensures.ended (search rules) c.push_reserved-2.new.self (search rules) c.push_reserved-2.ensures.capacity c.requires (search rules)
+invariant_of-self-3 c = ended_sound (begun (goal.at.invariant_of-self-3 c).After-push_reserved) c.as_slice.ensures.value c.end_computed.new.known c.in-Ok-end_computed.ensures.ended (search rules) c.push_reserved-2.new.self (search rules) c.push_reserved-2.ensures.capacity c.requires (search rules)
 
 pub returns-clause-performed : goal.returns-clause-performed
-returns-clause-performed c = (_, (begun (goal.at.returns-clause-performed c).After-push_reserved).accepts, ended_accepts (begun (goal.at.returns-clause-performed c).After-push_reserved) c.as_slice.ensures.value c.end_from.new.known c.in-Ok-end_from.ensures.ended (search rules) c.push_reserved-2.new.self (search rules))
+returns-clause-performed c = (_, (begun (goal.at.returns-clause-performed c).After-push_reserved).accepts, ended_accepts (begun (goal.at.returns-clause-performed c).After-push_reserved) c.as_slice.ensures.value c.end_computed.new.known c.in-Ok-end_computed.ensures.ended (search rules) c.push_reserved-2.new.self (search rules))

@@ -14,8 +14,8 @@ invariant-loop-at l =
     (l.self.woken ≡ l.initial.self.woken)
     × (vec_len l.self.rows ≡ vec_len l.initial.self.rows)
     × ((rows : List Row) (first number : ℕ) (before : List Waiter) (queued : Kind → ℤ → List ℕ) (left : ℕ) →
-    FewSlots (frames_view l.outlook.instances.now.slots) → AreToSettle l.outlook.program.now (frames_view l.outlook.instances.now.slots) (cells_view l.outlook.store.now.cells) rows first number l.initial.self.woken.items → AreOld first l.initial.self.woken.items →
-    Progress l.outlook.program.now (frames_view l.outlook.instances.now.slots) (cells_view l.outlook.store.now.cells) rows first number before queued [] (length l.initial.self.woken.items + left) l.initial.self →
-    AreShort l.outlook.program.now (frames_view l.outlook.instances.now.slots) (cells_view l.outlook.store.now.cells) rows first l.initial.self.woken.items →
-    Progress l.outlook.program.now (frames_view l.outlook.instances.now.slots) (cells_view l.outlook.store.now.cells) rows first number before queued (take l.at l.initial.self.woken.items) ((length l.initial.self.woken.items - l.at) + left) l.self)
+    FewSlots (frames_view l.board_view.instances.now.slots) → AreToSettle l.board_view.program.now (frames_view l.board_view.instances.now.slots) (cells_view l.board_view.store.now.cells) rows first number l.initial.self.woken.items → AreOld first l.initial.self.woken.items →
+    Progress l.board_view.program.now (frames_view l.board_view.instances.now.slots) (cells_view l.board_view.store.now.cells) rows first number before queued [] (length l.initial.self.woken.items + left) l.initial.self →
+    AreShort l.board_view.program.now (frames_view l.board_view.instances.now.slots) (cells_view l.board_view.store.now.cells) rows first l.initial.self.woken.items →
+    Progress l.board_view.program.now (frames_view l.board_view.instances.now.slots) (cells_view l.board_view.store.now.cells) rows first number before queued (take l.at l.initial.self.woken.items) ((length l.initial.self.woken.items - l.at) + left) l.self)
     × (l.self.running ≡ l.initial.self.running)

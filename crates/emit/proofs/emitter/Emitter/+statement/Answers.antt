@@ -6,8 +6,8 @@ use Rattle.std.proofs.lemmas.Bool.{and_parts}
 use Rattle.language.specs.Core as core
 use Rattle.flow.specs.Shapes.{action_declared, block_declared, is_array, kinds_of_function}
 use Rattle.flow.specs.View.{action_view, awaited_view, block_view, name_view, outer_view, waits_around}
-use Rattle.flow_listed.specs.Cells.{statement_anchors}
-use Rattle.flow_listed.proofs.Growing.{among_all, grows_again, grows_among, grows_as, grows_both, grows_none, grows_still}
+use Rattle.flow.specs.Cells.{statement_anchors}
+use Rattle.flow.proofs.Growing.{among_all, grows_again, grows_among, grows_as, grows_both, grows_none, grows_still}
 use Rattle.task_code.specs.View.{loop_view}
 use Rattle.language.specs.Parts.{outer_parts}
 use Rattle.code_rules.specs.Room.{OuterRoom, StepRoom}
@@ -16,7 +16,7 @@ use Rattle.flow.proofs.statement.Block.TheLaws.{the_size as block_size}
 use Rattle.flow.proofs.statement.Statement.TheLaws.{the_size as statement_size}
 use Rattle.flow.specs.declared.statement.Variable.{Variable}
 use Rattle.emit.specs.Emits.{roots_of, state_of}
-use Rattle.flow_listed.proofs.Anchors.{anchors_block, anchors_statement}
+use Rattle.flow.proofs.Anchors.{anchors_block, anchors_statement}
 use Rattle.emit.proofs.Opening.{numbered-in, parts-zero}
 use Rattle.emit.proofs.Emitting.{ok-both, declare-emits, emits-as, walked-all, walked-none, walked-one}
 use Rattle.emit.proofs.Branching.{branch-emits, branches-emit}

@@ -5,7 +5,7 @@ use Rattle.flow.proofs.statement.Action.TheLaws.{the_size as action_size}
 use Rattle.flow.proofs.statement.Block.TheLaws.{the_size as block_size}
 use Rattle.flow.proofs.statement.Statement.TheLaws.{the_size as statement_size}
 use Rattle.flow.specs.Shapes.{kinds_of_function}
-use Rattle.flow_listed.specs.Cells.{statement_anchors}
+use Rattle.flow.specs.Cells.{statement_anchors}
 use Rattle.emit.specs.Emits.{AddsMarks, roots_of, state_of}
 use Rattle.emit.proofs.Emitting.{WalksOn}
 use Rattle.emit.proofs.emitter.Emitter.+statement.Given as goal

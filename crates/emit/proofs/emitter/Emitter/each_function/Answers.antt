@@ -1,8 +1,8 @@
 use Rattle.std.proofs.Common.{◌≡◌, ◌<◌, length, get_or, map, arith}
 use Rattle.std.proofs.lemmas.Grind.{common_steps}
 use Rattle.flow.specs.Shapes.{kinds_of_function}
-use Rattle.flow_listed.specs.Cells.{function_anchors}
-use Rattle.flow_listed.proofs.Growing.{among_all, grows_again, grows_among, grows_none}
+use Rattle.flow.specs.Cells.{function_anchors}
+use Rattle.flow.proofs.Growing.{among_all, grows_again, grows_among, grows_none}
 use Rattle.emit.specs.Emits.{laying_of, roots_of}
 use Rattle.emit.proofs.Scripts.{functions-end, functions-start, functions-step}
 use Rattle.emit.proofs.emitter.Emitter.each_function.Goals as goal

@@ -1,7 +1,7 @@
 use Rattle.std.proofs.Common.{map, drop}
 use Rattle.flow.specs.Shapes.{kinds_of_function}
 use Rattle.std.specs.List.{flat_map}
-use Rattle.flow_listed.specs.Cells.{function_anchors}
+use Rattle.flow.specs.Cells.{function_anchors}
 use Rattle.emit.specs.Emits.{AddsMarks, laying_of, roots_of}
 use Rattle.emit.proofs.Scripts.{FunctionsOn}
 use Rattle.emit.proofs.emitter.Emitter.each_function.Given as goal

@@ -1,7 +1,7 @@
 use Rattle.std.proofs.Common.{◌≡◌, ◌∙◌, ◌++◌, ◌∷◌, [], ℕ, List, length, arith, sym, ap, subst}
 use Rattle.std.specs.Prelude.{Bool, Option}
 use Rattle.meaning_facts.specs.declared.facts.Write.{Write}
-use Rattle.meaning_facts.specs.declared.firsts.First.{First}
+use Rattle.meaning_facts.specs.declared.first_writes.FirstWrite.{FirstWrite}
 use Rattle.meaning_facts.specs.Indexed.{again, first_at, IsIndexed}
 use Rattle.meaning_facts.proofs.Indexed.{indexed_more}
 use Rattle.meaning_facts.proofs.writes.Writes.push.Goals as goal
@@ -15,7 +15,7 @@ invariant_of-self-2 c =
     let len : c.len.result ≡ length c.self.inside.all.items = omega (arith, c.len.ensures, c.reserve.ensures.len, c.self.inside.all.ok.0) in
     let got : c.get.result ≡ first_at c.self.inside.firsts c.args.write.key = c.get.ensures ∙ ap (first_at c.self.inside.firsts) c.as_ref.ensures in
     let is : c.with_another-first.result ≡ again (length c.self.inside.all.items) (first_at c.self.inside.firsts c.args.write.key) =
-    c.with_another-first.ensures ∙ ap (λ (n : ℕ). again n c.get.result) len ∙ ap (λ (o : Option First). again (length c.self.inside.all.items) o) got in
+    c.with_another-first.ensures ∙ ap (λ (n : ℕ). again n c.get.result) len ∙ ap (λ (o : Option FirstWrite). again (length c.self.inside.all.items) o) got in
     subst (λ (z : List Write). IsIndexed z c.put.new.self c.stays_apart-self-inside.result) (sym pushed)
     (subst (λ (b : Bool). IsIndexed (c.self.inside.all.items ++ c.args.write ∷ []) c.put.new.self b) (sym c.stays_apart-self-inside.ensures)
     (indexed_more ws w fs c.put.new.self c.self.inside.is_apart c.with_another-first.result c.self.invariant is c.in_ok-put.ensures.put))

@@ -17,5 +17,5 @@ returns-clause-sorted c =
 
 pub returns-clause-lines : goal.returns-clause-lines
 returns-clause-lines c = λ s h.
-    let moved : IsPermutation (all_lines c.args.self.now.learned.facts) c.sort_by.new.self.items = search rules in
-    lines_read (Known s c.args.self.now.rounds) c.args.self.now.learned h.placed.tree h.holds c.all_lines.ensures.once c.sort_by.new.self.items moved
+    let moved : IsPermutation (all_lines c.args.self.now.fact_base.facts) c.sort_by.new.self.items = search rules in
+    lines_read (Known s c.args.self.now.rounds) c.args.self.now.fact_base h.placed.tree h.holds c.all_lines.ensures.once c.sort_by.new.self.items moved

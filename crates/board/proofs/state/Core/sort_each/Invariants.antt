@@ -1,5 +1,0 @@
-use Rattle.std.proofs.Common.{◌≡◌}
-use Rattle.board.proofs.state.Core.sort_each.Given as goal
-
-abbrev pub invariant-loop-wanted : goal.invariant-loop-wanted
-invariant-loop-wanted l = l.self ≡ l.initial.self

@@ -1,3 +1,0 @@
-mod Chains
-mod Answered
-pub mod Comparisons

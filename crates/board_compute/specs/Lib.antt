@@ -1,4 +1,0 @@
-pub mod Chains
-pub mod View
-pub mod Outcome
-pub mod Same

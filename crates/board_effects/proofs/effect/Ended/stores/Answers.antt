@@ -1,5 +1,0 @@
-use Rattle.board_effects.proofs.Stores.{stores_ends}
-use Rattle.board_effects.proofs.effect.Ended.stores.Goals as goal
-
-pub returns : goal.returns
-returns c = λ w g. stores_ends c.args.self w c.target.result c.args.value c.target.ensures g

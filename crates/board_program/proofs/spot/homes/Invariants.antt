@@ -1,6 +1,0 @@
-use Rattle.std.proofs.Common.{◌≡◌, drop}
-use Rattle.board_program.specs.Spots.{homes_of, noted}
-use Rattle.board_program.proofs.spot.homes.Given as goal
-
-abbrev pub invariant-loop-number : goal.invariant-loop-number
-invariant-loop-number l = homes_of l.code ≡ noted l.number (drop l.number l.code.bodies) l.homes.items

@@ -1,5 +1,0 @@
-pub mod Parts
-pub mod Blocks
-pub mod Codes
-pub mod Trees
-pub mod Runs

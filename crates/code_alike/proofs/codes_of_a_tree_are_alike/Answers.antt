@@ -1,5 +1,0 @@
-use Rattle.code_alike.proofs.Trees.{codes_alike}
-use Rattle.code_alike.proofs.codes_of_a_tree_are_alike.Goals as goal
-
-pub returns : goal.returns
-returns g = codes_alike

@@ -1,5 +1,0 @@
-use Rattle.code_layout.proofs.CodeOf.{code_of_table}
-use Rattle.code_layout.proofs.a_table_is_the_cores_code.Goals as goal
-
-pub returns : goal.returns
-returns g = λ s fs ds C l h. code_of_table h

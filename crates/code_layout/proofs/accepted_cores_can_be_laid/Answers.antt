@@ -1,9 +1,0 @@
-use Rattle.code_layout.proofs.Accepted.{accepted_cells}
-use Rattle.code_layout.proofs.IndexParts.{reads_stand}
-use Rattle.code_layout.proofs.accepted_cores_can_be_laid.Goals as goal
-
-pub returns-clause-cells : goal.returns-clause-cells
-returns-clause-cells g = accepted_cells
-
-pub returns-clause-reads : goal.returns-clause-reads
-returns-clause-reads g = reads_stand

@@ -1,7 +1,0 @@
-use Rattle.language.specs.Resolved.{core}
-use Rattle.code_layout.proofs.Accepted.{accepted_laid}
-use Rattle.code_layout.proofs.Layouts.{layout_of}
-use Rattle.code_layout.proofs.laid_code_is_a_table.Goals as goal
-
-pub returns : goal.returns
-returns g = λ t tree fs ds C p L. (layout_of (core t tree) ds, accepted_laid t tree fs ds C p L)

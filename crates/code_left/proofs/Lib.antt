@@ -1,4 +1,0 @@
-mod Holders
-mod Sourced
-pub mod Left
-mod Tested

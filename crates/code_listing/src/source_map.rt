@@ -1,0 +1,244 @@
+//! The source map of a script: the offsets and kinds of its blocks and the names of its variables, which code lacks.
+
+use flow::script::{Flow, Function};
+use flow::statement::{Action, Block, Statement, Variable};
+use std::alloc::{AllocError, Allocator, Global};
+
+/// The kind of a body.
+#[derive(Clone, Copy, PartialEq, Eq, Debug, Drop)]
+pub enum BodyKind {
+    Script,
+    Function,
+    Then,
+    Else,
+    Loop,
+    Wait,
+}
+
+/// A body: the offset of its `{`, its kind, and the number of its function, counted from 1. The script has number 0.
+#[derive(Clone, Copy, PartialEq, Eq, Debug, Drop)]
+pub struct BodyInfo {
+    pub from: usize,
+    pub what: BodyKind,
+    pub function: u32,
+}
+
+/// The names of the variables of a script, and its blocks, in the order of the bodies of its code.
+///
+/// The blocks of the script and its functions come first. Inner blocks follow, each after those nested in it.
+pub struct SourceMap<'a> {
+    /// The name of the variable of each node, up to the last node with a name. An empty name means that there is none.
+    names: Vec<&'a [u8]>,
+    pub roots: Vec<BodyInfo>,
+    pub inner: Vec<BodyInfo>,
+    /// Whether an allocation failed.
+    lacks: bool,
+}
+
+// Written out, so that the owner drops it by one call.
+impl<'a> Drop for SourceMap<'a> {
+    fn drop(self) {
+        let SourceMap {
+            names: _,
+            roots: _,
+            inner: _,
+            lacks: _,
+        } = self;
+    }
+}
+
+impl<'a> SourceMap<'a> {
+    /// Appends the own block of the script or of a function.
+    fn add_root(&mut self, from: usize, what: BodyKind, function: u32) {
+        let stand = BodyInfo {
+            from,
+            what,
+            function,
+        };
+        if self.roots.push(stand).is_err() {
+            self.lacks = true;
+        }
+    }
+
+    /// Appends an inner block.
+    fn add_inner(&mut self, from: usize, what: BodyKind, function: u32) {
+        let stand = BodyInfo {
+            from,
+            what,
+            function,
+        };
+        if self.inner.push(stand).is_err() {
+            self.lacks = true;
+        }
+    }
+
+    /// Returns the name of the variable of a node, if it has one.
+    pub fn name(&self, node: u32) -> Option<&'a [u8]> {
+        match self.names.get(node as usize) {
+            Some(name) if !name.is_empty() => Some(*name),
+            _ => None,
+        }
+    }
+
+    /// Returns the description of the body of this number.
+    pub fn stand(&self, body: u32) -> Option<BodyInfo> {
+        let number = body as usize;
+        if number < self.roots.len() {
+            return Some(self.roots[number]);
+        }
+        match self.inner.get(number - self.roots.len()) {
+            Some(stand) => Some(*stand),
+            None => None,
+        }
+    }
+
+    /// Returns the number of bodies.
+    pub fn count(&self) -> usize {
+        self.roots.len().saturating_add(self.inner.len())
+    }
+}
+
+/// Creates the source map of a script.
+///
+/// # Errors
+///
+/// Returns `AllocError` if an allocation fails.
+pub fn find<'a, A: Allocator>(
+    alloc: Global,
+    flow: &'a Flow<A>,
+) -> Result<SourceMap<'a>, AllocError> {
+    let mut found = SourceMap {
+        names: Vec::new(alloc),
+        roots: Vec::new(alloc),
+        inner: Vec::new(alloc),
+        lacks: false,
+    };
+    find_script(&mut found, flow);
+    if found.lacks {
+        return Err(AllocError);
+    }
+    Ok(found)
+}
+
+/// Collects the blocks and names of a script.
+fn find_script<'a, A: Allocator>(found: &mut SourceMap<'a>, flow: &'a Flow<A>) {
+    found.add_root(0, BodyKind::Script, 0);
+    find_block(found, 0, &flow.body);
+    find_functions(found, &flow.functions);
+}
+
+/// Collects the blocks and names of functions.
+fn find_functions<'a, A: Allocator>(found: &mut SourceMap<'a>, functions: &'a Vec<Function<A>, A>) {
+    let mut number = 0;
+    for function in functions {
+        if number < u32::MAX {
+            number += 1;
+        }
+        found.add_root(function.body.from, BodyKind::Function, number);
+        find_block(found, number, &function.body);
+    }
+}
+
+/// Collects the blocks and names of the statements of a block.
+#[cycle(statement)]
+fn find_block<'a, A: Allocator>(found: &mut SourceMap<'a>, function: u32, block: &'a Block<A>) {
+    find_statements(found, function, &block.statements);
+}
+
+/// Collects the blocks and names of statements.
+#[cycle(statement)]
+fn find_statements<'a, A: Allocator>(
+    found: &mut SourceMap<'a>,
+    function: u32,
+    statements: &'a Vec<Statement<A>, A>,
+) {
+    for one in statements {
+        find_statement(found, function, one);
+    }
+}
+
+/// Collects the blocks and names of a statement.
+#[cycle(statement)]
+fn find_statement<'a, A: Allocator>(
+    found: &mut SourceMap<'a>,
+    function: u32,
+    statement: &'a Statement<A>,
+) {
+    find_action(found, function, &statement.action);
+}
+
+/// Collects the blocks and names of a block that a statement opens, then the block itself.
+#[cycle(statement)]
+fn find_opened<'a, A: Allocator>(
+    found: &mut SourceMap<'a>,
+    function: u32,
+    what: BodyKind,
+    block: &'a Block<A>,
+) {
+    find_block(found, function, block);
+    found.add_inner(block.from, what, function);
+}
+
+/// Collects the blocks and names of an action.
+#[cycle(statement)]
+fn find_action<'a, A: Allocator>(found: &mut SourceMap<'a>, function: u32, action: &'a Action<A>) {
+    match action {
+        Action::Declare(variable) => name(found, variable),
+        Action::When { then, .. } => find_opened(found, function, BodyKind::Then, then),
+        Action::Choose { then, other, .. } => {
+            find_block(found, function, then);
+            find_block(found, function, other);
+            found.add_inner(then.from, BodyKind::Then, function);
+            found.add_inner(other.from, BodyKind::Else, function);
+        }
+        Action::Range {
+            value,
+            turn,
+            body,
+            ..
+        } => find_loop(found, function, value, turn, body),
+        Action::Each {
+            value,
+            key,
+            body,
+            ..
+        } => find_loop(found, function, value, key, body),
+        Action::Wait { content, .. } => find_opened(found, function, BodyKind::Wait, content),
+        _ => {}
+    }
+}
+
+/// Collects the blocks and names of a loop.
+#[cycle(statement)]
+fn find_loop<'a, A: Allocator>(
+    found: &mut SourceMap<'a>,
+    function: u32,
+    value: &'a Variable<A>,
+    turn: &'a Option<Variable<A>>,
+    body: &'a Block<A>,
+) {
+    name(found, value);
+    if let Some(variable) = turn {
+        name(found, variable);
+    }
+    find_opened(found, function, BodyKind::Loop, body);
+}
+
+/// Records the name of a variable.
+fn name<'a, A: Allocator>(found: &mut SourceMap<'a>, variable: &'a Variable<A>) {
+    if add_name(&mut found.names, variable.node, variable.name.as_slice()).is_err() {
+        found.lacks = true;
+    }
+}
+
+/// Stores a name at the index of its node. Missing names before it are filled with empty ones.
+fn add_name<'a>(names: &mut Vec<&'a [u8]>, node: u32, name: &'a [u8]) -> Result<(), AllocError> {
+    let place = node as usize;
+    for _lacking in names.len()..place + 1 {
+        names.push(&[])?;
+    }
+    if let Some(kept) = names.get_mut(place) {
+        *kept = name;
+    }
+    Ok(())
+}

@@ -1,5 +1,0 @@
-use Rattle.code_whole.proofs.Standings.{standing}
-use Rattle.code_whole.proofs.laid_code_stands.Goals as goal
-
-pub returns : goal.returns
-returns g = λ s fs ds C l laid rights found scoped. standing C l laid rights found scoped

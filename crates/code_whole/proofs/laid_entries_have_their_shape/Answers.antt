@@ -1,5 +1,0 @@
-use Rattle.code_whole.proofs.Shapes.{shapes}
-use Rattle.code_whole.proofs.laid_entries_have_their_shape.Goals as goal
-
-pub returns : goal.returns
-returns g = λ s fs ds C l h i. shapes C l h i

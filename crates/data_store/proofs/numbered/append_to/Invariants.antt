@@ -1,6 +1,0 @@
-use Rattle.std.proofs.Common.{◌≡◌, ◌++◌, map}
-use Rattle.data_store.specs.Arrays.{number_element}
-use Rattle.data_store.proofs.numbered.append_to.Given as goal
-
-abbrev pub invariant-loop-key : goal.invariant-loop-key
-invariant-loop-key l = l.initial.list.items ++ map number_element l.by_key.entries ≡ l.list.items ++ map number_element l.key-iterator

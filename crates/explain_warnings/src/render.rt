@@ -1,0 +1,134 @@
+//! Texts of warnings, and the warnings of a text.
+ghost use Rattle.std.specs.Prelude.{◌≡◌, [], IfOk, IsErr, IsOkAnd, MatchOption};
+ghost use Rattle.explain_warnings.specs.OddityNames.{oddity_name};
+ghost use Rattle.explain_warnings.specs.Warnings.{AreWarnings};
+
+use crate::warning::{Warning, WarningKind, warnings};
+use explain_text::line_index::LineIndex;
+use explain_text::words::write_str;
+use lexer::token::Span;
+use std::alloc::{AllocError, Global};
+use syntax::parser::parse;
+
+/// Returns the warnings of a text that is a well typed script, in the order of the text. Any other text has none.
+///
+/// # Errors
+///
+/// Returns `AllocError` if an allocation fails.
+#[tactic(auto, using(crate::proofs::Texts::silent_untyped, crate::proofs::Texts::said_of_tree))]
+pub fn warnings_of(alloc: Global, text: &[u8]) -> Result<Vec<Warning>, AllocError>
+    ensures { IfOk result (λ found. AreWarnings text.now found.items) }
+{
+    let script = match parse(alloc, text) {
+        Ok(script) => script,
+        Err(fault) => return none_at(alloc, fault.span()),
+    };
+    match types::check(alloc, &script) {
+        Ok(typed) => warnings(alloc, &typed, &script),
+        Err(fault) => none_at(alloc, fault.span()),
+    }
+}
+
+/// Returns no warnings for a text that is refused at a place. Without a place an allocation failed, and the result is
+/// an error.
+fn none_at(alloc: Global, at: Option<Span>) -> Result<Vec<Warning>, AllocError>
+    ensures { MatchOption at (IsErr result) (λ _. IsOkAnd result (λ found. found.items ≡ [])) }
+{
+    match at {
+        None => Err(AllocError),
+        Some(_) => Ok(Vec::new(alloc)),
+    }
+}
+
+/// Returns the sentence of a warning, as `x is declared and never used`.
+///
+/// # Errors
+///
+/// Returns `AllocError` if an allocation fails.
+pub fn sentence(alloc: Global, text: &[u8], warning: Warning) -> Result<Vec<u8>, AllocError> {
+    let mut words = Vec::new(alloc);
+    if warning.warning_kind != WarningKind::EmptyRange {
+        words.extend_from_slice(bytes_at(text, warning.at))?;
+        words.push(b' ')?;
+    }
+    write_str(&mut words, words_of(warning.warning_kind))?;
+    Ok(words)
+}
+
+fn words_of(warning_kind: WarningKind) -> &'static str {
+    match warning_kind {
+        WarningKind::NeverUsed => "is declared and never used",
+        WarningKind::NeverRead => "is written and never read",
+        WarningKind::IdleInput => "is an input that is never read",
+        WarningKind::EmptyRange => "this range is empty, so the loop has no turn",
+    }
+}
+
+/// Returns the hint for a kind of warning.
+pub fn hint_of(warning_kind: WarningKind) -> &'static str {
+    match warning_kind {
+        WarningKind::NeverUsed => "leave it out, or let its name begin with _",
+        WarningKind::NeverRead => "read it, or let its name begin with _",
+        WarningKind::IdleInput => "read it or leave it out, or let its name begin with _",
+        WarningKind::EmptyRange => {
+            "a range goes upwards: downwards go the values 9 - i in the turns of foreach i in [0:9]"
+        }
+    }
+}
+
+/// Returns the name of a kind of warning, in one word.
+pub fn name_of(warning_kind: WarningKind) -> &'static str
+    ensures { result.now ≡ oddity_name warning_kind }
+{
+    match warning_kind {
+        WarningKind::NeverUsed => "NeverUsed",
+        WarningKind::NeverRead => "NeverRead",
+        WarningKind::IdleInput => "IdleInput",
+        WarningKind::EmptyRange => "EmptyRange",
+    }
+}
+
+/// Formats the warnings of a text, or returns an empty text if there are none.
+///
+/// The first line of each is `FILE:LINE:COLUMN: warning: x is declared and never used`. The source line with the place
+/// marked and a hint follow.
+///
+/// # Errors
+///
+/// Returns `AllocError` if an allocation fails.
+pub fn explained(alloc: Global, file: &str, text: &[u8]) -> Result<Vec<u8>, AllocError> {
+    let warnings = warnings_of(alloc, text)?;
+    let lines = LineIndex::of(alloc, text)?;
+    let mut out = Vec::new(alloc);
+    for warning in &warnings {
+        add_warning(alloc, file, &lines, *warning, &mut out)?;
+    }
+    Ok(out)
+}
+
+fn add_warning(
+    alloc: Global,
+    file: &str,
+    lines: &LineIndex<'_>,
+    warning: Warning,
+    out: &mut Vec<u8>,
+) -> Result<(), AllocError> {
+    let words = sentence(alloc, lines.text(), warning)?;
+    lines.say_start(out, file, warning.at.from)?;
+    write_str(out, "warning: ")?;
+    out.extend_from_slice(words.as_slice())?;
+    out.push(b'\n')?;
+    lines.add_mark(out, warning.at.from)?;
+    write_str(out, "hint: ")?;
+    write_str(out, hint_of(warning.warning_kind))?;
+    write_str(out, "\n")
+}
+
+/// Returns the bytes of a place, or an empty slice if the text has no such place.
+fn bytes_at(text: &[u8], at: Span) -> &[u8] {
+    if at.from <= at.to && at.to <= text.len() {
+        &text[at.from..at.to]
+    } else {
+        &[]
+    }
+}

@@ -1,4 +1,0 @@
-pub mod Once
-pub mod Loops
-pub mod Bounds
-pub mod Same

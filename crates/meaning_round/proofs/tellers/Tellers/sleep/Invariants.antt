@@ -1,6 +1,0 @@
-use Rattle.std.proofs.Common.{take}
-use Rattle.meaning_round.proofs.Called.{AreCalled}
-use Rattle.meaning_round.proofs.tellers.Tellers.sleep.Given as goal
-
-abbrev pub invariant-loop-event : goal.invariant-loop-event
-invariant-loop-event l = AreCalled l.fn.self l.self l.number (take l.event-index l.events)

@@ -1,7 +1,0 @@
-use Rattle.flow.specs.View.{name_view}
-use Rattle.meaning_round.proofs.Inside.{named_added}
-use Rattle.meaning_round.proofs.telling.add_assigned.Goals as goal
-
-pub returns-in_ok-push-clause-inside : goal.returns-in_ok-push-clause-inside
-returns-in_ok-push-clause-inside g c = λ h a.
-    named_added c.args.learned.now.instances.all.items c.args.site.instance c.place-place.result _ (name_view c.args.target) c.in_ok-push.ensures.items c.place-place.ensures.spot h (c.in_ok-value.ensures.inside h a)

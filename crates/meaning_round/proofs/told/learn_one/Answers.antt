@@ -1,6 +1,0 @@
-use Rattle.meaning_round.proofs.Heard.{heard_learned}
-use Rattle.meaning_round.proofs.told.learn_one.Goals as goal
-
-pub returns-clause-heard : goal.returns-clause-heard
-returns-clause-heard c = λ ls h.
-    heard_learned c.args.learned.now ls c.args.tellers.now c.wake_readers.new.tellers c.args.fact c.add.new.self c.in_ok-wake_readers.ensures c.in_ok-add.ensures.added h

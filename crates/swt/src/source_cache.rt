@@ -1,0 +1,201 @@
+//! Cache of the files that were read, for explanations.
+
+use explain_json::json::{json_line, warning_lines};
+use explain_refusals::diagnostic::explained;
+use explain_warnings::render;
+use std::alloc::{AllocError, Global};
+use std::io::Write;
+use swt_arguments::line::Line;
+use swt_arguments::request::Request;
+
+/// Which files are kept.
+#[derive(Clone, Copy, PartialEq, Eq, Debug, Drop)]
+enum CachePolicy {
+    Nothing,
+    /// One file at a time. Before the next is opened, the refusal or the warnings of the last are reported.
+    Each,
+    All,
+}
+
+impl CachePolicy {
+    /// Returns the policy for a request: the files that may have to be explained.
+    fn by(request: &Request) -> CachePolicy {
+        if !request.explain && !request.json {
+            return CachePolicy::Nothing;
+        }
+        match &request.line {
+            Line::Check { .. } => CachePolicy::Each,
+            _ => CachePolicy::All,
+        }
+    }
+}
+
+/// A file: its name, and its bytes, or `None` if it could not be read.
+#[derive(Drop)]
+struct SourceFile {
+    name: String,
+    bytes: Option<Vec<u8>>,
+}
+
+/// The files that were read.
+#[derive(Drop)]
+pub struct SourceCache<'r> {
+    rt: &'r HostRuntime,
+    wanted: CachePolicy,
+    /// Whether refusals and warnings are reported as JSON.
+    json: bool,
+    sources: Vec<SourceFile>,
+    /// Whether an allocation failed, for a file or for a report about it.
+    lacks: bool,
+}
+
+impl<'r> SourceCache<'r> {
+    /// Creates an empty cache that keeps no files.
+    pub fn new(rt: &'r HostRuntime) -> SourceCache<'r> {
+        SourceCache {
+            rt,
+            wanted: CachePolicy::Nothing,
+            json: false,
+            sources: Vec::new(rt.alloc()),
+            lacks: false,
+        }
+    }
+
+    /// Sets which files are kept for this request.
+    pub fn want(&mut self, request: &Request) {
+        self.wanted = CachePolicy::by(request);
+        self.json = request.json;
+    }
+
+    /// Returns the runtime, which has standard error.
+    pub fn runtime(&self) -> &'r HostRuntime {
+        self.rt
+    }
+
+    /// Returns true if refusals and warnings are reported as JSON.
+    pub fn tells_json(&self) -> bool {
+        self.json
+    }
+
+    /// Returns the name of the last file if it could not be read.
+    pub fn unread(&self) -> Option<&str> {
+        let source = self.sources.as_slice().last()?;
+        match &source.bytes {
+            Some(_) => None,
+            None => Some(source.name.as_str()),
+        }
+    }
+
+    /// Returns true if an allocation failed.
+    pub fn lacks(&self) -> bool {
+        self.lacks
+    }
+
+    /// Returns the name and the bytes of the first file, if it could be read.
+    pub fn first(&self) -> Option<(&str, &[u8])> {
+        let source = self.sources.as_slice().first()?;
+        match &source.bytes {
+            Some(bytes) => Some((source.name.as_str(), bytes.as_slice())),
+            None => None,
+        }
+    }
+
+    /// Returns the bytes of the second file, if it exists and could be read.
+    pub fn second(&self) -> Option<&[u8]> {
+        let source = self.sources.as_slice().get(1)?;
+        match &source.bytes {
+            Some(bytes) => Some(bytes.as_slice()),
+            None => None,
+        }
+    }
+
+    /// Records that a file of this name is opened.
+    pub fn begin(&mut self, name: &str) {
+        if self.wanted == CachePolicy::Each {
+            self.tell_checked();
+        }
+        if self.wanted != CachePolicy::Nothing && !self.lacks && self.add_source(name).is_err() {
+            self.give_up();
+        }
+    }
+
+    fn add_source(&mut self, name: &str) -> Result<(), AllocError> {
+        let alloc = self.rt.alloc();
+        let name = String::from_str(alloc, name)?;
+        let bytes = Some(Vec::new(alloc));
+        self.sources.push(SourceFile { name, bytes })?;
+        Ok(())
+    }
+
+    /// Appends a piece to the bytes of the last file.
+    pub fn add(&mut self, piece: &[u8]) {
+        let refused = match self.sources.last_mut() {
+            Some(
+                SourceFile {
+                    name: _,
+                    bytes: Some(bytes),
+                },
+            ) => bytes.extend_from_slice(piece).is_err(),
+            _ => false,
+        };
+        if refused {
+            self.give_up();
+        }
+    }
+
+    /// Records that the last file could not be read.
+    pub fn lose(&mut self) {
+        if let Some(source) = self.sources.last_mut() {
+            source.bytes = None;
+        }
+    }
+
+    fn give_up(&mut self) {
+        self.sources.clear();
+        self.lacks = true;
+    }
+
+    /// Reports the refusal or the warnings of the first file on standard error, and empties the cache.
+    pub fn tell_checked(&mut self) {
+        if self.told_checked().is_err() {
+            self.lacks = true;
+        }
+        self.sources.clear();
+    }
+
+    fn told_checked(&self) -> Result<(), AllocError> {
+        match self.first() {
+            Some((name, text)) if self.json => write_json(self.rt, name, text),
+            Some((name, text)) => write_checked(self.rt, self.rt.alloc(), name, text),
+            None => Ok(()),
+        }
+    }
+}
+
+/// Reports the refusal of a text on standard error, or its warnings if it is accepted.
+fn write_checked(
+    rt: &HostRuntime,
+    alloc: Global,
+    name: &str,
+    text: &[u8],
+) -> Result<(), AllocError> {
+    let words = match explained(alloc, name, text)? {
+        Some(refusal) => refusal,
+        None => render::explained(alloc, name, text)?,
+    };
+    // If this cannot be written, the status is enough.
+    let _ = rt.stderr().write_all(words.as_slice());
+    Ok(())
+}
+
+/// Reports the refusal of a text on standard error, or its warnings if it is accepted, as lines of JSON.
+fn write_json(rt: &HostRuntime, name: &str, text: &[u8]) -> Result<(), AllocError> {
+    if let Some(refusal) = json_line(rt.alloc(), name, text)? {
+        // If this cannot be written, the status is enough.
+        let _ = eprintln!(rt; "{refusal}");
+        return Ok(());
+    }
+    let lines = warning_lines(rt.alloc(), name, text)?;
+    let _ = rt.stderr().write_all(lines.as_slice());
+    Ok(())
+}

@@ -1,3 +1,0 @@
-mod Alike
-mod Texts
-mod Printed
