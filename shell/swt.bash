@@ -5,7 +5,7 @@ _swt() {
     [[ $it == --fresh || $it == --plain || $it == --unproved ]] || { command="$it"; break; }
   done
   case $command in
-    "") words="check mean code run replay help explain --version --fresh --plain --unproved" ;;
+    "") words="check mean code run replay help explain install --version --fresh --plain --unproved" ;;
     help) words="check mean code run replay" ;;
     check) words="--explain --explain=all --json" ;;
     mean) words="--rounds --explain --explain=all --progress" ;;
