@@ -12,7 +12,6 @@ ghost use Rattle.workers.specs.StartLog.{AreItems};
 ghost use Rattle.workers.specs.Offering.{AreListed};
 ghost use Rattle.workers.specs.Threads.{MayRun, IsRunWorker, RunsTo};
 
-use crate::counters::RunCounters;
 use crate::gate::RunParams;
 use crate::items::{CompletedItem, StartedItem};
 use crate::ready_items::{list_ready_items, newly_ready_count};
@@ -24,6 +23,7 @@ use pool::offers::ReadyItem;
 use std::marker::{Model, PhantomData};
 use std::sync::ledger::{Book, Ledger, Share};
 use task_code::entry::Kind;
+use workers_policy::counters::RunCounters;
 
 /// Maximum number of items that may have become ready before the next event. No run with a countable number of events
 /// reaches it.

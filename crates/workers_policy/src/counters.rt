@@ -2,16 +2,9 @@
 //!
 //! The counters steer the scheduling alone: no contract depends on them. All counts saturate.
 
-use crate::gate::Progress;
-use board::board::Board;
+use crate::tuning::Tuning;
 use std::cmp;
 use task_code::entry::Kind;
-
-/// Maximum number of items that a thread begins in one critical section.
-const BATCH: usize = 64;
-
-/// Number of items that wait or are ready for workers above which control items begin one at a time.
-const SATURATION: u64 = 1024;
 
 /// The number of workers of one kind, and the number of ready items for them.
 #[derive(Clone, Copy, Drop)]
@@ -89,18 +82,17 @@ impl RunCounters {
     }
 
     /// Returns the number of items that wait for inputs.
-    fn waiting(&self) -> u64 {
-        let ready = self.engines.ready.saturating_add(self.workers.ready) as u64;
+    pub fn waiting(&self) -> u64 {
         let active = self
             .ended
             .saturating_add(self.running)
-            .saturating_add(ready);
+            .saturating_add(self.ready());
         self.made.saturating_sub(active)
     }
 
-    /// Returns true if more than 1,024 items wait for inputs or are ready for workers, so that no more are needed.
+    /// Returns true if so many items wait for inputs or are ready for workers that no more are needed.
     pub fn is_saturated(&self) -> bool {
-        self.waiting().saturating_add(self.workers.ready as u64) > SATURATION
+        self.waiting().saturating_add(self.workers.ready as u64) > Tuning::MEASURED.saturation
     }
 
     /// Returns the number of control items expected to create one batch of items, from the average number of items per
@@ -111,43 +103,36 @@ impl RunCounters {
         } else {
             (self.made / self.controls_begun) as usize
         };
-        if each < 2 { BATCH } else { BATCH / each }
+        let batch = Tuning::MEASURED.batch;
+        if each < 2 { batch } else { batch / each }
     }
 
     /// Returns the number of items of this kind, at least 1, to begin in one critical section. `alone`: whether no
     /// other thread is active.
     pub fn batch_size(&self, kind: Kind, alone: bool) -> usize {
         let part = match kind {
-            Kind::Leaf => cmp::min(self.workers.batch_share(false), BATCH),
+            Kind::Leaf => cmp::min(self.workers.batch_share(false), Tuning::MEASURED.batch),
             Kind::Control if self.is_saturated() => 1,
             Kind::Control => cmp::min(self.engines.batch_share(alone), self.control_batch_size()),
         };
         cmp::max(part, 1)
     }
 
-    /// Records that an item ended, and counts the items that it created: they have the next consecutive numbers on the
-    /// board.
-    pub fn record_end(&mut self, board: &Board) {
+    /// Records that an item ended. `made`: the number of items created so far.
+    pub fn record_end(&mut self, made: u64) {
         self.running = self.running.saturating_sub(1);
         self.ended = self.ended.saturating_add(1);
-        for _ in 0..u32::MAX {
-            let next = self.made.saturating_add(1);
-            if board.kind(next).is_none() {
-                break;
-            }
-            self.made = next;
-        }
+        self.made = made;
     }
 
-    /// Returns a snapshot of the progress of a run with this number of events and printed lines.
-    pub fn progress(&self, events: usize, lines: usize) -> Progress {
-        Progress {
-            events,
-            ready: self.engines.ready.saturating_add(self.workers.ready) as u64,
-            running: self.running,
-            waiting: self.waiting(),
-            lines,
-        }
+    /// Returns the number of ready items.
+    pub fn ready(&self) -> u64 {
+        self.engines.ready.saturating_add(self.workers.ready) as u64
+    }
+
+    /// Returns the number of running items.
+    pub fn running(&self) -> u64 {
+        self.running
     }
 
     /// Returns the counters of the engines or workers that run items of this kind.

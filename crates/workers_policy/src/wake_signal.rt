@@ -3,31 +3,11 @@
 //! The state of the lock is published in one atomic word, which parked threads poll without taking the lock. No thread
 //! is woken except at the end of the run.
 
+use crate::tuning::Tuning;
 use std::sync::atomic::{AtomicU64, Ordering};
 use std::sync::{Condvar, Wait};
 use std::time::Duration;
 use std::{cmp, hint};
-
-/// Maximum number of polls of the word before a thread sleeps.
-const SPINS: u32 = 1000;
-
-/// Number of hits at which a parked thread joins the run. A hit is a poll that sees a ready item and a free lock in a
-/// word that was stable. The running items then take long.
-const JOIN_HITS: u32 = SPINS / 2;
-
-/// Number of successive polls that must see the same word before a poll counts as a hit.
-const STABLE_SPINS: u32 = 16;
-
-/// Excess of misses over hits at which a thread that has slept sleeps again.
-const MAX_MISSES: u32 = 64;
-
-/// The shortest and the longest sleep, in microseconds.
-const MIN_SLEEP_US: u64 = 50;
-
-const MAX_SLEEP_US: u64 = 1000;
-
-/// Duration, in microseconds, of the nap of a thread that could only open more of the script.
-const NAP_US: u64 = 100;
 
 /// The flag bits of the word: the lock is held, an item is ready, the run is over. The bits above count the releases of
 /// the lock.
@@ -87,9 +67,9 @@ impl WakeSignal {
         let mut seen = self.state();
         let mut still = 0u32;
         let mut hits = 0u32;
-        for look in 0..SPINS {
+        for look in 0..Tuning::MEASURED.spins {
             let state = self.state();
-            if state & STOPPED != 0 || hits >= JOIN_HITS {
+            if state & STOPPED != 0 || hits >= Tuning::MEASURED.join_hits {
                 return true;
             }
             if state != seen {
@@ -97,7 +77,7 @@ impl WakeSignal {
                 still = 0;
             }
             still = still.saturating_add(1);
-            if still > STABLE_SPINS && state & (LOCKED | READY) == READY {
+            if still > Tuning::MEASURED.stable_spins && state & (LOCKED | READY) == READY {
                 hits = hits.saturating_add(1);
             } else if look >= hits.saturating_mul(2).saturating_add(misses) {
                 return false;
@@ -110,20 +90,20 @@ impl WakeSignal {
     /// Blocks until the thread should join or the run is over. It spins first, then sleeps, and spins again after each
     /// sleep. Each sleep lasts twice as long as the one before, up to a maximum.
     pub fn park<R: Wait>(&self, rt: &R) {
-        if self.spin(JOIN_HITS) {
+        if self.spin(Tuning::MEASURED.join_hits) {
             return;
         }
-        let mut nap = MIN_SLEEP_US;
+        let mut nap = Tuning::MEASURED.min_sleep_us;
         for _ in rt.forever() {
             let heard = self.condvar.notifications();
             if self.state() & STOPPED != 0 {
                 return;
             }
             self.condvar.sleep(rt, heard, Duration::from_micros(nap));
-            if self.spin(MAX_MISSES) {
+            if self.spin(Tuning::MEASURED.max_misses) {
                 return;
             }
-            nap = cmp::min(nap.saturating_mul(2), MAX_SLEEP_US);
+            nap = cmp::min(nap.saturating_mul(2), Tuning::MEASURED.max_sleep_us);
         }
     }
 
@@ -131,7 +111,7 @@ impl WakeSignal {
     pub fn nap<R: Wait>(&self, rt: &R) {
         let heard = self.condvar.notifications();
         if self.state() & STOPPED == 0 {
-            self.condvar.sleep(rt, heard, Duration::from_micros(NAP_US));
+            self.condvar.sleep(rt, heard, Duration::from_micros(Tuning::MEASURED.nap_us));
         }
     }
 }

@@ -4,14 +4,12 @@
 //! before items that were ready when they were created. So a loop continues before more of it is opened, which keeps
 //! fewer items and data alive at a time.
 
+use crate::tuning::Tuning;
 use pool::HoleKind;
 use pool::offers::ReadyItem;
 use std::alloc::Global;
 use std::collections::VecDeque;
 use task_code::entry::Kind;
-
-/// Maximum number of hints in one stack. Items without a hint are found by the board.
-const MAX_HINTS: usize = 16_384;
 
 /// The priority class of the priority 0.
 const ZERO_PRIORITY_CLASS: u8 = 1;
@@ -27,7 +25,7 @@ struct HintStacks {
 /// Pushes a number on a stack. A full stack first drops the number at its bottom. The new number is dropped if an
 /// allocation fails.
 fn push_bounded(stack: &mut VecDeque<u64>, number: u64) {
-    if stack.len() >= MAX_HINTS {
+    if stack.len() >= Tuning::MEASURED.hints {
         stack.pop_front();
     }
     let _kept = stack.push_back(number);
