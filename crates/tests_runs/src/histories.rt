@@ -22,8 +22,8 @@ pub fn run_as_stored(rt: &HostRuntime, alloc: Global, name: &str) -> io::Result<
     match program_of(alloc, script.as_slice())? {
         Some(program) => {
             compare_run(rt, alloc, &program, name, "plain", &[])?;
-            let choices = choices(alloc)?;
-            compare_run(rt, alloc, &program, name, "choices", choices.as_slice())
+            let numbers = choices(alloc)?;
+            compare_run(rt, alloc, &program, name, "choices", numbers.as_slice())
         }
         None => println!(rt; "{name}: refused"),
     }
