@@ -23,7 +23,7 @@ use Rattle.board_data.specs.Stored.{StoresIn}
 use Rattle.board_data.specs.View.{cells_view}
 use Rattle.board_data.specs.Wanted.{FewSlots}
 use Rattle.board_effects.specs.Effects.{OpensNothing}
-use Rattle.board_effects.specs.Openings.{AreOpenings}
+use Rattle.board_data.specs.Openings.{AreOpenings}
 use Rattle.board_instances.proofs.Opened.{stands_nested}
 use Rattle.board_instances.specs.Made.{FitsAround, made_as}
 use Rattle.board_instances.specs.declared.pending.PendingInstance.{PendingInstance as OneOpening}

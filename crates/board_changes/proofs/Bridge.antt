@@ -14,7 +14,7 @@ use Rattle.task_code.specs.Places.{Step}
 use Rattle.values.specs.declared.key.Key.{Key}
 use Rattle.values.specs.declared.value.Scalar.{Scalar}
 use Rattle.board_program.specs.Tables.{passed_in}
-use Rattle.board_effects.specs.Openings.{AreOpenings, IsOpenedBy, handed_over}
+use Rattle.board_data.specs.Openings.{AreOpenings, IsOpenedBy, handed_over}
 use Rattle.board_instances.proofs.Opened.{inner_opened, outermost_opened}
 use Rattle.board_instances.specs.Made.{IsOpened, block_of}
 use Rattle.board_instances.specs.Openings.{IsInner, passed_from, unfilled}

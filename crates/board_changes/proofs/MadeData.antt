@@ -5,7 +5,7 @@ use Rattle.dataflow.specs.System.{In}
 use Rattle.dataflow.proofs.Lists.{in_map, in_unmap}
 use Rattle.data_store.specs.Stores.{Store, at}
 use Rattle.data_store.specs.declared.datum.Datum.{Datum}
-use Rattle.data_store.specs.declared.datum.DatumKind.{DatumKind}
+use Rattle.values.specs.declared.datum_kind.DatumKind.{DatumKind}
 use Rattle.board_history.specs.Ending.{Instance, IsOwn, NewCell, StartsAs, StartsBy, home, path_around}
 use Rattle.board_history.specs.Fields.{Absent, Content, DatumOf, Does, Frame, Job, Row, Script, frame_up, path_of, slot_for, step_before}
 use Rattle.board_history.specs.Fields.{Slot as PureSlot}
@@ -22,7 +22,7 @@ use Rattle.board_program.specs.declared.lexical_address.LexicalAddress.{LexicalA
 use Rattle.board_data.proofs.Cells.{cell_there}
 use Rattle.board_data.specs.Made.{start_at, started}
 use Rattle.board_data.specs.View.{cell_view, cells_view, content_view}
-use Rattle.board_effects.specs.Openings.{job_loop}
+use Rattle.board_data.specs.Openings.{job_loop}
 use Rattle.board_instances.specs.Made.{made_as}
 use Rattle.board_instances.specs.Openings.{Put}
 use Rattle.board_instances.specs.View.{opening_frame}

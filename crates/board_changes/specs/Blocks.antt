@@ -12,7 +12,7 @@ use Rattle.task_code.specs.Places.{Step}
 use Rattle.values.specs.declared.key.Key.{Key}
 use Rattle.values.specs.declared.value.Scalar.{Scalar}
 use Rattle.board_program.specs.Tables.{turn_slot, value_slot}
-use Rattle.board_effects.specs.Openings.{handed_over, job_loop}
+use Rattle.board_data.specs.Openings.{handed_over, job_loop}
 use Rattle.board_instances.specs.Made.{IsOpened, block_of}
 use Rattle.board_instances.specs.View.{opening_frame}
 use Rattle.board_instances.specs.declared.pending.PendingInstance.{PendingInstance}

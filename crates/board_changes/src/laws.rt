@@ -14,7 +14,7 @@ ghost use Rattle.task_code.specs.Places.{Place};
 ghost use Rattle.task_code.specs.Whole.{IsCode};
 ghost use Rattle.board_program.specs.Spots.{layout_of};
 ghost use Rattle.board_program.specs.Tables.{is_place};
-ghost use Rattle.board_effects.specs.Openings.{AreOpenings};
+ghost use Rattle.board_data.specs.Openings.{AreOpenings};
 ghost use Rattle.board_instances.specs.Made.{FitsAround, made_as};
 ghost use Rattle.board_data.specs.Ended.{Covers};
 ghost use Rattle.board_data.specs.Holds.{Fit};

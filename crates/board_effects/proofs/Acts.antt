@@ -6,7 +6,7 @@ use Rattle.task_code.specs.Code.{Act, Assert, Call, Cell, Control, Copy, Each, F
 use Rattle.task_code.specs.Compute.{Computed, Fails, Gives, Inserts, Opens, Takes, TooDeep, Turns}
 use Rattle.task_code.specs.Effects.{Task, chunk, instances, is_some_list, is_too_deep, limited, outcome_of, prints, steps_on, turn_instances, turns_of}
 use Rattle.task_code.specs.Places.{Place, Step}
-use Rattle.values.specs.Limits.{most_steps}
+use Rattle.values.specs.Limits.{max_path_steps}
 use Rattle.values.specs.declared.key.Key.{Key}
 use Rattle.values.specs.declared.value.Scalar.{Scalar}
 use Rattle.board_effects.specs.Fits.{fits, gives_elements, gives_scalar, is_fault, keeps_nothing}
@@ -21,15 +21,15 @@ and_false false = refl
 
 -- a path is not too long where no step is taken, or no block is opened
 pub deep_plain : (a : Act) (p : List Step) (ss : List (ℕ × List Step)) → steps_on a ≡ false → is_too_deep a p ss ≡ false
-deep_plain a p ss h = ap (λ s. nat_le most_steps (length p) && (s && is_some_list ss)) h ∙ and_false (nat_le most_steps (length p))
+deep_plain a p ss h = ap (λ s. nat_le max_path_steps (length p) && (s && is_some_list ss)) h ∙ and_false (nat_le max_path_steps (length p))
 
 pub deep_none : (a : Act) (p : List Step) (ss : List (ℕ × List Step)) → is_some_list ss ≡ false → is_too_deep a p ss ≡ false
-deep_none a p ss h = ap (λ s. nat_le most_steps (length p) && (steps_on a && s)) h ∙ ap (λ b. nat_le most_steps (length p) && b) (and_false (steps_on a)) ∙ and_false (nat_le most_steps (length p))
+deep_none a p ss h = ap (λ s. nat_le max_path_steps (length p) && (steps_on a && s)) h ∙ ap (λ b. nat_le max_path_steps (length p) && b) (and_false (steps_on a)) ∙ and_false (nat_le max_path_steps (length p))
 
-pub deep_short : (a : Act) (p : List Step) (ss : List (ℕ × List Step)) → nat_le most_steps (length p) ≡ false → is_too_deep a p ss ≡ false
+pub deep_short : (a : Act) (p : List Step) (ss : List (ℕ × List Step)) → nat_le max_path_steps (length p) ≡ false → is_too_deep a p ss ≡ false
 deep_short a p ss h = ap (λ b. b && (steps_on a && is_some_list ss)) h
 
-pub deep_long : (a : Act) (p : List Step) (ss : List (ℕ × List Step)) → nat_le most_steps (length p) ≡ true → steps_on a ≡ true → is_some_list ss ≡ true → is_too_deep a p ss ≡ true
+pub deep_long : (a : Act) (p : List Step) (ss : List (ℕ × List Step)) → nat_le max_path_steps (length p) ≡ true → steps_on a ≡ true → is_some_list ss ≡ true → is_too_deep a p ss ≡ true
 deep_long a p ss h s m = ap (λ b. b && (steps_on a && is_some_list ss)) h ∙ ap (λ b. b && is_some_list ss) s ∙ m
 
 -- what comes of it

@@ -13,7 +13,7 @@ use Rattle.task_code.specs.Code.{Code, Entry, Loop, body, entry, loop_of}
 use Rattle.task_code.specs.Compute.{Elements, TooDeep, Turns}
 use Rattle.task_code.specs.Effects.{chunk, effect_at, instances, is_some_list, left_at, prints, rest, rest_if, step_at, steps_on}
 use Rattle.task_code.specs.Places.{Step}
-use Rattle.values.specs.Limits.{chunk_size, most_steps}
+use Rattle.values.specs.Limits.{chunk_size, max_path_steps}
 use Rattle.values.specs.declared.key.Key.{Key}
 use Rattle.values.specs.declared.value.Scalar.{Scalar}
 use Rattle.board_instances.specs.Made.{block_of}
@@ -23,7 +23,7 @@ use Rattle.board_instances.specs.declared.pending.PendingInstance.{PendingInstan
 use Rattle.board_instances.proofs.Turned.{turns_blocks}
 use Rattle.board_effects.specs.Effects.{GoesWell, GoesWrong}
 use Rattle.board_effects.specs.Ended.{Ends, FailsWith, IsEnded, IsLoop, OpensList, act_of, cells_of, code_of, frames_of, job_of, needs_of}
-use Rattle.board_effects.specs.Openings.{IsOpened, IsOpenedBy, IsSpare}
+use Rattle.board_data.specs.Openings.{IsOpened, IsOpenedBy, IsSpare}
 use Rattle.board_effects.specs.declared.effect.Effect.{Effect}
 use Rattle.board_effects.specs.declared.effect.Effect.TheVariants as To
 use Rattle.board_effects.specs.declared.effect.EndingItem.{EndingItem}
@@ -77,7 +77,7 @@ module _ (p : EndingItem) (w : IsEnded p) (u : Loop) (ts : Elements) (is : loop_
   some_blocks : is_some_list (instances now.act now.mark path p.chunk (Turns ts)) ≡ is_some_list turns
   some_blocks = ap is_some_list blocks_are ∙ some_turns u.body now.mark path turns
 
-  pub loop_deep : is_some_list turns ≡ true → nat_le most_steps (length path) ≡ true → GoesWrong (code_of p) (frames_of p) (cells_of p) (job_of p) (Turns ts) (OfTask TooDeep)
+  pub loop_deep : is_some_list turns ≡ true → nat_le max_path_steps (length path) ≡ true → GoesWrong (code_of p) (frames_of p) (cells_of p) (job_of p) (Turns ts) (OfTask TooDeep)
   loop_deep s h = bad (Turns ts) _ _ refl (deep_long now.act path _ h (own p w (λ e. steps_on e.act ≡ true) (loop_steps (act_of p) u is)) (some_blocks ∙ s))
 
   module _ (list : List PendingInstance) (added : 0 < length (body (code_of p) u.body).entries → IsSome (slot_at (frames_of p) p.view.at) → AddsTurns (code_of p) (frames_of p) p.view.at u.body (entry_view p.entry.now).mark turns [] list) (none : length (body (code_of p) u.body).entries ≡ 0 → list ≡ []) where
@@ -100,7 +100,7 @@ module _ (p : EndingItem) (w : IsEnded p) (u : Loop) (ts : Elements) (is : loop_
         subst (λ l. IsOpenedBy (code_of p) (frames_of p) p.view.at p.number p.chunk (Turns ts) u.body l o) (sym (own p w (λ e. loop_of e.act ≡ Some u) is))
         (turn_in (code_of p) (frames_of p) p.view.at u.body now.mark turns list (each_turn (subst (λ (es : List ℕ). 0 < length es) (sym e) (omega arith))) o m)
 
-    loop_well : (is_some_list turns && nat_le most_steps (length path)) ≡ false → (e : Effect) (q : OpensList p u.body list (is_some_list (left_at (suc p.chunk) ts)) e) → GoesWell (code_of p) (frames_of p) (cells_of p) (job_of p) (Turns ts) (To.Opens q.openings)
+    loop_well : (is_some_list turns && nat_le max_path_steps (length path)) ≡ false → (e : Effect) (q : OpensList p u.body list (is_some_list (left_at (suc p.chunk) ts)) e) → GoesWell (code_of p) (frames_of p) (cells_of p) (job_of p) (Turns ts) (To.Opens q.openings)
     loop_well h e q = record {
       good = (effect_at (code_of p) p.number path p.chunk (Turns ts), good (Turns ts) _ _ refl (deep_turns now.act path _ (is_some_list turns) some_blocks h));
       apart = λ y. absurd (cc y.inserts);
@@ -119,7 +119,7 @@ module _ (p : EndingItem) (w : IsEnded p) (u : Loop) (ts : Elements) (is : loop_
       };
     }
 
-    pub loop_opens : (is_some_list turns && nat_le most_steps (length path)) ≡ false → (e : Effect) → OpensList p u.body list (is_some_list (left_at (suc p.chunk) ts)) e → Ends p (Turns ts) e
+    pub loop_opens : (is_some_list turns && nat_le max_path_steps (length path)) ≡ false → (e : Effect) → OpensList p u.body list (is_some_list (left_at (suc p.chunk) ts)) e → Ends p (Turns ts) e
     loop_opens h e q = subst (λ y. Ends p (Turns ts) y) (sym q.is) (loop_well h e q)
 
 lt_true : (a b : ℕ) → a < b → nat_lt a b ≡ true
@@ -145,13 +145,13 @@ module _ (p : EndingItem) (w : IsEnded p) (b : ℕ) (l : IsLoop p b) (ts : Eleme
         ]
       ]
 
-  pub chunk_deep : first < end → nat_le most_steps (length (path_of (frames_of p) p.view.at)) ≡ true → (e : Effect) → FailsWith p (OfTask TooDeep) e → Ends p (Turns ts) e
+  pub chunk_deep : first < end → nat_le max_path_steps (length (path_of (frames_of p) p.view.at)) ≡ true → (e : Effect) → FailsWith p (OfTask TooDeep) e → Ends p (Turns ts) e
   chunk_deep h d e f = fails_ends p (Turns ts) (OfTask TooDeep) e (loop_deep p w l.0 ts l.1 (has_turns ∙ lt_true (p.chunk * chunk_size) count (here (p.chunk * chunk_size) count first end begins ends h)) d) f
     where
       here : (m n f e : ℕ) → f ≡ min m n → e ≡ min (m + chunk_size) n → f < e → m < n
       here m n f e q r h = omega (arith, q, r, h)
 
-  not_deep : (first < end → nat_le most_steps (length (path_of (frames_of p) p.view.at)) ≡ false) → (is_some_list (chunk p.chunk ts) && nat_le most_steps (length (path_of (frames_of p) p.view.at))) ≡ false
+  not_deep : (first < end → nat_le max_path_steps (length (path_of (frames_of p) p.view.at)) ≡ false) → (is_some_list (chunk p.chunk ts) && nat_le max_path_steps (length (path_of (frames_of p) p.view.at))) ≡ false
   not_deep h = elim (cases_Bool (nat_lt (p.chunk * chunk_size) count)) [
     | inl t ↦ and_right _ _ (h (here (p.chunk * chunk_size) count first end begins ends (lt_from (p.chunk * chunk_size) count t)))
     | inr f ↦ and_left _ _ (has_turns ∙ f)
@@ -160,7 +160,7 @@ module _ (p : EndingItem) (w : IsEnded p) (b : ℕ) (l : IsLoop p b) (ts : Eleme
       here : (m n f e : ℕ) → f ≡ min m n → e ≡ min (m + chunk_size) n → m < n → f < e
       here m n f e q r h = omega (arith, q, r, h)
 
-  pub chunk_opens : (list : List PendingInstance) → (0 < length (body (code_of p) b).entries → IsSome (slot_at (frames_of p) p.view.at) → AddsTurns (code_of p) (frames_of p) p.view.at b (entry_view p.entry.now).mark (chunk p.chunk ts) [] list) → (length (body (code_of p) b).entries ≡ 0 → list ≡ []) → (first < end → nat_le most_steps (length (path_of (frames_of p) p.view.at)) ≡ false) → (e : Effect) → OpensList p b list (nat_lt end count) e → Ends p (Turns ts) e
+  pub chunk_opens : (list : List PendingInstance) → (0 < length (body (code_of p) b).entries → IsSome (slot_at (frames_of p) p.view.at) → AddsTurns (code_of p) (frames_of p) p.view.at b (entry_view p.entry.now).mark (chunk p.chunk ts) [] list) → (length (body (code_of p) b).entries ≡ 0 → list ≡ []) → (first < end → nat_le max_path_steps (length (path_of (frames_of p) p.view.at)) ≡ false) → (e : Effect) → OpensList p b list (nat_lt end count) e → Ends p (Turns ts) e
   chunk_opens list added none h e q =
       loop_opens p w l.0 ts l.1 list
       (subst (λ n. 0 < length (body (code_of p) n).entries → IsSome (slot_at (frames_of p) p.view.at) → AddsTurns (code_of p) (frames_of p) p.view.at n (entry_view p.entry.now).mark (chunk p.chunk ts) [] list) (sym l.2) added)

@@ -25,7 +25,7 @@ use Rattle.board_instances.specs.View.{step_view}
 use Rattle.paths.specs.declared.faults.FaultKind.{FaultKind}
 use Rattle.paths.specs.declared.faults.FaultKind.TheVariants as Kind
 use Rattle.paths.specs.declared.statements.StatementInstance.{StatementInstance}
-use Rattle.board_effects.specs.Openings.{AreOpenings}
+use Rattle.board_data.specs.Openings.{AreOpenings}
 use Rattle.board_effects.specs.declared.effect.Effect.{Effect}
 use Rattle.board_effects.specs.declared.effect.Effect.TheVariants.{Fails, Inserts, Opens, Prints, Puts, Stores}
 

@@ -16,7 +16,7 @@ use Rattle.board_instances.specs.declared.pending.PendingInstance.{PendingInstan
 use Rattle.board_instances.specs.declared.pending.PendingInstances.{PendingInstances}
 use Rattle.paths.specs.declared.faults.Fault.{Fault}
 use Rattle.board_effects.specs.Effects.{IsAtWork, IsEffect, IsStatementOf, kind_of_fault}
-use Rattle.board_effects.specs.Openings.{IsScript, IsSpare, long_needs}
+use Rattle.board_data.specs.Openings.{IsScript, IsSpare, long_needs}
 use Rattle.board_effects.specs.Fits.{is_fault}
 use Rattle.board_effects.specs.declared.effect.Effect.{Effect}
 use Rattle.board_effects.specs.declared.effect.Effect.TheVariants.{Fails, Opens}

@@ -4,7 +4,7 @@ ghost use Rattle.board_history.specs.Fields.{path_of, slot_at, Script, Counted, 
 ghost use Rattle.task_code.specs.Code.{Loop as PureLoop, loop_of};
 ghost use Rattle.task_code.specs.Compute.{Computed, Opens as OpensOne, TooDeep, Takes, Turns, pairs, range_turns};
 ghost use Rattle.board_instances.specs.View.{step_view};
-ghost use Rattle.values.specs.Limits.{most_steps};
+ghost use Rattle.values.specs.Limits.{max_path_steps};
 ghost use Rattle.values.specs.declared.key.Key.TheVariants.{Number as number_key};
 ghost use Rattle.board_effects.specs.Effects.{IsEffect};
 ghost use Rattle.board_effects.specs.Ended.{act_of, code_of, frames_of, Ends, IsEnded, FailsWith, IsLoop, IsScriptList, OpensBlock, OpensList};
@@ -12,7 +12,6 @@ ghost use Rattle.dataflow.specs.Machine.{OfTask};
 ghost use Rattle.board_effects.specs.Fits.{enters_block, takes_branch};
 
 use crate::effect::{Effect, EndingItem};
-use crate::loop_chunks::{are_left, chunk_of};
 use crate::spare_lists::spare_lists;
 use board_instances::parent_key::LastStep;
 use board_instances::pending::{ParentContext, PendingInstance, PendingInstances, outermost};
@@ -21,21 +20,20 @@ use board_program::program::Program;
 use paths::FaultKind;
 use std::alloc::{AllocError, Global};
 use task_code::entry::Act;
+use values::limits::MAX_PATH_STEPS;
+use values::loop_chunks::{are_left, chunk_of};
 use values::map::Map;
 use values::range::IntRange;
-
-/// Maximum number of steps of a path.
-const MOST_STEPS: u32 = 2048;
 
 impl<'a> EndingItem<'a> {
     /// Returns true if the path of the instance has the maximum length, so that no block may be opened by a further
     /// step.
     #[inline(always)]
     fn is_too_deep(self) -> bool
-        ensures { IsEnded self.entry → result ≡ nat_le most_steps (length (path_of (frames_of self.entry) self.entry.view.at)) }
+        ensures { IsEnded self.entry → result ≡ nat_le max_path_steps (length (path_of (frames_of self.entry) self.entry.view.at)) }
     {
         match self.view.instances.get(self.view.at) {
-            Some(around) => around.depth >= MOST_STEPS,
+            Some(around) => around.depth as usize >= MAX_PATH_STEPS,
             None => true,
         }
     }

@@ -1,8 +1,8 @@
 -- The tables of an entry and of a body, as determined by the code.
 use Rattle.std.specs.Prelude.{◌≡◌, nat_eq, nat_lt, not, ℕ, suc, ◌+◌, Bool, true, false, List, [], ◌∷◌, map, length, Option, Some, None, if◌then◌else◌}
 use Rattle.std.specs.List.{filter, filter_map, flat_map, list_all, list_any}
-use Rattle.data_store.specs.declared.datum.DatumKind.{DatumKind}
-use Rattle.data_store.specs.declared.datum.DatumKind.TheVariants.{Single, Keyed}
+use Rattle.values.specs.declared.datum_kind.DatumKind.{DatumKind}
+use Rattle.values.specs.declared.datum_kind.DatumKind.TheVariants.{Single, Keyed}
 use Rattle.board_history.specs.Ending.{held_times, slot_is}
 use Rattle.board_history.specs.Fields.{Absent, Slot}
 use Rattle.board_history.specs.Static.{name_times, names_in, outer_holds}

@@ -14,13 +14,13 @@ ghost use Rattle.board_program.specs.Tables.{AllFrom, IsBodyTable, IsEntryTable,
 use crate::bodies::body_table;
 use crate::lexical_address::{LexicalAddress, NameResolver};
 use crate::name_count::most_names;
-use data_store::store::DatumKind;
 use smallvec::SmallVec;
 use std::alloc::{AllocError, Global};
 use std::marker::Model;
 use std::sync::Arc;
 use task_code::code::Code;
 use task_code::entry::{Act, Argument, Entry, Loop, Name, Need, Owned, Variable};
+use values::datum_kind::DatumKind;
 use values::key::Key;
 use work_queue::entry::Kind;
 

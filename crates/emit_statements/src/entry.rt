@@ -11,10 +11,10 @@ ghost use Rattle.emit_statements.specs.Blocks.{Numbered};
 use crate::code_builder::CodeBuilder;
 use crate::own::StatementAt;
 use emit_cells::entries::{EntryOrigin, push_entry};
-use emit_cells::names::small;
 use emit_cells::needs::PlainNeed;
 use indexmap::IndexSet;
 use std::alloc::AllocError;
+use task_code::body_numbers::small;
 use task_code::entry::Act;
 
 impl CodeBuilder {

@@ -4,9 +4,9 @@ use explain_blocked::context::ExplainContext;
 use explain_text::words::{write_count, write_str};
 use lexer::lexer::Lexer;
 use lexer::token::TokenKind;
-use meaning_facts::instances::MOST_STEPS;
 use paths::{FaultKind, Step};
 use std::alloc::{AllocError, Allocator};
+use values::limits::MAX_PATH_STEPS;
 
 const BOTH_SIDES: &str =
     "hint: && and || work out both of their sides: test the one in an if, and the other in an if inside of it\n";
@@ -14,7 +14,7 @@ const BOTH_SIDES: &str =
 /// Maximum number of times that a function can call itself if each call stands in a branch.
 ///
 /// Both the call and the branch are steps, and the first call is not made by the function itself.
-const CALLS: usize = MOST_STEPS / 2 - 1;
+const CALLS: usize = MAX_PATH_STEPS / 2 - 1;
 
 const ONCE: &str =
     "hint: each turn writes an element of its own, A[i] = ..; what several turns have for one key goes into an array with a key for each turn\n";

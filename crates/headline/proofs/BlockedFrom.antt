@@ -19,7 +19,7 @@ use Rattle.language.specs.Members.{◌∈◌, first, later}
 use Rattle.language.specs.Openings.{Opens, then_alone, then_first, else_second, turn, item}
 use Rattle.language.specs.Outcomes.{Blocked, OwnFact, Counts}
 use Rattle.language.specs.Parts.{stmt_calls, block_list}
-use Rattle.language.specs.Places.{Path, most_steps}
+use Rattle.language.specs.Places.{Path, max_path_steps}
 use Rattle.language.specs.Single.{SinglyAssigned}
 use Rattle.language.specs.WellFormed.{WellFormed}
 use Rattle.language_laws.proofs.Declared.{stmt_in}
@@ -177,13 +177,13 @@ module _ (s : Core) (C : Code) (w : IsCodeOf s C) (K : Knowledge) (wf : WellForm
   module _ {p : List Step} {t k : ℕ} {b : Block} (ch : Chain s C w.layout K p t k b) (alive : AllAlive p t) where
     -- A BLOCK UNDER A KEY
     under : {at n u : ℕ} {a : Action} {d : Block} {vs : List Value} {key : Key} (j : ℕ) → In j (body C t).entries → (c : ℕ) (x : Computed) → stmt at n a ∈ block_list b → (entry C j).mark ≡ at → In (Through, u) (ways (entry C j).act)
-        → BodyAs C w.layout k d u → Ready s K (script_path p) a vs → Opens a vs key d → length (script_path p) < most_steps → IsAlive (Item j p c) → ReadsAs j p c x → In (u, step_at (entry C j).mark key p) (instances (entry C j).act (entry C j).mark p c x)
+        → BodyAs C w.layout k d u → Ready s K (script_path p) a vs → Opens a vs key d → length (script_path p) < max_path_steps → IsAlive (Item j p c) → ReadsAs j p c x → In (u, step_at (entry C j).mark key p) (instances (entry C j).act (entry C j).mark p c x)
         → Spot ((at, key) ∷ script_path p) d
     under {at} {u = u} {key = key} j there c x m mk wy ba r o dp lv f h =
         at_body refl (by_header j ch m there mk wy ba r o dp) (λ i m'. subst (λ (z : ℕ). IsAlive (Item i (step_at z key p) 0)) mk (opens_alive x lv f (u, step_at (entry C j).mark key p) h i m'))
 
     when_under : {at n : ℕ} {o : Outer} {d : Block} {js : List ℕ} → stmt at n (when o d) ∈ block_list b → StmtAs C w.layout k (stmt at n (when o d)) js → ((j : ℕ) → In j js → In j (body C t).entries)
-        → Ready s K (script_path p) (when o d) (One (Truth true) ∷ []) → length (script_path p) < most_steps → Spot ((at, Key.Number (pos 0)) ∷ script_path p) d
+        → Ready s K (script_path p) (when o d) (One (Truth true) ∷ []) → length (script_path p) < max_path_steps → Spot ((at, Key.Number (pos 0)) ∷ script_path p) d
     when_under m (simple j z op as' e nd q) sub r dp = absurd z
     when_under {o = o} m (branch {t = u} j {is = is} as' en mk ba q) sub r dp =
         let there = sub j (subst (λ (z : List ℕ). In j z) (sym q) (in_right j is (j ∷ []) (inl refl))) in
@@ -194,7 +194,7 @@ module _ (s : Core) (C : Code) (w : IsCodeOf s C) (K : Knowledge) (wf : WellForm
         (subst (λ (a : Act). In (u, step_at (entry C j).mark (Key.Number (pos 0)) p) (instances a (entry C j).mark p 0 (Takes true))) (sym en.act_is) (inl refl))
 
     choose_under : {at n : ℕ} {o : Outer} {d d' : Block} {js : List ℕ} (x : Bool) → stmt at n (choose o d d') ∈ block_list b → StmtAs C w.layout k (stmt at n (choose o d d')) js → ((j : ℕ) → In j js → In j (body C t).entries)
-        → Ready s K (script_path p) (choose o d d') (One (Truth x) ∷ []) → length (script_path p) < most_steps → Spot ((at, branch_key x) ∷ script_path p) (taken x d d')
+        → Ready s K (script_path p) (choose o d d') (One (Truth x) ∷ []) → length (script_path p) < max_path_steps → Spot ((at, branch_key x) ∷ script_path p) (taken x d d')
     choose_under x m (simple j z op as' e nd q) sub r dp = absurd z
     choose_under {at = at} {o = o} {d = d} {d' = d'} x m (branches {t = u} {u = u'} j {is = is} as' en mk ba bb q) sub r dp = by x r f
       where
@@ -214,14 +214,14 @@ module _ (s : Core) (C : Code) (w : IsCodeOf s C) (K : Knowledge) (wf : WellForm
             (subst (λ (a : Act). In (u', step_at (entry C j).mark (Key.Number (pos 1)) p) (instances a (entry C j).mark p 0 (Takes false))) (sym en.act_is) (inl refl))
 
     turn_under : {at n x : ℕ} {y : Option ℕ} {d : Block} {a : Action} {vs : List Value} (u : Key × Scalar) → LoopRun s C w K wf (backs s K kn) I sc (by_answers s C w K wf (backs s K kn) I sc) p t k at x y d u → stmt at n a ∈ block_list b → Ready s K (script_path p) a vs → Opens a vs u.0 d
-        → length (script_path p) < most_steps → Spot ((at, u.0) ∷ script_path p) d
+        → length (script_path p) < max_path_steps → Spot ((at, u.0) ∷ script_path p) d
     turn_under u run m r o dp =
         under run.number run.there run.chunk_number (Turns run.turns) m run.mark_is run.way run.stands r o dp run.alive run.fact
         (subst (λ (l : List (ℕ × List Step)). In (run.content, step_at (entry C run.number).mark u.0 p) l) (sym (loop_instances C (entry C run.number).act _ (entry C run.number).mark p run.chunk_number (Turns run.turns) run.loops))
         (in_map (λ (z : Key × Scalar). (run.content, step_at (entry C run.number).mark z.0 p)) u _ run.in_chunk))
 
     header_under : {at n : ℕ} {a : Action} {vs : List Value} {key : Key} {d : Block} {js : List ℕ} → stmt at n a ∈ block_list b → StmtAs C w.layout k (stmt at n a) js → ((j : ℕ) → In j js → In j (body C t).entries) → Ready s K (script_path p) a vs → Opens a vs key d
-        → length (script_path p) < most_steps → Spot ((at, key) ∷ script_path p) d
+        → length (script_path p) < max_path_steps → Spot ((at, key) ∷ script_path p) d
     header_under m sa sub r then_alone dp = when_under m sa sub r dp
     header_under m sa sub r then_first dp = choose_under true m sa sub r dp
     header_under m sa sub r else_second dp = choose_under false m sa sub r dp
@@ -230,7 +230,7 @@ module _ (s : Core) (C : Code) (w : IsCodeOf s C) (K : Knowledge) (wf : WellForm
 
     -- A CALL
     call_under : {st : Stmt} {c : Call} {f : Function} {js : List ℕ} → st ∈ block_list b → c ∈ stmt_calls st → CallFound C w.layout k st c js → ((j : ℕ) → In j js → In j (body C t).entries) → slice_get s.functions c.function ≡ Some f → length c.inputs ≡ f.inputs
-        → length (script_path p) < most_steps → Spot ((c.at, Key.Number (pos 0)) ∷ script_path p) f.body
+        → length (script_path p) < max_path_steps → Spot ((c.at, Key.Number (pos 0)) ∷ script_path p) f.body
     call_under {c = c} {f = f} m n cf sub fq len dp =
         let j = cf.number in
         let there = sub cf.number cf.there in
@@ -309,7 +309,7 @@ module _ (s : Core) (C : Code) (w : IsCodeOf s C) (K : Knowledge) (wf : WellForm
       by : Spot path b → Spot ((at, key) ∷ path) c
       by (at_body {p = p} e ch alive) =
           let f = found (chain_body s C w.layout K wf.names I sc ch) m in
-          subst (λ (z : Path). Spot ((at, key) ∷ z) c) e (header_under ch alive m f.as_stmt f.among (subst (λ (z : Path). Ready s K z header vs) (sym e) r) o (subst (λ (z : Path). length z < most_steps) (sym e) dp))
+          subst (λ (z : Path). Spot ((at, key) ∷ z) c) e (header_under ch alive m f.as_stmt f.among (subst (λ (z : Path). Ready s K z header vs) (sym e) r) o (subst (λ (z : Path). length z < max_path_steps) (sym e) dp))
       by (between x) = absurd (opens_no_wait (subst (λ (z : Stmt). WaitAs C w.layout x.k z x.below x.content) (sym (only_stmt s C w K wf (backs s K kn) I sc m x.block_is)) x.as_wait) o)
   spot (Mn.waited {path = path} {b = b} {c = c} {at = at} {n = n} {ns = ns} lv m r) = by (spot lv)
     where
@@ -330,7 +330,7 @@ module _ (s : Core) (C : Code) (w : IsCodeOf s C) (K : Knowledge) (wf : WellForm
           let fs = found (chain_body s C w.layout K wf.names I sc ch) m in
           let g = sc.calls st c (stmt_in s (in_block (chain_live s C w.layout K wf.names I sc ch) m)) n in
           subst (λ (z : Path). Spot ((c.at, Key.Number (pos 0)) ∷ z) f.body) e
-          (call_under ch alive m n (find_call C w.layout c fs.as_stmt n) fs.among fq (g.2 ∙ ap (λ (z : Function). z.inputs) (some_same (sym g.1 ∙ fq))) (subst (λ (z : Path). length z < most_steps) (sym e) dp))
+          (call_under ch alive m n (find_call C w.layout c fs.as_stmt n) fs.among fq (g.2 ∙ ap (λ (z : Function). z.inputs) (some_same (sym g.1 ∙ fq))) (subst (λ (z : Path). length z < max_path_steps) (sym e) dp))
       by (between x) = absurd (calls_no_wait (subst (λ (z : Stmt). WaitAs C w.layout x.k z x.below x.content) (sym (only_stmt s C w K wf (backs s K kn) I sc m x.block_is)) x.as_wait) n)
 
   -- THE ITEM OF A BLOCKED STATEMENT

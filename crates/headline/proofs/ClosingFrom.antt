@@ -21,7 +21,7 @@ use Rattle.language.specs.Meaning.{IsTarget, Ready}
 use Rattle.language.specs.Members.{◌∈◌, first}
 use Rattle.language.specs.Openings.{Opens, Branches}
 use Rattle.language.specs.Parts.{stmt_calls, block_list, blocks_below, script_blocks, targets, function_body, stmts_of, owners, call_at, input_name, output_name}
-use Rattle.language.specs.Places.{Path, Place, place, place_of, most_steps}
+use Rattle.language.specs.Places.{Path, Place, place, place_of, max_path_steps}
 use Rattle.language.specs.Single.{SinglyAssigned}
 use Rattle.language.specs.WellFormed.{Declares, Uses, own, inside, in_wait, IsAlone, IsHidden, header_blocks, WellFormed}
 use Rattle.language.proofs.Blocks.{header_inner, inner_below, below_below, inner_block, among_script}
@@ -258,10 +258,10 @@ module _ (s : Core) (C : Code) (w : IsCodeOf s C) (K : Knowledge) (wf : WellForm
     pub inserted : (p : List Step) (t k : ℕ) (b : Block) → Chain s C w.layout K p t k b → (j : ℕ) → In j (body C t).entries → (at n : ℕ) (x : Name) (i o : Outer) (key : Key) (v : Scalar) → stmt at n (insert x i o) ∈ block_list b
         → IsEntry (entry C j) at (pos 0) (own_needs w.layout k (insert x i o)) (simple_act w.layout k (own_needs w.layout k (insert x i o)) (insert x i o)) → K (element (place s (script_path p) x) key (script_path p, n) v) → (c : Computed) × ReadsAs j p 0 c × KnownWrites j p 0 c
     pub header : (p : List Step) (t k : ℕ) (b : Block) → Chain s C w.layout K p t k b → (j : ℕ) → In j (body C t).entries → (at n : ℕ) (a : Action) (vs : List Value) → stmt at n a ∈ block_list b → OwnAs C w.layout k (stmt at n a) j → Branches a
-        → Ready s K (script_path p) a vs → ((key : Key) (c : Block) → Opens a vs key c → length (script_path p) < most_steps) → HeaderFact j k at p a vs
+        → Ready s K (script_path p) a vs → ((key : Key) (c : Block) → Opens a vs key c → length (script_path p) < max_path_steps) → HeaderFact j k at p a vs
     pub waited : (p : List Step) (t k : ℕ) (b : Block) → Chain s C w.layout K p t k b → (j : ℕ) → In j (body C t).entries → (st : Stmt) (hs : List Header) (u : ℕ) → st ∈ block_list b → (entry C j).needs ≡ each_once (flat_map (λ h. h.needs) hs) → (entry C j).act ≡ code.Wait hs u
         → AllReady k (script_path p) st hs → ReadsAs j p 0 OpensIt
-    pub called : (p : List Step) (t k : ℕ) (b : Block) → Chain s C w.layout K p t k b → (j : ℕ) → In j (body C t).entries → (c : Call) (all : List Part) (at : ℕ) (pr : ℤ) → CallAs C w.layout k all at pr c j → length (script_path p) < most_steps → ReadsAs j p 0 OpensIt
+    pub called : (p : List Step) (t k : ℕ) (b : Block) → Chain s C w.layout K p t k b → (j : ℕ) → In j (body C t).entries → (c : Call) (all : List Part) (at : ℕ) (pr : ℤ) → CallAs C w.layout k all at pr c j → length (script_path p) < max_path_steps → ReadsAs j p 0 OpensIt
 
   -- what opens bodies writes no array
   pub no_writes : (j c : ℕ) (p : List Step) (x : Computed) → (y : Way × ℕ) × In y (ways (entry C j).act) → KnownWrites j p c x
@@ -427,7 +427,7 @@ module _ (s : Core) (C : Code) (w : IsCodeOf s C) (K : Knowledge) (wf : WellForm
     pub idle_item : {p : List Step} (j : ℕ) → (In (Datum p0 v0) (map (place_at C p) (entry C j).writes) → ⊥) → Fin (Item j p 0)
     idle_item j h = idle h
 
-    pub header_done : {what : Owned} {p : List Step} {at n : ℕ} {a : Action} {vs : List Value} → Branches a → Ready s K (script_path p) a vs → ReadyFed s C w K wf kn I sc fd (script_path p) a → ((key : Key) (b : Block) → Opens a vs key b → length (script_path p) < most_steps)
+    pub header_done : {what : Owned} {p : List Step} {at n : ℕ} {a : Action} {vs : List Value} → Branches a → Ready s K (script_path p) a vs → ReadyFed s C w K wf kn I sc fd (script_path p) a → ((key : Key) (b : Block) → Opens a vs key b → length (script_path p) < max_path_steps)
         → ((key : Key) (b : Block) → Opens a vs key b → (st : Stmt) → st ∈ block_list b → Concl what (step_at at key p) st) → Concl what p (stmt at n a)
     header_done {what} {p} {at} {n} {a} {vs} hb r rf dp rec t k b ch m up inv j there lv (inl po) = idle_item j (part_no_right ch j there (stmt at n a) m po (λ c al. by a hb al.is))
       where
@@ -560,7 +560,7 @@ module _ (s : Core) (C : Code) (w : IsCodeOf s C) (K : Knowledge) (wf : WellForm
                   o.1 ∙ ap output (outputs_apart s single inv.owner m o.0 j x'.0 x x'.1 e w' q))
             ]
 
-    pub call_done : {what : Owned} {p : List Step} {at n : ℕ} {pr : ℤ} {ps : List Part} {c : Call} → length (script_path p) < most_steps
+    pub call_done : {what : Owned} {p : List Step} {at n : ℕ} {pr : ℤ} {ps : List Part} {c : Call} → length (script_path p) < max_path_steps
         → ((j : ℕ) (x : Name) (st : Stmt) → slice_get c.outputs j ≡ Some x → x.what ≡ what → st ∈ function_body s c.function → Concl (output j) (step_at c.at (Key.Number (pos 0)) p) st) → Concl what p (stmt at n (call_alone pr ps c))
     call_done dp rec t k b ch m up inv j there lv (inr (own_simple z en nd)) = absurd z
     call_done {what} {p} {at} {n} {pr} {ps} {c} dp rec t k b ch m up inv j there lv (inl po) = by po.as_part po.there po.in_stmt refl

@@ -20,7 +20,7 @@ use Rattle.language.specs.Meaning.{IsTarget, Finished, no_target, value_known, w
 use Rattle.language.specs.Members.{◌∈◌, first, later}
 use Rattle.language.specs.Openings.{Bounds, bounds, in_turns, one_way, two_ways, Opens, then_alone, then_first, else_second, turn, item, Branches}
 use Rattle.language.specs.Parts.{stmt_at, part_cells, cells, stmt_calls, block_list, script_blocks, stmts_of, output_name}
-use Rattle.language.specs.Places.{Place, place, place_of, most_steps}
+use Rattle.language.specs.Places.{Place, place, place_of, max_path_steps}
 use Rattle.language.specs.WellFormed.{Declares, Uses, IsMany, a_list, a_copy, own, WellFormed}
 use Rattle.language.proofs.Blocks.{header_inner, inner_block}
 use Rattle.language_laws.proofs.Declared.{local_same, stmt_in, live_block, header_of, output_found, output_in, place_here}
@@ -119,7 +119,7 @@ module _ (s : Core) (C : Code) (w : IsCodeOf s C) (K : Knowledge) (wf : WellForm
     fails : (g : EntryFault) → X ≡ Fails g → ⊥
     fails g q = bad_good (sym (ap (λ (z : Computed). outcome_of z (is_too_deep (entry C i).act p (instances (entry C i).act (entry C i).mark p 0 X)) (effect_at C i p 0 X)) q) ∙ d.fact.reading.is)
 
-    depth_at : (q : ℕ × List Step) → steps_on (entry C i).act ≡ true → In q (instances (entry C i).act (entry C i).mark p 0 X) → length (script_path p) < most_steps
+    depth_at : (q : ℕ × List Step) → steps_on (entry C i).act ≡ true → In q (instances (entry C i).act (entry C i).mark p 0 X) → length (script_path p) < max_path_steps
     depth_at q st h = depth_below (entry C i).act p q _ st h (shallow _ _ _ _ d.fact.reading.is)
 
     live : {st : Stmt} → st ∈ block_list b → LiveStmt s K (script_path p) st
@@ -317,7 +317,7 @@ module _ (s : Core) (C : Code) (w : IsCodeOf s C) (K : Knowledge) (wf : WellForm
         h : In (w.layout.body_of c.function, step_at (entry C i).mark (Key.Number (pos 0)) p) (instances (entry C i).act (entry C i).mark p 0 X)
         h = at_once _ ca.is.act_is (ap (λ (z : Act). work_out z ys) ca.is.act_is) (inl refl)
 
-        deep : length (script_path p) < most_steps
+        deep : length (script_path p) < max_path_steps
         deep = depth_at _ (ap steps_on ca.is.act_is) h
 
         by : (j : ℕ) (x : Name) (st' : Stmt) → slice_get c.outputs j ≡ Some x → x.what ≡ what → st' ∈ block_list (g.0).body → Finished s K (output j) ((c.at, Key.Number (pos 0)) ∷ script_path p) st'

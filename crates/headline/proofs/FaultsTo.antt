@@ -23,7 +23,7 @@ use Rattle.language.specs.Members.{◌∈◌, first, later}
 use Rattle.language.specs.Openings.{Bounds, bounds, one_way, two_ways, in_turns, Opens, then_alone, then_first, else_second, turn, item}
 use Rattle.language.specs.Outcomes.{Faults}
 use Rattle.language.specs.Parts.{stmt_node, cells, part_cells, block_list, outer_cells}
-use Rattle.language.specs.Places.{Place, place, most_steps}
+use Rattle.language.specs.Places.{Place, place, max_path_steps}
 use Rattle.language.specs.WellFormed.{WellFormed, IsMany, a_list, a_copy}
 use Rattle.language_laws.proofs.Declared.{stmt_in, place_here}
 use Rattle.language_laws.proofs.Sources.{outer_in}
@@ -169,7 +169,7 @@ path_length : (p : List Step) → length (script_path p) ≡ length p
 path_length [] = refl
 path_length (t ∷ p) = ap suc (path_length p)
 
-at_least : (n : ℕ) → nat_le most_steps n ≡ true → most_steps ≤ n
+at_least : (n : ℕ) → nat_le max_path_steps n ≡ true → max_path_steps ≤ n
 at_least n h = grind arith
 
 member : {X : Type 0} (xs : List X) → is_some_list xs ≡ true → (x : X) × In x xs
@@ -178,7 +178,7 @@ member (x ∷ xs) h = (x, inl refl)
 
 module _ (s : Core) (C : Code) (w : IsCodeOf s C) (K : Knowledge) (wf : WellFormed s) (kn : Knows s K) (I : IsCode C) (sc : Scoped s) (ty : TypedValues s K) where
   -- no path of a live block is longer than the limit
-  chain_bound : {p : List Step} {t k : ℕ} {b : Block} → Chain s C w.layout K p t k b → length (script_path p) ≤ most_steps
+  chain_bound : {p : List Step} {t k : ℕ} {b : Block} → Chain s C w.layout K p t k b → length (script_path p) ≤ max_path_steps
   chain_bound (at_script h) = omega arith
   chain_bound (by_header j ch m i mk wy h r o dp) = omega arith
   chain_bound (by_wait j ch m i wy h r) = chain_bound ch
@@ -358,14 +358,14 @@ module _ (s : Core) (C : Code) (w : IsCodeOf s C) (K : Knowledge) (wf : WellForm
 
     -- A PATH THAT WOULD BE TOO LONG
     record Deep : Type 0 where
-      at_limit : length (script_path p) ≡ most_steps
+      at_limit : length (script_path p) ≡ max_path_steps
       steps : steps_on (entry C i).act ≡ true
       instance : ℕ × List Step
       opens : In instance (instances (entry C i).act (entry C i).mark p c X)
 
     deep_here : is_too_deep (entry C i).act p (instances (entry C i).act (entry C i).mark p c X) ≡ true → Deep
     deep_here h =
-        let a = and_parts (nat_le most_steps (length p)) _ h in
+        let a = and_parts (nat_le max_path_steps (length p)) _ h in
         let d = and_parts (steps_on (entry C i).act) _ a.1 in
         let q = member (instances (entry C i).act (entry C i).mark p c X) d.1 in
         let le = at_least (length p) a.0 in

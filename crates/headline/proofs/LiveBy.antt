@@ -21,7 +21,7 @@ use Rattle.language.specs.Meaning.{in_block, Ready, cells_known, source_closed, 
 use Rattle.language.specs.Members.{◌∈◌, first, later}
 use Rattle.language.specs.Openings.{Branches, Bounds, bounds, one_way, two_ways, in_turns, Opens, then_alone, then_first, else_second, turn, item}
 use Rattle.language.specs.Parts.{stmt_at, outer_cells, cells, stmt_calls, block_list}
-use Rattle.language.specs.Places.{Path, Place, place, most_steps}
+use Rattle.language.specs.Places.{Path, Place, place, max_path_steps}
 use Rattle.language.specs.WellFormed.{WellFormed}
 use Rattle.language.proofs.Members.{split_in}
 use Rattle.language_laws.proofs.Declared.{stmt_in}
@@ -147,7 +147,7 @@ module _ (s : Core) (C : Code) (w : IsCodeOf s C) (K : Knowledge) (wf : WellForm
     module _ {p : List Step} {t k : ℕ} {b : Block} (ch : Chained p t k b) (j : ℕ) (there : In j (body C t).entries) where
       -- a block under a key, once the item of its chunk has the fact that opens it
       header_where : {at n u : ℕ} {a : Action} {c : Block} {vs : List Value} {key : Key} (chunk_no : ℕ) (x : Computed) → stmt at n a ∈ block_list b → (entry C j).mark ≡ at → In (Through, u) (ways (entry C j).act)
-          → BodyAs C w.layout k c u → Ready s K (script_path p) a vs → Opens a vs key c → length (script_path p) < most_steps
+          → BodyAs C w.layout k c u → Ready s K (script_path p) a vs → Opens a vs key c → length (script_path p) < max_path_steps
           → Alive (Item j p chunk_no) → fd.Fact (Item j p chunk_no) (effect_at C j p chunk_no x) → In (u, step_at (entry C j).mark key p) (instances (entry C j).act (entry C j).mark p chunk_no x)
           → Where ((at, key) ∷ script_path p) c
       header_where {at} {u = u} {key = key} cn x m mk wy ba r o d lv f h =
@@ -215,7 +215,7 @@ module _ (s : Core) (C : Code) (w : IsCodeOf s C) (K : Knowledge) (wf : WellForm
 
     -- a branch that a header opens
     when_where : {p : List Step} {t k : ℕ} {b : Block} (ch : Chained p t k b) → AllAlive p t → {at n : ℕ} {o : Outer} {d : Block} {js : List ℕ} → stmt at n (when o d) ∈ block_list b → StmtAs C w.layout k (stmt at n (when o d)) js → ((j : ℕ) → In j js → In j (body C t).entries)
-        → Ready s K (script_path p) (when o d) (One (Truth true) ∷ []) → length (script_path p) < most_steps → Where ((at, Key.Number (pos 0)) ∷ script_path p) d
+        → Ready s K (script_path p) (when o d) (One (Truth true) ∷ []) → length (script_path p) < max_path_steps → Where ((at, Key.Number (pos 0)) ∷ script_path p) d
     when_where ch alive m (simple j z op as' e nd q) sub r dp = absurd z
     when_where {p} {t} {k} ch alive {at = at} {n = n} {o = o} {d = d} m (branch {t = u} j {is = is} as' en mk ba q) sub r dp =
         let there = sub j (subst (λ (z : List ℕ). In j z) (sym q) (in_right j is (j ∷ []) (inl refl))) in
@@ -225,7 +225,7 @@ module _ (s : Core) (C : Code) (w : IsCodeOf s C) (K : Knowledge) (wf : WellForm
         (subst (λ (a : Act). In (u, step_at (entry C j).mark (Key.Number (pos 0)) p) (instances a (entry C j).mark p 0 (Takes true))) (sym en.act_is) (inl refl))
 
     choose_where : {p : List Step} {t k : ℕ} {b : Block} (ch : Chained p t k b) → AllAlive p t → {at n : ℕ} {o : Outer} {d d' : Block} {js : List ℕ} (x : Bool) → stmt at n (choose o d d') ∈ block_list b → StmtAs C w.layout k (stmt at n (choose o d d')) js → ((j : ℕ) → In j js → In j (body C t).entries)
-        → Ready s K (script_path p) (choose o d d') (One (Truth x) ∷ []) → length (script_path p) < most_steps → Where ((at, branch_key x) ∷ script_path p) (taken x d d')
+        → Ready s K (script_path p) (choose o d d') (One (Truth x) ∷ []) → length (script_path p) < max_path_steps → Where ((at, branch_key x) ∷ script_path p) (taken x d d')
     choose_where ch alive x m (simple j z op as' e nd q) sub r dp = absurd z
     choose_where {p} {t} {k} ch alive {at = at} {n = n} {o = o} {d = d} {d' = d'} x m (branches {t = u} {u = u'} j {is = is} as' en mk ba bb q) sub r dp =
         by x r f
@@ -244,7 +244,7 @@ module _ (s : Core) (C : Code) (w : IsCodeOf s C) (K : Knowledge) (wf : WellForm
 
     -- CALLS
     call_where : {p : List Step} {t k : ℕ} {b : Block} (ch : Chained p t k b) → AllAlive p t → {st : Stmt} {c : Call} {f : Function} {js : List ℕ} → st ∈ block_list b → c ∈ stmt_calls st → CallFound C w.layout k st c js → ((j : ℕ) → In j js → In j (body C t).entries)
-        → slice_get s.functions c.function ≡ Some f → length c.inputs ≡ f.inputs → length (script_path p) < most_steps → Where ((c.at, Key.Number (pos 0)) ∷ script_path p) f.body
+        → slice_get s.functions c.function ≡ Some f → length c.inputs ≡ f.inputs → length (script_path p) < max_path_steps → Where ((c.at, Key.Number (pos 0)) ∷ script_path p) f.body
     call_where {p} {t} {k} ch alive {c = c} {f = f} m n cf sub fq len dp =
         at_body refl (by_call j ch m n there ca cf.cells_in fq len (w.functions c.function f fq) dp)
         (λ i m'. subst (λ (z : ℕ). Alive (Item i (step_at z (Key.Number (pos 0)) p) 0)) ca.mark_is (opens_alive OpensIt (alive j there) fact (w.layout.body_of c.function, step_at (entry C j).mark (Key.Number (pos 0)) p) opens i m'))
@@ -310,7 +310,7 @@ module _ (s : Core) (C : Code) (w : IsCodeOf s C) (K : Knowledge) (wf : WellForm
           fact : fd.Fact (Item j p 0) (effect_at C j p 0 OpensIt)
           fact = fd.yields j 0 p _ (alive j there) (λ x h. (all x h).1)
               (fact_of s C w K wf kn I sc ch j there z 0 OpensIt (ap (λ (a : Act). compute a (answered C p (entry C j).needs z.answers)) en.act_is) tt
-              (subst (λ (a : Act). is_too_deep a p (instances a (entry C j).mark p 0 OpensIt) ≡ false) (sym en.act_is) (no_step (nat_le most_steps (length p)))))
+              (subst (λ (a : Act). is_too_deep a p (instances a (entry C j).mark p 0 OpensIt) ≡ false) (sym en.act_is) (no_step (nat_le max_path_steps (length p)))))
             where
               no_step : (b : Bool) → (b && false) ≡ false
               no_step true = refl
@@ -359,7 +359,7 @@ module _ (s : Core) (C : Code) (w : IsCodeOf s C) (K : Knowledge) (wf : WellForm
       pub fact : fd.Fact (Item number p chunk_number) (effect_at C number p chunk_number (Turns turns))
       pub in_chunk : In u (chunk chunk_number turns)
 
-    module _ {p : List Step} {t k : ℕ} {b : Block} (ch : Chained p t k b) (alive : AllAlive p t) (j : ℕ) (there : In j (body C t).entries) (fed : (x : Need) → In x (entry C j).needs → fd.Fed p x) (dp : length (script_path p) < most_steps) where
+    module _ {p : List Step} {t k : ℕ} {b : Block} (ch : Chained p t k b) (alive : AllAlive p t) (j : ℕ) (there : In j (body C t).entries) (fed : (x : Need) → In x (entry C j).needs → fd.Fed p x) (dp : length (script_path p) < max_path_steps) where
       turns_fact : (z : Known s C w K wf kn I sc ch j there) (ts : Elements) → compute (entry C j).act (answered C p (entry C j).needs z.answers) ≡ Turns ts → (c : ℕ) → Reading (code_system C) (Answers s K) (Item j p c) (effect_at C j p c (Turns ts))
       turns_fact z ts e c = fact_of s C w K wf kn I sc ch j there z c (Turns ts) e tt (not_too_deep _ p _ dp)
 
@@ -389,14 +389,14 @@ module _ (s : Core) (C : Code) (w : IsCodeOf s C) (K : Knowledge) (wf : WellForm
           }
 
     run_where : {p : List Step} {t k : ℕ} {b : Block} (ch : Chained p t k b) → AllAlive p t → {at n x : ℕ} {y : Option ℕ} {d : Block} {a : Action} {vs : List Value} (u : Key × Scalar) → LoopRun p t k at x y d u → stmt at n a ∈ block_list b → Ready s K (script_path p) a vs → Opens a vs u.0 d
-        → length (script_path p) < most_steps → Where ((at, u.0) ∷ script_path p) d
+        → length (script_path p) < max_path_steps → Where ((at, u.0) ∷ script_path p) d
     run_where {p} ch alive u run m r o dp =
         header_where ch run.number run.there run.chunk_number (Turns run.turns) m run.mark_is run.way run.stands r o dp run.alive run.fact
         (subst (λ (l : List (ℕ × List Step)). In (run.content, step_at (entry C run.number).mark u.0 p) l) (sym (loop_instances C (entry C run.number).act _ (entry C run.number).mark p run.chunk_number (Turns run.turns) run.loops))
         (in_map (λ (z : Key × Scalar). (run.content, step_at (entry C run.number).mark z.0 p)) u (chunk run.chunk_number run.turns) run.in_chunk))
 
     pub each_run : {p : List Step} {t k : ℕ} {b : Block} (ch : Chained p t k b) → AllAlive p t → {at n x : ℕ} {a : Name} {y : Option ℕ} {d : Block} {js : List ℕ} {es : List Element} {key : Key} {v : Scalar} → stmt at n (each a x y d) ∈ block_list b
-        → StmtAs C w.layout k (stmt at n (each a x y d)) js → ((j : ℕ) → In j js → In j (body C t).entries) → Ready s K (script_path p) (each a x y d) (Many es ∷ []) → fd.ArrayFed (place s (script_path p) a) → element_of key v ∈ es → length (script_path p) < most_steps → LoopRun p t k at x y d (key, v)
+        → StmtAs C w.layout k (stmt at n (each a x y d)) js → ((j : ℕ) → In j js → In j (body C t).entries) → Ready s K (script_path p) (each a x y d) (Many es ∷ []) → fd.ArrayFed (place s (script_path p) a) → element_of key v ∈ es → length (script_path p) < max_path_steps → LoopRun p t k at x y d (key, v)
     each_run ch alive m (simple j z op as' e nd q) sub r rf i dp = absurd z
     each_run {p} {t} {k} {b} ch alive {at} {n} {x} {a} {y} {d} {js} {es} {key} {v} m (array_loop {t = t'} j en mk ba q) sub r rf i dp =
         let there = sub j (subst (λ (l : List ℕ). In j l) (sym q) (inl refl)) in
@@ -404,7 +404,7 @@ module _ (s : Core) (C : Code) (w : IsCodeOf s C) (K : Knowledge) (wf : WellForm
         turns_run ch alive j there (header_fed ch j there at n (each a x y d) _ m (own_each en mk ba) tt r rf) dp o.answers o.turns o.computed (ap loop_of en.act_is) mk (subst (λ (act : Act). In (Through, t') (ways act)) (sym en.act_is) (inl refl)) ba (key, v) (in_element o.turns (element_of key v) (subst (λ (l : List Element). element_of key v ∈ l) (sym o.all) i))
 
     pub range_run : {p : List Step} {t k : ℕ} {b : Block} (ch : Chained p t k b) → AllAlive p t → {at n x : ℕ} {lo hi : Outer} (st : Option Outer) {y : Option ℕ} {d : Block} {js : List ℕ} {vs : List Value} {rr : Bounds} {many i : ℕ} → stmt at n (range lo hi st x y d) ∈ block_list b
-        → StmtAs C w.layout k (stmt at n (range lo hi st x y d)) js → ((j : ℕ) → In j js → In j (body C t).entries) → Ready s K (script_path p) (range lo hi st x y d) vs → bounds vs ≡ Some rr → range_count rr.low rr.high rr.step ≡ Ok many → i < many → length (script_path p) < most_steps
+        → StmtAs C w.layout k (stmt at n (range lo hi st x y d)) js → ((j : ℕ) → In j js → In j (body C t).entries) → Ready s K (script_path p) (range lo hi st x y d) vs → bounds vs ≡ Some rr → range_count rr.low rr.high rr.step ≡ Ok many → i < many → length (script_path p) < max_path_steps
         → LoopRun p t k at x y d (Key.Number (pos i), Number (value_in rr.low rr.step i))
     range_run ch alive st m (simple j z op as' e nd q) sub r bq rc lt dp = absurd z
     range_run {p} ch alive {at = at} {n = n} {x = x} {lo = lo} {hi = hi} st {y = y} {d = d} {vs = vs} {rr = rr} {many = many} {i = i} m (range_loop {t = t'} j {is = is} as' en mk ba q) sub r bq rc lt dp =
@@ -415,7 +415,7 @@ module _ (s : Core) (C : Code) (w : IsCodeOf s C) (K : Knowledge) (wf : WellForm
 
     abbrev pub LoopsAlive : Type 0
     LoopsAlive = (p : List Step) (t k : ℕ) (b : Block) (ch : Chained p t k b) → AllAlive p t → (at n : ℕ) (a : Action) (vs : List Value) (key : Key) (c : Block) (js : List ℕ) → IsLoop s C w K wf kn I sc a → stmt at n a ∈ block_list b
-        → StmtAs C w.layout k (stmt at n a) js → ((j : ℕ) → In j js → In j (body C t).entries) → Ready s K (script_path p) a vs → ReadyFed (script_path p) a → Opens a vs key c → length (script_path p) < most_steps → Where ((at, key) ∷ script_path p) c
+        → StmtAs C w.layout k (stmt at n a) js → ((j : ℕ) → In j js → In j (body C t).entries) → Ready s K (script_path p) a vs → ReadyFed (script_path p) a → Opens a vs key c → length (script_path p) < max_path_steps → Where ((at, key) ∷ script_path p) c
 
     wait_stmt : {p : List Step} {t k : ℕ} {b : Block} (ch : Chained p t k b) → AllAlive p t → {at n : ℕ} {ns : List Awaited} {c : Block} {js : List ℕ} → stmt at n (wait ns c) ∈ block_list b → StmtAs C w.layout k (stmt at n (wait ns c)) js → ((j : ℕ) → In j js → In j (body C t).entries)
         → Ready s K (script_path p) (wait ns c) [] → ReadyFed (script_path p) (wait ns c) → Where (script_path p) c
@@ -439,7 +439,7 @@ module _ (s : Core) (C : Code) (w : IsCodeOf s C) (K : Knowledge) (wf : WellForm
 
     -- WHAT IS LIVE IN THE SCRIPT IS LIVE IN THE CODE
     header_step : {p : List Step} {t k : ℕ} {b : Block} (ch : Chained p t k b) → AllAlive p t → {at n : ℕ} {a : Action} {vs : List Value} {key : Key} {c : Block} {js : List ℕ} → stmt at n a ∈ block_list b
-        → StmtAs C w.layout k (stmt at n a) js → ((j : ℕ) → In j js → In j (body C t).entries) → Ready s K (script_path p) a vs → ReadyFed (script_path p) a → Opens a vs key c → length (script_path p) < most_steps → Where ((at, key) ∷ script_path p) c
+        → StmtAs C w.layout k (stmt at n a) js → ((j : ℕ) → In j js → In j (body C t).entries) → Ready s K (script_path p) a vs → ReadyFed (script_path p) a → Opens a vs key c → length (script_path p) < max_path_steps → Where ((at, key) ∷ script_path p) c
     header_step ch alive m sa sub r rf then_alone dp = when_where ch alive m sa sub r dp
     header_step ch alive m sa sub r rf then_first dp = choose_where ch alive true m sa sub r dp
     header_step ch alive m sa sub r rf else_second dp = choose_where ch alive false m sa sub r dp
@@ -450,11 +450,11 @@ module _ (s : Core) (C : Code) (w : IsCodeOf s C) (K : Knowledge) (wf : WellForm
     live_script =
         at_body refl (at_script w.script) (λ j m. live_opened Main (Item j [] 0) _ (block C (0, [])) live_main fd.main (inl refl) (in_map (λ (j : ℕ). Item j [] 0) j (body C 0).entries m)) (of_main refl refl)
 
-    pub opened_from : {path : Path} {b c : Block} {at n : ℕ} {header : Action} {vs : List Value} {key : Key} → Where path b → stmt at n header ∈ block_list b → Ready s K path header vs → ReadyFed path header → Opens header vs key c → length path < most_steps → Where ((at, key) ∷ path) c
+    pub opened_from : {path : Path} {b c : Block} {at n : ℕ} {header : Action} {vs : List Value} {key : Key} → Where path b → stmt at n header ∈ block_list b → Ready s K path header vs → ReadyFed path header → Opens header vs key c → length path < max_path_steps → Where ((at, key) ∷ path) c
     opened_from {c = c} {at = at} {header = header} {vs = vs} {key = key} (at_body {p = p} e ch alive op) m r rf o dp =
         let f = found_body s C w K wf kn I sc (chain_body s C w.layout K wf.names I sc ch) m in
         subst (λ (z : Path). Where ((at, key) ∷ z) c) e
-        (header_step ch alive m f.as_stmt f.among (subst (λ (z : Path). Ready s K z header vs) (sym e) r) (subst (λ (z : Path). ReadyFed z header) (sym e) rf) o (subst (λ (z : Path). length z < most_steps) (sym e) dp))
+        (header_step ch alive m f.as_stmt f.among (subst (λ (z : Path). Ready s K z header vs) (sym e) r) (subst (λ (z : Path). ReadyFed z header) (sym e) rf) o (subst (λ (z : Path). length z < max_path_steps) (sym e) dp))
     opened_from (between x) m r rf o dp = absurd (opens_no_wait s C w K wf kn I sc (subst (λ (z : Stmt). WaitAs C w.layout x.k z x.below x.content) (sym (only_stmt s C w K wf kn I sc m x.block_is)) x.as_wait) o)
 
     pub waited_from : {path : Path} {b c : Block} {at n : ℕ} {ns : List Awaited} → Where path b → stmt at n (wait ns c) ∈ block_list b → Ready s K path (wait ns c) [] → ReadyFed path (wait ns c) → Where path c
@@ -467,10 +467,10 @@ module _ (s : Core) (C : Code) (w : IsCodeOf s C) (K : Knowledge) (wf : WellForm
         (wait_where x.chain x.alive x.outermost x.in_block x.number x.there x.headers x.content x.as_entry x.scope m (subst (λ (z : Stmt). WaitAs C w.layout x.k z x.below x.content) (sym q) x.as_wait)
         (subst (λ (z : Path). Ready s K z (wait ns c) []) (sym x.path_is) r) (subst (λ (z : Path). ReadyFed z (wait ns c)) (sym x.path_is) rf) (λ d y. x.wrap d (subst (λ (z : Stmt). Waited s C w.layout K (script_path x.p) z d) q y)) x.answers)
 
-    pub called_from : {path : Path} {b : Block} {f : Function} {st : Stmt} {c : Call} → Where path b → st ∈ block_list b → c ∈ stmt_calls st → slice_get s.functions c.function ≡ Some f → length path < most_steps → Where ((c.at, Key.Number (pos 0)) ∷ path) f.body
+    pub called_from : {path : Path} {b : Block} {f : Function} {st : Stmt} {c : Call} → Where path b → st ∈ block_list b → c ∈ stmt_calls st → slice_get s.functions c.function ≡ Some f → length path < max_path_steps → Where ((c.at, Key.Number (pos 0)) ∷ path) f.body
     called_from {f = f} {st = st} {c = c} (at_body {p = p} e ch alive op) m n fq dp =
         let fs = found_body s C w K wf kn I sc (chain_body s C w.layout K wf.names I sc ch) m in
         let g = sc.calls st c (stmt_in s (in_block (chain_live s C w.layout K wf.names I sc ch) m)) n in
         subst (λ (z : Path). Where ((c.at, Key.Number (pos 0)) ∷ z) f.body) e
-        (call_where ch alive m n (find_call C w.layout c fs.as_stmt n) fs.among fq (g.2 ∙ ap (λ (z : Function). z.inputs) (some_same (sym g.1 ∙ fq))) (subst (λ (z : Path). length z < most_steps) (sym e) dp))
+        (call_where ch alive m n (find_call C w.layout c fs.as_stmt n) fs.among fq (g.2 ∙ ap (λ (z : Function). z.inputs) (some_same (sym g.1 ∙ fq))) (subst (λ (z : Path). length z < max_path_steps) (sym e) dp))
     called_from (between x) m n fq dp = absurd (calls_no_wait s C w K wf kn I sc (subst (λ (z : Stmt). WaitAs C w.layout x.k z x.below x.content) (sym (only_stmt s C w K wf kn I sc m x.block_is)) x.as_wait) n)

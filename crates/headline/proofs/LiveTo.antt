@@ -22,7 +22,7 @@ use Rattle.language.specs.Meaning.{ValueUnder, LiveStmt, in_block, Ready, cells_
 use Rattle.language.specs.Members.{◌∈◌, first, later}
 use Rattle.language.specs.Openings.{Bounds, bounds, in_turns, turn, one_way, two_ways, then_alone, then_first, else_second, item}
 use Rattle.language.specs.Parts.{parts, outers, outer_parts, part_cells, cells, stmt_calls, block_list}
-use Rattle.language.specs.Places.{most_steps}
+use Rattle.language.specs.Places.{max_path_steps}
 use Rattle.language.specs.WellFormed.{WellFormed}
 use Rattle.language_laws.proofs.Declared.{stmt_in}
 use Rattle.language.proofs.Members.{to_right}
@@ -210,7 +210,7 @@ module _ (s : Core) (C : Code) (w : IsCodeOf s C) (K : Knowledge) (wf : WellForm
     pub not_deep : is_too_deep (entry C i).act p (instances (entry C i).act (entry C i).mark p c (compute (entry C i).act (answered C p (entry C i).needs f.answers))) ≡ false
     not_deep = shallow _ _ _ _ f.is
 
-    pub depth : (q : ℕ × List Step) → steps_on (entry C i).act ≡ true → In q (instances (entry C i).act (entry C i).mark p c (compute (entry C i).act (answered C p (entry C i).needs f.answers))) → length (script_path p) < most_steps
+    pub depth : (q : ℕ × List Step) → steps_on (entry C i).act ≡ true → In q (instances (entry C i).act (entry C i).mark p c (compute (entry C i).act (answered C p (entry C i).needs f.answers))) → length (script_path p) < max_path_steps
     depth q st h = depth_below (entry C i).act p q _ st h not_deep
 
     abbrev Opened : ℕ × List Step → Type 0

@@ -14,7 +14,7 @@ use Rattle.language.specs.Facts.{value, Knowledge}
 use Rattle.language.specs.Meaning.{HasValue, ValueUnder, of_literal, of_name, of_array, of_operator, Gives, LiveStmt, cell_value, computed}
 use Rattle.language.specs.Members.{◌∈◌}
 use Rattle.language.specs.Parts.{cells}
-use Rattle.language.specs.Places.{Path, place, most_steps}
+use Rattle.language.specs.Places.{Path, place, max_path_steps}
 use Rattle.language.specs.WellFormed.{WellFormed}
 use Rattle.language_laws.proofs.Declared.{stmt_in, place_here}
 use Rattle.task_code.specs.Code as code
@@ -61,17 +61,17 @@ not_both : (a b : Bool) → (a && b) ≡ false → b ≡ true → a ≡ false
 not_both true b h q = sym q ∙ h
 not_both false b h q = refl
 
-below : (n : ℕ) → nat_le most_steps n ≡ false → n < most_steps
+below : (n : ℕ) → nat_le max_path_steps n ≡ false → n < max_path_steps
 below n h = grind arith
 
 path_length : (p : List Step) → length (script_path p) ≡ length p
 path_length [] = refl
 path_length (t ∷ p) = ap suc (path_length p)
 
-pub depth_below : (a : code.Act) (p : List Step) (s : ℕ × List Step) (ss : List (ℕ × List Step)) → steps_on a ≡ true → In s ss → is_too_deep a p ss ≡ false → length (script_path p) < most_steps
+pub depth_below : (a : code.Act) (p : List Step) (s : ℕ × List Step) (ss : List (ℕ × List Step)) → steps_on a ≡ true → In s ss → is_too_deep a p ss ≡ false → length (script_path p) < max_path_steps
 depth_below a p s ss st i h =
-    let q = below (length p) (not_both (nat_le most_steps (length p)) (steps_on a && is_some_list ss) h (and_from (steps_on a) (is_some_list ss) st (some_list s ss i))) in
-    subst (λ (n : ℕ). n < most_steps) (sym (path_length p)) q
+    let q = below (length p) (not_both (nat_le max_path_steps (length p)) (steps_on a && is_some_list ss) h (and_from (steps_on a) (is_some_list ss) st (some_list s ss i))) in
+    subst (λ (n : ℕ). n < max_path_steps) (sym (path_length p)) q
 
 -- ARRAYS ARE DATA
 

@@ -19,7 +19,7 @@ use Rattle.language.specs.Meaning.{Gives, ValueUnder, of_literal, of_name, of_ar
 use Rattle.language.specs.Members.{◌∈◌, first}
 use Rattle.language.specs.Openings.{Branches, one_way, two_ways, in_turns, Opens, then_alone, then_first, else_second, turn, item}
 use Rattle.language.specs.Parts.{block_list, cells}
-use Rattle.language.specs.Places.{Place, place, most_steps}
+use Rattle.language.specs.Places.{Place, place, max_path_steps}
 use Rattle.language.specs.WellFormed.{WellFormed, IsMany, a_list, a_copy}
 use Rattle.language_laws.proofs.Sources.{outer_in, cell_gives, IsFull}
 use Rattle.language_laws.proofs.Declared.{stmt_in}
@@ -56,8 +56,8 @@ use Rattle.headline.proofs.WrittenFrom.{leaf_deep, nothing_behind}
 use Rattle.headline.proofs.Roles.{OwnAs, own_simple, own_branch, own_branches, own_range, own_each, own_wait}
 
 -- no path is too long for blocks that are not there
-never_deep : (a : Act) (p : List Step) (ss : List (ℕ × List Step)) → ((q : ℕ × List Step) → In q ss → length (script_path p) < most_steps) → is_too_deep a p ss ≡ false
-never_deep a p [] h = none (nat_le most_steps (length p)) (steps_on a)
+never_deep : (a : Act) (p : List Step) (ss : List (ℕ × List Step)) → ((q : ℕ × List Step) → In q ss → length (script_path p) < max_path_steps) → is_too_deep a p ss ≡ false
+never_deep a p [] h = none (nat_le max_path_steps (length p)) (steps_on a)
   where
     none : (b d : Bool) → (b && (d && false)) ≡ false
     none true true = refl
@@ -90,12 +90,12 @@ fill_right C l I k ms e x j en = I.stores j (name_as k true x) (subst (λ (a : A
 
 module _ (s : Core) (C : Code) (w : IsCodeOf s C) (K : Knowledge) (wf : WellFormed s) (kn : Backs s K) (I : IsCode C) (sc : Scoped s) (full : IsFull s K) where
   module _ {p : List Step} {t k : ℕ} {b : Block} (ch : Chain s C w.layout K p t k b) (j : ℕ) (there : In j (body C t).entries) where
-    fact_at : {x : Computed} → Works s C w K wf kn I sc ch j there x → IsGood x → (c : ℕ) → ((q : ℕ × List Step) → In q (instances (entry C j).act (entry C j).mark p c x) → length (script_path p) < most_steps)
+    fact_at : {x : Computed} → Works s C w K wf kn I sc ch j there x → IsGood x → (c : ℕ) → ((q : ℕ × List Step) → In q (instances (entry C j).act (entry C j).mark p c x) → length (script_path p) < max_path_steps)
         → Reading (code_system C) (Answers s K) (Item j p c) (effect_at C j p c x)
     fact_at {x} z g c h = fact_of s C w K wf kn I sc ch j there z.answers c x z.computed g (never_deep (entry C j).act p _ h)
 
     header_fact : {at : ℕ} {a : Action} {vs : List Value} {x : Computed} → Works s C w K wf kn I sc ch j there x → IsGood x → (entry C j).mark ≡ at
-        → ((c : ℕ) (q : ℕ × List Step) → In q (instances (entry C j).act (entry C j).mark p c x) → OpenedAs s C w K wf kn I sc j k p a vs q) → ((key : Key) (c : Block) → Opens a vs key c → length (script_path p) < most_steps) → HeaderFact s C w K wf kn I sc j k at p a vs
+        → ((c : ℕ) (q : ℕ × List Step) → In q (instances (entry C j).act (entry C j).mark p c x) → OpenedAs s C w K wf kn I sc j k p a vs q) → ((key : Key) (c : Block) → Opens a vs key c → length (script_path p) < max_path_steps) → HeaderFact s C w K wf kn I sc j k at p a vs
     header_fact {x = x} z g mk o dp = record { computed = x; mark_is = mk; fact = λ c. fact_at z g c (λ q i. (let r = o c q i in dp r.key r.content r.opens)); opens = o }
 
     -- BRANCHES
@@ -139,7 +139,7 @@ module _ (s : Core) (C : Code) (w : IsCodeOf s C) (K : Knowledge) (wf : WellForm
         let r = in_unmap (λ (u : Key × Scalar). (t', step_at (entry C j).mark u.0 p)) q (chunk c ts) (subst (λ (l : List (ℕ × List Step)). In q l) (loop_instances C (entry C j).act (record { body = t'; value = x; turn = y }) (entry C j).mark p c (Turns ts) lq) h) in
         record { number = t'; key = (r.0).0; content = d; way = wy; stands = ba; opens = f r.0 (in_chunk c ts r.0 r.1); is = sym r.2 }
 
-    headers : (at n : ℕ) (a : Action) (vs : List Value) → stmt at n a ∈ block_list b → OwnAs C w.layout k (stmt at n a) j → Branches a → Ready s K (script_path p) a vs → ((key : Key) (c : Block) → Opens a vs key c → length (script_path p) < most_steps) → HeaderFact s C w K wf kn I sc j k at p a vs
+    headers : (at n : ℕ) (a : Action) (vs : List Value) → stmt at n a ∈ block_list b → OwnAs C w.layout k (stmt at n a) j → Branches a → Ready s K (script_path p) a vs → ((key : Key) (c : Block) → Opens a vs key c → length (script_path p) < max_path_steps) → HeaderFact s C w K wf kn I sc j k at p a vs
     headers at n a vs m (own_simple z en nd) br r dp = absurd (no_simple a z br)
     headers at n (when o d) vs m (own_branch en mk ba) br (cells_known ks (one_way {t = x})) dp =
         let kv = condition_value s C w K wf kn I sc ch j there (cells_known ks (one_way {c = o} {b = d} {t = x})) refl refl (λ ns c e. absurd (cc (e))) (λ x y z c e. absurd (cc (e))) in
@@ -271,7 +271,7 @@ module _ (s : Core) (C : Code) (w : IsCodeOf s C) (K : Knowledge) (wf : WellForm
         )
 
     -- CALLS AND WAITS
-    calls_fact : (c : Call) (all : List Part) (at : ℕ) (pr : ℤ) → CallAs C w.layout k all at pr c j → length (script_path p) < most_steps → Reading (code_system C) (Answers s K) (Item j p 0) (effect_at C j p 0 OpensIt)
+    calls_fact : (c : Call) (all : List Part) (at : ℕ) (pr : ℤ) → CallAs C w.layout k all at pr c j → length (script_path p) < max_path_steps → Reading (code_system C) (Answers s K) (Item j p 0) (effect_at C j p 0 OpensIt)
     calls_fact c all at pr ca dp =
         let z = known s C w K wf kn I sc ch j there (λ n h. absurd (subst (λ (l : List Need). In n l) ca.is.needs_is h)) in
         fact_of s C w K wf kn I sc ch j there z 0 OpensIt (ap (λ (a : Act). compute a (answered C p (entry C j).needs z.answers)) ca.is.act_is) tt (not_too_deep _ p _ dp)

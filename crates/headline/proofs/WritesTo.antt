@@ -21,7 +21,7 @@ use Rattle.language.specs.Meaning.{ValueUnder, of_array, Gives, computed, now, b
 use Rattle.language.specs.Members.{◌∈◌, first, later}
 use Rattle.language.specs.Openings.{Bounds, bounds, Opens, in_turns, turn, item, InTurn, range_value, range_turn, each_value, each_key}
 use Rattle.language.specs.Parts.{outer_cells, block_list}
-use Rattle.language.specs.Places.{Place, place, most_steps}
+use Rattle.language.specs.Places.{Place, place, max_path_steps}
 use Rattle.language.specs.WellFormed.{WellFormed, IsMany, a_list, a_copy}
 use Rattle.language_laws.proofs.Declared.{stmt_in}
 use Rattle.language_laws.proofs.Sources.{outer_in, index_in, right_in, many_given}
@@ -254,7 +254,7 @@ module _ (s : Core) (C : Code) (w : IsCodeOf s C) (K : Knowledge) (wf : WellForm
         (kn.shut _ (inserted lv (before ki) index.2 (before (subst (λ (z : Value). K (value (script_path p, o.cell.node) z)) one.1 ko))))
 
     -- A LOOP'S VARIABLES
-    turn_ours : {at n v : ℕ} {y : Option ℕ} {a : Action} {vs : List Value} {d : Block} (t' : ℕ) (u : Key × Scalar) → stmt at n a ∈ block_list b → (entry C i).mark ≡ at → Ready s K (script_path p) a vs → Opens a vs u.0 d → length (script_path p) < most_steps
+    turn_ours : {at n v : ℕ} {y : Option ℕ} {a : Action} {vs : List Value} {d : Block} (t' : ℕ) (u : Key × Scalar) → stmt at n a ∈ block_list b → (entry C i).mark ≡ at → Ready s K (script_path p) a vs → Opens a vs u.0 d → length (script_path p) < max_path_steps
         → InTurn a vs u.0 v u.1 → ((m : ℕ) → y ≡ Some m → InTurn a vs u.0 m (key_scalar u.0)) → (x : Write CodePlaces.Place Key Scalar) → In x (bound (record { body = t'; value = v; turn = y }) (entry C i).mark p u) → IsOurs x
     turn_ours {at} {n} {v} {y} {a} {vs} t' u m mk r o dp iv it x h = elim h [ inl q ↦ one_ours v u.1 q iv | inr z ↦ by y refl z ]
       where
@@ -277,7 +277,7 @@ module _ (s : Core) (C : Code) (w : IsCodeOf s C) (K : Knowledge) (wf : WellForm
     turn_of_write lp X x h = let r = in_gather C (bound lp (entry C i).mark p) (chunk c (turns_of X)) x h in (r.0, in_chunk c (turns_of X) r.0 r.1, r.1, r.2)
 
     -- a loop that has a turn does not lie too deep
-    loop_depth : (lp : code.Loop) → loop_of (entry C i).act ≡ Some lp → steps_on (entry C i).act ≡ true → (u : Key × Scalar) → In u (chunk c (turns_of (Compute.compute (entry C i).act (answered C p (entry C i).needs f.answers)))) → length (script_path p) < most_steps
+    loop_depth : (lp : code.Loop) → loop_of (entry C i).act ≡ Some lp → steps_on (entry C i).act ≡ true → (u : Key × Scalar) → In u (chunk c (turns_of (Compute.compute (entry C i).act (answered C p (entry C i).needs f.answers)))) → length (script_path p) < max_path_steps
     loop_depth lp q st u h =
         depth s C w K wf kn I sc ty ch i c there e f (lp.body, step_at (entry C i).mark u.0 p) st
         (subst (λ (l : List (ℕ × List Step)). In (lp.body, step_at (entry C i).mark u.0 p) l) (sym (loop_instances C (entry C i).act lp (entry C i).mark p c (Compute.compute (entry C i).act (answered C p (entry C i).needs f.answers)) q))
@@ -300,7 +300,7 @@ module _ (s : Core) (C : Code) (w : IsCodeOf s C) (K : Knowledge) (wf : WellForm
         ut : (u : Key × Scalar) × In u (content (answer_at (answered C p (entry C i).needs f.answers) 0)) × In u (chunk c (content (answer_at (answered C p (entry C i).needs f.answers) 0))) × In x (bound lp (entry C i).mark p u)
         ut = turn_of_write lp (Turns (content (answer_at (answered C p (entry C i).needs f.answers) 0))) x (subst (λ (z : Act). StoresAs z x) en.act_is h)
 
-        dp : length (script_path p) < most_steps
+        dp : length (script_path p) < max_path_steps
         dp = loop_depth lp (ap loop_of en.act_is) (ap steps_on en.act_is) ut.0 (subst (λ (z : Computed). In ut.0 (chunk c (turns_of z))) (sym comp) ut.2)
 
         by : (zs : List Got) → answered C p (entry C i).needs f.answers ≡ zs → AnsAll s C K p (code.Closed (name_as k true a) ∷ []) zs → IsOurs x
@@ -316,7 +316,7 @@ module _ (s : Core) (C : Code) (w : IsCodeOf s C) (K : Knowledge) (wf : WellForm
 
     range_ours : {at n x' : ℕ} {lo hi : Outer} {st : Option Outer} {y : Option ℕ} {d : Block} {vs : List Value} (t' : ℕ) (u : Key × Scalar) → stmt at n (range lo hi st x' y d) ∈ block_list b → (entry C i).mark ≡ at
         → KnownAll K (script_path p) (outer_cells (range lo hi st x' y d)) vs → (bd : Bounds) → bounds vs ≡ Some bd → (many turn_no : ℕ) → range_count bd.low bd.high bd.step ≡ Ok many → turn_no < many
-        → u.0 ≡ Key.Number (pos turn_no) → u.1 ≡ Number (value_in bd.low bd.step turn_no) → length (script_path p) < most_steps
+        → u.0 ≡ Key.Number (pos turn_no) → u.1 ≡ Number (value_in bd.low bd.step turn_no) → length (script_path p) < max_path_steps
         → (x : Write CodePlaces.Place Key Scalar) → In x (bound (record { body = t'; value = x'; turn = y }) (entry C i).mark p u) → IsOurs x
     range_ours {x' = x'} {lo = lo} {hi = hi} {st = st} {y = y} {d = d} {vs = vs} t' u m mk ka bd bq many turn_no rc lt kq vq dp x h =
         let key = Key.Number (pos turn_no) in
@@ -326,7 +326,7 @@ module _ (s : Core) (C : Code) (w : IsCodeOf s C) (K : Knowledge) (wf : WellForm
 
     range_finish : (at n x' t' : ℕ) (lo hi : Outer) (st : Option Outer) (y : Option ℕ) (d : Block) → stmt at n (range lo hi st x' y d) ∈ block_list b → (ms : List Need) → own_needs w.layout k (range lo hi st x' y d) ≡ ms → (entry C i).needs ≡ ms → (entry C i).mark ≡ at → (u : Key × Scalar)
         → RangeTurn (eval (answered C p (entry C i).needs f.answers) (over k ms (seen w.layout lo.cell))) (eval (answered C p (entry C i).needs f.answers) (over k ms (seen w.layout hi.cell))) (eval (answered C p (entry C i).needs f.answers) (over k ms (step_expr w.layout k st))) u
-        → length (script_path p) < most_steps → (x : Write CodePlaces.Place Key Scalar) → In x (bound (record { body = t'; value = x'; turn = y }) (entry C i).mark p u) → IsOurs x
+        → length (script_path p) < max_path_steps → (x : Write CodePlaces.Place Key Scalar) → In x (bound (record { body = t'; value = x'; turn = y }) (entry C i).mark p u) → IsOurs x
     range_finish at n x' t' lo hi None y d m ms mq nq mk u r dp x h =
         let known = range_known s C w K wf kn I sc ty ch i c there e f at n x' lo hi None y d m ms mq nq in
         let e1 = wanted k (seen w.layout lo.cell) in

@@ -8,7 +8,7 @@ use Rattle.task_code.specs.Places.{Datum, Place, Step, place_at}
 use Rattle.values.specs.declared.key.Key.{Key}
 use Rattle.values.specs.declared.key.Key.TheVariants.{Number as number_key}
 use Rattle.values.specs.declared.value.Scalar.{Scalar}
-use Rattle.values.specs.Limits.{chunk_size, most_steps}
+use Rattle.values.specs.Limits.{chunk_size, max_path_steps}
 
 -- the task that opens the script, or an entry in an instance of a block; chunk c of a loop begins at turn c times
 -- `chunk_size`, and other entries have chunk 0 alone
@@ -132,7 +132,7 @@ steps_on _ = false
 
 -- the path would exceed the maximum number of steps
 abbrev pub is_too_deep : Act → List Step → List (ℕ × List Step) → Bool
-is_too_deep a p ss = nat_le most_steps (length p) && (steps_on a && is_some_list ss)
+is_too_deep a p ss = nat_le max_path_steps (length p) && (steps_on a && is_some_list ss)
 
 -- an effect, or TooDeep in its place
 abbrev pub limited : Bool → Effect Task Place Key Scalar → Outcome Task Place Key Scalar EntryFault

@@ -9,10 +9,11 @@ use board_data::data;
 use board_instances::item::{ItemStatus, ItemTask};
 use board_instances::pending::{PendingInstance, outermost};
 use board_program::program::LocalVariable;
-use data_store::store::{DatumKind, Store};
+use data_store::store::Store;
 use rules::input::Input;
 use std::alloc::{AllocError, Global};
 use std::process::Abort;
+use values::datum_kind::DatumKind;
 use values::value::Scalar;
 
 /// How many instances and data there are.

@@ -1,9 +1,20 @@
-//! Numbering of the bodies of code: the script first, then its functions, then inner blocks in the order of emission.
+//! Numbers of the entries and bodies of code: the script's body first, then those of its functions, then those of inner
+//! blocks in the order of emission.
 
 ghost use Rattle.std.specs.Prelude.{◌≡◌, ◌<◌, ◌+◌, ◌^◌, length};
 
-use emit_cells::names::small;
-use task_code::code::Body;
+use crate::code::Body;
+
+/// Converts a number to 32 bits. Saturates at `u32::MAX`.
+pub fn small(number: usize) -> u32
+    ensures { number < 2 ^ 32 → result ≡ number }
+{
+    if number <= u32::MAX as usize {
+        number as u32
+    } else {
+        u32::MAX
+    }
+}
 
 /// Returns the sum of two numbers. Saturates at `usize::MAX`.
 pub fn behind(number: usize, more: usize) -> usize

@@ -1,12 +1,11 @@
-//! Chunking of loops: the turns of a loop are opened 64 at a time, and an item of its own continues with the rest.
+//! Chunking of loops: the turns of a loop are opened `CHUNK_SIZE` at a time, and an item of its own continues with the rest.
 //!
 //! The functions compute on turn indices alone; no instance or item is touched here.
 
 ghost use Rattle.std.specs.Prelude.{◌≡◌, ◌+◌, ◌*◌, min, nat_lt};
 ghost use Rattle.values.specs.Limits.{chunk_size};
 
-/// Maximum number of turns of a loop that are opened at once.
-const CHUNK_SIZE: u64 = 64;
+use crate::limits::CHUNK_SIZE;
 
 /// Returns the range of turn indices of a chunk, end exclusive, for a loop of `count` turns.
 pub fn chunk_of(chunk: usize, count: u64) -> (u64, u64)

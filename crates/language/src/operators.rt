@@ -4,7 +4,7 @@
 ghost use Rattle.std.specs.Prelude.{◌≡◌};
 ghost use Rattle.language.specs.Kinds.{operator_of, base_of, repeats};
 
-use language::tree::{Base, Level, Operator};
+use crate::tree::{Base, Level, Operator};
 use lexer::token::TokenKind;
 
 /// Returns the binary operator of a token kind, if it has one.
