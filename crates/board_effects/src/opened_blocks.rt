@@ -133,7 +133,17 @@ impl<'a> EndingItem<'a> {
                 inputs: _,
                 outputs: _,
             } => self.opens(*body, self.step(0)),
-            _ => Ok(Effect::Passes),
+            Act::Cell(_)
+            | Act::Read
+            | Act::Set(_, _)
+            | Act::Fill(_, _)
+            | Act::Copy(_)
+            | Act::Put(_, _, _)
+            | Act::Print(_)
+            | Act::Assert(_)
+            | Act::If(_, _, _)
+            | Act::Range(_, _, _, _)
+            | Act::Each(_) => Ok(Effect::Passes),
         }
     }
 
@@ -143,7 +153,17 @@ impl<'a> EndingItem<'a> {
     {
         match &self.entry.act {
             Act::Range(_, _, _, found) | Act::Each(found) => Some(found.body),
-            _ => None,
+            Act::Cell(_)
+            | Act::Read
+            | Act::Set(_, _)
+            | Act::Fill(_, _)
+            | Act::Copy(_)
+            | Act::Put(_, _, _)
+            | Act::Print(_)
+            | Act::Assert(_)
+            | Act::Call { .. }
+            | Act::If(_, _, _)
+            | Act::Wait(_, _) => None,
         }
     }
 

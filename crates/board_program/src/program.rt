@@ -242,7 +242,13 @@ fn target_of(entry: &Entry) -> Option<Name>
         Act::Set(name, _) | Act::Fill(name, _) | Act::Copy(name) | Act::Put(name, _, _) => {
             Some(*name)
         }
-        _ => None,
+        Act::Call { .. }
+        | Act::Print(_)
+        | Act::Assert(_)
+        | Act::If(_, _, _)
+        | Act::Range(_, _, _, _)
+        | Act::Each(_)
+        | Act::Wait(_, _) => None,
     }
 }
 
@@ -350,7 +356,17 @@ fn loop_of(act: &Act) -> Option<Loop>
 {
     match act {
         Act::Range(_, _, _, found) | Act::Each(found) => Some(*found),
-        _ => None,
+        Act::Cell(_)
+        | Act::Read
+        | Act::Set(_, _)
+        | Act::Fill(_, _)
+        | Act::Copy(_)
+        | Act::Put(_, _, _)
+        | Act::Print(_)
+        | Act::Assert(_)
+        | Act::Call { .. }
+        | Act::If(_, _, _)
+        | Act::Wait(_, _) => None,
     }
 }
 

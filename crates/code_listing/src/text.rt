@@ -166,7 +166,14 @@ fn add_opened(page: &mut TextBuffer, places: &Vec<usize>, act: &Act) {
         Act::Range(_, _, _, turns) => add_first(page, places, turns.body),
         Act::Each(turns) => add_first(page, places, turns.body),
         Act::Wait(_, body) => add_first(page, places, *body),
-        _ => {}
+        Act::Cell(_)
+        | Act::Read
+        | Act::Set(_, _)
+        | Act::Fill(_, _)
+        | Act::Copy(_)
+        | Act::Put(_, _, _)
+        | Act::Print(_)
+        | Act::Assert(_) => {}
     }
 }
 

@@ -13,7 +13,7 @@ use explain_text::words::{write_count, write_str};
 use std::alloc::{AllocError, Allocator};
 
 /// Maximum number of variables of a cycle that are named.
-const MOST: usize = 8;
+const MAX_NAMED_VARIABLES: usize = 8;
 
 /// Returns true if a cycle is reported as one diagnostic: it contains an argument, or statements at more than one
 /// offset.
@@ -77,7 +77,7 @@ fn write_links<'l, 't, 'a, A: Allocator>(
         if list.waits.is_statement(circle[i]) {
             continue;
         }
-        if told >= MOST {
+        if told >= MAX_NAMED_VARIABLES {
             write_more(list, out, circle, i, end)?;
             break;
         }

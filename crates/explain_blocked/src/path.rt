@@ -11,7 +11,7 @@ use std::alloc::{AllocError, Allocator};
 use values::key::Key;
 
 /// Maximum number of steps of a path that are described.
-const MOST: usize = 12;
+const MAX_DESCRIBED_STEPS: usize = 12;
 
 /// Appends the path of a block instance as a line, innermost step first. Appends nothing for the script's own block.
 pub fn write_path<'t, 'a, A: Allocator>(
@@ -38,7 +38,7 @@ pub fn write_steps<'t, 'a, A: Allocator>(
 ) -> Result<(), AllocError> {
     let mut inside = instance;
     for i in 0..steps.len() {
-        if i >= MOST {
+        if i >= MAX_DESCRIBED_STEPS {
             return write_more(out, steps.len() - i);
         }
         if i > 0 {

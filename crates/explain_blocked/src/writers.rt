@@ -12,7 +12,7 @@ use std::collections::{HashMap, HashSet};
 use values::key::KeyRef;
 
 /// Maximum number of writers that are kept for a target.
-const MOST: usize = 4;
+const MAX_WRITERS: usize = 4;
 
 /// A statement that would write a variable or open a block that would: its offset, and whether it is blocked.
 /// Otherwise it has a fault.
@@ -334,7 +334,7 @@ fn add_last(numbers: &mut Vec<usize>, number: usize) -> Result<(), AllocError> {
 
 /// Appends a writer, unless its offset is present or the list holds 4 writers.
 fn add_writer(writers: &mut Vec<Writer>, writer: Writer) -> Result<(), AllocError> {
-    if writers.len() >= MOST || has_offset(writers.as_slice(), writer.at) {
+    if writers.len() >= MAX_WRITERS || has_offset(writers.as_slice(), writer.at) {
         return Ok(());
     }
     writers.push(writer)?;

@@ -11,7 +11,7 @@ use std::alloc::{AllocError, Allocator};
 use syntax_trees::tree::{Base, Keys, Shape};
 
 /// The maximum length of a quoted statement in a hint, in bytes.
-const MOST: usize = 60;
+const MAX_QUOTED_BYTES: usize = 60;
 
 /// Returns the type keyword of a declaration, followed by a space.
 pub fn type_of(base: Base) -> &'static str {
@@ -42,7 +42,7 @@ pub fn write_declaration(
 
 /// Returns the text from an offset to the end of the statement, with its `;`.
 ///
-/// The result is empty if that text has a line end or more than `MOST` bytes.
+/// The result is empty if that text has a line end or more than `MAX_QUOTED_BYTES` bytes.
 pub fn rest_of_statement(text: &[u8], at: usize) -> &[u8] {
     let from = at.min(text.len());
     let mut lexer = Lexer::behind(text, from);
@@ -59,9 +59,9 @@ pub fn rest_of_statement(text: &[u8], at: usize) -> &[u8] {
     &[]
 }
 
-/// Returns the bytes of a place, or an empty slice if they are more than `MOST` or contain a line end.
+/// Returns the bytes of a place, or an empty slice if they are more than `MAX_QUOTED_BYTES` or contain a line end.
 fn on_one_line(text: &[u8], at: Span) -> &[u8] {
-    if at.from > at.to || at.to > text.len() || at.to - at.from > MOST {
+    if at.from > at.to || at.to > text.len() || at.to - at.from > MAX_QUOTED_BYTES {
         return &[];
     }
     let bytes = &text[at.from..at.to];

@@ -72,7 +72,18 @@ fn argument(act: &Act, place: usize, array: bool) -> Option<Name>
             outputs,
             ..
         } => argument_at(inputs, outputs, place, array),
-        _ => None,
+        Act::Cell(_)
+        | Act::Read
+        | Act::Set(_, _)
+        | Act::Fill(_, _)
+        | Act::Copy(_)
+        | Act::Put(_, _, _)
+        | Act::Print(_)
+        | Act::Assert(_)
+        | Act::If(_, _, _)
+        | Act::Range(_, _, _, _)
+        | Act::Each(_)
+        | Act::Wait(_, _) => None,
     }
 }
 

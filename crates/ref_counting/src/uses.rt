@@ -99,7 +99,12 @@ fn note_targets(
         Act::Fill(target, _) => note_one(*target, number, leads),
         Act::Copy(target) => note_one(*target, number, leads),
         Act::Put(target, _, _) => note_one(*target, number, leads),
-        _ => Ok(()),
+        Act::Print(_)
+        | Act::Assert(_)
+        | Act::If(_, _, _)
+        | Act::Range(_, _, _, _)
+        | Act::Each(_)
+        | Act::Wait(_, _) => Ok(()),
     }
 }
 

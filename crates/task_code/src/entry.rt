@@ -127,7 +127,14 @@ impl Act {
             Act::Cell(_) | Act::Set(_, _) | Act::Fill(_, _) | Act::Print(_) | Act::Assert(_) => {
                 Kind::Leaf
             }
-            _ => Kind::Control,
+            Act::Read
+            | Act::Call { .. }
+            | Act::Copy(_)
+            | Act::Put(_, _, _)
+            | Act::If(_, _, _)
+            | Act::Range(_, _, _, _)
+            | Act::Each(_)
+            | Act::Wait(_, _) => Kind::Control,
         }
     }
 }
