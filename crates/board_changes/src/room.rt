@@ -118,7 +118,9 @@ impl DataState {
         let more = items.checked_add(1).ok_or(AllocError)?;
         self.store.reserve_cells(data)?;
         self.instances.reserve(count)?;
-        if self.store.bound() > NUMBERS_OF_32_BITS || self.instances.capacity() > NUMBERS_OF_32_BITS {
+        if self.store.bound() > NUMBERS_OF_32_BITS
+            || self.instances.capacity() > NUMBERS_OF_32_BITS
+        {
             return Err(AllocError);
         }
         if !is_short(job, openings.goes_on) {

@@ -31,7 +31,7 @@ use Rattle.task_code.specs.Machine.{CodeItem, CodeState, Enabled}
 use Rattle.task_code.specs.Places.{Constant, Datum, Nowhere, Place, place_array}
 use Rattle.task_code.specs.System.{code_system, task_inputs}
 use Rattle.task_code.specs.Whole.{IsCode}
-use Rattle.values.specs.Keys.{mark_of}
+use Rattle.values.specs.Keys.{hash_of}
 use Rattle.values.specs.declared.key.Key.{Key}
 use Rattle.values.specs.declared.value.Scalar.{Scalar}
 use Rattle.board_history.proofs.Tests.{some_same}
@@ -84,12 +84,12 @@ module _ (C : Code) where
 
     keyed_same : (a d : Place) (r : Option Scalar) → keyed_wanted C t a d r ≡ keyed_wanted C s a d r
     keyed_same a d None = refl
-    keyed_same a d (Some v) = let c = closed_same a in λ i. element_wanted (value_at (code_system C) code_tests (stored i) a (key_of v)) (c i) a (mark_of (key_of v))
+    keyed_same a d (Some v) = let c = closed_same a in λ i. element_wanted (value_at (code_system C) code_tests (stored i) a (key_of v)) (c i) a (hash_of (key_of v))
 
     wanted_same : (i : Input Place Key) → wanted C t i ≡ wanted C s i
     wanted_same (StoredScalar d) = λ j. scalar_wanted (value_at (code_system C) code_tests (stored j) d only) d
     wanted_same (ClosedArray a) = let c = closed_same a in λ j. array_wanted (c j) a
-    wanted_same (ElementOf a k) = let c = closed_same a in λ j. element_wanted (value_at (code_system C) code_tests (stored j) a k) (c j) a (mark_of k)
+    wanted_same (ElementOf a k) = let c = closed_same a in λ j. element_wanted (value_at (code_system C) code_tests (stored j) a k) (c j) a (hash_of k)
     wanted_same (ElementAt a d) =
         keyed_same a d (value_at (code_system C) code_tests t.stored d only)
         ∙ (λ j. keyed_wanted C s a d (value_at (code_system C) code_tests (stored j) d only))

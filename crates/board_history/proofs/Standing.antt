@@ -30,7 +30,7 @@ use Rattle.task_code.specs.Machine.{ClosedByRights, CodeItem, CodeState, Enabled
 use Rattle.task_code.specs.Places.{Place, Step}
 use Rattle.task_code.specs.System.{code_system, task_inputs, task_kind, task_priority}
 use Rattle.task_code.specs.Whole.{IsCode}
-use Rattle.values.specs.Keys.{mark_of}
+use Rattle.values.specs.Keys.{hash_of}
 use Rattle.values.specs.declared.key.Key.{Key}
 use Rattle.values.specs.declared.value.Scalar.{Scalar}
 
@@ -65,12 +65,12 @@ module _ (C : Code) (s : CodeState) (one : OneValue (code_system C) code_tests (
   Value a k r = value_at (code_system C) code_tests s.stored a k ≡ r
 
   -- an input that is known has no want, and one without is known
-  element_none : (a : Place) (k : Key) (r : Option Scalar) (b : Bool) → value_at (code_system C) code_tests s.stored a k ≡ r → is_closed (code_system C) code_tests s a ≡ b → element_wanted r b a (mark_of k) ≡ [] → IsKnown (code_system C) s (ElementOf a k)
+  element_none : (a : Place) (k : Key) (r : Option Scalar) (b : Bool) → value_at (code_system C) code_tests s.stored a k ≡ r → is_closed (code_system C) code_tests s a ≡ b → element_wanted r b a (hash_of k) ≡ [] → IsKnown (code_system C) s (ElementOf a k)
   element_none a k (Some v) b q c h = inl (v, value_held (code_system C) code_tests (code_told C) s.stored a k v q)
   element_none a k None true q c h = inr (closed_sound (code_system C) code_tests (code_told C) s a c)
   element_none a k None false q c h = cons_nil h
 
-  none_element : (a : Place) (k : Key) (r : Option Scalar) (b : Bool) → value_at (code_system C) code_tests s.stored a k ≡ r → is_closed (code_system C) code_tests s a ≡ b → IsKnown (code_system C) s (ElementOf a k) → element_wanted r b a (mark_of k) ≡ []
+  none_element : (a : Place) (k : Key) (r : Option Scalar) (b : Bool) → value_at (code_system C) code_tests s.stored a k ≡ r → is_closed (code_system C) code_tests s a ≡ b → IsKnown (code_system C) s (ElementOf a k) → element_wanted r b a (hash_of k) ≡ []
   none_element a k (Some v) b q c h = refl
   none_element a k None true q c h = refl
   none_element a k None false q c (inl h) =

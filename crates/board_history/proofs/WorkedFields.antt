@@ -20,7 +20,7 @@ use Rattle.task_code.specs.Code.{Code, Control, Kind, Leaf, Variable, body, here
 use Rattle.task_code.specs.Compute.{Computed, Elements, Gives, Opens}
 use Rattle.task_code.specs.Whole.{IsCode}
 use Rattle.task_code.specs.Worked.{used_before_assigned}
-use Rattle.values.specs.Keys.{mark_of}
+use Rattle.values.specs.Keys.{hash_of}
 use Rattle.values.specs.declared.key.Key.{Key}
 use Rattle.values.specs.declared.value.Scalar.{Scalar}
 use Rattle.values.specs.declared.value.Scalar.TheVariants.{Number}
@@ -333,7 +333,7 @@ stored_known = record {
     scalar_cell (suc zero) c h a = yes_no a (ap (λ (c : Counted). is_array_content c.content) (sym (some_same h)))
     scalar_cell (suc (suc d)) c h a = none_some h
 
-    inserted : (d : ℕ) (c : Counted) (k : Key) (v : Scalar) → slot_at storing.cells d ≡ Some c → is_array_content c.content ≡ true → In (k, v) (job_stores C worked_layout storing.frames job stored d) → In (AnElement d (mark_of k)) told
+    inserted : (d : ℕ) (c : Counted) (k : Key) (v : Scalar) → slot_at storing.cells d ≡ Some c → is_array_content c.content ≡ true → In (k, v) (job_stores C worked_layout storing.frames job stored d) → In (AnElement d (hash_of k)) told
     inserted d c k v h a i = scalar_cell d c h a
 
     closed : (d : ℕ) (b c : Counted) → slot_at storing.cells d ≡ Some b → slot_at assigned_fields.cells d ≡ Some c → is_array_content b.content ≡ true → 0 < b.writes → c.writes ≡ 0 → In (Whole d) told

@@ -11,7 +11,7 @@ use Rattle.task_code.specs.Compute.{Computed, Elements, Fails, Gives, Inserts, O
 use Rattle.task_code.specs.Effects.{Task, chunk, is_some_list, only, prints, step_at, turns_of}
 use Rattle.task_code.specs.Places.{Place, Step, variable_eq}
 use Rattle.task_code.specs.Whole.{Declared, Seen}
-use Rattle.values.specs.Keys.{mark_of}
+use Rattle.values.specs.Keys.{hash_of}
 use Rattle.values.specs.declared.key.Key.{Key}
 use Rattle.values.specs.declared.value.Scalar.{Scalar}
 use Rattle.values.specs.Limits.{chunk_size}
@@ -323,7 +323,7 @@ module _ (C : Code) where
     pub record BecomesKnown (stored : ℕ → Elements) (cs ds : List (Option Counted)) (known : List (Want ℕ)) : Type 0 where
       pub sound : (w : Want ℕ) → In w known → is_known ds w ≡ true
       pub put : (d : ℕ) (c : Counted) (x : Key × Scalar) (xs : Elements) → slot_at cs d ≡ Some c → is_array_content c.content ≡ false → stored d ≡ x ∷ xs → In (Whole d) known
-      pub inserted : (d : ℕ) (c : Counted) (k : Key) (v : Scalar) → slot_at cs d ≡ Some c → is_array_content c.content ≡ true → In (k, v) (stored d) → In (AnElement d (mark_of k)) known
+      pub inserted : (d : ℕ) (c : Counted) (k : Key) (v : Scalar) → slot_at cs d ≡ Some c → is_array_content c.content ≡ true → In (k, v) (stored d) → In (AnElement d (hash_of k)) known
       pub closed : (d : ℕ) (b c : Counted) → slot_at cs d ≡ Some b → slot_at ds d ≡ Some c → is_array_content b.content ≡ true → 0 < b.writes → c.writes ≡ 0 → In (Whole d) known
 
     -- the missing inputs of a waiting item afterwards: those still missing; if there are none, those that its item

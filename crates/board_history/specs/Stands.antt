@@ -18,7 +18,7 @@ use Rattle.task_code.specs.Effects.{Item, Main, Task, left_at, only, turns_of}
 use Rattle.task_code.specs.Machine.{CodeItem, CodeState, Enabled}
 use Rattle.task_code.specs.Places.{Constant, Datum, Nowhere, Place, Step, place_array, place_at}
 use Rattle.task_code.specs.System.{code_system, task_inputs, task_kind, task_priority}
-use Rattle.values.specs.Keys.{mark_of}
+use Rattle.values.specs.Keys.{hash_of}
 use Rattle.values.specs.declared.key.Key.{Key}
 use Rattle.values.specs.declared.value.Scalar.{Scalar}
 
@@ -50,12 +50,12 @@ AllStand names _ _ = ⊥
 module _ (C : Code) where
   abbrev pub keyed_wanted : CodeState → Place → Place → Option Scalar → List (Want Place)
   keyed_wanted s a d None = Whole d ∷ []
-  keyed_wanted s a d (Some v) = element_wanted (value_at (code_system C) code_tests s.stored a (key_of v)) (is_closed (code_system C) code_tests s a) a (mark_of (key_of v))
+  keyed_wanted s a d (Some v) = element_wanted (value_at (code_system C) code_tests s.stored a (key_of v)) (is_closed (code_system C) code_tests s a) a (hash_of (key_of v))
 
   abbrev pub wanted : CodeState → Input Place Key → List (Want Place)
   wanted s (StoredScalar d) = scalar_wanted (value_at (code_system C) code_tests s.stored d only) d
   wanted s (ClosedArray a) = array_wanted (is_closed (code_system C) code_tests s a) a
-  wanted s (ElementOf a k) = element_wanted (value_at (code_system C) code_tests s.stored a k) (is_closed (code_system C) code_tests s a) a (mark_of k)
+  wanted s (ElementOf a k) = element_wanted (value_at (code_system C) code_tests s.stored a k) (is_closed (code_system C) code_tests s a) a (hash_of k)
   wanted s (ElementAt a d) = keyed_wanted s a d (value_at (code_system C) code_tests s.stored d only)
 
   -- all missing inputs of a task, in the order of its inputs

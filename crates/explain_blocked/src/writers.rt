@@ -126,7 +126,11 @@ impl WriterIndex {
             && self.found.contains_key(&WriteTarget::whole(array));
         WriteTarget {
             place: array,
-            mark: if is_known { Some(key.mark()) } else { None },
+            mark: if is_known {
+                Some(key.hash_code())
+            } else {
+                None
+            },
         }
     }
 
@@ -321,7 +325,7 @@ fn mark_of<A: Allocator>(
     };
     let node = index.cell.node;
     let value = fact_base.facts.value(Place { instance, node })?;
-    Some(KeyRef::of_value(value)?.mark())
+    Some(KeyRef::of_value(value)?.hash_code())
 }
 
 /// Appends a number, unless it equals the last one.

@@ -15,7 +15,7 @@ const FOLD: u64 = 2_654_435_769;
 pub enum Input {
     /// A datum as a whole: a scalar that is stored, or an array that is closed.
     Whole(u64),
-    /// An element of an array, under a key with this mark.
+    /// An element of an array, under a key with this hash.
     Element(u64, u64),
 }
 
@@ -44,7 +44,7 @@ impl Input {
     {
         match self {
             Input::Whole(datum) => Input::Whole(*datum),
-            Input::Element(datum, mark) => Input::Element(*datum, *mark),
+            Input::Element(datum, hash) => Input::Element(*datum, *hash),
         }
     }
 
@@ -55,7 +55,7 @@ impl Input {
     {
         match self {
             Input::Whole(datum) => low(*datum),
-            Input::Element(datum, mark) => folded(datum.wrapping_mul(SPREAD).wrapping_add(*mark)),
+            Input::Element(datum, hash) => folded(datum.wrapping_mul(SPREAD).wrapping_add(*hash)),
         }
     }
 

@@ -487,7 +487,11 @@ pub fn notes_of(inputs: usize) -> usize {
 
 // Returns the number of notes if it exceeds that of an item of two inputs, and 0 otherwise.
 fn heavy_part(notes: usize) -> usize {
-    if notes > NOTES_OF_TWO_INPUTS { notes } else { 0 }
+    if notes > NOTES_OF_TWO_INPUTS {
+        notes
+    } else {
+        0
+    }
 }
 
 // Returns the maximum number of notes of this number of items of two inputs.
