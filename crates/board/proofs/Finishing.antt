@@ -69,7 +69,7 @@ module _ (C : Code) (I : IsCode C) (es : List Event) (old mid : BoardState) (s :
   x = computed_by C (task_of F.frames j) xs
 
   abbrev row : Row
-  row = record { job = j; mark = Running w }
+  row = record { job = j; status = Running w }
 
   abbrev gs : List (Option Frame)
   gs = frames_view mid.data_state.instances.slots

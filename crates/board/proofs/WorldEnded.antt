@@ -105,7 +105,7 @@ goes_script : (b : Bool) → going Script b ≡ []
 goes_script true = refl
 goes_script false = refl
 
-module _ (C : Code) (I : IsCode C) (es : List Event) (F : Fields) (st : Stands C (layout_of C) es F) (n : ℕ) (row : Row) (there : row_of F.rows n ≡ Some row) (live : row.mark ≡ Over → ⊥) (x : Computed) (s : Store) (cells : F.cells ≡ cells_view s.cells) (few : FewSlots F.frames) where
+module _ (C : Code) (I : IsCode C) (es : List Event) (F : Fields) (st : Stands C (layout_of C) es F) (n : ℕ) (row : Row) (there : row_of F.rows n ≡ Some row) (live : row.status ≡ Over → ⊥) (x : Computed) (s : Store) (cells : F.cells ≡ cells_view s.cells) (few : FewSlots F.frames) where
   abbrev fs : List (Option Frame)
   fs = F.frames
 

@@ -55,7 +55,7 @@ starts_as C fs (Does i e c) x one slots m v k st value turn loop path place = by
     content : Content
     content = content_view (started (shape_of v.array) (start_at (starts_of slots one) k))
 
-    by : (l : Option Loop) → loop_of (entry C e).act ≡ l → TurnStarts C fs (path_of fs i) (entry C e).mark c x l one → slots.value ≡ value_slot C l → slots.turn ≡ turn_slot C l → StartsBy (path_of fs i) (entry C e).mark c x m v (content_view (started (shape_of v.array) (start_at (starts_of slots one) k))) l
+    by : (l : Option Loop) → loop_of (entry C e).act ≡ l → TurnStarts C fs (path_of fs i) (entry C e).offset c x l one → slots.value ≡ value_slot C l → slots.turn ≡ turn_slot C l → StartsBy (path_of fs i) (entry C e).offset c x m v (content_view (started (shape_of v.array) (start_at (starts_of slots one) k))) l
     by None q s a b = starts_none v k (starts_of slots one) s.0 s.1
     by (Some w) q s a b = (s.0, s.1, path ∙ s.2, starts_turn w s.0 v k (starts_of slots one) s.3 s.4 (test (scalar w.value) ∙ ap (is_place k) (sym (a ∙ moved (scalar w.value)))) none some)
       where

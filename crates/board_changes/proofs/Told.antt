@@ -35,7 +35,7 @@ use Rattle.board_changes.specs.World.{CanStore, elements_of, target_of, told_of,
 use Rattle.board_changes.specs.declared.data_state.Change.{Change}
 use Rattle.board_changes.specs.declared.data_state.Change.TheVariants as Changes
 
--- where an element is there, one of its mark is
+-- where an element is there, one of its hash is
 marked_there : (k : Key) (v : Scalar) (xs : Elements) → In (k, v) xs → has_hash (hash_of k) xs ≡ true
 marked_there k v [] i = absurd i
 marked_there k v (x ∷ xs) i = elim i [

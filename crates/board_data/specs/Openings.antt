@@ -50,7 +50,7 @@ module _ (C : Code) where
     -- an instance that the item of an entry opens: for a turn of its chunk, if it is a loop
     abbrev pub IsOpenedBy : (instance entry chunk : ℕ) → Computed → (number : ℕ) → Option Loop → PendingInstance → Type 0
     IsOpenedBy k e c x number None o = (way : Option Step) × IsOpening C fs k number way (handed_over k e) None None o
-    IsOpenedBy k e c x number (Some w) o = (t : Key × Scalar) × In t (chunk c (turns_of x)) × IsTurn C fs k number (entry C e).mark t o
+    IsOpenedBy k e c x number (Some w) o = (t : Key × Scalar) × In t (chunk c (turns_of x)) × IsTurn C fs k number (entry C e).offset t o
 
     abbrev pub IsOpened : Job → Computed → (number : ℕ) → PendingInstance → Type 0
     IsOpened Script x number o = IsScript o × (number ≡ 0)

@@ -65,20 +65,20 @@ plain_steps (Range lo hi s w) h = absurd (cc h)
 plain_steps (Each w) h = absurd (cc h)
 plain_steps (Wait hs b) h = absurd (cc h)
 
-pub plain_instances : (a : Act) (mark : ℕ) (p : List Step) (c : ℕ) (x : Computed) → is_plain a ≡ true → instances a mark p c x ≡ []
-plain_instances (Cell e) mark p c x h = refl
-plain_instances Read mark p c x h = refl
-plain_instances (Call b rs os) mark p c x h = absurd (cc h)
-plain_instances (Set r e) mark p c x h = refl
-plain_instances (Fill r es) mark p c x h = refl
-plain_instances (Copy r) mark p c x h = refl
-plain_instances (Put r i e) mark p c x h = refl
-plain_instances (Print e) mark p c x h = refl
-plain_instances (Assert e) mark p c x h = refl
-plain_instances (If e b d) mark p c x h = absurd (cc h)
-plain_instances (Range lo hi s w) mark p c x h = absurd (cc h)
-plain_instances (Each w) mark p c x h = absurd (cc h)
-plain_instances (Wait hs b) mark p c x h = absurd (cc h)
+pub plain_instances : (a : Act) (offset : ℕ) (p : List Step) (c : ℕ) (x : Computed) → is_plain a ≡ true → instances a offset p c x ≡ []
+plain_instances (Cell e) offset p c x h = refl
+plain_instances Read offset p c x h = refl
+plain_instances (Call b rs os) offset p c x h = absurd (cc h)
+plain_instances (Set r e) offset p c x h = refl
+plain_instances (Fill r es) offset p c x h = refl
+plain_instances (Copy r) offset p c x h = refl
+plain_instances (Put r i e) offset p c x h = refl
+plain_instances (Print e) offset p c x h = refl
+plain_instances (Assert e) offset p c x h = refl
+plain_instances (If e b d) offset p c x h = absurd (cc h)
+plain_instances (Range lo hi s w) offset p c x h = absurd (cc h)
+plain_instances (Each w) offset p c x h = absurd (cc h)
+plain_instances (Wait hs b) offset p c x h = absurd (cc h)
 
 pub plain_loop : (a : Act) → is_plain a ≡ true → loop_of a ≡ None
 plain_loop (Cell e) h = refl
@@ -193,20 +193,20 @@ loop_steps (Range lo hi s w) u h = refl
 loop_steps (Each w) u h = refl
 loop_steps (Wait hs b) u h = absurd (cc h)
 
-pub loop_instances : (a : Act) (u : Loop) (mark : ℕ) (p : List Step) (c : ℕ) (x : Computed) → loop_of a ≡ Some u → instances a mark p c x ≡ turn_instances u mark p (chunk c (turns_of x))
-loop_instances (Cell e) u mark p c x h = absurd (cc h)
-loop_instances Read u mark p c x h = absurd (cc h)
-loop_instances (Call b rs os) u mark p c x h = absurd (cc h)
-loop_instances (Set r e) u mark p c x h = absurd (cc h)
-loop_instances (Fill r es) u mark p c x h = absurd (cc h)
-loop_instances (Copy r) u mark p c x h = absurd (cc h)
-loop_instances (Put r i e) u mark p c x h = absurd (cc h)
-loop_instances (Print e) u mark p c x h = absurd (cc h)
-loop_instances (Assert e) u mark p c x h = absurd (cc h)
-loop_instances (If e b d) u mark p c x h = absurd (cc h)
-loop_instances (Range lo hi s w) u mark p c x h = ap (λ (o : Option Loop). turn_instances (elim o [ None ↦ w | Some y ↦ y ]) mark p (chunk c (turns_of x))) h
-loop_instances (Each w) u mark p c x h = ap (λ (o : Option Loop). turn_instances (elim o [ None ↦ w | Some y ↦ y ]) mark p (chunk c (turns_of x))) h
-loop_instances (Wait hs b) u mark p c x h = absurd (cc h)
+pub loop_instances : (a : Act) (u : Loop) (offset : ℕ) (p : List Step) (c : ℕ) (x : Computed) → loop_of a ≡ Some u → instances a offset p c x ≡ turn_instances u offset p (chunk c (turns_of x))
+loop_instances (Cell e) u offset p c x h = absurd (cc h)
+loop_instances Read u offset p c x h = absurd (cc h)
+loop_instances (Call b rs os) u offset p c x h = absurd (cc h)
+loop_instances (Set r e) u offset p c x h = absurd (cc h)
+loop_instances (Fill r es) u offset p c x h = absurd (cc h)
+loop_instances (Copy r) u offset p c x h = absurd (cc h)
+loop_instances (Put r i e) u offset p c x h = absurd (cc h)
+loop_instances (Print e) u offset p c x h = absurd (cc h)
+loop_instances (Assert e) u offset p c x h = absurd (cc h)
+loop_instances (If e b d) u offset p c x h = absurd (cc h)
+loop_instances (Range lo hi s w) u offset p c x h = ap (λ (o : Option Loop). turn_instances (elim o [ None ↦ w | Some y ↦ y ]) offset p (chunk c (turns_of x))) h
+loop_instances (Each w) u offset p c x h = ap (λ (o : Option Loop). turn_instances (elim o [ None ↦ w | Some y ↦ y ]) offset p (chunk c (turns_of x))) h
+loop_instances (Wait hs b) u offset p c x h = absurd (cc h)
 
 pub loop_stores : (a : Act) (n : ℕ) (u : Loop) → loop_of a ≡ Some u → stored_of n a ≡ []
 loop_stores (Cell e) n u h = absurd (cc h)

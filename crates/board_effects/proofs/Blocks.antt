@@ -50,8 +50,8 @@ module _ (p : EndingItem) (w : IsEnded p) where
   own P x = subst P w.entry_is x
 
   -- the offset of its blocks, as it was worked out
-  pub mark_is : p.table.now.mark ≡ (entry_view p.entry.now).mark
-  mark_is = w.table_is.mark ∙ sym (ap (λ (e : Entry). e.mark) w.entry_is)
+  pub offset_is : p.table.now.offset ≡ (entry_view p.entry.now).offset
+  offset_is = w.table_is.offset ∙ sym (ap (λ (e : Entry). e.offset) w.entry_is)
 
   -- what a call hands over
   handed_is : passed_from (frames_of p) p.view.at p.number 0 p.table.now.arguments.items ≡ handed_over (code_of p) (frames_of p) p.view.at p.number
@@ -63,7 +63,7 @@ module _ (p : EndingItem) (w : IsEnded p) where
   stores_nothing x e d = nowhere (is_place d None) ∙ sym (unstored (code_of p) (frames_of p) p.view.at p.number p.chunk _ _ w x (own (λ e. stored_of e.node e.act ≡ []) e) d)
 
   -- it opens nothing, and does nothing else
-  pub idle_ends : (x : Computed) → instances now.act now.mark path p.chunk x ≡ [] → is_fault x ≡ false → loop_of (act_of p) ≡ None → stored_of (entry_view p.entry.now).node (act_of p) ≡ [] → prints (act_of p) x ≡ [] → ((xs : Elements) → x ≡ Inserts xs → ⊥) → Ends p x To.Passes
+  pub idle_ends : (x : Computed) → instances now.act now.offset path p.chunk x ≡ [] → is_fault x ≡ false → loop_of (act_of p) ≡ None → stored_of (entry_view p.entry.now).node (act_of p) ≡ [] → prints (act_of p) x ≡ [] → ((xs : Elements) → x ≡ Inserts xs → ⊥) → Ends p x To.Passes
   idle_ends x none computes single stores silent no_elements = record {
     good = (effect_at (code_of p) p.number path p.chunk x, good x _ _ computes (deep_none now.act path _ (ap is_some_list none)));
     apart = λ q. no_elements q.elements q.inserts;
@@ -86,20 +86,20 @@ module _ (p : EndingItem) (w : IsEnded p) where
   pub no_else : (e : Expr) (b : ℕ) → act_of p ≡ If e b None → Ends p (Takes false) To.Passes
   no_else e b is =
       idle_ends (Takes false)
-      (own (λ e. instances e.act e.mark path p.chunk (Takes false) ≡ []) (ap (λ a. instances a (entry_view p.entry.now).mark path p.chunk (Takes false)) is ∙ no_block p.chunk))
+      (own (λ e. instances e.act e.offset path p.chunk (Takes false) ≡ []) (ap (λ a. instances a (entry_view p.entry.now).offset path p.chunk (Takes false)) is ∙ no_block p.chunk))
       refl (ap loop_of is) (ap (stored_of (entry_view p.entry.now).node) is) (ap (λ a. prints a (Takes false)) is) (λ xs q. absurd (cc q))
 
   module _ (x : Computed) (b : ℕ) (way : Option Step) (r : OpensBlock p x b way) where
     -- an item that goes on opens no block
     passes : (n : ℕ) → p.chunk ≡ suc n → Ends p x To.Passes
-    passes n e = idle_ends x (own (λ e. instances e.act e.mark path p.chunk x ≡ []) (ap (λ m. instances (act_of p) (entry_view p.entry.now).mark path m x) e ∙ r.later path n)) r.computes r.single r.stores r.silent r.no_elements
+    passes n e = idle_ends x (own (λ e. instances e.act e.offset path p.chunk x ≡ []) (ap (λ m. instances (act_of p) (entry_view p.entry.now).offset path m x) e ∙ r.later path n)) r.computes r.single r.stores r.silent r.no_elements
 
     pub block_passes : (n : ℕ) → p.chunk ≡ n → 0 < n → Ends p x To.Passes
     block_passes zero e h = absurd (omega (arith, h))
     block_passes (suc n) e h = passes n e
 
-    first : p.chunk ≡ 0 → instances now.act now.mark path p.chunk x ≡ (b, step_before way path) ∷ []
-    first e = own (λ e. instances e.act e.mark path p.chunk x ≡ (b, step_before way path) ∷ []) (ap (λ m. instances (act_of p) (entry_view p.entry.now).mark path m x) e ∙ r.first path)
+    first : p.chunk ≡ 0 → instances now.act now.offset path p.chunk x ≡ (b, step_before way path) ∷ []
+    first e = own (λ e. instances e.act e.offset path p.chunk x ≡ (b, step_before way path) ∷ []) (ap (λ m. instances (act_of p) (entry_view p.entry.now).offset path m x) e ∙ r.first path)
 
     pub block_deep : p.chunk ≡ 0 → is_some way ≡ true → nat_le max_path_steps (length path) ≡ true → GoesWrong (code_of p) (frames_of p) (cells_of p) (job_of p) x (OfTask TooDeep)
     block_deep e s h = bad x _ _ r.computes (deep_long now.act path _ h (own (λ e. steps_on e.act ≡ is_some way) r.steps ∙ s) (ap is_some_list (first e)))

@@ -85,7 +85,7 @@ module _ (C : Code) where
   -- the outcome of a task that computed this
   abbrev pub outcome_for : Task → Computed → Outcome Task Place Key Scalar EntryFault
   outcome_for Main x = Good (record { writes = []; lines = []; opens = block C (0, []) ∷ [] })
-  outcome_for (Item i p c) x = outcome_of x (is_too_deep (entry C i).act p (instances (entry C i).act (entry C i).mark p c x)) (effect_at C i p c x)
+  outcome_for (Item i p c) x = outcome_of x (is_too_deep (entry C i).act p (instances (entry C i).act (entry C i).offset p c x)) (effect_at C i p c x)
 
   module _ (fs : List (Option Frame)) where
     -- the instance of an item exists, with the table of its entry

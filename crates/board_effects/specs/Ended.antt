@@ -81,8 +81,8 @@ pub record OpensList (p : EndingItem) (body : ℕ) (list : List PendingInstance)
 
 -- it opens this one block, unless it is the item for the rest of a loop, and does nothing else
 pub record OpensBlock (p : EndingItem) (x : Computed) (body : ℕ) (way : Option Step) : Type 0 where
-  pub first : (q : List Step) → instances (act_of p) (entry_view p.entry.now).mark q 0 x ≡ (body, step_before way q) ∷ []
-  pub later : (q : List Step) (c : ℕ) → instances (act_of p) (entry_view p.entry.now).mark q (suc c) x ≡ []
+  pub first : (q : List Step) → instances (act_of p) (entry_view p.entry.now).offset q 0 x ≡ (body, step_before way q) ∷ []
+  pub later : (q : List Step) (c : ℕ) → instances (act_of p) (entry_view p.entry.now).offset q (suc c) x ≡ []
   pub steps : steps_on (act_of p) ≡ is_some way
   pub single : loop_of (act_of p) ≡ None
   pub stores : stored_of (entry_view p.entry.now).node (act_of p) ≡ []

@@ -48,9 +48,9 @@ impl<'a> EndingItem<'a> {
     /// Returns the step to a block that the entry opens.
     #[inline(always)]
     fn step(self, number: i64) -> LastStep
-        ensures { IsEnded self.entry → option_map step_view result ≡ Some (record { offset = self.entry.entry.now.mark; key = number_key number }) }
+        ensures { IsEnded self.entry → option_map step_view result ≡ Some (record { offset = self.entry.entry.now.offset; key = number_key number }) }
     {
-        LastStep::to_number(self.table.mark, number)
+        LastStep::to_number(self.table.offset, number)
     }
 
     /// Returns the effect that opens these instances of a body.
@@ -93,7 +93,7 @@ impl<'a> EndingItem<'a> {
                 at: self.view.at,
             },
             body,
-            offset: self.table.mark,
+            offset: self.table.offset,
         };
         let mut list = Vec::with_capacity(self.alloc, 1)?;
         push_block(
@@ -184,7 +184,7 @@ impl<'a> EndingItem<'a> {
                 at: self.view.at,
             },
             body,
-            offset: self.table.mark,
+            offset: self.table.offset,
         };
         let mut list = Vec::with_capacity(self.alloc, end.saturating_sub(first) as usize)?;
         push_range(site, &mut list, range, first, end)?;
@@ -208,7 +208,7 @@ impl<'a> EndingItem<'a> {
                 at: self.view.at,
             },
             body,
-            offset: self.table.mark,
+            offset: self.table.offset,
         };
         let mut list = Vec::with_capacity(self.alloc, end.saturating_sub(first) as usize)?;
         push_elements(site, &mut list, &elements[first as usize..end as usize])?;

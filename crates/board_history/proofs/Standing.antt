@@ -186,16 +186,16 @@ module _ (C : Code) (L : Layout) where
   no_event [] e h = cons_nil (sym h)
   no_event (b ∷ before) e h = cons_nil (sym h)
 
-  one_row : (n : ℕ) (r : Row) → row_of first_fields.rows n ≡ Some r → record { job = Script; mark = Ready } ≡ r
+  one_row : (n : ℕ) (r : Row) → row_of first_fields.rows n ≡ Some r → record { job = Script; status = Ready } ≡ r
   one_row zero r h = none_some h
   one_row (suc zero) r h = cc
   one_row (suc (suc n)) r h = none_some h
 
-  no_job : {B : Type 0} {k e c : ℕ} (r : Row) → record { job = Script; mark = Ready } ≡ r → r.job ≡ Does k e c → B
+  no_job : {B : Type 0} {k e c : ℕ} (r : Row) → record { job = Script; status = Ready } ≡ r → r.job ≡ Does k e c → B
   no_job r p q = let z : Script ≡ r.job = ap (λ (y : Row). y.job) p in absurd (cc)
 
-  no_wait : {B : Type 0} (r : Row) → record { job = Script; mark = Ready } ≡ r → r.mark ≡ Waiting → B
-  no_wait r p q = let z : Ready ≡ r.mark = ap (λ (y : Row). y.mark) p in absurd (cc)
+  no_wait : {B : Type 0} (r : Row) → record { job = Script; status = Ready } ≡ r → r.status ≡ Waiting → B
+  no_wait r p q = let z : Ready ≡ r.status = ap (λ (y : Row). y.status) p in absurd (cc)
 
   queue_only : (k : Kind) (z : ℤ) (n : ℕ) → In n (first_fields.queue k z) → Queued C (start (code_system C)) k z n
   queue_only Control z n =

@@ -121,7 +121,7 @@ abbrev pub has : Option Scalar → Bool
 has None = false
 has (Some v) = true
 
--- an element of this mark is present; it may differ from the awaited one
+-- an element of this hash is present; it may differ from the awaited one
 abbrev pub has_hash : ℕ → Elements → Bool
 has_hash m [] = false
 has_hash m (x ∷ xs) = nat_eq m (hash_of x.0) || has_hash m xs

@@ -130,7 +130,7 @@ module _ (C : Code) where
     pub kind : t.kind ≡ kind_of (entry C i).act
     pub priority : t.priority ≡ (entry C i).priority
     pub needs : t.needs.items ≡ map (wanted_in b) (entry C i).needs
-    pub mark : t.mark ≡ (entry C i).mark
+    pub offset : t.offset ≡ (entry C i).offset
     pub plain : t.plain ≡ list_all is_plain (entry C i).needs
     pub closed : t.closed ≡ list_any is_closed (entry C i).needs
     pub reads : t.reads.items ≡ spots_in b (entry C i).reads

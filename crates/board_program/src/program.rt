@@ -53,7 +53,7 @@ pub enum PassedArgument {
 #[derive(Drop)]
 pub struct EntryTable {
     /// The offset in the paths of the blocks that the entry opens.
-    pub mark: u32,
+    pub offset: u32,
     pub kind: Kind,
     pub priority: i32,
     pub needs: SmallVec<ResolvedNeed, 1>,
@@ -410,11 +410,11 @@ fn entry_table(
     requires there { entry_view entry.now ≡ entry_at code.now number }
     ensures { IfOk result (λ table. IsEntryTable code.now body number table) }
 {
-    let Ok(mark) = u32::try_from(entry.mark) else {
+    let Ok(offset) = u32::try_from(entry.offset) else {
         return Err(AllocError);
     };
     Ok(EntryTable {
-        mark,
+        offset,
         kind: code.kind(number),
         priority: entry.priority,
         needs: needs_of(alloc, code, leads, body, entry.needs.as_slice())?,

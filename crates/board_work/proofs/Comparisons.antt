@@ -342,26 +342,26 @@ entries = record { sound = sound'; own = own' }
     sound' a b h =
         let t1 = and_parts (nat_eq a.node b.node) _ h in
         let t2 = and_parts (nat_eq a.at b.at) _ t1.1 in
-        let t3 = and_parts (nat_eq a.mark b.mark) _ t2.1 in
+        let t3 = and_parts (nat_eq a.offset b.offset) _ t2.1 in
         let t4 = and_parts (int_eq a.priority b.priority) _ t3.1 in
         let t5 = and_parts (pointwise need_eq a.needs b.needs) _ t4.1 in
         let t6 = and_parts (act_eq a.act b.act) _ t5.1 in
         let t7 = and_parts (pointwise name_eq a.reads b.reads) _ t6.1 in
         let node' = nat_sound a.node b.node t1.0 in
         let at' = nat_sound a.at b.at t2.0 in
-        let mark' = nat_sound a.mark b.mark t3.0 in
+        let mark' = nat_sound a.offset b.offset t3.0 in
         let priority' = integers.sound a.priority b.priority t4.0 in
         let needs' = (lists needs).sound a.needs b.needs t5.0 in
         let act' = acts.sound a.act b.act t6.0 in
         let reads' = (lists names).sound a.reads b.reads t7.0 in
         let writes' = (lists names).sound a.writes b.writes t7.1 in
-        λ i. record { node = node' i; at = at' i; mark = mark' i; priority = priority' i; needs = needs' i; act = act' i; reads = reads' i; writes = writes' i }
+        λ i. record { node = node' i; at = at' i; offset = mark' i; priority = priority' i; needs = needs' i; act = act' i; reads = reads' i; writes = writes' i }
 
     own' : (a : Entry) → entry_eq a a ≡ true
     own' a =
         and_from (nat_eq a.node a.node) _ (nat_same a.node)
         (and_from (nat_eq a.at a.at) _ (nat_same a.at)
-        (and_from (nat_eq a.mark a.mark) _ (nat_same a.mark)
+        (and_from (nat_eq a.offset a.offset) _ (nat_same a.offset)
         (and_from (int_eq a.priority a.priority) _ (integers.own a.priority)
         (and_from (pointwise need_eq a.needs a.needs) _ ((lists needs).own a.needs)
         (and_from (act_eq a.act a.act) _ (acts.own a.act)

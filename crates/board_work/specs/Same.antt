@@ -127,7 +127,7 @@ abbrev pub entry_eq : Entry → Entry → Bool
 entry_eq e f =
     nat_eq e.node f.node
     && (nat_eq e.at f.at
-    && (nat_eq e.mark f.mark
+    && (nat_eq e.offset f.offset
     && (int_eq e.priority f.priority
     && (pointwise need_eq e.needs f.needs
     && (act_eq e.act f.act

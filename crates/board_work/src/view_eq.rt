@@ -261,7 +261,7 @@ impl ViewEq for Entry {
     fn is_same(&self, other: &Entry) -> bool {
         self.node == other.node
             && self.at == other.at
-            && self.mark == other.mark
+            && self.offset == other.offset
             && self.priority == other.priority
             && self.needs.is_same(&other.needs)
             && self.act.is_same(&other.act)

@@ -119,10 +119,10 @@ fn add_entry<A: Allocator>(
     page.add(b"\n");
 }
 
-/// Writes the kind of an entry, its act, its mark in the script, and its priority.
+/// Writes the kind of an entry, its act, its offset in the script, and its priority.
 pub fn add_act(page: &mut TextBuffer, entry: &Entry) {
     page.add(kind_text(entry.act.kind()).as_bytes());
-    page.add_counted(act_text(&entry.act).as_bytes(), entry.mark);
+    page.add_counted(act_text(&entry.act).as_bytes(), entry.offset);
     page.add(b" ");
     page.add_priority(entry.priority);
 }

@@ -28,13 +28,13 @@ put_over k x ns _ = Read
 
 pub put_added : (s : StatementContext) (n : ℕ) (x : Name) (i o : Outer) (e d : Expr) (ks : List PlainNeed) (act : Act) (old new : List Made) → s.priority ≡ pos 0 → e ≡ seen_last i → d ≡ seen_last o
     → Noted (flat_map (wanted s.inputs) (e ∷ d ∷ [])) ks → act ≡ Put (name_as s.inputs true x) (over s.inputs (map need_of ks) e) (over s.inputs (map need_of ks) d)
-    → map entry_view new ≡ map entry_view old ++ made s (record { node = n; mark = s.at }) (each_once (flat_map (wanted s.inputs) (e ∷ d ∷ []))) act ∷ []
+    → map entry_view new ≡ map entry_view old ++ made s (record { node = n; offset = s.at }) (each_once (flat_map (wanted s.inputs) (e ∷ d ∷ []))) act ∷ []
     → OwnAdded s.inputs s.at n (insert x i o) old new
 put_added s n x i o e d ks act old new priority e_is d_is noted does is = record {
-  entry = made s (record { node = n; mark = s.at }) (each_once (flat_map (wanted s.inputs) (e ∷ d ∷ []))) act;
+  entry = made s (record { node = n; offset = s.at }) (each_once (flat_map (wanted s.inputs) (e ∷ d ∷ []))) act;
   is = is;
   own = own_entry s n (insert x i o) (e ∷ d ∷ []) (put_over s.inputs x) ks act priority
       (λ l suits. ap (λ y. y ∷ d ∷ []) e_is ∙ ap (λ y. seen_last i ∷ y ∷ []) d_is ∙ all_seen l (i ∷ o ∷ []) suits.parts_plain) noted does;
   node_is = refl;
-  mark_is = refl;
+  offset_is = refl;
 }

@@ -79,7 +79,7 @@ fn add_put<A: Allocator>(
     let inputs = standing.inputs;
     let shown = EntryOrigin {
         node: statement.node,
-        mark: standing.at,
+        offset: standing.at,
     };
     let plain_index = is_outer_plain(index);
     let plain_right = is_outer_plain(right);

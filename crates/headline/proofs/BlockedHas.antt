@@ -64,7 +64,7 @@ module _ (s : Core) (C : Code) (w : IsCodeOf s C) (K : Knowledge) (wf : WellForm
   X = work_out (entry C i).act (answered C p (entry C i).needs f.answers)
 
   fails : (g : EntryFault) → X ≡ Fails g → ⊥
-  fails g q = bad_good (sym (ap (λ (z : Computed). outcome_of z (is_too_deep (entry C i).act p (instances (entry C i).act (entry C i).mark p c X)) (effect_at C i p c X)) q) ∙ f.is)
+  fails g q = bad_good (sym (ap (λ (z : Computed). outcome_of z (is_too_deep (entry C i).act p (instances (entry C i).act (entry C i).offset p c X)) (effect_at C i p c X)) q) ∙ f.is)
 
   live : {st : Stmt} → st ∈ block_list b → LiveStmt s K (script_path p) st
   live m = in_block (chain_live s C w.layout K wf.names I sc ch) m

@@ -77,8 +77,8 @@ module _ (s : Core) (C : Code) (w : IsCodeOf s C) (K : Knowledge) (wf : WellForm
       task = Item j q c;
       effect = effect_at C j q c x;
       opening = block C (t, p);
-      fact = ends.counts p v j c q x va lv f (no_writes s C w K wf kn I sc j c q x (instance_way (entry C j).act (entry C j).mark q c x (t, p) h));
-      opens = in_left (block C (t, p)) (map (block C) (instances (entry C j).act (entry C j).mark q c x)) _ (in_map (block C) (t, p) (instances (entry C j).act (entry C j).mark q c x) h);
+      fact = ends.counts p v j c q x va lv f (no_writes s C w K wf kn I sc j c q x (instance_way (entry C j).act (entry C j).offset q c x (t, p) h));
+      opens = in_left (block C (t, p)) (map (block C) (instances (entry C j).act (entry C j).offset q c x)) _ (in_map (block C) (t, p) (instances (entry C j).act (entry C j).offset q c x) h);
       makes = in_map (Datum p) v (body C t).makes vm;
     };
     opening_is = refl;

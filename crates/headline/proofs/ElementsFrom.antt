@@ -119,7 +119,7 @@ module _ (s : Core) (C : Code) (w : IsCodeOf s C) (K : Knowledge) (wf : WellForm
 
     -- an element that an item inserts
     insert_out : (y : Name) → IsIn k y → In (name_as k true y) (entry C j).writes → (xs : List (Key × Scalar)) → Reading (code_system C) (Answers s K) (Item j p 0) (effect_at C j p 0 (Inserts xs))
-        → stores C (entry C j).act (entry C j).node (entry C j).mark p 0 (Inserts xs) ≡ inserted_at (place_at C p (name_as k true y)) (Inserts xs)
+        → stores C (entry C j).act (entry C j).node (entry C j).offset p 0 (Inserts xs) ≡ inserted_at (place_at C p (name_as k true y)) (Inserts xs)
         → (q : List Step) (v : Variable) (key : Key) (x : Scalar) → v.array ≡ true → place s (script_path p) y ≡ script_place q v → In (key, x) xs → By j p q v key x
     insert_out y g right xs f se q v key x va pq i =
         let z = same_array s wf K (means s C w.layout K wf.names I sc (λ z. z.writes) (covering_writes s C w.layout K wf.names I sc) ch j there true y right g) refl in
@@ -139,8 +139,8 @@ module _ (s : Core) (C : Code) (w : IsCodeOf s C) (K : Knowledge) (wf : WellForm
           refl,
         )
 
-    stores_as : {a : Act} (x : Computed) (ws : List (Write CodePlaces.Place Key Scalar)) → (entry C j).act ≡ a → stores C a (entry C j).node (entry C j).mark p 0 x ≡ ws → stores C (entry C j).act (entry C j).node (entry C j).mark p 0 x ≡ ws
-    stores_as x ws e h = ap (λ (z : Act). stores C z (entry C j).node (entry C j).mark p 0 x) e ∙ h
+    stores_as : {a : Act} (x : Computed) (ws : List (Write CodePlaces.Place Key Scalar)) → (entry C j).act ≡ a → stores C a (entry C j).node (entry C j).offset p 0 x ≡ ws → stores C (entry C j).act (entry C j).node (entry C j).offset p 0 x ≡ ws
+    stores_as x ws e h = ap (λ (z : Act). stores C z (entry C j).node (entry C j).offset p 0 x) e ∙ h
 
     -- A LITERAL'S ELEMENTS
     list_out : (y : Name) (o : Outer) {at : ℕ} {pr : ℤ} {es : List Element} (exs : Exprs) → own_expr o ≡ operator literal exs → IsIn k y → AreIn k (operator literal exs)

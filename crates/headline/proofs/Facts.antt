@@ -128,10 +128,10 @@ module _ (s : Core) (C : Code) (w : IsCodeOf s C) (K : Knowledge) (wf : WellForm
         (computed s C K p k (entry C i).needs (answered C p (entry C i).needs z.answers) z.says (says_code s wf K kn C w.layout I sc ch i there) u g (λ n j. subst (λ (l : List Need). In n l) (sym q) (sub n j)))
 
     -- and its fact
-    pub fact_of : (z : Known) (c : ℕ) (x : Computed) → Compute.compute (entry C i).act (answered C p (entry C i).needs z.answers) ≡ x → IsGood x → is_too_deep (entry C i).act p (instances (entry C i).act (entry C i).mark p c x) ≡ false
+    pub fact_of : (z : Known) (c : ℕ) (x : Computed) → Compute.compute (entry C i).act (answered C p (entry C i).needs z.answers) ≡ x → IsGood x → is_too_deep (entry C i).act p (instances (entry C i).act (entry C i).offset p c x) ≡ false
         → Reading (code_system C) (Answers s K) (Item i p c) (effect_at C i p c x)
     fact_of z c x q g d = record {
       answers = z.answers;
       read = z.read;
-      is = ap (λ (y : Computed). outcome_of y (is_too_deep (entry C i).act p (instances (entry C i).act (entry C i).mark p c y)) (effect_at C i p c y)) q ∙ good_outcome x _ (effect_at C i p c x) g d;
+      is = ap (λ (y : Computed). outcome_of y (is_too_deep (entry C i).act p (instances (entry C i).act (entry C i).offset p c y)) (effect_at C i p c y)) q ∙ good_outcome x _ (effect_at C i p c x) g d;
     }

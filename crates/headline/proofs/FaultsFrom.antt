@@ -115,15 +115,15 @@ module _ (s : Core) (C : Code) (w : IsCodeOf s C) (K : Knowledge) (wf : WellForm
   module _ {p : List Step} {t k : ℕ} {b : Block} (ch : Chain s C w.layout K p t k b) (alive : (j : ℕ) → In j (body C t).entries → Alive s C w K wf (backs s K kn) I sc (Item j p 0)) (j : ℕ) (there : In j (body C t).entries) where
     -- no item fails, and none lies too deep
     no_fail : (z : Known s C w K wf (backs s K kn) I sc ch j there) (f : EntryFault) → Compute.compute (entry C j).act (answered C p (entry C j).needs z.answers) ≡ Fails f → ⊥
-    no_fail z f e = never (Item j p 0) f (alive j there) z.answers z.read (ap (λ (x : Computed). outcome_of x (is_too_deep (entry C j).act p (instances (entry C j).act (entry C j).mark p 0 x)) (effect_at C j p 0 x)) e)
+    no_fail z f e = never (Item j p 0) f (alive j there) z.answers z.read (ap (λ (x : Computed). outcome_of x (is_too_deep (entry C j).act p (instances (entry C j).act (entry C j).offset p 0 x)) (effect_at C j p 0 x)) e)
 
-    not_deep : (z : Known s C w K wf (backs s K kn) I sc ch j there) (x : Computed) → Compute.compute (entry C j).act (answered C p (entry C j).needs z.answers) ≡ x → IsGood x → (q : ℕ × List Step) → In q (instances (entry C j).act (entry C j).mark p 0 x) → steps_on (entry C j).act ≡ true → length (script_path p) ≡ max_path_steps → ⊥
+    not_deep : (z : Known s C w K wf (backs s K kn) I sc ch j there) (x : Computed) → Compute.compute (entry C j).act (answered C p (entry C j).needs z.answers) ≡ x → IsGood x → (q : ℕ × List Step) → In q (instances (entry C j).act (entry C j).offset p 0 x) → steps_on (entry C j).act ≡ true → length (script_path p) ≡ max_path_steps → ⊥
     not_deep z x e g q i st dp =
-        let ss = instances (entry C j).act (entry C j).mark p 0 x in
-        let d : is_too_deep (entry C j).act p (instances (entry C j).act (entry C j).mark p 0 x) ≡ true =
+        let ss = instances (entry C j).act (entry C j).offset p 0 x in
+        let d : is_too_deep (entry C j).act p (instances (entry C j).act (entry C j).offset p 0 x) ≡ true =
         (λ y. past (length p) (sym (path_length p) ∙ dp) y && (st y && some_of ss q i y)) in
         never (Item j p 0) TooDeep (alive j there) z.answers z.read
-        (ap (λ (y : Computed). outcome_of y (is_too_deep (entry C j).act p (instances (entry C j).act (entry C j).mark p 0 y)) (effect_at C j p 0 y)) e ∙ deep_outcome x _ (effect_at C j p 0 x) g d)
+        (ap (λ (y : Computed). outcome_of y (is_too_deep (entry C j).act p (instances (entry C j).act (entry C j).offset p 0 y)) (effect_at C j p 0 y)) e ∙ deep_outcome x _ (effect_at C j p 0 x) g d)
 
     -- an entry that works out one expression
     one_fails : {ex : Expr} {o : OpFault} {at : ℕ} {pr : ℤ} {ms : List Need} (act : code.Expr → Act) (by : Result Value OpFault → Computed) → ((x : code.Expr) (ys : List Got) → Compute.compute (act x) ys ≡ by (eval ys x)) → by (Err o) ≡ Fails (InOperation o)
@@ -269,27 +269,27 @@ module _ (s : Core) (C : Code) (w : IsCodeOf s C) (K : Knowledge) (wf : WellForm
         → steps_on (entry C j).act ≡ true → (u : Key × Scalar) → In u ts → length (script_path p) ≡ max_path_steps → ⊥
     loop_deep {x} {t'} {y} j there z ts e lq st u i dp =
         let r = in_first_chunk ts u i in
-        not_deep ch alive j there z (Turns ts) e tt (t', step_at (entry C j).mark (r.0).0 p)
-        (subst (λ (l : List (ℕ × List Step)). In (t', step_at (entry C j).mark (r.0).0 p) l) (sym (loop_instances C (entry C j).act (record { body = t'; value = x; turn = y }) (entry C j).mark p 0 (Turns ts) lq))
-        (in_map (λ (v : Key × Scalar). (t', step_at (entry C j).mark v.0 p)) r.0 (chunk 0 ts) r.1)) st dp
+        not_deep ch alive j there z (Turns ts) e tt (t', step_at (entry C j).offset (r.0).0 p)
+        (subst (λ (l : List (ℕ × List Step)). In (t', step_at (entry C j).offset (r.0).0 p) l) (sym (loop_instances C (entry C j).act (record { body = t'; value = x; turn = y }) (entry C j).offset p 0 (Turns ts) lq))
+        (in_map (λ (v : Key × Scalar). (t', step_at (entry C j).offset v.0 p)) r.0 (chunk 0 ts) r.1)) st dp
 
     when_good : {at n : ℕ} {o : Outer} {d : Block} {js : List ℕ} → stmt at n (when o d) ∈ block_list b → StmtAs C w.layout k (stmt at n (when o d)) js → ((j : ℕ) → In j js → In j (body C t).entries) → K (value (script_path p, o.cell.node) (One (Truth true))) → length (script_path p) ≡ max_path_steps → ⊥
     when_good m (simple j z op as' e nd q) sub kv dp = absurd z
     when_good {o = o} m (branch {t = u} j {is = is} as' en mk ba q) sub kv dp =
         let there = sub j (subst (λ (l : List ℕ). In j l) (sym q) (in_right j is (j ∷ []) (inl refl))) in
         let z = branch_works s C w K wf (backs s K kn) I sc ch j there o true m (outer_in o.parts o.cell) kv en in
-        not_deep ch alive j there z.answers (Compute.Takes true) z.computed tt (u, step_at (entry C j).mark (Key.Number (pos 0)) p) (subst (λ (a : Act). In (u, step_at (entry C j).mark (Key.Number (pos 0)) p) (instances a (entry C j).mark p 0 (Compute.Takes true))) (sym en.act_is) (inl refl)) (ap steps_on en.act_is) dp
+        not_deep ch alive j there z.answers (Compute.Takes true) z.computed tt (u, step_at (entry C j).offset (Key.Number (pos 0)) p) (subst (λ (a : Act). In (u, step_at (entry C j).offset (Key.Number (pos 0)) p) (instances a (entry C j).offset p 0 (Compute.Takes true))) (sym en.act_is) (inl refl)) (ap steps_on en.act_is) dp
 
     choose_good : {at n : ℕ} {o : Outer} {d d' : Block} {js : List ℕ} (x : Bool) → stmt at n (choose o d d') ∈ block_list b → StmtAs C w.layout k (stmt at n (choose o d d')) js → ((j : ℕ) → In j js → In j (body C t).entries) → K (value (script_path p, o.cell.node) (One (Truth x))) → length (script_path p) ≡ max_path_steps → ⊥
     choose_good x m (simple j z op as' e nd q) sub kv dp = absurd z
     choose_good {o = o} true m (branches {t = u} {u = u'} j {is = is} as' en mk ba bb q) sub kv dp =
         let there = sub j (subst (λ (l : List ℕ). In j l) (sym q) (in_right j is (j ∷ []) (inl refl))) in
         let z = branch_works s C w K wf (backs s K kn) I sc ch j there o true m (outer_in o.parts o.cell) kv en in
-        not_deep ch alive j there z.answers (Compute.Takes true) z.computed tt (u, step_at (entry C j).mark (Key.Number (pos 0)) p) (subst (λ (a : Act). In (u, step_at (entry C j).mark (Key.Number (pos 0)) p) (instances a (entry C j).mark p 0 (Compute.Takes true))) (sym en.act_is) (inl refl)) (ap steps_on en.act_is) dp
+        not_deep ch alive j there z.answers (Compute.Takes true) z.computed tt (u, step_at (entry C j).offset (Key.Number (pos 0)) p) (subst (λ (a : Act). In (u, step_at (entry C j).offset (Key.Number (pos 0)) p) (instances a (entry C j).offset p 0 (Compute.Takes true))) (sym en.act_is) (inl refl)) (ap steps_on en.act_is) dp
     choose_good {o = o} false m (branches {t = u} {u = u'} j {is = is} as' en mk ba bb q) sub kv dp =
         let there = sub j (subst (λ (l : List ℕ). In j l) (sym q) (in_right j is (j ∷ []) (inl refl))) in
         let z = branch_works s C w K wf (backs s K kn) I sc ch j there o false m (outer_in o.parts o.cell) kv en in
-        not_deep ch alive j there z.answers (Compute.Takes false) z.computed tt (u', step_at (entry C j).mark (Key.Number (pos 1)) p) (subst (λ (a : Act). In (u', step_at (entry C j).mark (Key.Number (pos 1)) p) (instances a (entry C j).mark p 0 (Compute.Takes false))) (sym en.act_is) (inl refl)) (ap steps_on en.act_is) dp
+        not_deep ch alive j there z.answers (Compute.Takes false) z.computed tt (u', step_at (entry C j).offset (Key.Number (pos 1)) p) (subst (λ (a : Act). In (u', step_at (entry C j).offset (Key.Number (pos 1)) p) (instances a (entry C j).offset p 0 (Compute.Takes false))) (sym en.act_is) (inl refl)) (ap steps_on en.act_is) dp
 
     turn_good : {at n x : ℕ} {lo hi : Outer} {st : Option Outer} {y : Option ℕ} {d : Block} {js : List ℕ} {vs : List Value} {r : Bounds} {many i : ℕ} → stmt at n (range lo hi st x y d) ∈ block_list b → StmtAs C w.layout k (stmt at n (range lo hi st x y d)) js → ((j : ℕ) → In j js → In j (body C t).entries)
         → KnownAll K (script_path p) (outer_cells (range lo hi st x y d)) vs → bounds vs ≡ Some r → range_count r.low r.high r.step ≡ Ok many → i < many → length (script_path p) ≡ max_path_steps → ⊥
@@ -313,8 +313,8 @@ module _ (s : Core) (C : Code) (w : IsCodeOf s C) (K : Knowledge) (wf : WellForm
         let there = sub cf.number cf.there in
         let is = (cf.as_call).is in
         let z = known s C w K wf (backs s K kn) I sc ch cf.number there (λ n h. absurd (subst (λ (l : List Need). In n l) is.needs_is h)) in
-        not_deep ch alive cf.number there z Compute.Opens (ap (λ (a : Act). Compute.compute a (answered C p (entry C cf.number).needs z.answers)) is.act_is) tt (w.layout.body_of c.function, step_at (entry C cf.number).mark (Key.Number (pos 0)) p)
-        (subst (λ (a : Act). In (w.layout.body_of c.function, step_at (entry C cf.number).mark (Key.Number (pos 0)) p) (instances a (entry C cf.number).mark p 0 Compute.Opens)) (sym is.act_is) (inl refl)) (ap steps_on is.act_is) dp
+        not_deep ch alive cf.number there z Compute.Opens (ap (λ (a : Act). Compute.compute a (answered C p (entry C cf.number).needs z.answers)) is.act_is) tt (w.layout.body_of c.function, step_at (entry C cf.number).offset (Key.Number (pos 0)) p)
+        (subst (λ (a : Act). In (w.layout.body_of c.function, step_at (entry C cf.number).offset (Key.Number (pos 0)) p) (instances a (entry C cf.number).offset p 0 Compute.Opens)) (sym is.act_is) (inl refl)) (ap steps_on is.act_is) dp
 
     -- the values of a condition and of bounds
     condition_is : {path : Path} {o : Cell} {v : Value} → KnownAll K path (o ∷ []) (v ∷ []) → K (value (path, o.node) v)

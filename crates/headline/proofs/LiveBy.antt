@@ -95,17 +95,17 @@ module _ (s : Core) (C : Code) (w : IsCodeOf s C) (K : Knowledge) (wf : WellForm
 
     -- what the fact of a live item opens is live
     opens_alive : {j c : ℕ} {p : List Step} (x : Computed) → Alive (Item j p c) → fd.Fact (Item j p c) (effect_at C j p c x)
-        → (q : ℕ × List Step) → In q (instances (entry C j).act (entry C j).mark p c x) → (i : ℕ) → In i (body C q.0).entries → Alive (Item i q.1 0)
+        → (q : ℕ × List Step) → In q (instances (entry C j).act (entry C j).offset p c x) → (i : ℕ) → In i (body C q.0).entries → Alive (Item i q.1 0)
     opens_alive {j} {c} {p} x lv f q h i m =
         live_opened (Item j p c) (Item i q.1 0) (effect_at C j p c x) (block C q) lv f
-        (in_left (block C q) (map (block C) (instances (entry C j).act (entry C j).mark p c x)) _ (in_map (block C) q (instances (entry C j).act (entry C j).mark p c x) h))
+        (in_left (block C q) (map (block C) (instances (entry C j).act (entry C j).offset p c x)) _ (in_map (block C) q (instances (entry C j).act (entry C j).offset p c x) h))
         (in_map (λ (i : ℕ). Item i q.1 0) i (body C q.0).entries m)
 
     rest_alive : {j c : ℕ} {p : List Step} (ts : Elements) {lp : Loop} → Alive (Item j p c) → fd.Fact (Item j p c) (effect_at C j p c (Turns ts)) → loop_of (entry C j).act ≡ Some lp
         → is_some_list (left_at (suc c) ts) ≡ true → Alive (Item j p (suc c))
     rest_alive {j} {c} {p} ts lv f q h =
         live_opened (Item j p c) (Item j p (suc c)) (effect_at C j p c (Turns ts)) (record { makes = []; tasks = Item j p (suc c) ∷ [] }) lv f
-        (in_right _ (map (block C) (instances (entry C j).act (entry C j).mark p c (Turns ts))) _
+        (in_right _ (map (block C) (instances (entry C j).act (entry C j).offset p c (Turns ts))) _
         (subst (λ (o : Option Loop). In (record { makes = []; tasks = Item j p (suc c) ∷ [] }) (rest o j p c (Turns ts))) (sym q)
         (subst (λ (b : Bool). In (record { makes = []; tasks = Item j p (suc c) ∷ [] }) (rest_if b j p c)) (sym h) (inl refl))))
         (inl refl)
@@ -113,7 +113,7 @@ module _ (s : Core) (C : Code) (w : IsCodeOf s C) (K : Knowledge) (wf : WellForm
     -- who opened the body at that path
     pub data Opener (t : ℕ) (p : List Step) : Type 0 where
       of_main : t ≡ 0 → p ≡ [] → Opener t p
-      of_item : {j c : ℕ} {q : List Step} (x : Computed) → Alive (Item j q c) → fd.Fact (Item j q c) (effect_at C j q c x) → In (t, p) (instances (entry C j).act (entry C j).mark q c x) → Opener t p
+      of_item : {j c : ℕ} {q : List Step} (x : Computed) → Alive (Item j q c) → fd.Fact (Item j q c) (effect_at C j q c x) → In (t, p) (instances (entry C j).act (entry C j).offset q c x) → Opener t p
 
     -- WHERE A LIVE BLOCK'S ITEMS ARE
     -- between the headers of merged waits no body stands for the block; the entry is that of the outermost one
@@ -146,12 +146,12 @@ module _ (s : Core) (C : Code) (w : IsCodeOf s C) (K : Knowledge) (wf : WellForm
 
     module _ {p : List Step} {t k : ℕ} {b : Block} (ch : Chained p t k b) (j : ℕ) (there : In j (body C t).entries) where
       -- a block under a key, once the item of its chunk has the fact that opens it
-      header_where : {at n u : ℕ} {a : Action} {c : Block} {vs : List Value} {key : Key} (chunk_no : ℕ) (x : Computed) → stmt at n a ∈ block_list b → (entry C j).mark ≡ at → In (Through, u) (ways (entry C j).act)
+      header_where : {at n u : ℕ} {a : Action} {c : Block} {vs : List Value} {key : Key} (chunk_no : ℕ) (x : Computed) → stmt at n a ∈ block_list b → (entry C j).offset ≡ at → In (Through, u) (ways (entry C j).act)
           → BodyAs C w.layout k c u → Ready s K (script_path p) a vs → Opens a vs key c → length (script_path p) < max_path_steps
-          → Alive (Item j p chunk_no) → fd.Fact (Item j p chunk_no) (effect_at C j p chunk_no x) → In (u, step_at (entry C j).mark key p) (instances (entry C j).act (entry C j).mark p chunk_no x)
+          → Alive (Item j p chunk_no) → fd.Fact (Item j p chunk_no) (effect_at C j p chunk_no x) → In (u, step_at (entry C j).offset key p) (instances (entry C j).act (entry C j).offset p chunk_no x)
           → Where ((at, key) ∷ script_path p) c
       header_where {at} {u = u} {key = key} cn x m mk wy ba r o d lv f h =
-          at_body refl (by_header j ch m there mk wy ba r o d) (λ i m'. subst (λ (z : ℕ). Alive (Item i (step_at z key p) 0)) mk (opens_alive x lv f (u, step_at (entry C j).mark key p) h i m'))
+          at_body refl (by_header j ch m there mk wy ba r o d) (λ i m'. subst (λ (z : ℕ). Alive (Item i (step_at z key p) 0)) mk (opens_alive x lv f (u, step_at (entry C j).offset key p) h i m'))
           (subst (λ (z : ℕ). Opener u (step_at z key p)) mk (of_item x lv f h))
 
       -- THE NEEDS OF A HEADER ARE FED
@@ -222,7 +222,7 @@ module _ (s : Core) (C : Code) (w : IsCodeOf s C) (K : Knowledge) (wf : WellForm
         let kv = condition_value s C w K wf kn I sc ch j there r refl refl (λ ns c e. absurd (cc (e))) (λ x y z c e. absurd (cc (e))) in
         let f = fd.yields j 0 p _ (alive j there) (header_fed ch j there at n (when o d) _ m (own_branch en mk ba) tt r tt) (branch_takes s C w K wf kn I sc ch j there o true m (outer_in o.parts o.cell) kv en dp) in
         header_where ch j there 0 (Takes true) m mk (subst (λ (a : Act). In (Through, u) (ways a)) (sym en.act_is) (inl refl)) ba r then_alone dp (alive j there) f
-        (subst (λ (a : Act). In (u, step_at (entry C j).mark (Key.Number (pos 0)) p) (instances a (entry C j).mark p 0 (Takes true))) (sym en.act_is) (inl refl))
+        (subst (λ (a : Act). In (u, step_at (entry C j).offset (Key.Number (pos 0)) p) (instances a (entry C j).offset p 0 (Takes true))) (sym en.act_is) (inl refl))
 
     choose_where : {p : List Step} {t k : ℕ} {b : Block} (ch : Chained p t k b) → AllAlive p t → {at n : ℕ} {o : Outer} {d d' : Block} {js : List ℕ} (x : Bool) → stmt at n (choose o d d') ∈ block_list b → StmtAs C w.layout k (stmt at n (choose o d d')) js → ((j : ℕ) → In j js → In j (body C t).entries)
         → Ready s K (script_path p) (choose o d d') (One (Truth x) ∷ []) → length (script_path p) < max_path_steps → Where ((at, branch_key x) ∷ script_path p) (taken x d d')
@@ -238,17 +238,17 @@ module _ (s : Core) (C : Code) (w : IsCodeOf s C) (K : Knowledge) (wf : WellForm
 
         by : (x : Bool) → Ready s K (script_path p) (choose o d d') (One (Truth x) ∷ []) → fd.Fact (Item j p 0) (effect_at C j p 0 (Takes x)) → Where ((at, branch_key x) ∷ script_path p) (taken x d d')
         by true r g = header_where ch j there 0 (Takes true) m mk (subst (λ (a : Act). In (Through, u) (ways a)) (sym en.act_is) (inl refl)) ba r then_first dp (alive j there) g
-            (subst (λ (a : Act). In (u, step_at (entry C j).mark (Key.Number (pos 0)) p) (instances a (entry C j).mark p 0 (Takes true))) (sym en.act_is) (inl refl))
+            (subst (λ (a : Act). In (u, step_at (entry C j).offset (Key.Number (pos 0)) p) (instances a (entry C j).offset p 0 (Takes true))) (sym en.act_is) (inl refl))
         by false r g = header_where ch j there 0 (Takes false) m mk (subst (λ (a : Act). In (Through, u') (ways a)) (sym en.act_is) (inr (inl refl))) bb r else_second dp (alive j there) g
-            (subst (λ (a : Act). In (u', step_at (entry C j).mark (Key.Number (pos 1)) p) (instances a (entry C j).mark p 0 (Takes false))) (sym en.act_is) (inl refl))
+            (subst (λ (a : Act). In (u', step_at (entry C j).offset (Key.Number (pos 1)) p) (instances a (entry C j).offset p 0 (Takes false))) (sym en.act_is) (inl refl))
 
     -- CALLS
     call_where : {p : List Step} {t k : ℕ} {b : Block} (ch : Chained p t k b) → AllAlive p t → {st : Stmt} {c : Call} {f : Function} {js : List ℕ} → st ∈ block_list b → c ∈ stmt_calls st → CallFound C w.layout k st c js → ((j : ℕ) → In j js → In j (body C t).entries)
         → slice_get s.functions c.function ≡ Some f → length c.inputs ≡ f.inputs → length (script_path p) < max_path_steps → Where ((c.at, Key.Number (pos 0)) ∷ script_path p) f.body
     call_where {p} {t} {k} ch alive {c = c} {f = f} m n cf sub fq len dp =
         at_body refl (by_call j ch m n there ca cf.cells_in fq len (w.functions c.function f fq) dp)
-        (λ i m'. subst (λ (z : ℕ). Alive (Item i (step_at z (Key.Number (pos 0)) p) 0)) ca.mark_is (opens_alive OpensIt (alive j there) fact (w.layout.body_of c.function, step_at (entry C j).mark (Key.Number (pos 0)) p) opens i m'))
-        (subst (λ (z : ℕ). Opener (w.layout.body_of c.function) (step_at z (Key.Number (pos 0)) p)) ca.mark_is (of_item OpensIt (alive j there) fact opens))
+        (λ i m'. subst (λ (z : ℕ). Alive (Item i (step_at z (Key.Number (pos 0)) p) 0)) ca.offset_is (opens_alive OpensIt (alive j there) fact (w.layout.body_of c.function, step_at (entry C j).offset (Key.Number (pos 0)) p) opens i m'))
+        (subst (λ (z : ℕ). Opener (w.layout.body_of c.function) (step_at z (Key.Number (pos 0)) p)) ca.offset_is (of_item OpensIt (alive j there) fact opens))
       where
         j : ℕ
         j = cf.number
@@ -266,8 +266,8 @@ module _ (s : Core) (C : Code) (w : IsCodeOf s C) (K : Knowledge) (wf : WellForm
         fact = fd.yields cf.number 0 p _ (alive cf.number there) (λ n h. absurd (subst (λ (l : List Need). In n l) (cf.as_call).is.needs_is h))
             (fact_of s C w K wf kn I sc ch cf.number (sub cf.number cf.there) z 0 OpensIt (ap (λ (a : Act). compute a (answered C p (entry C cf.number).needs z.answers)) (cf.as_call).is.act_is) tt (not_too_deep _ p _ dp))
 
-        opens : In (w.layout.body_of c.function, step_at (entry C cf.number).mark (Key.Number (pos 0)) p) (instances (entry C cf.number).act (entry C cf.number).mark p 0 OpensIt)
-        opens = subst (λ (a : Act). In (w.layout.body_of c.function, step_at (entry C cf.number).mark (Key.Number (pos 0)) p) (instances a (entry C cf.number).mark p 0 OpensIt)) (sym (cf.as_call).is.act_is) (inl refl)
+        opens : In (w.layout.body_of c.function, step_at (entry C cf.number).offset (Key.Number (pos 0)) p) (instances (entry C cf.number).act (entry C cf.number).offset p 0 OpensIt)
+        opens = subst (λ (a : Act). In (w.layout.body_of c.function, step_at (entry C cf.number).offset (Key.Number (pos 0)) p) (instances a (entry C cf.number).offset p 0 OpensIt)) (sym (cf.as_call).is.act_is) (inl refl)
 
     -- a ready wait, innermost of those merged so far: its content is live, or the content is one more of them
     module _ {p : List Step} {t k : ℕ} {b0 : Block} (ch : Chained p t k b0) (alive : AllAlive p t) (st0 : Stmt) (m0 : st0 ∈ block_list b0) (j : ℕ) (there : In j (body C t).entries) (hs : List Header) (t' : ℕ)
@@ -301,8 +301,8 @@ module _ (s : Core) (C : Code) (w : IsCodeOf s C) (K : Knowledge) (wf : WellForm
                 | inr m ↦ elim (header_answers at ns [] (λ z u. sc.waits k bb at n ns c z sp mm u) (ready_names s C w K wf kn I sc r ns c refl) rf x i (subst (λ (l : List Header). In x (flat_map (λ h. h.needs) l)) q m)) [ inl y ↦ y | inr z ↦ absurd z ]
               ]
 
-          opens : In (t', p) (instances (entry C j).act (entry C j).mark p 0 OpensIt)
-          opens = subst (λ (a : Act). In (t', p) (instances a (entry C j).mark p 0 OpensIt)) (sym en.act_is) (inl refl)
+          opens : In (t', p) (instances (entry C j).act (entry C j).offset p 0 OpensIt)
+          opens = subst (λ (a : Act). In (t', p) (instances a (entry C j).offset p 0 OpensIt)) (sym en.act_is) (inl refl)
 
           z : Known s C w K wf kn I sc ch j there
           z = known s C w K wf kn I sc ch j there (λ x h. (all x h).0)
@@ -310,7 +310,7 @@ module _ (s : Core) (C : Code) (w : IsCodeOf s C) (K : Knowledge) (wf : WellForm
           fact : fd.Fact (Item j p 0) (effect_at C j p 0 OpensIt)
           fact = fd.yields j 0 p _ (alive j there) (λ x h. (all x h).1)
               (fact_of s C w K wf kn I sc ch j there z 0 OpensIt (ap (λ (a : Act). compute a (answered C p (entry C j).needs z.answers)) en.act_is) tt
-              (subst (λ (a : Act). is_too_deep a p (instances a (entry C j).mark p 0 OpensIt) ≡ false) (sym en.act_is) (no_step (nat_le max_path_steps (length p)))))
+              (subst (λ (a : Act). is_too_deep a p (instances a (entry C j).offset p 0 OpensIt) ≡ false) (sym en.act_is) (no_step (nat_le max_path_steps (length p)))))
             where
               no_step : (b : Bool) → (b && false) ≡ false
               no_step true = refl
@@ -348,7 +348,7 @@ module _ (s : Core) (C : Code) (w : IsCodeOf s C) (K : Knowledge) (wf : WellForm
     pub record LoopRun (p : List Step) (t k at x : ℕ) (y : Option ℕ) (d : Block) (u : Key × Scalar) : Type 0 where
       pub number : ℕ
       pub there : In number (body C t).entries
-      pub mark_is : (entry C number).mark ≡ at
+      pub offset_is : (entry C number).offset ≡ at
       pub content : ℕ
       pub stands : BodyAs C w.layout k d content
       pub loops : loop_of (entry C number).act ≡ Some (record { body = content; value = x; turn = y })
@@ -369,14 +369,14 @@ module _ (s : Core) (C : Code) (w : IsCodeOf s C) (K : Knowledge) (wf : WellForm
       chunk_alive z ts lp e q (suc c) h = (let lv = chunk_alive z ts lp e q c (left_before c ts h) in rest_alive ts lv (fd.yields j c p _ lv fed (turns_fact z ts e c)) q h)
 
       turns_run : {at x t' : ℕ} {y : Option ℕ} {d : Block} (z : Known s C w K wf kn I sc ch j there) (ts : Elements) → compute (entry C j).act (answered C p (entry C j).needs z.answers) ≡ Turns ts
-          → loop_of (entry C j).act ≡ Some (record { body = t'; value = x; turn = y }) → (entry C j).mark ≡ at → In (Through, t') (ways (entry C j).act) → BodyAs C w.layout k d t' → (u : Key × Scalar) → In u ts → LoopRun p t k at x y d u
+          → loop_of (entry C j).act ≡ Some (record { body = t'; value = x; turn = y }) → (entry C j).offset ≡ at → In (Through, t') (ways (entry C j).act) → BodyAs C w.layout k d t' → (u : Key × Scalar) → In u ts → LoopRun p t k at x y d u
       turns_run {t' = t'} z ts e q mk wy ba u i =
           let f = in_some_chunk (length ts) ts u (omega arith) i in
           let lv = chunk_alive z ts _ e q f.0 (some_of (left_at f.0 ts) u (none_taken chunk_size (left_at f.0 ts) u f.1)) in
           record {
             number = j;
             there = there;
-            mark_is = mk;
+            offset_is = mk;
             content = t';
             stands = ba;
             loops = q;
@@ -391,9 +391,9 @@ module _ (s : Core) (C : Code) (w : IsCodeOf s C) (K : Knowledge) (wf : WellForm
     run_where : {p : List Step} {t k : ℕ} {b : Block} (ch : Chained p t k b) → AllAlive p t → {at n x : ℕ} {y : Option ℕ} {d : Block} {a : Action} {vs : List Value} (u : Key × Scalar) → LoopRun p t k at x y d u → stmt at n a ∈ block_list b → Ready s K (script_path p) a vs → Opens a vs u.0 d
         → length (script_path p) < max_path_steps → Where ((at, u.0) ∷ script_path p) d
     run_where {p} ch alive u run m r o dp =
-        header_where ch run.number run.there run.chunk_number (Turns run.turns) m run.mark_is run.way run.stands r o dp run.alive run.fact
-        (subst (λ (l : List (ℕ × List Step)). In (run.content, step_at (entry C run.number).mark u.0 p) l) (sym (loop_instances C (entry C run.number).act _ (entry C run.number).mark p run.chunk_number (Turns run.turns) run.loops))
-        (in_map (λ (z : Key × Scalar). (run.content, step_at (entry C run.number).mark z.0 p)) u (chunk run.chunk_number run.turns) run.in_chunk))
+        header_where ch run.number run.there run.chunk_number (Turns run.turns) m run.offset_is run.way run.stands r o dp run.alive run.fact
+        (subst (λ (l : List (ℕ × List Step)). In (run.content, step_at (entry C run.number).offset u.0 p) l) (sym (loop_instances C (entry C run.number).act _ (entry C run.number).offset p run.chunk_number (Turns run.turns) run.loops))
+        (in_map (λ (z : Key × Scalar). (run.content, step_at (entry C run.number).offset z.0 p)) u (chunk run.chunk_number run.turns) run.in_chunk))
 
     pub each_run : {p : List Step} {t k : ℕ} {b : Block} (ch : Chained p t k b) → AllAlive p t → {at n x : ℕ} {a : Name} {y : Option ℕ} {d : Block} {js : List ℕ} {es : List Element} {key : Key} {v : Scalar} → stmt at n (each a x y d) ∈ block_list b
         → StmtAs C w.layout k (stmt at n (each a x y d)) js → ((j : ℕ) → In j js → In j (body C t).entries) → Ready s K (script_path p) (each a x y d) (Many es ∷ []) → fd.ArrayFed (place s (script_path p) a) → element_of key v ∈ es → length (script_path p) < max_path_steps → LoopRun p t k at x y d (key, v)

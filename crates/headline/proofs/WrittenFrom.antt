@@ -210,7 +210,7 @@ module _ (s : Core) (C : Code) (w : IsCodeOf s C) (K : Knowledge) (wf : WellForm
       task = Item j p 0;
       effect = effect_at C j p 0 (Compute.Gives u);
       fact = gives_one code.Cell (λ x ys. refl) (λ x. refl) en refl g vu;
-      write = subst (λ (a : Act). In (record { place = Datum p (scalar n); key = only; value = u }) (stores C a (entry C j).node (entry C j).mark p 0 (Compute.Gives u))) (sym en.act_is)
+      write = subst (λ (a : Act). In (record { place = Datum p (scalar n); key = only; value = u }) (stores C a (entry C j).node (entry C j).offset p 0 (Compute.Gives u))) (sym en.act_is)
           (inl (ap (λ (d : CodePlaces.Place). record { place = d; key = only; value = u }) (sym (declared_at C p (scalar (entry C j).node) ∙ ap (λ (z : ℕ). Datum p (scalar z)) nd))));
     }
 
@@ -220,7 +220,7 @@ module _ (s : Core) (C : Code) (w : IsCodeOf s C) (K : Knowledge) (wf : WellForm
       task = Item j p 0;
       effect = effect_at C j p 0 (Compute.Gives u);
       fact = gives_one (code.Set (name_as k false x)) (λ x ys. refl) (λ x. refl) en mq g vu;
-      write = subst (λ (a : Act). In (record { place = Datum q v; key = only; value = u }) (stores C a (entry C j).node (entry C j).mark p 0 (Compute.Gives u))) (sym en.act_is)
+      write = subst (λ (a : Act). In (record { place = Datum q v; key = only; value = u }) (stores C a (entry C j).node (entry C j).offset p 0 (Compute.Gives u))) (sym en.act_is)
           (inl (ap (λ (d : CodePlaces.Place). record { place = d; key = only; value = u }) (sym pq)));
     }
 
@@ -331,7 +331,7 @@ module _ (s : Core) (C : Code) (w : IsCodeOf s C) (K : Knowledge) (wf : WellForm
                 (ap (λ (a : Act). Compute.compute a (answered C p (entry C j).needs z.answers)) en.act_is ∙ ap (λ (l : List Got). Compute.compute code.Read l) inp.back) tt
                 (leaf_deep (entry C j).act p _ (ap steps_on en.act_is));
           };
-          write = subst (λ (a : Act). In (record { place = Datum p (scalar n); key = only; value = u }) (stores C a (entry C j).node (entry C j).mark p 0 (Compute.Gives u))) (sym en.act_is)
+          write = subst (λ (a : Act). In (record { place = Datum p (scalar n); key = only; value = u }) (stores C a (entry C j).node (entry C j).offset p 0 (Compute.Gives u))) (sym en.act_is)
               (inl (ap (λ (d : CodePlaces.Place). record { place = d; key = only; value = u }) (sym (declared_at C p (scalar (entry C j).node) ∙ ap (λ (z : ℕ). Datum p (scalar z)) nd))));
         }
 

@@ -77,7 +77,7 @@ module _ (s : Core) (C : Code) (l : Layout) (K : Knowledge) where
   pub data Chain : List Step → ℕ → ℕ → Block → Type 0 where
     at_script : BodyAs C l 0 s.body 0 → Chain [] 0 0 s.body
     by_header : {p : List Step} {t k : ℕ} {b : Block} {at n : ℕ} {a : Action} {c : Block} {u : ℕ} (j : ℕ) {vs : List Value} {key : Key}
-        → Chain p t k b → stmt at n a ∈ block_list b → In j (body C t).entries → (entry C j).mark ≡ at → In (Through, u) (ways (entry C j).act)
+        → Chain p t k b → stmt at n a ∈ block_list b → In j (body C t).entries → (entry C j).offset ≡ at → In (Through, u) (ways (entry C j).act)
         → BodyAs C l k c u → Ready s K (script_path p) a vs → Opens a vs key c → length (script_path p) < max_path_steps → Chain (step_at at key p) u k c
     by_wait : {p : List Step} {t k : ℕ} {b : Block} {st : Stmt} {c : Block} {u : ℕ} (j : ℕ)
         → Chain p t k b → st ∈ block_list b → In j (body C t).entries → In (InPlace, u) (ways (entry C j).act) → BodyAs C l k c u → Waited (script_path p) st c → Chain p u k c

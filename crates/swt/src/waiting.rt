@@ -189,7 +189,7 @@ fn write_name(
 /// Returns the function whose call opened a block or an enclosing one.
 fn function_around(view: &ItemContext<'_, '_>, block: usize) -> Option<usize> {
     let call = view.code.entry(view.items.call_around(block)?)?;
-    view.index.called_at(call.mark)
+    view.index.called_at(call.offset)
 }
 
 /// Returns the binding at an index among the inputs followed by the outputs of a function.

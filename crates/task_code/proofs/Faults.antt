@@ -228,7 +228,7 @@ module _ (C : Code) where
   effect_free Main xs h = absurd (cc)
   effect_free (Item i p c) xs h =
       let x = compute (entry C i).act (answered C p (entry C i).needs xs) in
-      outcome_free x (is_too_deep (entry C i).act p (instances (entry C i).act (entry C i).mark p c x)) (effect_at C i p c x) (computed_free (entry C i).act (answered C p (entry C i).needs xs)) h
+      outcome_free x (is_too_deep (entry C i).act p (instances (entry C i).act (entry C i).offset p c x)) (effect_at C i p c x) (computed_free (entry C i).act (answered C p (entry C i).needs xs)) h
 
   -- so no run has
   pub never_memory : (s : CodeState) (log : List (Task × Effect Task Place Key Scalar)) → Follows (code_system C) s log → (t : Task) → s.fault ≡ Some (t, OfTask (InOperation Memory)) → ⊥

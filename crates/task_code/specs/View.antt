@@ -113,7 +113,7 @@ entry_view e =
     record {
       node = e.node;
       at = e.at;
-      mark = e.mark;
+      offset = e.offset;
       priority = e.priority;
       needs = map need_view e.needs.items;
       act = act_view e.act;

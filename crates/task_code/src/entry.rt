@@ -108,7 +108,7 @@ pub struct Entry {
     /// The offset of the entry's statement, where faults are reported.
     pub at: usize,
     /// The offset that a listing shows, and that the paths of the blocks opened by this entry contain.
-    pub mark: usize,
+    pub offset: usize,
     pub priority: i32,
     pub needs: Vec<Need>,
     pub act: Act,

@@ -29,7 +29,7 @@ fn assert_is_last(rt: &impl Abort, opened: &Fixture) {
     let last = opened.rows.last().expect(rt, "an item");
     is_equal(
         rt,
-        (last.item().job(), last.item().mark()),
+        (last.item().job(), last.item().status()),
         (ASSERT, ItemStatus::Waiting),
     );
     assert!(rt; opened.known.is_empty());

@@ -71,7 +71,7 @@ fn is_seen(rt: &impl Abort, key: &Key, other: &Key) {
 }
 
 #[test]
-fn two_texts_have_one_mark(rt: HostRuntime) {
+fn two_texts_have_one_hash(rt: HostRuntime) {
     let one = folded(rt.alloc(), b'a', b'b').expect(&rt, "memory");
     let other = folded(rt.alloc(), b'b', b'a').expect(&rt, "memory");
     is_equal(&rt, one.hash_code(), other.hash_code());

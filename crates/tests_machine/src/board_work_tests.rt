@@ -195,7 +195,7 @@ fn entry(alloc: Global, act: Act) -> Entry {
     Entry {
         node: 1,
         at: 0,
-        mark: 0,
+        offset: 0,
         priority: 0,
         needs: Vec::new(alloc),
         act,

@@ -63,7 +63,7 @@ fn texts_are_keys(rt: HostRuntime) {
 }
 
 /// Adds a word of 1,024 letters, in which each half is the other one's with its letters changed, and so on down to single letters. The
-/// two words that begin with either letter share their mark.
+/// two words that begin with either letter share their hash.
 fn add_word(text: &mut Vec<u8>, first: u8, other: u8) -> Result<(), AllocError> {
     for place in 0..1024u32 {
         text.push(if place.count_ones() % 2 == 0 {
@@ -76,7 +76,7 @@ fn add_word(text: &mut Vec<u8>, first: u8, other: u8) -> Result<(), AllocError> 
 }
 
 /// A reader of one word, a write of the other, and then the write that it waits for.
-fn two_of_one_mark(alloc: Global) -> Result<Vec<u8>, AllocError> {
+fn two_of_one_hash(alloc: Global) -> Result<Vec<u8>, AllocError> {
     let mut text = Vec::from_slice(alloc, b"int A[string]; printf(\"%i\", A[\"")?;
     add_word(&mut text, b'a', b'b')?;
     text.extend_from_slice(b"\"]); A[\"")?;
@@ -88,8 +88,8 @@ fn two_of_one_mark(alloc: Global) -> Result<Vec<u8>, AllocError> {
 }
 
 #[test]
-fn two_texts_of_one_mark(rt: HostRuntime) {
-    let script = two_of_one_mark(rt.alloc()).expect(&rt, "memory");
+fn two_texts_of_one_hash(rt: HostRuntime) {
+    let script = two_of_one_hash(rt.alloc()).expect(&rt, "memory");
     holds(&rt, runs_to(&rt, rt.alloc(), script.as_slice(), b"2\n", 0));
     let worked = RunResults {
         lines: &[b"2"],
