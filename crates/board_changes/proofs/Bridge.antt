@@ -7,7 +7,7 @@ use Rattle.board_history.proofs.Tests.{in_kept}
 use Rattle.board_history.specs.Ending.{has_entries, home}
 use Rattle.board_history.specs.Fields.{Absent, Does, Frame, Job, Script, Slot, path_of, slot_at, step_before, task_of}
 use Rattle.board_history.specs.Static.{opened}
-use Rattle.task_code.specs.Code.{Act, Argument, Assert, Call, Cell, Code, Copy, Each, Fill, If, Loop, Print, Put, Range, Read, Set, Wait, arguments, body, entry, loop_of}
+use Rattle.task_code.specs.Code.{Act, Argument, Assert, Call, Cell, Code, Copy, Each, Fill, If, Loop, Print, InsertElement, Range, Read, Set, Wait, arguments, body, entry, loop_of}
 use Rattle.task_code.specs.Compute.{Computed}
 use Rattle.task_code.specs.Effects.{chunk, instances, is_some_list, step_at, turns_of}
 use Rattle.task_code.specs.Places.{Step}
@@ -33,7 +33,7 @@ loop_arguments (Call b rs os) w e = absurd (cc)
 loop_arguments (Set r x) w e = refl
 loop_arguments (Fill r es) w e = refl
 loop_arguments (Copy r) w e = refl
-loop_arguments (Put r i x) w e = refl
+loop_arguments (InsertElement r i x) w e = refl
 loop_arguments (Print x) w e = refl
 loop_arguments (Assert x) w e = refl
 loop_arguments (If x b d) w e = refl
@@ -55,7 +55,7 @@ loop_instances (Call b rs os) w e offset p c x s i = absurd (cc)
 loop_instances (Set r y) w e offset p c x s i = absurd i
 loop_instances (Fill r es) w e offset p c x s i = absurd i
 loop_instances (Copy r) w e offset p c x s i = absurd i
-loop_instances (Put r k y) w e offset p c x s i = absurd i
+loop_instances (InsertElement r k y) w e offset p c x s i = absurd i
 loop_instances (Print y) w e offset p c x s i = absurd i
 loop_instances (Assert y) w e offset p c x s i = absurd i
 loop_instances (If y b d) w e offset p c x s i = absurd (cc)

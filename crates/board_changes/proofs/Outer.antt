@@ -15,7 +15,7 @@ use Rattle.board_history.specs.Stands.{Stands}
 use Rattle.board_history.specs.Static.{Hold, names_in, outer_holds}
 use Rattle.task_code.proofs.Decided.{declared_is}
 use Rattle.task_code.specs.Check.{is_declared}
-use Rattle.task_code.specs.Code.{Act, Assert, Call, Calling, Cell, Code, Copy, Each, Entry, Fill, If, InPlace, Name, Parameter, Print, Put, Range, Read, Set, Through, Wait, Way, body, entry, ways}
+use Rattle.task_code.specs.Code.{Act, Assert, Call, Calling, Cell, Code, Copy, Each, Entry, Fill, If, InPlace, Name, Parameter, Print, InsertElement, Range, Read, Set, Through, Wait, Way, body, entry, ways}
 use Rattle.task_code.specs.Compute.{Computed, Fails, Gives, Inserts, Opens, Takes, Turns}
 use Rattle.task_code.specs.Effects.{chunk, instances, step_at, turns_of}
 use Rattle.task_code.specs.Places.{Step}
@@ -34,7 +34,7 @@ ways_of (Call b rs os) offset p (suc c) x s h = absurd h
 ways_of (Set r e) offset p c x s h = absurd h
 ways_of (Fill r es) offset p c x s h = absurd h
 ways_of (Copy r) offset p c x s h = absurd h
-ways_of (Put r i e) offset p c x s h = absurd h
+ways_of (InsertElement r i e) offset p c x s h = absurd h
 ways_of (Print e) offset p c x s h = absurd h
 ways_of (Assert e) offset p c x s h = absurd h
 ways_of (If e b d) offset p (suc c) x s h = absurd h

@@ -32,8 +32,8 @@ use Rattle.board_history.proofs.Replays.{replayed_then, run_next, run_replayed}
 use Rattle.board_history.proofs.Tests.{none_some, some_same}
 use Rattle.task_code.proofs.Kept.{code_laws}
 use Rattle.task_code.proofs.Rights.{stored_target}
-use Rattle.task_code.specs.Code.{Act, Argument, Assert, Call, Cell, Code, Copy, Each, Fill, Fixed, If, Local, Need, Print, Put, Range, Read, Set, Wait, Name, Named, Owned, Parameter, argument, arguments, body, call_at, entry, is_array_name, is_array_owned, stored_of}
-use Rattle.task_code.specs.Compute.{Computed, Elements, EntryFault, Fails, Gives, Inserts, Opens, Takes, Turns, compute, eval, evals, filled, put}
+use Rattle.task_code.specs.Code.{Act, Argument, Assert, Call, Cell, Code, Copy, Each, Fill, Fixed, If, Local, Need, Print, InsertElement, Range, Read, Set, Wait, Name, Named, Owned, Parameter, argument, arguments, body, call_at, entry, is_array_name, is_array_owned, stored_of}
+use Rattle.task_code.specs.Compute.{Computed, Elements, EntryFault, Fails, Gives, Inserts, Opens, Takes, Turns, compute, eval, evals, filled, insert_element}
 use Rattle.task_code.specs.Effects.{Item, Main, Task, block, effect_at, instances, is_too_deep}
 use Rattle.task_code.specs.Machine.{CodeItem, CodeState, CodeStep}
 use Rattle.task_code.specs.Places.{Constant, Datum, Nowhere, Place, Step, place_array, place_at, resolve}
@@ -114,7 +114,7 @@ pub no_fill : {B : Type 0} (r : Result Value OpFault) (v : Scalar) → filled r 
 no_fill (Ok u) v h = absurd (cc h)
 no_fill (Err f) v h = absurd (cc h)
 
-no_put : {B : Type 0} (p q : Result Value OpFault) (v : Scalar) → put p q ≡ Gives v → B
+no_put : {B : Type 0} (p q : Result Value OpFault) (v : Scalar) → insert_element p q ≡ Gives v → B
 no_put (Err f) q v h = absurd (cc h)
 no_put (Ok i) (Err f) v h = absurd (cc h)
 no_put (Ok i) (Ok u) v h = absurd (cc h)
@@ -126,7 +126,7 @@ scalar_target (Call b rs os) ns node xs r v sh i g = absurd i
 scalar_target (Set q e) ns node xs r v sh i g = elim i [ inl p ↦ ap is_array_name p ∙ not-true (is_array_name q) (and_parts _ _ sh).0 | inr z ↦ absurd z ]
 scalar_target (Fill q es) ns node xs r v sh i g = no_fill (evaluated literal (evals xs es)) v g
 scalar_target (Copy q) ns node xs r v sh i g = absurd (cc g)
-scalar_target (Put q k e) ns node xs r v sh i g = no_put (eval xs k) (eval xs e) v g
+scalar_target (InsertElement q k e) ns node xs r v sh i g = no_put (eval xs k) (eval xs e) v g
 scalar_target (Print e) ns node xs r v sh i g = absurd i
 scalar_target (Assert e) ns node xs r v sh i g = absurd i
 scalar_target (If e b d) ns node xs r v sh i g = absurd i

@@ -138,7 +138,7 @@ impl<'a> EndingItem<'a> {
             | Act::Set(_, _)
             | Act::Fill(_, _)
             | Act::Copy(_)
-            | Act::Put(_, _, _)
+            | Act::InsertElement(_, _, _)
             | Act::Print(_)
             | Act::Assert(_)
             | Act::If(_, _, _)
@@ -158,7 +158,7 @@ impl<'a> EndingItem<'a> {
             | Act::Set(_, _)
             | Act::Fill(_, _)
             | Act::Copy(_)
-            | Act::Put(_, _, _)
+            | Act::InsertElement(_, _, _)
             | Act::Print(_)
             | Act::Assert(_)
             | Act::Call { .. }

@@ -18,7 +18,7 @@ use Rattle.board_history.proofs.EndedNames.{Resolved, to_datum, to_literal}
 use Rattle.board_history.proofs.EndedWants.{no_element_input, scalar_place, none_left}
 use Rattle.board_history.proofs.Tests.{choose, closed_sound, closed_told, yes_no}
 use Rattle.task_code.proofs.Equal.{every_in}
-use Rattle.task_code.specs.Code.{Act, Assert, At, AtKey, Call, Cell, Closed, Code, Copy, Each, Fill, Header, If, Name, Need, Print, Put, Range, Read, Set, Stored, Variable, Wait, entry, is_array_name}
+use Rattle.task_code.specs.Code.{Act, Assert, At, AtKey, Call, Cell, Closed, Code, Copy, Each, Fill, Header, If, Name, Need, Print, InsertElement, Range, Read, Set, Stored, Variable, Wait, entry, is_array_name}
 use Rattle.task_code.specs.Compute.{key_of}
 use Rattle.task_code.specs.Effects.{only}
 use Rattle.task_code.specs.Machine.{CodeState}
@@ -86,7 +86,7 @@ shapes (Call b rs os) ns h = inl (none_plain ns h)
 shapes (Set r e) ns h = inl (fed_plain ns _ (and_parts (not (is_array_name r)) _ h).1)
 shapes (Fill r es) ns h = inl (fed_plain ns _ (and_parts (is_array_name r) _ h).1)
 shapes (Copy r) ns h = inl (array_plain ns (and_parts (is_array_name r) _ h).1)
-shapes (Put r i e) ns h = inl (fed_plain ns _ (and_parts (is_array_name r) _ h).1)
+shapes (InsertElement r i e) ns h = inl (fed_plain ns _ (and_parts (is_array_name r) _ h).1)
 shapes (Print e) ns h = inl (fed_plain ns _ h)
 shapes (Assert e) ns h = inl (fed_plain ns _ h)
 shapes (If e b d) ns h = inl (fed_plain ns _ h)

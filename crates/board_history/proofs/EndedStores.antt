@@ -9,8 +9,8 @@ use Rattle.board_history.specs.Ending.{stored_values}
 use Rattle.board_history.proofs.EndedNames.{flat_in}
 use Rattle.board_history.proofs.Tests.{yes_no}
 use Rattle.task_code.proofs.Rights.{in_gather}
-use Rattle.task_code.specs.Code.{Act, Assert, Call, Cell, Code, Copy, Each, Fill, If, Loop, Name, Need, Print, Put, Range, Read, Set, Wait, here, is_array_name, loop_of, scalar, stored_of}
-use Rattle.task_code.specs.Compute.{Computed, Elements, Fails, Gives, Inserts, Opens, Takes, Turns, answer_at, compute, content, eval, evals, filled, given, key_scalar, put, read}
+use Rattle.task_code.specs.Code.{Act, Assert, Call, Cell, Code, Copy, Each, Fill, If, Loop, Name, Need, Print, InsertElement, Range, Read, Set, Wait, here, is_array_name, loop_of, scalar, stored_of}
+use Rattle.task_code.specs.Compute.{Computed, Elements, Fails, Gives, Inserts, Opens, Takes, Turns, answer_at, compute, content, eval, evals, filled, given, key_scalar, insert_element, read}
 use Rattle.task_code.specs.Effects.{bound, chunk, inserted_at, only, step_at, stored_at, stores, turn_bound, turns_of}
 use Rattle.task_code.specs.Places.{Datum, Place, Step, place_at}
 use Rattle.task_code.specs.Shape.{has_shape}
@@ -89,7 +89,7 @@ filled_elements : (r : Result Value OpFault) → is_gives (filled r) ≡ false
 filled_elements (Ok v) = refl
 filled_elements (Err f) = refl
 
-put_elements : (a b : Result Value OpFault) → is_gives (put a b) ≡ false
+put_elements : (a b : Result Value OpFault) → is_gives (insert_element a b) ≡ false
 put_elements (Err f) b = refl
 put_elements (Ok i) (Err f) = refl
 put_elements (Ok i) (Ok v) = refl
@@ -116,7 +116,7 @@ scalar_key (Fill q es) ns node xs r k v sh i na h =
     elim i [ inl p ↦ yes_no (and_parts (is_array_name q) _ sh).0 (ap is_array_name (sym p) ∙ na) | inr g ↦ absurd g ]
 scalar_key (Copy q) ns node xs r k v sh i na h =
     elim i [ inl p ↦ yes_no (and_parts (is_array_name q) _ sh).0 (ap is_array_name (sym p) ∙ na) | inr g ↦ absurd g ]
-scalar_key (Put q x e) ns node xs r k v sh i na h =
+scalar_key (InsertElement q x e) ns node xs r k v sh i na h =
     elim i [ inl p ↦ yes_no (and_parts (is_array_name q) _ sh).0 (ap is_array_name (sym p) ∙ na) | inr g ↦ absurd g ]
 scalar_key (Print e) ns node xs r k v sh i na h = absurd i
 scalar_key (Assert e) ns node xs r k v sh i na h = absurd i
@@ -147,7 +147,7 @@ module _ (C : Code) where
   stores_told (Set r e) node offset p c xs w h = into_scalar (Set r e) node offset p c (given (eval xs e)) w r (inl refl) (given_scalar (eval xs e)) h
   stores_told (Fill r es) node offset p c xs w h = into_array (Fill r es) node offset p c (filled (evaluated literal (evals xs es))) w r (inl refl) h
   stores_told (Copy r) node offset p c xs w h = into_array (Copy r) node offset p c (Inserts (content (answer_at xs 0))) w r (inl refl) h
-  stores_told (Put r i e) node offset p c xs w h = into_array (Put r i e) node offset p c (put (eval xs i) (eval xs e)) w r (inl refl) h
+  stores_told (InsertElement r i e) node offset p c xs w h = into_array (InsertElement r i e) node offset p c (insert_element (eval xs i) (eval xs e)) w r (inl refl) h
   stores_told (Print e) node offset p c xs w h = absurd h
   stores_told (Assert e) node offset p c xs w h = absurd h
   stores_told (If e b d) node offset p c xs w h = absurd h
@@ -170,8 +170,8 @@ module _ (C : Code) where
       elim i [ inl q ↦ told_inserted (place_at C p t) (filled (evaluated literal (evals xs es))) w (filled_elements (evaluated literal (evals xs es))) (at_target p t r w q h) g | inr z ↦ absurd z ]
   target_stored (Copy t) node offset p c xs w r i h g =
       elim i [ inl q ↦ told_inserted (place_at C p t) (Inserts (content (answer_at xs 0))) w refl (at_target p t r w q h) g | inr z ↦ absurd z ]
-  target_stored (Put t x e) node offset p c xs w r i h g =
-      elim i [ inl q ↦ told_inserted (place_at C p t) (put (eval xs x) (eval xs e)) w (put_elements (eval xs x) (eval xs e)) (at_target p t r w q h) g | inr z ↦ absurd z ]
+  target_stored (InsertElement t x e) node offset p c xs w r i h g =
+      elim i [ inl q ↦ told_inserted (place_at C p t) (insert_element (eval xs x) (eval xs e)) w (put_elements (eval xs x) (eval xs e)) (at_target p t r w q h) g | inr z ↦ absurd z ]
   target_stored (Print e) node offset p c xs w r i h g = absurd i
   target_stored (Assert e) node offset p c xs w r i h g = absurd i
   target_stored (If e b d) node offset p c xs w r i h g = absurd i
@@ -186,7 +186,7 @@ module _ (C : Code) where
   turn_stored (Set r e) node offset p c y w l t q i h = absurd (cc)
   turn_stored (Fill r es) node offset p c y w l t q i h = absurd (cc)
   turn_stored (Copy r) node offset p c y w l t q i h = absurd (cc)
-  turn_stored (Put r x e) node offset p c y w l t q i h = absurd (cc)
+  turn_stored (InsertElement r x e) node offset p c y w l t q i h = absurd (cc)
   turn_stored (Print e) node offset p c y w l t q i h = absurd (cc)
   turn_stored (Assert e) node offset p c y w l t q i h = absurd (cc)
   turn_stored (If e b d) node offset p c y w l t q i h = absurd (cc)

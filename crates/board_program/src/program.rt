@@ -239,9 +239,8 @@ fn target_of(entry: &Entry) -> Option<Name>
                 array: false,
             }),
         }),
-        Act::Set(name, _) | Act::Fill(name, _) | Act::Copy(name) | Act::Put(name, _, _) => {
-            Some(*name)
-        }
+        Act::Set(name, _) | Act::Fill(name, _) | Act::Copy(name) | Act::InsertElement(name, _, _) =>
+            { Some(*name) }
         Act::Call { .. }
         | Act::Print(_)
         | Act::Assert(_)
@@ -361,7 +360,7 @@ fn loop_of(act: &Act) -> Option<Loop>
         | Act::Set(_, _)
         | Act::Fill(_, _)
         | Act::Copy(_)
-        | Act::Put(_, _, _)
+        | Act::InsertElement(_, _, _)
         | Act::Print(_)
         | Act::Assert(_)
         | Act::Call { .. }

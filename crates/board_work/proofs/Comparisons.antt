@@ -20,7 +20,7 @@ use Rattle.values.specs.declared.value.Scalar.{Scalar}
 use Rattle.values.specs.Keys.{same_key}
 use Rattle.values.proofs.Keys.{same_key-refl, same_key-eq}
 use Rattle.values.specs.Operators.{Operation, sum_of, product_of, compare, equal, unequal, all_true, any_true, not_true, negate, join, from_int, to_int, size, printf, assert, literal}
-use Rattle.task_code.specs.Code.{Need, Stored, Closed, At, AtKey, Expr, constant, need, operation, Exprs, no_operand, operand, Argument, Named, Fixed, Loop, Header, Act, Cell, Read, Call, Set, Fill, Copy, Put, Print, Assert, If, Range, Each, Wait, Entry}
+use Rattle.task_code.specs.Code.{Need, Stored, Closed, At, AtKey, Expr, constant, need, operation, Exprs, no_operand, operand, Argument, Named, Fixed, Loop, Header, Act, Cell, Read, Call, Set, Fill, Copy, InsertElement, Print, Assert, If, Range, Each, Wait, Entry}
 use Rattle.task_code.specs.declared.expr.Expr.{Expr as Written}
 use Rattle.task_code.specs.View.{exprs_view}
 use Rattle.task_code.specs.Places.{Place, Constant, Datum, Nowhere, name_eq}
@@ -286,13 +286,13 @@ acts = record { sound = sound'; own = own' }
         let y = exprs_sound es fs t.1 in
         λ i. Fill (x i) (y i)
     sound' (Copy r) (Copy s) h = ap Copy (name_sound r s h)
-    sound' (Put r j e) (Put s k f) h =
+    sound' (InsertElement r j e) (InsertElement s k f) h =
         let t = and_parts (name_eq r s) _ h in
         let u = and_parts (expr_eq j k) _ t.1 in
         let x = name_sound r s t.0 in
         let y = expr_sound j k u.0 in
         let z = expr_sound e f u.1 in
-        λ i. Put (x i) (y i) (z i)
+        λ i. InsertElement (x i) (y i) (z i)
     sound' (Print e) (Print f) h = ap Print (expr_sound e f h)
     sound' (Assert e) (Assert f) h = ap Assert (expr_sound e f h)
     sound' (If e b c) (If f d g) h =
@@ -326,7 +326,7 @@ acts = record { sound = sound'; own = own' }
     own' (Set r e) = and_from (name_eq r r) _ (name_same r) (expr_own e)
     own' (Fill r es) = and_from (name_eq r r) _ (name_same r) (exprs_own es)
     own' (Copy r) = name_same r
-    own' (Put r j e) = and_from (name_eq r r) _ (name_same r) (and_from (expr_eq j j) _ (expr_own j) (expr_own e))
+    own' (InsertElement r j e) = and_from (name_eq r r) _ (name_same r) (and_from (expr_eq j j) _ (expr_own j) (expr_own e))
     own' (Print e) = expr_own e
     own' (Assert e) = expr_own e
     own' (If e b c) = and_from (expr_eq e e) _ (expr_own e) (and_from (nat_eq b b) _ (nat_same b) ((options numbers).own c))

@@ -121,7 +121,7 @@ filled_functions =
     (λ l su. (let x = sym su.parts_plain.0 in
     let y = sym su.parts_plain.1.0 in
     same refl refl (λ i. each_once (flat_map (wanted 1) (seen_as (x i) 14 index ∷ seen_as (y i) 16 square ∷ [])))
-    (λ i. code.Put (name_as 1 true (record { up = 1; what = Co.output 0 })) (over 1 (each_once (flat_map (wanted 1) (seen_as (x i) 14 index ∷ seen_as (y i) 16 square ∷ []))) (seen_as (x i) 14 index)) (over 1 (each_once (flat_map (wanted 1) (seen_as (x i) 14 index ∷ seen_as (y i) 16 square ∷ []))) (seen_as (y i) 16 square)))))
+    (λ i. code.InsertElement (name_as 1 true (record { up = 1; what = Co.output 0 })) (over 1 (each_once (flat_map (wanted 1) (seen_as (x i) 14 index ∷ seen_as (y i) 16 square ∷ []))) (seen_as (x i) 14 index)) (over 1 (each_once (flat_map (wanted 1) (seen_as (x i) 14 index ∷ seen_as (y i) 16 square ∷ []))) (seen_as (y i) 16 square)))))
     (refl, refl) refl refl)
     no_statement refl refl refl)
     (λ l su. (let x = sym su.parts_plain.0 in

@@ -57,7 +57,7 @@ stored_or_call n (code.Call b rs os) r h = inr (b, rs, os, refl)
 stored_or_call n (code.Set x e) r h = inl h
 stored_or_call n (code.Fill x es) r h = inl h
 stored_or_call n (code.Copy x) r h = inl h
-stored_or_call n (code.Put x i e) r h = inl h
+stored_or_call n (code.InsertElement x i e) r h = inl h
 stored_or_call n (code.Print e) r h = inl h
 stored_or_call n (code.Assert e) r h = inl h
 stored_or_call n (code.If e b d) r h = inl h
@@ -82,7 +82,7 @@ opens_of code.Read y h = absurd h
 opens_of (code.Set x e) y h = absurd h
 opens_of (code.Fill x es) y h = absurd h
 opens_of (code.Copy x) y h = absurd h
-opens_of (code.Put x i e) y h = absurd h
+opens_of (code.InsertElement x i e) y h = absurd h
 opens_of (code.Print e) y h = absurd h
 opens_of (code.Assert e) y h = absurd h
 

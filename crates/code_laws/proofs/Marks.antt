@@ -57,7 +57,7 @@ opens_unmarked m (code.Call b rs os) h = absurd h
 opens_unmarked m (code.Set r e) h = absurd h
 opens_unmarked m (code.Fill r es) h = absurd h
 opens_unmarked m (code.Copy r) h = absurd h
-opens_unmarked m (code.Put r i e) h = absurd h
+opens_unmarked m (code.InsertElement r i e) h = absurd h
 opens_unmarked m (code.Print e) h = absurd h
 opens_unmarked m (code.Assert e) h = absurd h
 
@@ -132,7 +132,7 @@ is_called b code.Read m h = absurd h
 is_called b (code.Set r e) m h = absurd h
 is_called b (code.Fill r es) m h = absurd h
 is_called b (code.Copy r) m h = absurd h
-is_called b (code.Put r i e) m h = absurd h
+is_called b (code.InsertElement r i e) m h = absurd h
 is_called b (code.Print e) m h = absurd h
 is_called b (code.Assert e) m h = absurd h
 
@@ -155,7 +155,7 @@ found_later code.Read e i at es q h = (rw (q, call_from) refl)
 found_later (code.Set r x) e i at es q h = (rw (q, call_from) refl)
 found_later (code.Fill r xs) e i at es q h = (rw (q, call_from) refl)
 found_later (code.Copy r) e i at es q h = (rw (q, call_from) refl)
-found_later (code.Put r x y) e i at es q h = (rw (q, call_from) refl)
+found_later (code.InsertElement r x y) e i at es q h = (rw (q, call_from) refl)
 found_later (code.Print x) e i at es q h = (rw (q, call_from) refl)
 found_later (code.Assert x) e i at es q h = (rw (q, call_from) refl)
 found_later (code.If x b d) e i at es q h = (rw (q, call_from) refl)

@@ -72,7 +72,7 @@ module _ (C D : Code) (same : (at k : ℕ) (b : Bool) → argument C at k b ≡ 
   stores_same (code.Set r e) m n i j p c x h g = ap (λ (z : Place). stored_at z x) (place_same p r)
   stores_same (code.Fill r es) m n i j p c x h g = ap (λ (z : Place). inserted_at z x) (place_same p r)
   stores_same (code.Copy r) m n i j p c x h g = ap (λ (z : Place). inserted_at z x) (place_same p r)
-  stores_same (code.Put r k e) m n i j p c x h g = ap (λ (z : Place). inserted_at z x) (place_same p r)
+  stores_same (code.InsertElement r k e) m n i j p c x h g = ap (λ (z : Place). inserted_at z x) (place_same p r)
   stores_same (code.Print e) m n i j p c x h g = refl
   stores_same (code.Assert e) m n i j p c x h g = refl
   stores_same (code.If e b d) m n i j p c x h g = refl
@@ -87,7 +87,7 @@ module _ (C D : Code) (same : (at k : ℕ) (b : Bool) → argument C at k b ≡ 
   instances_same (code.Set r e) i j p c x g = refl
   instances_same (code.Fill r es) i j p c x g = refl
   instances_same (code.Copy r) i j p c x g = refl
-  instances_same (code.Put r k e) i j p c x g = refl
+  instances_same (code.InsertElement r k e) i j p c x g = refl
   instances_same (code.Print e) i j p c x g = refl
   instances_same (code.Assert e) i j p c x g = refl
   instances_same (code.If e b d) i j p c x g = ap (λ (z : ℕ). instances (code.If e b d) z p c x) (g tt)

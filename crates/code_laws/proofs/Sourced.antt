@@ -13,7 +13,7 @@ use Rattle.values.specs.declared.key.Key.{Key}
 use Rattle.values.specs.declared.key.Key.TheVariants.{Number as number_key}
 use Rattle.values.specs.declared.value.Scalar.{Scalar}
 use Rattle.values.specs.declared.value.Value.{Value}
-use Rattle.task_code.specs.Code.{Act, Assert, ByCalls, ByMain, ByStep, ByWait, Call, Calling, Cell, Code, Copy, Each, Fill, If, InPlace, Loop, Name, Need, Opener, Print, Put, Range, Read, Set, Through, Variable, Wait, Way, body, entry, here, is_array_name, loop_of, loop_variables, scalar, stored_of, turn_variables, ways}
+use Rattle.task_code.specs.Code.{Act, Assert, ByCalls, ByMain, ByStep, ByWait, Call, Calling, Cell, Code, Copy, Each, Fill, If, InPlace, Loop, Name, Need, Opener, Print, InsertElement, Range, Read, Set, Through, Variable, Wait, Way, body, entry, here, is_array_name, loop_of, loop_variables, scalar, stored_of, turn_variables, ways}
 use Rattle.task_code.specs.Compute.{Computed, EntryFault, Fails, Gives, Inserts, Opens, Takes, Turns, answer_at, branched, compute, eval, given, key_scalar, read}
 use Rattle.task_code.specs.Effects.{Item, Main, Task, block, bound, branch_instances, chunk, effect_at, instances, is_too_deep, only, outcome_of, rest, step_at, stored_at, stores, turn_bound, turns_of}
 use Rattle.task_code.specs.Places.{Datum, Place, Step, place_array, place_at}
@@ -61,7 +61,7 @@ always_no_loop Read h = refl
 always_no_loop (Set r e) h = refl
 always_no_loop (Fill r es) h = refl
 always_no_loop (Copy r) h = refl
-always_no_loop (Put r i e) h = refl
+always_no_loop (InsertElement r i e) h = refl
 always_no_loop (Print e) h = refl
 always_no_loop (Assert e) h = refl
 always_no_loop (Range l h' s w) h = absurd (cc)
@@ -86,7 +86,7 @@ opens_one Read offset p xs h g = absurd (cc)
 opens_one (Set r e) offset p xs h g = absurd (cc)
 opens_one (Fill r es) offset p xs h g = absurd (cc)
 opens_one (Copy r) offset p xs h g = absurd (cc)
-opens_one (Put r i e) offset p xs h g = absurd (cc)
+opens_one (InsertElement r i e) offset p xs h g = absurd (cc)
 opens_one (Print e) offset p xs h g = absurd (cc)
 opens_one (Assert e) offset p xs h g = absurd (cc)
 opens_one (Range l h' s w) offset p xs h g = absurd (cc)
@@ -177,7 +177,7 @@ module _ (C : Code) where
   loop_stores (Set t y) l node offset p c x e = absurd (cc)
   loop_stores (Fill t es) l node offset p c x e = absurd (cc)
   loop_stores (Copy t) l node offset p c x e = absurd (cc)
-  loop_stores (Put t i y) l node offset p c x e = absurd (cc)
+  loop_stores (InsertElement t i y) l node offset p c x e = absurd (cc)
   loop_stores (Print y) l node offset p c x e = absurd (cc)
   loop_stores (Assert y) l node offset p c x e = absurd (cc)
   loop_stores (If y b d) l node offset p c x e = absurd (cc)
@@ -210,7 +210,7 @@ module _ (C : Code) where
   stored_itself (Set t e) ns node offset p c xs r sh h n g = elim h [ inl q ↦ one_stored p r t (given (eval xs e)) q (given_is (eval xs e) g) | inr z ↦ absurd z ]
   stored_itself (Fill t es) ns node offset p c xs r sh h n g = elim h [ inl q ↦ no_array r t _ q n sh | inr z ↦ absurd z ]
   stored_itself (Copy t) ns node offset p c xs r sh h n g = elim h [ inl q ↦ no_array r t _ q n sh | inr z ↦ absurd z ]
-  stored_itself (Put t i e) ns node offset p c xs r sh h n g = elim h [ inl q ↦ no_array r t _ q n sh | inr z ↦ absurd z ]
+  stored_itself (InsertElement t i e) ns node offset p c xs r sh h n g = elim h [ inl q ↦ no_array r t _ q n sh | inr z ↦ absurd z ]
   stored_itself (Call b rs os) ns node offset p c xs r sh h n g = absurd h
   stored_itself (Print e) ns node offset p c xs r sh h n g = absurd h
   stored_itself (Assert e) ns node offset p c xs r sh h n g = absurd h

@@ -42,7 +42,7 @@ wait_only (code.Call c is os) b (inr z) = absurd z
 wait_only (code.Set r e) b h = absurd h
 wait_only (code.Fill r es) b h = absurd h
 wait_only (code.Copy r) b h = absurd h
-wait_only (code.Put r i e) b h = absurd h
+wait_only (code.InsertElement r i e) b h = absurd h
 wait_only (code.Print e) b h = absurd h
 wait_only (code.Assert e) b h = absurd h
 wait_only (code.If e c None) b (inl q) = let q' = way_is q in absurd (cc (q'))

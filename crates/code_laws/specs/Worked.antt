@@ -10,7 +10,7 @@ use Rattle.values.specs.declared.value.Scalar.TheVariants.{Number}
 use Rattle.language.specs.Core.{Core}
 use Rattle.language.specs.Resolved.{core}
 use Rattle.language_laws.specs.ExampleTrees.{table_of_fibonacci, tree_of_fibonacci, table_of_filled_in_a_call, tree_of_filled_in_a_call}
-use Rattle.task_code.specs.Code.{Variable, Name, Parameter, Stored, Closed, AtKey, Expr, constant, need, operation, no_operand, operand, Named, Fixed, Cell, Read, Call, Set, Put, Print, If, Range, Entry, ByMain, ByCalls, ByStep, Code, here, scalar}
+use Rattle.task_code.specs.Code.{Variable, Name, Parameter, Stored, Closed, AtKey, Expr, constant, need, operation, no_operand, operand, Named, Fixed, Cell, Read, Call, Set, InsertElement, Print, If, Range, Entry, ByMain, ByCalls, ByStep, Code, here, scalar}
 use Rattle.code_rules.specs.Laying.{Kinds}
 
 abbrev pub two : Operation → Expr → Expr → Expr
@@ -104,7 +104,7 @@ filled_code = record {
       ∷ record { node = 28; at = 79; offset = 79; priority = pos 0; needs = Closed (here c) ∷ Stored (here (scalar 36)) ∷ []; act = Print (operation (printf (digits ∷ Byte 32 ∷ digits ∷ [])) (operand (operation size (operand (need 0) no_operand)) (operand (need 1) no_operand))); reads = here c ∷ here (scalar 36) ∷ []; writes = [] }
       ∷ record { node = 8; at = 21; offset = 37; priority = pos 0; needs = Stored n ∷ []; act = Cell (two (sum_of (Minus ∷ [])) (need 0) (num 1)); reads = n ∷ []; writes = here (scalar 8) ∷ [] }
       ∷ record { node = 16; at = 44; offset = 51; priority = pos 0; needs = Stored (here (scalar 6)) ∷ []; act = Cell (two (product_of (Times ∷ [])) (need 0) (need 0)); reads = here (scalar 6) ∷ []; writes = here (scalar 16) ∷ [] }
-      ∷ record { node = 12; at = 44; offset = 44; priority = pos 0; needs = Stored (here (scalar 6)) ∷ Stored (here (scalar 16)) ∷ []; act = Put b1 (need 0) (need 1); reads = here (scalar 6) ∷ here (scalar 16) ∷ []; writes = b1 ∷ [] }
+      ∷ record { node = 12; at = 44; offset = 44; priority = pos 0; needs = Stored (here (scalar 6)) ∷ Stored (here (scalar 16)) ∷ []; act = InsertElement b1 (need 0) (need 1); reads = here (scalar 6) ∷ here (scalar 16) ∷ []; writes = b1 ∷ [] }
       ∷ record { node = 5; at = 21; offset = 21; priority = pos 0; needs = Stored (here (scalar 8)) ∷ []; act = Range (num 0) (need 0) (num 1) (record { body = 2; value = 6; turn = None }); reads = here (scalar 8) ∷ []; writes = b ∷ [] }
       ∷ [];
   bodies =

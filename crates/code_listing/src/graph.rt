@@ -312,9 +312,10 @@ fn add_stores<A: Allocator>(
     act: &Act,
 ) {
     match act {
-        Act::Set(name, _) | Act::Fill(name, _) | Act::Copy(name) | Act::Put(name, _, _) => {
-            add_store(page, scope, place, name);
-        }
+        Act::Set(name, _) | Act::Fill(name, _) | Act::Copy(name) | Act::InsertElement(name, _, _) =>
+            {
+                add_store(page, scope, place, name);
+            }
         Act::Call { outputs, .. } => add_outputs(page, scope, place, outputs),
         Act::Cell(_)
         | Act::Read
@@ -373,7 +374,7 @@ fn add_opened(page: &mut TextBuffer, places: &Vec<usize>, place: usize, k: usize
         | Act::Set(_, _)
         | Act::Fill(_, _)
         | Act::Copy(_)
-        | Act::Put(_, _, _)
+        | Act::InsertElement(_, _, _)
         | Act::Print(_)
         | Act::Assert(_) => {}
     }

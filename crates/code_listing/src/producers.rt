@@ -60,7 +60,7 @@ impl Producers {
             Act::Set(_, _)
             | Act::Fill(_, _)
             | Act::Copy(_)
-            | Act::Put(_, _, _)
+            | Act::InsertElement(_, _, _)
             | Act::Print(_)
             | Act::Assert(_)
             | Act::If(_, _, _)

@@ -144,7 +144,7 @@ pub fn act_text(act: &Act) -> &'static str {
         Act::Set(_, _) => " set ",
         Act::Fill(_, _) => " fill ",
         Act::Copy(_) => " copy ",
-        Act::Put(_, _, _) => " put ",
+        Act::InsertElement(_, _, _) => " put ",
         Act::Print(_) => " print ",
         Act::Assert(_) => " assert ",
         Act::If(_, _, _) => " if ",
@@ -171,7 +171,7 @@ fn add_opened(page: &mut TextBuffer, places: &Vec<usize>, act: &Act) {
         | Act::Set(_, _)
         | Act::Fill(_, _)
         | Act::Copy(_)
-        | Act::Put(_, _, _)
+        | Act::InsertElement(_, _, _)
         | Act::Print(_)
         | Act::Assert(_) => {}
     }

@@ -10,7 +10,7 @@ use Rattle.language.specs.Members.{◌∈◌}
 use Rattle.language.specs.Parts.{part_cells, parts, block_list}
 use Rattle.language_laws.specs.TypedValues.{own_parts}
 use Rattle.task_code.specs.Code as code
-use Rattle.task_code.specs.Code.{Variable, Need, At, AtKey, Closed, Argument, Named, Fixed, Header, Loop, Act, Read, Set, Fill, Copy, Put, Print, Assert, If, Range, Each, Wait, Entry, Code, entry, body, constant, no_operand}
+use Rattle.task_code.specs.Code.{Variable, Need, At, AtKey, Closed, Argument, Named, Fixed, Header, Loop, Act, Read, Set, Fill, Copy, InsertElement, Print, Assert, If, Range, Each, Wait, Entry, Code, entry, body, constant, no_operand}
 use Rattle.task_code.specs.Compute.{key_of}
 use Rattle.code_rules.specs.CodeNames.{name_as, wanted, each_once, over, all_over, header}
 
@@ -79,7 +79,7 @@ module _ (l : Layout) (k : ℕ) where
   abbrev pub simple_act : List Need → Action → Act
   simple_act ns (assign x o) = Set (name_as k false x) (over k ns (own_expr o))
   simple_act ns (fill a o) = fill_act ns a (own_expr o)
-  simple_act ns (insert a i o) = Put (name_as k true a) (over k ns (seen l i.cell)) (over k ns (seen l o.cell))
+  simple_act ns (insert a i o) = InsertElement (name_as k true a) (over k ns (seen l i.cell)) (over k ns (seen l o.cell))
   simple_act ns (assert p o) = Assert (over k ns (own_expr o))
   simple_act ns (print p o) = Print (over k ns (own_expr o))
   simple_act ns a = Print (constant (Number (pos 0)))

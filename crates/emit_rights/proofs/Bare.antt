@@ -2,7 +2,7 @@
 use Rattle.std.proofs.Common.{◌≡◌, refl, sym, ap, ◌∙◌, subst, ℕ, zero, suc, Bool, true, false, List, [], ◌∷◌, map}
 use Rattle.std.specs.Prelude.{nat_eq}
 use Rattle.dataflow.specs.System.{In}
-use Rattle.task_code.specs.Code.{Act, Cell, Read, Call, Set, Fill, Copy, Put, Print, Assert, If, Range, Each, Wait, Entry, Body, Code, Name, Argument, Way, InPlace, Through, Calling, blank_entry, nth, entry, call_from, call_at, arguments, argument_in, argument, ways}
+use Rattle.task_code.specs.Code.{Act, Cell, Read, Call, Set, Fill, Copy, InsertElement, Print, Assert, If, Range, Each, Wait, Entry, Body, Code, Name, Argument, Way, InPlace, Through, Calling, blank_entry, nth, entry, call_from, call_at, arguments, argument_in, argument, ways}
 use Rattle.task_code.specs.Exact.{Leads, itself, through}
 use Rattle.task_code.specs.Whole.{Seen, Declared}
 use Rattle.code_rules.specs.Laying.{bare}
@@ -19,7 +19,7 @@ call_step e (Call b ins outs) i at ds es h = ap (λ (n : ℕ). elim (nat_eq e.of
 call_step e (Set r x) i at ds es h = h
 call_step e (Fill r xs) i at ds es h = h
 call_step e (Copy r) i at ds es h = h
-call_step e (Put r x y) i at ds es h = h
+call_step e (InsertElement r x y) i at ds es h = h
 call_step e (Print x) i at ds es h = h
 call_step e (Assert x) i at ds es h = h
 call_step e (If x b d) i at ds es h = h

@@ -88,7 +88,7 @@ fn add_put<A: Allocator>(
     note_seen(&mut needs, inputs, &right.cell, plain_right)?;
     let place = placed_seen(alloc, &needs, inputs, &index.cell, plain_index)?;
     let value = placed_seen(alloc, &needs, inputs, &right.cell, plain_right)?;
-    let act = Act::Put(named(inputs, array, true), place, value);
+    let act = Act::InsertElement(named(inputs, array, true), place, value);
     push_entry(alloc, entries, standing, shown, &needs, act)?;
     Ok(())
 }

@@ -28,7 +28,7 @@ use Rattle.language.proofs.Members.{to_right}
 use Rattle.language_laws.proofs.Sources.{outer_in, index_in, right_in}
 use Rattle.task_code.specs.Code as code
 use Rattle.task_code.specs.Code.{Variable, Need, Header, Act, If, Wait, InPlace, Through, Loop, Code, entry, body, ways, loop_of}
-use Rattle.task_code.specs.Compute.{EntryFault, InOperation, Computed, Fails, Takes, Turns, Elements, eval, branched, range_turns, content, answer_at, filled, put, elements, compute as work_out}
+use Rattle.task_code.specs.Compute.{EntryFault, InOperation, Computed, Fails, Takes, Turns, Elements, eval, branched, range_turns, content, answer_at, filled, insert_element, elements, compute as work_out}
 use Rattle.task_code.specs.Effects.{Task, Item, block, effect_at, instances, turns_of, chunk, step_at, steps_on, outcome_of, is_too_deep}
 use Rattle.task_code.specs.Places as CodePlaces
 use Rattle.task_code.specs.Places.{Step, Datum, place_at}
@@ -369,10 +369,10 @@ module _ (s : Core) (C : Code) (w : IsCodeOf s C) (K : Knowledge) (wf : WellForm
             value_known (kn.shut _ (cell_value (live m) cm (subst (λ (y : Form). Mn.Gives s K (script_path p) y (Ok r.0)) (sym q) (computed u))))
 
     insert_finished : {at n : ℕ} {x : Name} {j o : Outer} → stmt at n (insert x j o) ∈ block_list b → (ms : List Need) → own_needs w.layout k (insert x j o) ≡ ms → (entry C i).needs ≡ ms
-        → (entry C i).act ≡ code.Put (name_as k true x) (over k ms (seen w.layout j.cell)) (over k ms (seen w.layout o.cell)) → Finished s K what (script_path p) (stmt at n (insert x j o))
+        → (entry C i).act ≡ code.InsertElement (name_as k true x) (over k ms (seen w.layout j.cell)) (over k ms (seen w.layout o.cell)) → Finished s K what (script_path p) (stmt at n (insert x j o))
     insert_finished {at} {n} {x} {j} {o} m ms mq nq aq = by (eval ys (over k ms (seen w.layout j.cell))) (eval ys (over k ms (seen w.layout o.cell))) refl refl
       where
-        x_is : X ≡ put (eval ys (over k ms (seen w.layout j.cell))) (eval ys (over k ms (seen w.layout o.cell)))
+        x_is : X ≡ insert_element (eval ys (over k ms (seen w.layout j.cell))) (eval ys (over k ms (seen w.layout o.cell)))
         x_is = ap (λ (z : Act). work_out z ys) aq
 
         e1 : List Need
@@ -382,8 +382,8 @@ module _ (s : Core) (C : Code) (w : IsCodeOf s C) (K : Knowledge) (wf : WellForm
         e2 = wanted k (seen w.layout o.cell)
 
         by : (r r' : Result Value OpFault) → eval ys (over k ms (seen w.layout j.cell)) ≡ r → eval ys (over k ms (seen w.layout o.cell)) ≡ r' → Finished s K what (script_path p) (stmt at n (insert x j o))
-        by (Err g) r' q q' = absurd (fails (InOperation g) (x_is ∙ ap (λ (z : Result Value OpFault). put z (eval ys (over k ms (seen w.layout o.cell)))) q))
-        by (Ok v) (Err g) q q' = absurd (fails (InOperation g) (x_is ∙ (λ z. put (q z) (q' z))))
+        by (Err g) r' q q' = absurd (fails (InOperation g) (x_is ∙ ap (λ (z : Result Value OpFault). insert_element z (eval ys (over k ms (seen w.layout o.cell)))) q))
+        by (Ok v) (Err g) q q' = absurd (fails (InOperation g) (x_is ∙ (λ z. insert_element (q z) (q' z))))
         by (Ok v) (Ok u) q q' =
             let kj = cell_known_by s C w K wf kn I sc ty ch i 0 there d.effect d.fact.reading at n (insert x j o) j.cell m (index_in j o) ms nq (λ z h. subst (λ (l : List Need). In z l) mq (in_once z _ (in_left z e1 _ h))) v q in
             let ko = cell_known_by s C w K wf kn I sc ty ch i 0 there d.effect d.fact.reading at n (insert x j o) o.cell m (right_in j o) ms nq (λ z h. subst (λ (l : List Need). In z l) mq (in_once z _ (in_right z e1 _ (in_left z e2 _ h)))) u q' in

@@ -30,7 +30,7 @@ use Rattle.language_laws.proofs.Sources.{outer_in}
 use Rattle.task_code.specs.Code as code
 use Rattle.task_code.specs.Code.{Need, Act, Code, entry, body, ways, loop_of}
 use Rattle.task_code.specs.Compute as Compute
-use Rattle.task_code.specs.Compute.{Computed, EntryFault, InOperation, NoElement, TooDeep, Fails, given, put, branched, ranged, turns_or, filled, eval, answer_at, content, key_of, elements}
+use Rattle.task_code.specs.Compute.{Computed, EntryFault, InOperation, NoElement, TooDeep, Fails, given, insert_element, branched, ranged, turns_or, filled, eval, answer_at, content, key_of, elements}
 use Rattle.task_code.specs.Effects as Eff
 use Rattle.task_code.specs.Effects.{Task, Main, Item, instances, is_too_deep, steps_on, is_some_list, outcome_of, effect_at, step_at, turns_of}
 use Rattle.task_code.specs.Places.{Step, place_at}
@@ -76,7 +76,7 @@ filled_op : (r : Result Value OpFault) → OpOnly (filled r)
 filled_op (Ok v) = tt
 filled_op (Err f) = tt
 
-put_op : (i r : Result Value OpFault) → OpOnly (put i r)
+put_op : (i r : Result Value OpFault) → OpOnly (insert_element i r)
 put_op (Err f) r = tt
 put_op (Ok i) (Err f) = tt
 put_op (Ok i) (Ok v) = tt
@@ -102,7 +102,7 @@ op_only (code.Call b rs os) ys n = tt
 op_only (code.Set r e) ys n = given_op (eval ys e)
 op_only (code.Fill r es) ys n = filled_op (evaluated literal (Compute.evals ys es))
 op_only (code.Copy r) ys n = tt
-op_only (code.Put r i e) ys n = put_op (eval ys i) (eval ys e)
+op_only (code.InsertElement r i e) ys n = put_op (eval ys i) (eval ys e)
 op_only (code.Print e) ys n = given_op (eval ys e)
 op_only (code.Assert e) ys n = given_op (eval ys e)
 op_only (code.If e b d) ys n = branched_op (eval ys e)

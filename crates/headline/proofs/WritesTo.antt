@@ -237,7 +237,7 @@ module _ (s : Core) (C : Code) (w : IsCodeOf s C) (K : Knowledge) (wf : WellForm
 
     -- ONE ELEMENT
     pub put_written : {at n : ℕ} (y : Name) (ix o : Outer) → stmt at n (insert y ix o) ∈ block_list b → (ms : List Need) → own_needs w.layout k (insert y ix o) ≡ ms
-        → IsEntry (entry C i) at (pos 0) ms (code.Put (name_as k true y) (over k ms (seen w.layout ix.cell)) (over k ms (seen w.layout o.cell))) → (entry C i).node ≡ n → (x : Write CodePlaces.Place Key Scalar) → Stored x → OwnWrite x
+        → IsEntry (entry C i) at (pos 0) ms (code.InsertElement (name_as k true y) (over k ms (seen w.layout ix.cell)) (over k ms (seen w.layout o.cell))) → (entry C i).node ≡ n → (x : Write CodePlaces.Place Key Scalar) → Stored x → OwnWrite x
     put_written {at} {n} y ix o sm ms mq en nd x h =
         let lv = live_stmt sm in
         let scp = scoped_stmt sm in

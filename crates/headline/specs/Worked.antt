@@ -10,7 +10,7 @@ use Rattle.values.specs.declared.value.Scalar.TheVariants.{Number}
 use Rattle.language.specs.Core.{Core}
 use Rattle.language_laws.specs.ExampleTrees.{table_of_fibonacci, tree_of_fibonacci, table_of_filled_in_a_call, tree_of_filled_in_a_call}
 use Rattle.language.specs.Resolved.{core}
-use Rattle.task_code.specs.Code.{Variable, Name, Parameter, Stored, Closed, AtKey, Expr, constant, need, operation, no_operand, operand, Named, Fixed, Cell, Read, Call, Set, Put, Print, If, Range, ByMain, ByCalls, ByStep, Code, here, scalar}
+use Rattle.task_code.specs.Code.{Variable, Name, Parameter, Stored, Closed, AtKey, Expr, constant, need, operation, no_operand, operand, Named, Fixed, Cell, Read, Call, Set, InsertElement, Print, If, Range, ByMain, ByCalls, ByStep, Code, here, scalar}
 use Rattle.code_rules.specs.IsCodeOf.{Layout}
 
 abbrev two : Operation → Expr → Expr → Expr
@@ -84,7 +84,7 @@ filled_code =
           ∷ record { node = 8; at = 21; offset = 37; priority = pos 0; needs = Stored m ∷ []; act = Cell (two (sum_of (Minus ∷ [])) (need 0) (num 1)); reads = m ∷ []; writes = here last ∷ [] }
           ∷ record { node = 5; at = 21; offset = 21; priority = pos 0; needs = Stored (here last) ∷ []; act = Range (num 0) (need 0) (num 1) (record { body = 2; value = 6; turn = None }); reads = here last ∷ []; writes = b ∷ [] }
           ∷ record { node = 16; at = 44; offset = 51; priority = pos 0; needs = Stored (here i) ∷ []; act = Cell (two (product_of (Times ∷ [])) (need 0) (need 0)); reads = here i ∷ []; writes = here square ∷ [] }
-          ∷ record { node = 12; at = 44; offset = 44; priority = pos 0; needs = Stored (here i) ∷ Stored (here square) ∷ []; act = Put b1 (need 0) (need 1); reads = here i ∷ here square ∷ []; writes = b1 ∷ [] }
+          ∷ record { node = 12; at = 44; offset = 44; priority = pos 0; needs = Stored (here i) ∷ Stored (here square) ∷ []; act = InsertElement b1 (need 0) (need 1); reads = here i ∷ here square ∷ []; writes = b1 ∷ [] }
           ∷ [];
       bodies =
           record { opener = ByMain; makes = c ∷ found ∷ []; entries = 0 ∷ 1 ∷ 2 ∷ [] }

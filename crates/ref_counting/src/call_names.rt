@@ -77,7 +77,7 @@ fn argument(act: &Act, place: usize, array: bool) -> Option<Name>
         | Act::Set(_, _)
         | Act::Fill(_, _)
         | Act::Copy(_)
-        | Act::Put(_, _, _)
+        | Act::InsertElement(_, _, _)
         | Act::Print(_)
         | Act::Assert(_)
         | Act::If(_, _, _)

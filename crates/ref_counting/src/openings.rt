@@ -74,7 +74,7 @@ fn note_act(
         | Act::Set(_, _)
         | Act::Fill(_, _)
         | Act::Copy(_)
-        | Act::Put(_, _, _)
+        | Act::InsertElement(_, _, _)
         | Act::Print(_)
         | Act::Assert(_) => Ok(()),
     }

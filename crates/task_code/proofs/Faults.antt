@@ -19,8 +19,8 @@ use Rattle.values.specs.Numbers.{fits, in_range, is_zero, number_in, number_or_n
 use Rattle.values.specs.Operators.{Operation, sum_of, product_of, compare, equal, unequal, all_true, any_true, not_true, negate, join, from_int, to_int, size, printf, assert, literal, added, all_values, applied, chain, chained, evaluated, from_there, joined, numbered, on_all, scaled, spelling, whole, with_value, yes_or_no}
 use Rattle.values.specs.Ranges.{range_count, values_in}
 use Rattle.values.specs.Values.{first, is_text, number_of, size_of, text_of, truth_of}
-use Rattle.task_code.specs.Code.{Act, Cell, Read, Call, Set, Fill, Copy, Put, Print, Assert, If, Range, Each, Wait, Code, Expr, constant, need, operation, Exprs, no_operand, operand, entry}
-use Rattle.task_code.specs.Compute.{EntryFault, InOperation, TooDeep, Computed, Fails, Gives, Inserts, Takes, Turns, Opens, answer_at, branched, compute, eval, evals, filled, given, put, ranged, read, turns_or}
+use Rattle.task_code.specs.Code.{Act, Cell, Read, Call, Set, Fill, Copy, InsertElement, Print, Assert, If, Range, Each, Wait, Code, Expr, constant, need, operation, Exprs, no_operand, operand, entry}
+use Rattle.task_code.specs.Compute.{EntryFault, InOperation, TooDeep, Computed, Fails, Gives, Inserts, Takes, Turns, Opens, answer_at, branched, compute, eval, evals, filled, given, insert_element, ranged, read, turns_or}
 use Rattle.task_code.specs.Effects.{Task, Main, Item, effect_at, instances, is_too_deep, limited, outcome_of}
 use Rattle.task_code.specs.Places.{Place}
 use Rattle.task_code.specs.System.{answered, code_system, task_effect}
@@ -166,7 +166,7 @@ branched_free : (r : Result Value OpFault) → IsFree r → IsFreeOf (branched r
 branched_free (Ok v) h = tt
 branched_free (Err f) h = in_operation h
 
-put_free : (r s : Result Value OpFault) → IsFree r → IsFree s → IsFreeOf (put r s)
+put_free : (r s : Result Value OpFault) → IsFree r → IsFree s → IsFreeOf (insert_element r s)
 put_free (Err f) s h k = in_operation h
 put_free (Ok i) (Err f) h k = in_operation k
 put_free (Ok i) (Ok v) h k = tt
@@ -203,7 +203,7 @@ computed_free (Call b rs os) xs = tt
 computed_free (Set r e) xs = given_free (eval xs e) (eval_free xs e)
 computed_free (Fill r es) xs = filled_free (evaluated literal (evals xs es)) (on_free literal (all_values (evals xs es)) (all_free (evals xs es) (evals_free xs es)))
 computed_free (Copy r) xs = tt
-computed_free (Put r i e) xs = put_free (eval xs i) (eval xs e) (eval_free xs i) (eval_free xs e)
+computed_free (InsertElement r i e) xs = put_free (eval xs i) (eval xs e) (eval_free xs i) (eval_free xs e)
 computed_free (Print e) xs = given_free (eval xs e) (eval_free xs e)
 computed_free (Assert e) xs = given_free (eval xs e) (eval_free xs e)
 computed_free (If e b d) xs = branched_free (eval xs e) (eval_free xs e)

@@ -9,7 +9,7 @@ use Rattle.task_code.proofs.Listed.{code_listed}
 use Rattle.task_code.proofs.Opens.{IsRest, OpensBlock, PathBy, covered, effect_is, found, in_block, in_rest, item_maker, item_opener, made_in, no_loop_one, no_loop_rest, not_script, opened, rest_makes, seen_place, stepped}
 use Rattle.task_code.proofs.Places.{argued, head_same, scalar_name, spot_path, spot_variable}
 use Rattle.task_code.proofs.Rights.{Binds, Bound, IntoTarget, apart_valid, bound_at, bound_inv, declared_name, declared_place, declared_same, in_gather, inserted_inv, loop_declares, loop_instances, names_apart, stored_once, stored_target, stores_inv, target_no_loop, target_opens_none, turn_is_bound, turn_variable, value_bound}
-use Rattle.task_code.specs.Code.{Act, Assert, At, AtKey, Call, Calling, Cell, Closed, Code, Copy, Each, Entry, Fill, If, InPlace, Loop, Name, Need, Print, Put, Range, Read, Set, Stored, Through, Variable, Wait, Way, body, entry, here, is_array_name, loop_of, needed, scalar, turn_variables}
+use Rattle.task_code.specs.Code.{Act, Assert, At, AtKey, Call, Calling, Cell, Closed, Code, Copy, Each, Entry, Fill, If, InPlace, Loop, Name, Need, Print, InsertElement, Range, Read, Set, Stored, Through, Variable, Wait, Way, body, entry, here, is_array_name, loop_of, needed, scalar, turn_variables}
 use Rattle.task_code.specs.Compute.{Computed, Elements, EntryFault, Fails, Gives, Inserts, Opens, Takes, Turns, compute, key_scalar}
 use Rattle.task_code.specs.Effects.{Item, Main, Task, at_first, block, bound, branch_instances, chunk, effect_at, inserted_at, instances, is_some_list, left_at, rest, rest_if, stored_at, stores, turn_instances, turns_of}
 use Rattle.task_code.specs.Places.{Constant, Datum, Nowhere, Place, Step, place_array, place_at}
@@ -348,7 +348,7 @@ module _ (C : Code) (I : IsCode C) where
   distinct_instances (Set r e) offset p c x d = tt
   distinct_instances (Fill r es) offset p c x d = tt
   distinct_instances (Copy r) offset p c x d = tt
-  distinct_instances (Put r i e) offset p c x d = tt
+  distinct_instances (InsertElement r i e) offset p c x d = tt
   distinct_instances (Print e) offset p c x d = tt
   distinct_instances (Assert e) offset p c x d = tt
   distinct_instances (If e b f) offset p c x d = distinct_branches c x b f offset p
@@ -456,7 +456,7 @@ module _ (C : Code) (I : IsCode C) where
     writes_once (Set r e) q a k v w h g = stored_same _ a k v w h g
     writes_once (Fill r es) q a k v w h g = inserted_same _ a k v w h g
     writes_once (Copy r) q a k v w h g = inserted_same _ a k v w h g
-    writes_once (Put r n e) q a k v w h g = inserted_same _ a k v w h g
+    writes_once (InsertElement r n e) q a k v w h g = inserted_same _ a k v w h g
     writes_once (Print e) q a k v w h g = absurd h
     writes_once (Assert e) q a k v w h g = absurd h
     writes_once (If e b d) q a k v w h g = absurd h

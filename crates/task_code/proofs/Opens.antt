@@ -7,7 +7,7 @@ use Rattle.std.specs.List.{flat_map}
 use Rattle.task_code.proofs.Chunks.{chunk_once, computed_apart, map_chunk}
 use Rattle.task_code.proofs.Equal.{keys}
 use Rattle.task_code.proofs.Places.{argued, declared_at}
-use Rattle.task_code.specs.Code.{Act, Assert, ByCalls, ByMain, ByStep, ByWait, Call, Calling, Cell, Code, Copy, Each, Entry, Fill, If, InPlace, Loop, Name, Opener, Print, Put, Range, Read, Set, Through, Variable, Wait, Way, body, call_at, entry, loop_of, ways}
+use Rattle.task_code.specs.Code.{Act, Assert, ByCalls, ByMain, ByStep, ByWait, Call, Calling, Cell, Code, Copy, Each, Entry, Fill, If, InPlace, Loop, Name, Opener, Print, InsertElement, Range, Read, Set, Through, Variable, Wait, Way, body, call_at, entry, loop_of, ways}
 use Rattle.task_code.specs.Compute.{Computed, EntryFault, Fails, Gives, Inserts, Opens, Takes, Turns, compute}
 use Rattle.task_code.specs.Effects.{Item, Task, at_first, block, branch_instances, chunk, effect_at, instances, is_some_list, is_too_deep, left_at, limited, outcome_of, rest, rest_if, turn_instances, turns_of}
 use Rattle.task_code.specs.Places.{Datum, Place, Step, place_at}
@@ -92,7 +92,7 @@ module _ (C : Code) where
   instances_inv (Set r e) offset p c x s h = absurd h
   instances_inv (Fill r es) offset p c x s h = absurd h
   instances_inv (Copy r) offset p c x s h = absurd h
-  instances_inv (Put r i e) offset p c x s h = absurd h
+  instances_inv (InsertElement r i e) offset p c x s h = absurd h
   instances_inv (Print e) offset p c x s h = absurd h
   instances_inv (Assert e) offset p c x s h = absurd h
   instances_inv (If e b d) offset p c x s h = let f = in_first s c (branch_instances x b d offset p) h in branch_inv e b d offset p c x x s f.0 f.1
@@ -110,7 +110,7 @@ module _ (C : Code) where
   at_most_one (Set r e) offset p c x s t n h k = absurd h
   at_most_one (Fill r es) offset p c x s t n h k = absurd h
   at_most_one (Copy r) offset p c x s t n h k = absurd h
-  at_most_one (Put r i e) offset p c x s t n h k = absurd h
+  at_most_one (InsertElement r i e) offset p c x s t n h k = absurd h
   at_most_one (Print e) offset p c x s t n h k = absurd h
   at_most_one (Assert e) offset p c x s t n h k = absurd h
   at_most_one (If e b d) offset p c x s t n h k =

@@ -7,7 +7,7 @@ use Rattle.task_code.proofs.Chunks.{inserted_of}
 use Rattle.task_code.proofs.Equal.{every_in, in_every, name_same, name_sound, place_same, place_sound}
 use Rattle.task_code.proofs.Opens.{PathBy, seen_place, some_same, stepped}
 use Rattle.task_code.proofs.Places.{declared_at, no_longer, only_here, scalar_name, spot_variable}
-use Rattle.task_code.specs.Code.{Act, Assert, Call, Calling, Cell, Code, Copy, Each, Fill, If, InPlace, Loop, Name, Named, Parameter, Print, Put, Range, Read, Set, Through, Variable, Wait, Way, argument, body, entry, here, is_array_name, loop_of, loop_variables, scalar, stored_of, targets_of, turn_variables, ways}
+use Rattle.task_code.specs.Code.{Act, Assert, Call, Calling, Cell, Code, Copy, Each, Fill, If, InPlace, Loop, Name, Named, Parameter, Print, InsertElement, Range, Read, Set, Through, Variable, Wait, Way, argument, body, entry, here, is_array_name, loop_of, loop_variables, scalar, stored_of, targets_of, turn_variables, ways}
 use Rattle.task_code.specs.Compute.{Computed, Fails, Gives, Inserts, Opens, Takes, Turns, key_scalar}
 use Rattle.task_code.specs.Effects.{Item, bound, chunk, inserted_at, instances, stored_at, stores, turn_bound, turn_instances, turns_of}
 use Rattle.task_code.specs.Places.{Datum, Place, Step, name_eq, place_array, place_at, place_eq}
@@ -197,7 +197,7 @@ module _ (C : Code) where
   stores_inv (Set r e) node offset p c x w h = inl (into (Set r e) node p w r (inl refl) (stored_inv _ x w h))
   stores_inv (Fill r es) node offset p c x w h = inl (into (Fill r es) node p w r (inl refl) (inserted_inv _ x w h).0)
   stores_inv (Copy r) node offset p c x w h = inl (into (Copy r) node p w r (inl refl) (inserted_inv _ x w h).0)
-  stores_inv (Put r i e) node offset p c x w h = inl (into (Put r i e) node p w r (inl refl) (inserted_inv _ x w h).0)
+  stores_inv (InsertElement r i e) node offset p c x w h = inl (into (InsertElement r i e) node p w r (inl refl) (inserted_inv _ x w h).0)
   stores_inv (Print e) node offset p c x w h = absurd h
   stores_inv (Assert e) node offset p c x w h = absurd h
   stores_inv (If e b d) node offset p c x w h = absurd h
@@ -213,7 +213,7 @@ module _ (C : Code) where
   stored_target (Set t e) node r h = h
   stored_target (Fill t es) node r h = h
   stored_target (Copy t) node r h = h
-  stored_target (Put t i e) node r h = h
+  stored_target (InsertElement t i e) node r h = h
   stored_target (Print e) node r h = h
   stored_target (Assert e) node r h = h
   stored_target (If e b d) node r h = h
@@ -229,7 +229,7 @@ module _ (C : Code) where
   target_opens_none (Set t e) node offset p c x r s h g = g
   target_opens_none (Fill t es) node offset p c x r s h g = g
   target_opens_none (Copy t) node offset p c x r s h g = g
-  target_opens_none (Put t i e) node offset p c x r s h g = g
+  target_opens_none (InsertElement t i e) node offset p c x r s h g = g
   target_opens_none (Print e) node offset p c x r s h g = h
   target_opens_none (Assert e) node offset p c x r s h g = h
   target_opens_none (If e b d) node offset p c x r s h g = h
@@ -244,7 +244,7 @@ module _ (C : Code) where
   target_no_loop (Set t e) node r h = refl
   target_no_loop (Fill t es) node r h = refl
   target_no_loop (Copy t) node r h = refl
-  target_no_loop (Put t i e) node r h = refl
+  target_no_loop (InsertElement t i e) node r h = refl
   target_no_loop (Print e) node r h = refl
   target_no_loop (Assert e) node r h = refl
   target_no_loop (If e b d) node r h = refl
@@ -261,7 +261,7 @@ module _ (C : Code) where
   loop_instances (Set t y) l offset p c x e = absurd (cc)
   loop_instances (Fill t es) l offset p c x e = absurd (cc)
   loop_instances (Copy t) l offset p c x e = absurd (cc)
-  loop_instances (Put t i y) l offset p c x e = absurd (cc)
+  loop_instances (InsertElement t i y) l offset p c x e = absurd (cc)
   loop_instances (Print y) l offset p c x e = absurd (cc)
   loop_instances (Assert y) l offset p c x e = absurd (cc)
   loop_instances (If y b d) l offset p c x e = absurd (cc)

@@ -67,7 +67,7 @@ pub data Act : Type 0 where
   Set : (target : Name) → Expr → Act
   Fill : (target : Name) → Exprs → Act
   Copy : (target : Name) → Act
-  Put : (target : Name) → (index right : Expr) → Act
+  InsertElement : (target : Name) → (index right : Expr) → Act
   Print : Expr → Act
   Assert : Expr → Act
   If : Expr → (then_body : ℕ) → (else_body : Option ℕ) → Act
@@ -129,7 +129,7 @@ kind_of (Call b rs os) = Control
 kind_of (Set r e) = Leaf
 kind_of (Fill r es) = Leaf
 kind_of (Copy r) = Control
-kind_of (Put r i e) = Control
+kind_of (InsertElement r i e) = Control
 kind_of (Print e) = Leaf
 kind_of (Assert e) = Leaf
 kind_of (If e b d) = Control
@@ -199,7 +199,7 @@ ways (Call b rs os) = (Calling, b) ∷ []
 ways (Set r e) = []
 ways (Fill r es) = []
 ways (Copy r) = []
-ways (Put r i e) = []
+ways (InsertElement r i e) = []
 ways (Print e) = []
 ways (Assert e) = []
 ways (If e b None) = (Through, b) ∷ []
@@ -216,7 +216,7 @@ stored_of n (Call b rs os) = []
 stored_of n (Set r e) = r ∷ []
 stored_of n (Fill r es) = r ∷ []
 stored_of n (Copy r) = r ∷ []
-stored_of n (Put r i e) = r ∷ []
+stored_of n (InsertElement r i e) = r ∷ []
 stored_of n (Print e) = []
 stored_of n (Assert e) = []
 stored_of n (If e b d) = []

@@ -2,7 +2,7 @@
 use Rattle.std.specs.Prelude.{ℕ, zero, suc, Bool, true, false, ◌&&◌, List, [], ◌∷◌, ◌++◌, map, take, drop, length, Option, Some, None, pos, nat_le}
 use Rattle.dataflow.specs.System.{Bad, Effect, Good, Opening, Outcome, Write}
 use Rattle.std.specs.List.{flat_map}
-use Rattle.task_code.specs.Code.{Act, Assert, Call, Cell, Code, Copy, Each, Fill, If, Loop, Print, Put, Range, Read, Set, Wait, body, entry, here, loop_of, scalar}
+use Rattle.task_code.specs.Code.{Act, Assert, Call, Cell, Code, Copy, Each, Fill, If, Loop, Print, InsertElement, Range, Read, Set, Wait, body, entry, here, loop_of, scalar}
 use Rattle.task_code.specs.Compute.{Computed, Elements, EntryFault, Fails, Gives, Inserts, Opens, Takes, TooDeep, Turns, key_scalar}
 use Rattle.task_code.specs.Places.{Datum, Place, Step, place_at}
 use Rattle.values.specs.declared.key.Key.{Key}
@@ -71,7 +71,7 @@ instances (Call b rs os) offset p c x = at_first c ((b, step_at offset (number_k
 instances (Set r e) offset p c x = []
 instances (Fill r es) offset p c x = []
 instances (Copy r) offset p c x = []
-instances (Put r i e) offset p c x = []
+instances (InsertElement r i e) offset p c x = []
 instances (Print e) offset p c x = []
 instances (Assert e) offset p c x = []
 instances (If e b d) offset p c x = at_first c (branch_instances x b d offset p)
@@ -161,7 +161,7 @@ module _ (C : Code) where
   stores (Set r e) node offset p c x = stored_at (place_at C p r) x
   stores (Fill r es) node offset p c x = inserted_at (place_at C p r) x
   stores (Copy r) node offset p c x = inserted_at (place_at C p r) x
-  stores (Put r i e) node offset p c x = inserted_at (place_at C p r) x
+  stores (InsertElement r i e) node offset p c x = inserted_at (place_at C p r) x
   stores (Print e) node offset p c x = []
   stores (Assert e) node offset p c x = []
   stores (If e b d) node offset p c x = []

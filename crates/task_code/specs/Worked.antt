@@ -2,7 +2,7 @@
 use Rattle.std.specs.Prelude.{◌≡◌, ℕ, true, false, length, [], ◌∷◌, Option, None, Some, pos}
 use Rattle.dataflow.specs.Machine.{Begin, ElementTwice, End, Quiet, Run}
 use Rattle.dataflow.specs.System.{Answer, Bad, Found, Good, Missing, Outcome}
-use Rattle.task_code.specs.Code.{At, AtKey, Each, ByCalls, ByMain, ByStep, ByWait, Call, Cell, Closed, Code, Expr, Fill, Fixed, If, Local, Name, Named, Parameter, Print, Put, Range, Read, Set, Stored, Variable, Wait, constant, here, need, no_operand, operand, operation, scalar}
+use Rattle.task_code.specs.Code.{At, AtKey, Each, ByCalls, ByMain, ByStep, ByWait, Call, Cell, Closed, Code, Expr, Fill, Fixed, If, Local, Name, Named, Parameter, Print, InsertElement, Range, Read, Set, Stored, Variable, Wait, constant, here, need, no_operand, operand, operation, scalar}
 use Rattle.task_code.specs.Compute.{EntryFault, InOperation, NoElement, range_turns}
 use Rattle.task_code.specs.Effects.{Item, Task, chunk, only}
 use Rattle.task_code.specs.Places.{Constant, Datum, Place, Step, place_at}
@@ -86,14 +86,14 @@ filled_by_loop =
     let last = scalar 9 in
     record {
       entries =
-          record { node = 2; at = 9; offset = 9; priority = pos 0; needs = []; act = Put (here a) (num 0) (num 1); reads = []; writes = here a ∷ [] }
+          record { node = 2; at = 9; offset = 9; priority = pos 0; needs = []; act = InsertElement (here a) (num 0) (num 1); reads = []; writes = here a ∷ [] }
           ∷ record { node = 4; at = 19; offset = 19; priority = pos 0; needs = []; act = Range (num 1) (num 5) (num 1) (record { body = 1; value = 3; turn = None }); reads = here a ∷ []; writes = here a ∷ [] }
           ∷ record { node = 9; at = 61; offset = 74; priority = pos 0; needs = AtKey (here a) (number_key (pos 5)) ∷ []; act = Read; reads = here a ∷ []; writes = here last ∷ [] }
           ∷ record { node = 10; at = 61; offset = 61; priority = pos 0; needs = Stored (here last) ∷ []; act = Print print_number; reads = here last ∷ []; writes = [] }
           ∷ record { node = 5; at = 40; offset = 49; priority = pos 0; needs = Stored (here i) ∷ []; act = Cell (two (sum_of (Minus ∷ [])) (need 0) (num 1)); reads = here i ∷ []; writes = here before ∷ [] }
           ∷ record { node = 6; at = 40; offset = 47; priority = pos 0; needs = At (outer a) (here before) ∷ []; act = Read; reads = outer a ∷ here before ∷ []; writes = here found ∷ [] }
           ∷ record { node = 7; at = 40; offset = 47; priority = pos 0; needs = Stored (here found) ∷ []; act = Cell (two (product_of (Times ∷ [])) (need 0) (num 2)); reads = here found ∷ []; writes = here double ∷ [] }
-          ∷ record { node = 8; at = 40; offset = 40; priority = pos 0; needs = Stored (here i) ∷ Stored (here double) ∷ []; act = Put (outer a) (need 0) (need 1); reads = here i ∷ here double ∷ []; writes = outer a ∷ [] }
+          ∷ record { node = 8; at = 40; offset = 40; priority = pos 0; needs = Stored (here i) ∷ Stored (here double) ∷ []; act = InsertElement (outer a) (need 0) (need 1); reads = here i ∷ here double ∷ []; writes = outer a ∷ [] }
           ∷ [];
       bodies =
           record { opener = ByMain; makes = a ∷ last ∷ []; entries = 0 ∷ 1 ∷ 2 ∷ 3 ∷ [] }
@@ -108,8 +108,8 @@ key_written_twice =
     let found = scalar 4 in
     record {
       entries =
-          record { node = 2; at = 9; offset = 9; priority = pos 0; needs = []; act = Put (here a) (num 0) (num 1); reads = []; writes = here a ∷ [] }
-          ∷ record { node = 3; at = 19; offset = 19; priority = pos 0; needs = []; act = Put (here a) (num 0) (num 2); reads = []; writes = here a ∷ [] }
+          record { node = 2; at = 9; offset = 9; priority = pos 0; needs = []; act = InsertElement (here a) (num 0) (num 1); reads = []; writes = here a ∷ [] }
+          ∷ record { node = 3; at = 19; offset = 19; priority = pos 0; needs = []; act = InsertElement (here a) (num 0) (num 2); reads = []; writes = here a ∷ [] }
           ∷ record { node = 4; at = 29; offset = 42; priority = pos 0; needs = AtKey (here a) (number_key (pos 0)) ∷ []; act = Read; reads = here a ∷ []; writes = here found ∷ [] }
           ∷ record { node = 5; at = 29; offset = 29; priority = pos 0; needs = Stored (here found) ∷ []; act = Print print_number; reads = here found ∷ []; writes = [] }
           ∷ [];
@@ -164,9 +164,9 @@ filled_by_call =
       entries =
           record { node = 2; at = 59; offset = 63; priority = pos 0; needs = []; act = Call 1 (Fixed (Number (pos 5)) ∷ []) (here a ∷ []); reads = []; writes = here a ∷ [] }
           ∷ record { node = 3; at = 72; offset = 72; priority = pos 0; needs = Closed (here a) ∷ []; act = Print (operation (printf (digits ∷ [])) (operand (operation size (operand (need 0) no_operand)) no_operand)); reads = here a ∷ []; writes = [] }
-          ∷ record { node = 4; at = 24; offset = 24; priority = pos 0; needs = Stored n ∷ []; act = Put b (num 0) (need 0); reads = n ∷ []; writes = b ∷ [] }
+          ∷ record { node = 4; at = 24; offset = 24; priority = pos 0; needs = Stored n ∷ []; act = InsertElement b (num 0) (need 0); reads = n ∷ []; writes = b ∷ [] }
           ∷ record { node = 5; at = 34; offset = 41; priority = pos 0; needs = Stored n ∷ []; act = Cell (two (sum_of (Plus ∷ [])) (need 0) (num 1)); reads = n ∷ []; writes = here next ∷ [] }
-          ∷ record { node = 6; at = 34; offset = 34; priority = pos 0; needs = Stored (here next) ∷ []; act = Put b (num 1) (need 0); reads = here next ∷ []; writes = b ∷ [] }
+          ∷ record { node = 6; at = 34; offset = 34; priority = pos 0; needs = Stored (here next) ∷ []; act = InsertElement b (num 1) (need 0); reads = here next ∷ []; writes = b ∷ [] }
           ∷ [];
       bodies =
           record { opener = ByMain; makes = a ∷ []; entries = 0 ∷ 1 ∷ [] }
@@ -196,7 +196,7 @@ loop_without_right =
     record {
       entries =
           record { node = 2; at = 9; offset = 9; priority = pos 0; needs = []; act = Range (num 1) (num 5) (num 1) (record { body = 1; value = 3; turn = None }); reads = []; writes = [] }
-          ∷ record { node = 4; at = 30; offset = 30; priority = pos 0; needs = Stored (here i) ∷ []; act = Put (outer a) (need 0) (need 0); reads = here i ∷ []; writes = outer a ∷ [] }
+          ∷ record { node = 4; at = 30; offset = 30; priority = pos 0; needs = Stored (here i) ∷ []; act = InsertElement (outer a) (need 0) (need 0); reads = here i ∷ []; writes = outer a ∷ [] }
           ∷ [];
       bodies =
           record { opener = ByMain; makes = a ∷ []; entries = 0 ∷ [] }
@@ -381,7 +381,7 @@ several_outputs =
           ∷ record { node = 15; at = 70; offset = 70; priority = pos 0; needs = Stored ps ∷ []; act = Wait (record { at = 70; needs = Stored ps ∷ [] } ∷ []) 4; reads = ps ∷ []; writes = [] }
           ∷ record { node = 22; at = 40; offset = 43; priority = pos 0; needs = Stored (here v) ∷ Stored (parameter 1 0) ∷ []; act = Cell (two (compare Less) (need 0) (need 1)); reads = here v ∷ parameter 1 0 ∷ []; writes = here t ∷ [] }
           ∷ record { node = 16; at = 40; offset = 40; priority = pos 0; needs = Stored (here t) ∷ []; act = If (need 0) 3 None; reads = here t ∷ here k ∷ here v ∷ []; writes = array_parameter 1 2 ∷ [] }
-          ∷ record { node = 17; at = 50; offset = 50; priority = pos 0; needs = Stored (outer k) ∷ Stored (outer v) ∷ []; act = Put (array_parameter 2 2) (need 0) (need 1); reads = outer k ∷ outer v ∷ []; writes = array_parameter 2 2 ∷ [] }
+          ∷ record { node = 17; at = 50; offset = 50; priority = pos 0; needs = Stored (outer k) ∷ Stored (outer v) ∷ []; act = InsertElement (array_parameter 2 2) (need 0) (need 1); reads = outer k ∷ outer v ∷ []; writes = array_parameter 2 2 ∷ [] }
           ∷ record { node = 18; at = 75; offset = 75; priority = pos 0; needs = Stored ps ∷ []; act = Print print_number; reads = ps ∷ []; writes = [] }
           ∷ [];
       bodies =

@@ -87,7 +87,7 @@ pub enum Act {
     /// Inserts the elements of an array.
     Copy(Name),
     /// Inserts one element: the index, and the right side.
-    Put(Name, Expr, Expr),
+    InsertElement(Name, Expr, Expr),
     Print(Expr),
     Assert(Expr),
     /// Opens a branch: one body if the condition is true, and an optional one if it is false.
@@ -130,7 +130,7 @@ impl Act {
             Act::Read
             | Act::Call { .. }
             | Act::Copy(_)
-            | Act::Put(_, _, _)
+            | Act::InsertElement(_, _, _)
             | Act::If(_, _, _)
             | Act::Range(_, _, _, _)
             | Act::Each(_)

@@ -304,7 +304,7 @@ fn control_items(rt: HostRuntime) {
     comes_to(&rt, alloc, range, five(), "4 from 1");
     let branch = Act::If(expr(&rt, alloc, b"x2<"), 1, None);
     comes_to(&rt, alloc, branch, five(), "takes false");
-    let put = Act::Put(TARGET, expr(&rt, alloc, b"x"), expr(&rt, alloc, b"4"));
+    let put = Act::InsertElement(TARGET, expr(&rt, alloc, b"x"), expr(&rt, alloc, b"4"));
     comes_to(&rt, alloc, put, five(), "[5]=4");
     comes_to(&rt, alloc, Act::Read, five(), "5");
     comes_to(&rt, alloc, Act::Read, Answer::Missing, "no element");
