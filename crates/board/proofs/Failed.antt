@@ -148,7 +148,7 @@ passed_ended C n j done old new e good passed effect =
 pub not_fault : (e : Effect) → ((f : Noted) → e ≡ Fails f → ⊥) → is_fault e ≡ false
 not_fault (Fails f) n = absurd (n f refl)
 not_fault (Effects.Stores d v) n = refl
-not_fault (Effects.Puts d k v) n = refl
+not_fault (Effects.InsertsElement d k v) n = refl
 not_fault (Effects.Inserts d es) n = refl
 not_fault (Effects.Prints v) n = refl
 not_fault Effects.Passes n = refl

@@ -36,7 +36,7 @@ use Rattle.board_history.proofs.Tests.{none_some, yes_no}
 faultless : (u : Task) (e : Effect) → is_fault e ≡ false → fault_of u e ≡ None
 faultless u (Effects.Fails f) h = yes_no refl h
 faultless u (Effects.Stores d v) h = refl
-faultless u (Effects.Puts d k v) h = refl
+faultless u (Effects.InsertsElement d k v) h = refl
 faultless u (Effects.Inserts d es) h = refl
 faultless u (Effects.Prints v) h = refl
 faultless u Effects.Passes h = refl

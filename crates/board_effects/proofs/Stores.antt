@@ -61,8 +61,8 @@ module _ (p : EndingItem) (w : IsEnded p) where
       let q = some_there (cells_of p) d es h in
       fails_ends p (Inserts (pairs es)) ElementTwice e (elements_clash (code_of p) (frames_of p) p.view.at p.number p.chunk _ _ w (cells_of p) (pairs es) g d s q.0 q.1 q.2 q.3) f
 
-  pub puts_ends : (t : Option ℕ) (k l : Key) (v u : Scalar) → t ≡ at → l ≡ k → u ≡ v → gives_elements (act_of p) ≡ true → ((d : ℕ) → t ≡ Some d → has (cell_element k (slot_at (cells_of p) d)) ≡ false) → Ends p (Inserts ((k, v) ∷ [])) (To.Puts t l u)
-  puts_ends t k l v u e ek ev g h = elements_end (code_of p) (frames_of p) p.view.at p.number p.chunk _ _ w (cells_of p) ((k, v) ∷ []) (To.Puts t l u) (λ i. Inserts ((sym ek i, sym ev i) ∷ [])) g e (ap (λ (x : Key). (x, u) ∷ []) ek ∙ ap (λ (x : Scalar). (k, x) ∷ []) ev) refl refl (λ d s. key_none (cells_of p) d k v (h d (e ∙ s))) (λ o. o)
+  pub puts_ends : (t : Option ℕ) (k l : Key) (v u : Scalar) → t ≡ at → l ≡ k → u ≡ v → gives_elements (act_of p) ≡ true → ((d : ℕ) → t ≡ Some d → has (cell_element k (slot_at (cells_of p) d)) ≡ false) → Ends p (Inserts ((k, v) ∷ [])) (To.InsertsElement t l u)
+  puts_ends t k l v u e ek ev g h = elements_end (code_of p) (frames_of p) p.view.at p.number p.chunk _ _ w (cells_of p) ((k, v) ∷ []) (To.InsertsElement t l u) (λ i. Inserts ((sym ek i, sym ev i) ∷ [])) g e (ap (λ (x : Key). (x, u) ∷ []) ek ∙ ap (λ (x : Scalar). (k, x) ∷ []) ev) refl refl (λ d s. key_none (cells_of p) d k v (h d (e ∙ s))) (λ o. o)
 
   pub puts_clash : (d : ℕ) (k : Key) (v : Scalar) → at ≡ Some d → gives_elements (act_of p) ≡ true → has (cell_element k (slot_at (cells_of p) d)) ≡ true → (e : Effect) → FailsWith p ElementTwice e → Ends p (Inserts ((k, v) ∷ [])) e
   puts_clash d k v s g h e f =

@@ -177,7 +177,7 @@ module _ (C : Code) (I : IsCode C) (es : List Event) (F : Fields) (x : Stands C 
   pub can_store : (e : Effect) → IsEffect C F.frames F.cells row.job (of_job row.job) e → CanStore e store
   can_store (To.Fails f) g = tt
   can_store (To.Stores d v) g = unkeyed_target row.job refl d v g
-  can_store (To.Puts d k v) g = λ m h room. takes row.job refl (To.Puts d k v) g (element k v ∷ []) g.computed refl m h room
+  can_store (To.InsertsElement d k v) g = λ m h room. takes row.job refl (To.InsertsElement d k v) g (element k v ∷ []) g.computed refl m h room
   can_store (To.Inserts d ys) g = λ m h room. takes row.job refl (To.Inserts d ys) g ys.items g.computed refl m h room
   can_store (To.Prints v) g = tt
   can_store To.Passes g = tt

@@ -353,7 +353,7 @@ module _ (C : Code) (I : IsCode C) (es : List Event) (F : Fields) (x : Stands C 
   pub tells : (e : ProgramEffect) → IsEffect C F.frames F.cells row.job computed e → t.fault ≡ fault_of task e
   tells (To.Fails f) g = wrong_told (kind_of_fault f.kind) g.0
   tells (To.Stores d v) g = well_told (To.Stores d v) g
-  tells (To.Puts d k v) g = well_told (To.Puts d k v) g
+  tells (To.InsertsElement d k v) g = well_told (To.InsertsElement d k v) g
   tells (To.Inserts d es) g = well_told (To.Inserts d es) g
   tells (To.Prints v) g = well_told (To.Prints v) g
   tells To.Passes g = well_told To.Passes g

@@ -37,7 +37,7 @@ pub enum ControlResult {
     /// The elements of the array to copy.
     Inserts(Map),
     /// The element to write.
-    Puts(Key, Scalar),
+    InsertsElement(Key, Scalar),
     /// The branch to take.
     Takes(bool),
     /// A loop's turns, one for each value of a range.
@@ -57,7 +57,7 @@ impl ControlResult {
             ControlResult::Fails(fault) => Ok(ControlResult::Fails(*fault)),
             ControlResult::Gives(scalar) => Ok(ControlResult::Gives(scalar.share()?)),
             ControlResult::Inserts(map) => Ok(ControlResult::Inserts(map.share()?)),
-            ControlResult::Puts(key, value) => Ok(ControlResult::Puts(
+            ControlResult::InsertsElement(key, value) => Ok(ControlResult::InsertsElement(
                 key.share()?,
                 value.share()?,
             )),
@@ -184,7 +184,10 @@ fn written(
         Err(fault) => return Ok(fails(fault)),
     };
     match evaluate(alloc, right, answers)? {
-        Ok(right) => Ok(ControlResult::Puts(Key::of(into_scalar(index)), into_scalar(right))),
+        Ok(right) => Ok(ControlResult::InsertsElement(
+            Key::of(into_scalar(index)),
+            into_scalar(right),
+        )),
         Err(fault) => Ok(fails(fault)),
     }
 }

@@ -128,10 +128,10 @@ fn computed_text(rt: &impl Abort, alloc: Global, computed: &ControlResult) -> St
         ControlResult::Fails(_) => String::from_str(alloc, "fails"),
         ControlResult::Gives(scalar) => return scalar_text(rt, alloc, scalar),
         ControlResult::Inserts(map) | ControlResult::Goes(map) => return map_text(rt, alloc, map),
-        ControlResult::Puts(Key::Number(key), Scalar::Number(value)) => {
+        ControlResult::InsertsElement(Key::Number(key), Scalar::Number(value)) => {
             format!(in alloc; "[{key}]={value}")
         }
-        ControlResult::Puts(_, _) => String::from_str(alloc, "puts"),
+        ControlResult::InsertsElement(_, _) => String::from_str(alloc, "puts"),
         ControlResult::Takes(branch) => format!(in alloc; "takes {branch}"),
         ControlResult::Counts(range) => format!(in alloc; "{} from {}", range.count, range.low),
         ControlResult::Opens => String::from_str(alloc, "opens"),
@@ -437,7 +437,7 @@ fn outcomes_are_shared(rt: HostRuntime) {
     );
     let over = ControlResult::Goes(array(&rt, alloc, 1, 2));
     is_shared(&rt, alloc, Outcome::Control(over), "[4]=1[5]=2");
-    let put = ControlResult::Puts(Key::Number(5), Scalar::Number(4));
+    let put = ControlResult::InsertsElement(Key::Number(5), Scalar::Number(4));
     is_shared(&rt, alloc, Outcome::Control(put), "[5]=4");
     is_shared(&rt, alloc, Outcome::Control(ControlResult::Opens), "opens");
 }

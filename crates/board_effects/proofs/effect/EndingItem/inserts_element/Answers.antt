@@ -4,8 +4,8 @@ use Rattle.board_history.specs.Needs.{cell_element, has}
 use Rattle.board_effects.specs.Ended.{cells_of}
 use Rattle.board_effects.proofs.Stores.{puts_clash, puts_ends}
 use Rattle.board_effects.proofs.Values.{ok_map}
-use Rattle.board_effects.proofs.effect.EndingItem.puts.Goals as goal
-use Rattle.board_effects.proofs.effect.EndingItem.puts.Goals.{in-Some+else-has_key, in_default}
+use Rattle.board_effects.proofs.effect.EndingItem.inserts_element.Goals as goal
+use Rattle.board_effects.proofs.effect.EndingItem.inserts_element.Goals.{in-Some+else-has_key, in_default}
 
 pub returns-then-has_key : goal.returns-then-has_key
 returns-then-has_key c = λ w g. ok_map _ _ c.fails.result (puts_clash c.args.self w c.in-Some.d c.args.key c.args.value (sym c.target-target.ensures ∙ c.in-Some.is) g (sym c.has_key.ensures ∙ c.if-has_key.true)) (c.fails.ensures w)
