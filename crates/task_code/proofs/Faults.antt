@@ -25,6 +25,7 @@ use Rattle.task_code.specs.Effects.{Task, Main, Item, effect_at, instances, is_t
 use Rattle.task_code.specs.Places.{Place}
 use Rattle.task_code.specs.System.{answered, code_system, task_effect}
 use Rattle.task_code.specs.Machine.{CodeState}
+use Rattle.values.specs.Limits.{max_range}
 
 -- the result is no refusal of memory
 abbrev IsFree : {A : Type 0} → Result A OpFault → Type 0
@@ -181,9 +182,9 @@ most_free : (b : Bool) (n : ℕ) → IsFree (if b then Ok n else Err Overflow)
 most_free true n = tt
 most_free false n = λ h. absurd (cc)
 
-count_free : (b : Bool) (n : ℕ) → IsFree (if b then Err BadStep else (if nat_le n 4294967296 then Ok n else Err Overflow))
+count_free : (b : Bool) (n : ℕ) → IsFree (if b then Err BadStep else (if nat_le n max_range then Ok n else Err Overflow))
 count_free true n = λ h. absurd (cc)
-count_free false n = most_free (nat_le n 4294967296) n
+count_free false n = most_free (nat_le n max_range) n
 
 turns_free : (r : Result ℕ OpFault) (low step : ℤ) → IsFree r → IsFreeOf (turns_or r low step)
 turns_free (Ok n) low step h = tt

@@ -33,8 +33,8 @@ pub struct Body {
     pub entries: Vec<u32>,
 }
 
-/// The code of a script: a whole draft with at most 4,194,304 entries. Entries and bodies are numbered from 0; body 0
-/// is the script.
+/// The code of a script: a whole draft with at most `max_entries` entries. Entries and bodies are numbered from 0; body
+/// 0 is the script.
 ///
 /// Copies share the entries, also across threads.
 #[derive(Drop)]
@@ -59,7 +59,8 @@ impl Model for Code {
 }
 
 impl Code {
-    /// Converts a draft into code. The caller has to prove that the draft is whole and has at most 4,194,304 entries.
+    /// Converts a draft into code. The caller has to prove that the draft is whole and has at most `max_entries`
+    /// entries.
     pub fn of(draft: Draft) -> Code
         requires whole { IsCode draft }
         requires few { length draft.entries ≤ max_entries }

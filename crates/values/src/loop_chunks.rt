@@ -1,4 +1,5 @@
-//! Chunking of loops: the turns of a loop are opened `CHUNK_SIZE` at a time, and an item of its own continues with the rest.
+//! Chunking of loops: the turns of a loop are opened `CHUNK_SIZE` at a time, and an item of its own continues with the
+//! rest.
 //!
 //! The functions compute on turn indices alone; no instance or item is touched here.
 
