@@ -22,7 +22,7 @@ use Rattle.board_history.proofs.EndedNames.{Resolved}
 use Rattle.board_history.proofs.Marking.{RowIs, status_is}
 use Rattle.board_history.proofs.Tests.{none_some, some_same}
 use Rattle.task_code.proofs.Equal.{every_in, name_sound}
-use Rattle.task_code.specs.Code.{Act, Assert, At, AtKey, Call, Cell, Closed, Code, Copy, Each, Fill, Header, If, Name, Need, Print, Put, Range, Read, Set, Stored, Wait, body, entry}
+use Rattle.task_code.specs.Code.{Act, Assert, At, AtKey, Call, Cell, Closed, Code, Copy, Each, Fill, Header, If, Name, Need, Print, InsertElement, Range, Read, Set, Stored, Wait, body, entry}
 use Rattle.task_code.specs.Effects.{Item, Main}
 use Rattle.task_code.specs.Machine.{CodeItem, CodeState}
 use Rattle.task_code.specs.Places.{Step, place_at}
@@ -164,7 +164,7 @@ module _ (C : Code) (I : IsCode C) (es : List Event) (core : BoardState) (t : St
     offset_told (Set y x) q o at = plain_told o at
     offset_told (Fill y xs) q o at = plain_told o at
     offset_told (Copy y) q o at = plain_told o at
-    offset_told (Put y i x) q o at = plain_told o at
+    offset_told (InsertElement y i x) q o at = plain_told o at
     offset_told (Print x) q o at = plain_told o at
     offset_told (Assert x) q o at = plain_told o at
     offset_told (If x b d) q o at = plain_told o at

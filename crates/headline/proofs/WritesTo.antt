@@ -82,7 +82,7 @@ record PutOne (d : CodePlaces.Place) (ri ro : Result Value OpFault) (x : Write C
   key_is : x.key ≡ key_of (scalar_of index)
   value_is : x.value ≡ scalar_of right
 
-put_one : (d : CodePlaces.Place) (ri ro : Result Value OpFault) (x : Write CodePlaces.Place Key Scalar) → In x (inserted_at d (Compute.put ri ro)) → PutOne d ri ro x
+put_one : (d : CodePlaces.Place) (ri ro : Result Value OpFault) (x : Write CodePlaces.Place Key Scalar) → In x (inserted_at d (Compute.insert_element ri ro)) → PutOne d ri ro x
 put_one d (Err f) ro x h = absurd h
 put_one d (Ok i) (Err f) x h = absurd h
 put_one d (Ok i) (Ok v) x (inl e) = record { index = i; right = v; index_is = refl; right_is = refl; place_is = ap (λ (z : Write CodePlaces.Place Key Scalar). z.place) e; key_is = ap (λ (z : Write CodePlaces.Place Key Scalar). z.key) e; value_is = ap (λ (z : Write CodePlaces.Place Key Scalar). z.value) e }
