@@ -14,11 +14,13 @@ pub const NESTED: &str =
 ///
 /// This is assumed under two conditions. The text before the token begins more comments than it ends, and the first
 /// lexical fault after it is the end of a comment.
-pub fn nested(text: &[u8], around: &TokenContext<'_>) -> Option<Advice> {
+pub fn nested(around: &TokenContext<'_>) -> Option<Advice> {
     if around.found.kind == TokenKind::End {
         return None;
     }
-    let (before, behind) = text.split_at(around.found.span.from.min(text.len()));
+    let (before, behind) = around
+        .text
+        .split_at(around.found.span.from.min(around.text.len()));
     if begins_more(before) && ends_comment(behind) {
         Advice::here(NESTED)
     } else {

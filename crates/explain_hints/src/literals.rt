@@ -34,7 +34,7 @@ fn is_negative(text: &[u8], at: usize) -> bool {
 }
 
 /// Returns the last byte of a text that is not a space, or a space if there is none.
-pub fn last_sign(text: &[u8]) -> u8 {
+fn last_sign(text: &[u8]) -> u8 {
     let mut last = b' ';
     for byte in text {
         if *byte != b' ' {
