@@ -59,12 +59,12 @@ fn on_encoding(before: &[u8], byte: u8, rest: &[u8]) -> Option<&'static str> {
         || rest.starts_with(b"\xE2\x80\x8B")
         || rest.starts_with(b"\xE2\x80\xAF")
     {
-        return Some("this is a blank of another kind, as word processors write it: write a space");
+        return Some("this looks like a space and is another character: write a space");
     }
     match byte {
         b'/' if before.ends_with(b"*") && begins_more(before) => Some(NESTED),
         0..=31 | 127 => {
-            Some("this is a control character, which no editor shows: leave it out")
+            Some("leave this byte out: it is a control character, which editors do not show")
         }
         _ => None,
     }
@@ -77,9 +77,9 @@ fn past_ascii(alloc: Global, byte: u8, rest: &[u8]) -> Result<Option<Vec<u8>>, A
     }
     let character = first_character(rest);
     let words = if character.is_empty() {
-        "a script has ASCII alone, and this byte is no character"
+        "only ASCII characters are allowed, and this byte is not a character"
     } else {
-        "a script has ASCII alone, in strings and comments too, and this is "
+        "only ASCII characters are allowed, also in strings and comments, and this is "
     };
     let mut out = Vec::from_slice(alloc, words.as_bytes())?;
     out.extend_from_slice(character)?;

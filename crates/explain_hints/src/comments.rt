@@ -7,8 +7,7 @@ use lexer::lexer::Lexer;
 use lexer::token::TokenKind;
 
 /// The hint about a comment within a comment.
-pub const NESTED: &str =
-    "a comment ends with the first */ behind its /*: no comment stands in another one";
+pub const NESTED: &str = "a comment ends at the first */: leave the comment within it out";
 
 /// Returns a hint if a comment has ended early because it contains another one.
 ///

@@ -6,9 +6,9 @@ use crate::rules::entry_of;
 static VARIABLES: &str = r#"
 True TRUE yes on ture treu tru -> write true
 False FALSE no off flase fasle fals -> write false
-null NULL nil None undefined nan NaN -> every variable has a value: take one that stands for none, as -1 or ""
-argc argv args stdin -> a script reads no files, words or settings: what it is to know stands in it
-PI pi -> there are whole numbers alone: scale them, as 31416 for 3.1416
+null NULL nil None undefined nan NaN -> every variable has a value: choose one that means none, -1 or ""
+argc argv args stdin -> a script reads no files and no arguments: write the value into it, int n = 10;
+PI pi -> there are only whole numbers: scale them, 31416 for 3.1416
 "#;
 
 /// Returns the hint about a variable of another language, or `None` if there is no such name among them.

@@ -4,18 +4,25 @@
 pub static WORD_RULES: &str = r#"
 # The output of a function, declared before it without brackets.
 when first=$type last=@second ] found=$name next=(
-next_second=$type -> a function's outputs stand before it in brackets, and it assigns them: (int r) f(int n) { r = n; }
-next_second=) next_third={ -> a function's outputs stand before it in brackets, and it assigns them: (int r) f(int n) { r = n; }
+next_second=$type -> write the outputs first, in brackets: (int r) f(int n) { r = n; }
+next_second=) next_third={ -> write the outputs first, in brackets: (int r) f(int n) { r = n; }
 
 # A word that begins a statement in another language, unless the script uses it as a name.
 when first=$name second!== [ first!=$defined
+first=elif elsif elseif found!=@first ->first write else if (x > 0) { .. }
+first=parallel async spawn sync fork second={ -> leave the word and its braces out: each statement runs as soon as its values are there
+first=from second=io string assert -> write import io;, or nothing: printf and the other functions are there without it
 -> $statements first
 
 # Imports.
 when last!=$end
-last=import -> io, string and assert are the modules, and their functions are there without an import
-first=import found=, -> one module an import: import io; import string;
-found=import opener={ ->opener an import stands outside of all blocks, and not in the one that opens
+last=import -> leave the import out: the modules are io, string and assert, and their functions are there without it
+first=import found=, -> import one module at a time: import io; import string;
+found=import opener={ ->opener write the import outside of all blocks, before the one that opens
+
+# A function as a value.
+when last=auto var let const val def function found=$name next== next_second=(
+next_third=$type ) -> write a function outside of all blocks: (int r) f(int n) { r = n + 1; }
 
 # Operators as words, but not a variable of a loop and not a name that begins the next line.
 when before_last!=foreach gap!=line comment
@@ -31,6 +38,6 @@ first=( found=$name ->found $types found
 
 # A keyword as a name.
 when last!=$end
-last=$type found=$keyword -> this is a word of the language: take another name
-first=$type first!=@last last=$keyword last!=true false ->last take another name for the word of the language
+last=$type found=$keyword -> this is a keyword: choose another name
+first=$type first!=@last last=$keyword last!=true false ->last choose another name for the keyword
 "#;
