@@ -79,19 +79,19 @@ fn has_word(words: &str, word: &[u8]) -> bool {
 struct TokenTest<'t> {
     token: Token<'t>,
     is_negated: bool,
-    fits: bool,
+    is_met: bool,
 }
 
 impl<'t> TokenTest<'t> {
     /// Returns true if the test holds, given that all of its words are read.
     fn holds(&self) -> bool {
-        self.fits != self.is_negated
+        self.is_met != self.is_negated
     }
 
     /// Takes one more word.
     fn read(&mut self, word: &str, around: &TokenContext<'_>) {
-        if !self.fits {
-            self.fits = fits(word, self.token, around);
+        if !self.is_met {
+            self.is_met = fits(word, self.token, around);
         }
     }
 }
@@ -101,7 +101,7 @@ fn are_met(tests: &str, around: &TokenContext<'_>) -> bool {
     let mut test = TokenTest {
         token: ABSENT,
         is_negated: false,
-        fits: true,
+        is_met: true,
     };
     for word in tests.split_whitespace() {
         match new_test(word, around) {
@@ -128,7 +128,7 @@ fn new_test<'t>(word: &str, around: &TokenContext<'t>) -> Option<TokenTest<'t>> 
     let mut test = TokenTest {
         token,
         is_negated,
-        fits: false,
+        is_met: false,
     };
     test.read(first, around);
     Some(test)

@@ -59,7 +59,7 @@ opener!=[ last=] $name -> write = to assign: x = 3;
 opener=[ opener_before=in last=[ -> a range has both of its ends: [0:9]
 opener=[ opener_before=in -> a range has two bounds and at most a step: [0:9:3]
 opener=[ opener_before=$name first=string third!=[ -> no part is taken out of a string: keep its parts in variables of their own, and join them by +
-opener=[ opener_before=$name -> copy the elements one by one: foreach i in [0:3] { B[i] = A[i]; }
+opener=[ opener_before=$name -> copy elements one by one, foreach i in [0:3] { B[i] = A[i]; }; no part is taken out of a string
 opener=[ last=$text -> write elements with text keys one by one: A["a"] = 1;
 opener=[ -> fill the array in a loop: int A[]; foreach i in [0:9] { A[i] = i; }
 
