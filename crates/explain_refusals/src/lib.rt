@@ -5,13 +5,19 @@
 //! columns.
 #![tactic(auto)]
 
+mod array_hints;
+mod branch_hints;
 mod calls;
 mod declared;
 pub mod diagnostic;
 mod explain_assignments;
 mod explain_counts;
+mod explain_formats;
 mod explain_names_unknown;
 mod explain_types;
 pub mod explanation;
+mod loop_hints;
+mod scopes;
 mod texts;
+mod type_hints;
 mod type_mismatch;

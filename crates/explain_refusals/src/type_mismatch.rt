@@ -25,6 +25,8 @@ pub struct TypeMismatch {
 pub enum ExpectedType {
     /// A type.
     Sort(DisplayType),
+    /// The type of an operand of this operator.
+    Operand(DisplayType, Operator),
     /// A key of an array of this type. The place is that of the array's name.
     Key(DisplayType, Span),
     /// A value of this type, in place of which there is an array literal.
@@ -292,7 +294,21 @@ fn demand<A: Allocator>(
     found: &mut Option<TypeMismatch>,
 ) {
     in_form(search, &value.kind, found);
-    judge(search, value, wanted, found);
+    judge(search, value, wanted, ExpectedType::Sort(wanted), found);
+}
+
+/// Searches an operand of an operator, for which a type is expected.
+#[cycle(expr)]
+fn demand_operand<A: Allocator>(
+    search: &MismatchSearch<A>,
+    value: &Expr<A>,
+    wanted: DisplayType,
+    operator: Operator,
+    found: &mut Option<TypeMismatch>,
+) {
+    in_form(search, &value.kind, found);
+    let wish = ExpectedType::Operand(wanted, operator);
+    judge(search, value, wanted, wish, found);
 }
 
 /// Searches an index of an array of this type.
@@ -326,11 +342,13 @@ fn judge_key<A: Allocator>(
     }
 }
 
-/// Records a mismatch if the expression at the place has another type than the expected one.
+/// Records a mismatch if the expression at the place has another type than the expected one. `wish`: the expectation to
+/// record.
 fn judge<A: Allocator>(
     search: &MismatchSearch<A>,
     value: &Expr<A>,
     wanted: DisplayType,
+    wish: ExpectedType,
     found: &mut Option<TypeMismatch>,
 ) {
     if value.first != search.at {
@@ -338,7 +356,7 @@ fn judge<A: Allocator>(
     }
     if let Some(sort) = sort_of(search, value) {
         if sort != wanted {
-            note(found, sort, ExpectedType::Sort(wanted));
+            note(found, sort, wish);
         } else if sort.shape != Shape::Scalar {
             want_name(value, sort, found);
         }
@@ -398,9 +416,13 @@ fn in_chain<A: Allocator>(
         None => None,
     };
     let wanted = wanted_by(operators.as_slice(), first);
+    let operator = match operators.first() {
+        Some(operator) => *operator,
+        None => Operator::Plus,
+    };
     judge_compared(search, operators.as_slice(), operands.as_slice(), found);
     for operand in operands {
-        demand(search, operand, wanted, found);
+        demand_operand(search, operand, wanted, operator, found);
     }
 }
 
@@ -530,7 +552,7 @@ fn wanted_at<A: Allocator>(
 }
 
 /// Returns the type that a conversion of a format expects. `place`: its position, counted from 1.
-fn converted(format: &[u8], place: usize) -> Option<DisplayType> {
+pub fn converted(format: &[u8], place: usize) -> Option<DisplayType> {
     let mut left = place;
     let mut begun = false;
     for byte in format {
