@@ -1,9 +1,9 @@
 //! Hints about arrays in place of scalars, scalars in place of arrays, and arrays of another type.
 
-use crate::declared::write_declaration;
 use crate::explanation::Hint;
 use crate::type_hints::{WrongValue, is_printed};
 use explain_names::occurrence::DisplayType;
+use explain_searches::declared::write_declaration;
 use lexer::token::TokenKind;
 use std::alloc::AllocError;
 use syntax_trees::tree::{Base, Keys, Operator, Shape};

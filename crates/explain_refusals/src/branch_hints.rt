@@ -1,10 +1,10 @@
 //! Hints about variables that an `if` assigns on some paths only.
 
 use crate::explanation::Hint;
-use crate::scopes::{end_of_if, is_in_next_if, occurs_between};
 use explain_names::lookup::{LookupKind, bytes_at, last_before};
 use explain_names::occurrence::{Occurrence, OccurrenceKind};
 use explain_names::partial_assignment::PartialAssignment;
+use explain_searches::scopes::{end_of_if, is_in_next_if, occurs_between};
 use lexer::token::Span;
 use std::alloc::{AllocError, Global};
 

@@ -1,8 +1,6 @@
 //! Explanations of faults of single assignment.
 
 use crate::branch_hints::{hint_of_partly, is_declared_at};
-use crate::calls::is_read_behind;
-use crate::declared::{rest_of_statement, type_of};
 use crate::explanation::{Explanation, Hint, Note, note_of};
 use crate::loop_hints::hint_of_loop;
 use assign_check::fault::AssignFault;
@@ -11,6 +9,8 @@ use explain_names::occurrence::{DisplayType, Occurrence, OccurrenceKind};
 use explain_names::occurrences::{function_around, mentions_around};
 use explain_names::partial_assignment::{PartialAssignment, partly_assigned};
 use explain_names::refused_script::RefusedScript;
+use explain_searches::calls::is_read_behind;
+use explain_searches::declared::{rest_of_statement, type_of};
 use lexer::token::Span;
 use std::alloc::{AllocError, Allocator};
 use syntax_trees::tree::Shape;

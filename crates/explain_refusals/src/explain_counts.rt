@@ -1,13 +1,15 @@
 //! Explanations of calls with a wrong number of arguments or outputs.
 
-use crate::calls::{ValueConsumer, conversions_behind, count_behind, second_argument, taker_of};
-use crate::declared::{base_of, rest_of_statement, write_declaration};
 use crate::explain_types::defined_at;
 use crate::explanation::{Explanation, Hint, fill};
 use explain_names::lookup::{bytes_at, function_named};
 use explain_names::occurrence::DisplayType;
 use explain_names::occurrences::mentions_around;
 use explain_names::refused_script::RefusedScript;
+use explain_searches::calls::{
+    ValueConsumer, conversions_behind, count_behind, second_argument, taker_of,
+};
+use explain_searches::declared::{base_of, rest_of_statement, write_declaration};
 use explain_text::words::{write_count, write_str};
 use lexer::token::Span;
 use std::alloc::{AllocError, Allocator, Global};

@@ -1,9 +1,6 @@
 //! Explanations of unknown variables and functions.
 
-use crate::calls::is_read_behind;
-use crate::declared::{rest_of_statement, sort_behind, sort_of_target, write_declaration};
 use crate::explanation::{Explanation, Hint, note_of};
-use crate::scopes::loop_before;
 use explain_hints::functions::on_function;
 use explain_hints::nearest::{NearMatch, nearer};
 use explain_hints::token_context::TokenContext;
@@ -12,6 +9,9 @@ use explain_names::lookup::{LookupKind, bytes_at, kind_at, last_before, place_be
 use explain_names::occurrence::{DisplayType, Occurrence, OccurrenceKind};
 use explain_names::occurrences::{function_around, mentions_around};
 use explain_names::refused_script::RefusedScript;
+use explain_searches::calls::is_read_behind;
+use explain_searches::declared::{rest_of_statement, sort_behind, sort_of_target, write_declaration};
+use explain_searches::scopes::loop_before;
 use explain_text::words::write_str;
 use lexer::token::{Span, TokenKind};
 use std::alloc::{AllocError, Allocator, Global};

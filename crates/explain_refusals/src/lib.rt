@@ -7,8 +7,6 @@
 
 mod array_hints;
 mod branch_hints;
-mod calls;
-mod declared;
 pub mod diagnostic;
 mod explain_assignments;
 mod explain_counts;
@@ -17,7 +15,5 @@ mod explain_names_unknown;
 mod explain_types;
 pub mod explanation;
 mod loop_hints;
-mod scopes;
 mod texts;
 mod type_hints;
-mod type_mismatch;

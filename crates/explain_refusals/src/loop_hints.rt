@@ -1,10 +1,10 @@
 //! Hints about variables that a loop assigns in each turn.
 
-use crate::calls::{is_read_behind, value_behind};
 use crate::explanation::{Hint, fill};
-use crate::scopes::{LoopHeader, loop_since, occurs_between};
 use explain_names::lookup::{LookupKind, bytes_at, last_before};
 use explain_names::occurrence::{Occurrence, OccurrenceKind};
+use explain_searches::calls::{is_read_behind, value_behind};
+use explain_searches::scopes::{LoopHeader, loop_since, occurs_between};
 use lexer::token::{Span, TokenKind};
 use std::alloc::{AllocError, Global};
 use syntax_trees::tree::{Keys, Shape};

@@ -1,14 +1,14 @@
 //! Hints about expressions of a wrong type.
 
 use crate::array_hints::{hint_of_array, hint_of_arrays, hint_of_scalar};
-use crate::calls::text_behind;
-use crate::declared::{type_of, write_declaration};
 use crate::explanation::Hint;
-use crate::scopes::loop_since;
-use crate::type_mismatch::{ExpectedType, TypeMismatch, converted, keys_of, one};
 use explain_hints::token_context::TokenContext;
 use explain_names::lookup::{LookupKind, bytes_at, last_before};
 use explain_names::occurrence::{DisplayType, Occurrence};
+use explain_searches::calls::text_behind;
+use explain_searches::declared::{type_of, write_declaration};
+use explain_searches::scopes::loop_since;
+use explain_searches::type_mismatch::{ExpectedType, TypeMismatch, converted, keys_of, one};
 use lexer::token::{Span, TokenKind};
 use std::alloc::{AllocError, Global};
 use syntax_trees::tree::{Base, Keys, Operator, Shape};
