@@ -6,7 +6,7 @@ use lexer::token::{Token, TokenKind};
 use std::alloc::{AllocError, Global};
 
 /// The header of a loop, as its tokens give it.
-#[derive(Clone, Copy, Debug, PartialEq, Eq)]
+#[derive(Clone, Copy, Debug)]
 pub struct LoopHeader<'t> {
     /// The offset at which the loop begins.
     pub at: usize,
@@ -126,9 +126,19 @@ pub fn loop_before<'t>(
 ) -> Result<Option<LoopHeader<'t>>, AllocError> {
     let around = blocks_around(alloc, text, later)?;
     match loop_since(alloc, text, 0, inside)? {
-        Some(header) if !around.as_slice().contains(&header) => Ok(Some(header)),
+        Some(header) if !is_among(around.as_slice(), header.at) => Ok(Some(header)),
         _ => Ok(None),
     }
+}
+
+/// Returns true if one of these blocks is that of the loop that begins at an offset.
+fn is_among(blocks: &[LoopHeader<'_>], at: usize) -> bool {
+    for block in blocks {
+        if !block.value.is_empty() && block.at == at {
+            return true;
+        }
+    }
+    false
 }
 
 /// Returns the offset at which the `if` at an offset ends, with its `else` branches.
