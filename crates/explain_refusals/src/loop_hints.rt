@@ -151,7 +151,7 @@ fn beginning_of(wants_key: bool) -> &'static str {
 fn words_of(purpose: TurnValue, is_output: bool) -> &'static str {
     match purpose {
         TurnValue::Whole if is_output => "write elements of it: $0[$2] = ..;",
-        TurnValue::Whole => "write elements of it, $0[$2] = ..;, or declare it in the loop",
+        TurnValue::Whole => "write elements of it, $0[$2] = ..;, or move its declaration into the loop",
         TurnValue::Carried => {
             "keep the value of each turn in an array, with the first one before the loop: $1[$2] = $1[$2 - 1] + ..;"
         }
@@ -161,7 +161,7 @@ fn words_of(purpose: TurnValue, is_output: bool) -> &'static str {
         TurnValue::Mark => "mark the turns in an array, hit[$2] = 1;",
         TurnValue::Other if is_output => "keep the value of each turn in an array, $1[$2] = ..;",
         TurnValue::Other => {
-            "keep the value of each turn in an array, $0[$2] = ..;, or declare $0 in the loop"
+            "keep the value of each turn in an array, $0[$2] = ..;, or move the declaration of $0 into the loop"
         }
     }
 }
