@@ -11,6 +11,7 @@ use explain_names::partial_assignment::{PartialAssignment, partly_assigned};
 use explain_names::refused_script::RefusedScript;
 use explain_searches::calls::is_read_behind;
 use explain_searches::declared::{rest_of_statement, type_of};
+use explain_searches::scopes::occurs_between;
 use lexer::token::Span;
 use std::alloc::{AllocError, Allocator};
 use syntax_trees::tree::Shape;
@@ -110,11 +111,14 @@ fn hint_of_twice<A: Allocator>(
             return Ok(next);
         }
     }
-    let is_at_declaration = match first {
-        Some(first) => is_declared_at(occurrences, first.at),
+    let is_movable = match first {
+        Some(first) => {
+            is_declared_at(occurrences, first.at)
+                && !occurs_between(refused.text, first.at.to, at.from, name)
+        }
         None => false,
     };
-    let template = if is_at_declaration {
+    let template = if is_movable {
         "declare $0 without a value, or give the new value another name"
     } else {
         "give the new value another name than $0"
