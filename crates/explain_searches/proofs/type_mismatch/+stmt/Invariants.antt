@@ -2,7 +2,7 @@ use Rattle.std.proofs.Common.{◌+◌, ◌*◌, map}
 use Rattle.std.specs.List.{sum_by}
 use Rattle.syntax_trees.specs.View.{statement_view, command_view, body_view}
 use Rattle.language.specs.Numbered.{statement_size, command_size, body_size}
-use Rattle.explain_refusals.proofs.type_mismatch.+stmt.Given as goal
+use Rattle.explain_searches.proofs.type_mismatch.+stmt.Given as goal
 
 abbrev pub decreases-in_statement : goal.decreases-in_statement
 decreases-in_statement g l = 5 * statement_size (statement_view l.stmt.now)

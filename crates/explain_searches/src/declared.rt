@@ -107,8 +107,46 @@ pub fn sort_behind<A: Allocator>(
     DisplayType { base, shape }
 }
 
+/// Returns the type of the output that the target at a place receives, or int if it is unknown. `first`: the offset of
+/// the `(` before the targets.
+pub fn sort_of_target<A: Allocator>(
+    refused: &RefusedScript<'_, A>,
+    first: usize,
+    at: Span,
+) -> DisplayType {
+    let mut lexer = Lexer::behind(refused.text, first.min(refused.text.len()));
+    let mut place: usize = 0;
+    let mut called: &[u8] = &[];
+    for _ in first..refused.text.len() {
+        let Some(token) = next_token(&mut lexer) else {
+            break;
+        };
+        if token.kind == TokenKind::Comma && token.span.from < at.from {
+            place = place.saturating_add(1);
+        }
+        if token.kind == TokenKind::Assign {
+            if let Some(name) = next_token(&mut lexer) {
+                called = name.text;
+            }
+            break;
+        }
+    }
+    if let Some(function) = function_named(called, refused.script) {
+        if let Some(output) = function.outputs.get(place) {
+            return DisplayType {
+                base: output.base,
+                shape: output.shape,
+            };
+        }
+    }
+    DisplayType {
+        base: Base::Int,
+        shape: Shape::Scalar,
+    }
+}
+
 /// Returns a guess at the base type of a value, from its first token.
-fn base_of<A: Allocator>(
+pub fn base_of<A: Allocator>(
     refused: &RefusedScript<'_, A>,
     occurrences: &[Occurrence],
     first: Option<Token<'_>>,

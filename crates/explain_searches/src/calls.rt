@@ -97,16 +97,6 @@ pub fn is_behind_comma(text: &[u8], at: usize) -> bool {
     last == TokenKind::Comma
 }
 
-/// Returns true if an argument of `printf` other than the format begins at an offset.
-pub fn is_printed(alloc: Global, text: &[u8], at: usize) -> Result<bool, AllocError> {
-    let around = TokenContext::new(alloc, text, at)?;
-    Ok(
-        around.last.kind == TokenKind::Comma
-            && around.opener.kind == TokenKind::OpenRound
-            && around.opener_before.text == b"printf".as_slice(),
-    )
-}
-
 /// Returns the number of values that a format takes, or `None` if the first argument is not a string.
 ///
 /// The format is searched in the first brackets that open at an offset or after it.
@@ -150,4 +140,35 @@ pub fn next_token<'t>(lexer: &mut Lexer<'t>) -> Option<Token<'t>> {
         Some(Ok(token)) => Some(token),
         _ => None,
     }
+}
+
+/// Returns the kind of the token after the next `=`, or `End` if the token at the offset is not a `=`.
+pub fn value_behind(text: &[u8], at: usize) -> TokenKind {
+    let mut lexer = Lexer::behind(text, at.min(text.len()));
+    match next_token(&mut lexer) {
+        Some(token) if token.kind == TokenKind::Assign => match next_token(&mut lexer) {
+            Some(value) => value.kind,
+            None => TokenKind::End,
+        },
+        _ => TokenKind::End,
+    }
+}
+
+/// Returns the bytes of the token after an offset, or no bytes if there is none.
+pub fn text_behind(text: &[u8], at: usize) -> &[u8] {
+    let mut lexer = Lexer::behind(text, at.min(text.len()));
+    match next_token(&mut lexer) {
+        Some(token) => token.text,
+        None => &[],
+    }
+}
+
+/// Returns the first token of the second argument of the call whose `(` follows an offset, if the first argument is one
+/// token.
+pub fn second_argument(text: &[u8], at: usize) -> Option<Token<'_>> {
+    let mut lexer = Lexer::behind(text, at.min(text.len()));
+    let _bracket = next_token(&mut lexer)?;
+    let _first = next_token(&mut lexer)?;
+    let _comma = next_token(&mut lexer)?;
+    next_token(&mut lexer)
 }

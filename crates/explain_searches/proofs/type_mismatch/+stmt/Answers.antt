@@ -4,7 +4,7 @@ use Rattle.std.specs.List.{sum_by}
 use Rattle.syntax_trees.specs.View.{statement_view}
 use Rattle.language.specs.Numbered.{statement_size}
 use Rattle.syntax_trees.proofs.Views.{size_of_element, block-size}
-use Rattle.explain_refusals.proofs.type_mismatch.+stmt.Goals as goal
+use Rattle.explain_searches.proofs.type_mismatch.+stmt.Goals as goal
 
 pub in_each-in_statement-requires : goal.in_each-in_statement-requires
 in_each-in_statement-requires g t c =

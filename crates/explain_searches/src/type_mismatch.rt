@@ -25,6 +25,8 @@ pub struct TypeMismatch {
 pub enum ExpectedType {
     /// A type.
     Sort(DisplayType),
+    /// The type of an operand of this operator.
+    Operand(DisplayType, Operator),
     /// A key of an array of this type. The place is that of the array's name.
     Key(DisplayType, Span),
     /// A value of this type, in place of which there is an array literal.
@@ -109,7 +111,7 @@ fn in_command<A: Allocator>(
         }
         StmtKind::Call(_, call) => in_call(search, call, found),
         StmtKind::If(test, then, other) => {
-            demand(search, test, one(Base::Boolean), found);
+            demand(search, test, one(Base::Boolean), None, found);
             in_block(search, then, found);
             if let Some(other) = other {
                 in_block(search, other, found);
@@ -170,7 +172,7 @@ fn in_write<A: Allocator>(
     want_array(search, name, ExpectedType::Element, found);
     if let Some(array) = sort_of_name(search, name) {
         demand_key(search, name, index, array, found);
-        demand(search, value, one(array.base), found);
+        demand(search, value, one(array.base), None, found);
     }
 }
 
@@ -182,10 +184,10 @@ fn in_right<A: Allocator>(
 ) {
     let Some(wanted) = wanted else { return };
     match right {
-        Right::Value(value) => demand(search, value, wanted, found),
+        Right::Value(value) => demand(search, value, wanted, None, found),
         Right::List(list) => {
             for element in &list.elements {
-                demand(search, element, one(wanted.base), found);
+                demand(search, element, one(wanted.base), None, found);
             }
             let numbered = Shape::Array(Keys::Numbers);
             if wanted.shape != numbered && list.first == search.at {
@@ -276,23 +278,24 @@ fn in_range<A: Allocator>(
     range: &Range<A>,
     found: &mut Option<TypeMismatch>,
 ) {
-    demand(search, &range.low, one(Base::Int), found);
-    demand(search, &range.high, one(Base::Int), found);
+    demand(search, &range.low, one(Base::Int), None, found);
+    demand(search, &range.high, one(Base::Int), None, found);
     if let Some(step) = &range.step {
-        demand(search, step, one(Base::Int), found);
+        demand(search, step, one(Base::Int), None, found);
     }
 }
 
-/// Searches an expression for which a type is expected.
+/// Searches an expression for which a type is expected. `operator`: the operator of which it is an operand, if any.
 #[cycle(expr)]
 fn demand<A: Allocator>(
     search: &MismatchSearch<A>,
     value: &Expr<A>,
     wanted: DisplayType,
+    operator: Option<Operator>,
     found: &mut Option<TypeMismatch>,
 ) {
     in_form(search, &value.kind, found);
-    judge(search, value, wanted, found);
+    judge(search, value, wanted, operator, found);
 }
 
 /// Searches an index of an array of this type.
@@ -331,6 +334,7 @@ fn judge<A: Allocator>(
     search: &MismatchSearch<A>,
     value: &Expr<A>,
     wanted: DisplayType,
+    operator: Option<Operator>,
     found: &mut Option<TypeMismatch>,
 ) {
     if value.first != search.at {
@@ -338,10 +342,18 @@ fn judge<A: Allocator>(
     }
     if let Some(sort) = sort_of(search, value) {
         if sort != wanted {
-            note(found, sort, ExpectedType::Sort(wanted));
+            note(found, sort, wish_of(wanted, operator));
         } else if sort.shape != Shape::Scalar {
             want_name(value, sort, found);
         }
+    }
+}
+
+/// Returns the expectation of a type, by an operator if there is one.
+fn wish_of(wanted: DisplayType, operator: Option<Operator>) -> ExpectedType {
+    match operator {
+        Some(operator) => ExpectedType::Operand(wanted, operator),
+        None => ExpectedType::Sort(wanted),
     }
 }
 
@@ -373,12 +385,12 @@ fn in_form<A: Allocator>(
             want_array(search, name, ExpectedType::Element, found);
             match sort_of_name(search, name) {
                 Some(array) => demand_key(search, name, index, array, found),
-                None => demand(search, index, one(Base::Int), found),
+                None => demand(search, index, one(Base::Int), None, found),
             }
         }
         ExprKind::Call(name, arguments) => in_arguments(search, name, arguments, found),
         ExprKind::Prefixed(prefix, operand) => {
-            demand(search, operand, one(base_of(*prefix)), found);
+            demand(search, operand, one(base_of(*prefix)), None, found);
         }
         ExprKind::Chain(operators, operands) => in_chain(search, operators, operands, found),
     }
@@ -398,9 +410,13 @@ fn in_chain<A: Allocator>(
         None => None,
     };
     let wanted = wanted_by(operators.as_slice(), first);
+    let operator = match operators.first() {
+        Some(operator) => Some(*operator),
+        None => None,
+    };
     judge_compared(search, operators.as_slice(), operands.as_slice(), found);
     for operand in operands {
-        demand(search, operand, wanted, found);
+        demand(search, operand, wanted, operator, found);
     }
 }
 
@@ -455,7 +471,7 @@ fn in_arguments<A: Allocator>(
     let mut place: usize = 0;
     for argument in arguments {
         match wanted_at(search, name, arguments.as_slice(), place) {
-            Some(wanted) => demand(search, argument, wanted, found),
+            Some(wanted) => demand(search, argument, wanted, None, found),
             None => in_argument(search, name, argument, found),
         }
         place = place.saturating_add(1);
@@ -530,7 +546,7 @@ fn wanted_at<A: Allocator>(
 }
 
 /// Returns the type that a conversion of a format expects. `place`: its position, counted from 1.
-fn converted(format: &[u8], place: usize) -> Option<DisplayType> {
+pub fn converted(format: &[u8], place: usize) -> Option<DisplayType> {
     let mut left = place;
     let mut begun = false;
     for byte in format {
