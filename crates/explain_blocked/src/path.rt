@@ -117,6 +117,21 @@ fn opener<'t, 'a, A: Allocator>(
     action_of(context.index.site(at)?)
 }
 
+/// Returns true if a block instance is a turn of a loop, or is nested in one.
+pub fn is_in_loop<'t, 'a, A: Allocator>(
+    context: &ExplainContext<'t, 'a, A>,
+    instance: usize,
+) -> bool {
+    for step in context.known.fact_base.instances.path(instance) {
+        match opener(context, step.offset) {
+            Some(Action::Range { .. }) => return true,
+            Some(Action::Each { .. }) => return true,
+            _ => {}
+        }
+    }
+    false
+}
+
 fn write_branch(out: &mut Vec<u8>, key: &Key) -> Result<(), AllocError> {
     match key {
         Key::Number(0) => write_str(out, "in the if at "),
