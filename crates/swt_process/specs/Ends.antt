@@ -21,7 +21,7 @@ abbrev pub Closes : (place : List ℕ) (h : List Event) (trace : Held) (number :
 Closes place h trace number mid err status =
     ((status ≡ number) × Kept mid err × (trace.failures ≡ 0 → IsKept place h) × (0 < trace.failures → replaced h ≡ []))
     ⊎ ((status ≡ 7) × (is_reported number ≡ true) × (trace.failures ≡ 0) × (0 < length trace.bytes)
-      × (is_unplaced place h ≡ true) × Given mid (trouble_line Untraced []) err)
+    × (is_unplaced place h ≡ true) × Given mid (trouble_line Untraced []) err)
 
 -- the command satisfied its contract for these files, with the bytes that were written to the trace's file, and then
 -- the process ended

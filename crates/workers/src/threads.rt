@@ -233,7 +233,10 @@ fn locked_step<J: RunParams, E: Ledger, N: Ledger>(
     if !release_worker(scheduler, state) || scheduler.audited_board.is_over() {
         return NextStep::Stop;
     }
-    if state.busy && state.contention >= Tuning::MEASURED.contention_limit && scheduler.active.has_others(true) {
+    if state.busy
+        && state.contention >= Tuning::MEASURED.contention_limit
+        && scheduler.active.has_others(true)
+    {
         state.contention = Tuning::MEASURED.contention_after_park;
         return NextStep::Park;
     }
@@ -382,7 +385,11 @@ fn thread_main<J: RunParams, E: Ledger, N: Ledger, R: Wait, G: Gate>(
 )
     requires { pool_id pool.now ≡ J.pool }
 {
-    let mut state = ThreadState::new(if started { Tuning::MEASURED.contention_after_park } else { 0 });
+    let mut state = ThreadState::new(if started {
+        Tuning::MEASURED.contention_after_park
+    } else {
+        0
+    });
     if started {
         signal.park(rt);
     }

@@ -111,7 +111,8 @@ impl WakeSignal {
     pub fn nap<R: Wait>(&self, rt: &R) {
         let heard = self.condvar.notifications();
         if self.state() & STOPPED == 0 {
-            self.condvar.sleep(rt, heard, Duration::from_micros(Tuning::MEASURED.nap_us));
+            self.condvar
+                .sleep(rt, heard, Duration::from_micros(Tuning::MEASURED.nap_us));
         }
     }
 }

@@ -87,19 +87,19 @@ pub returns-then-is_kept-clause-unchanged : goal.returns-then-is_kept-clause-unc
 returns-then-is_kept-clause-unchanged g c = λ n.
     let kept = untraced c.command-status.ensures n in
     c.finish-is_kept.ensures.unchanged
-      (ap (λ (t : Held). t.bytes) kept ∙ ap given c.new-trace.ensures.history ∙ none_given (g.H.Host.history c.args.host) c.requires.none)
-      (ap (λ (t : Held). t.failures) kept ∙ c.new-trace.ensures.failures) ∙ c.requires.changed
+    (ap (λ (t : Held). t.bytes) kept ∙ ap given c.new-trace.ensures.history ∙ none_given (g.H.Host.history c.args.host) c.requires.none)
+    (ap (λ (t : Held). t.failures) kept ∙ c.new-trace.ensures.failures) ∙ c.requires.changed
 
 pub returns-clause-unchanged : goal.returns-clause-unchanged
 returns-clause-unchanged g c = λ n.
     let kept = untraced c.command-status.ensures n in
     c.finish-is_kept.ensures.unchanged
-      (ap (λ (t : Held). t.bytes) kept ∙ ap given c.new-trace.ensures.history ∙ none_given (g.H.Host.history c.args.host) c.requires.none)
-      (ap (λ (t : Held). t.failures) kept ∙ c.new-trace.ensures.failures) ∙ c.requires.changed
+    (ap (λ (t : Held). t.bytes) kept ∙ ap given c.new-trace.ensures.history ∙ none_given (g.H.Host.history c.args.host) c.requires.none)
+    (ap (λ (t : Held). t.failures) kept ∙ c.new-trace.ensures.failures) ∙ c.requires.changed
 
 pub returns-then-is_reported-clause-unchanged : goal.returns-then-is_reported-clause-unchanged
 returns-then-is_reported-clause-unchanged g c = λ n.
     let kept = untraced c.command-status.ensures n in
     c.finish-is_kept.ensures.unchanged
-      (ap (λ (t : Held). t.bytes) kept ∙ ap given c.new-trace.ensures.history ∙ none_given (g.H.Host.history c.args.host) c.requires.none)
-      (ap (λ (t : Held). t.failures) kept ∙ c.new-trace.ensures.failures) ∙ c.requires.changed
+    (ap (λ (t : Held). t.bytes) kept ∙ ap given c.new-trace.ensures.history ∙ none_given (g.H.Host.history c.args.host) c.requires.none)
+    (ap (λ (t : Held). t.failures) kept ∙ c.new-trace.ensures.failures) ∙ c.requires.changed
