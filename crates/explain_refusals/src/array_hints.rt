@@ -79,7 +79,11 @@ pub fn hint_of_scalar(
         (TokenKind::Assign, _) => "write a list: [$0]",
         _ => "assign it to an array first, $1 = [$0];, and give the name of that",
     };
-    Hint::filled(wrong.alloc, template, &[wrong.value, declaration.as_slice()])
+    Hint::filled(
+        wrong.alloc,
+        template,
+        &[wrong.value, declaration.as_slice()],
+    )
 }
 
 /// Returns the hint about an array of another type than the expected one.

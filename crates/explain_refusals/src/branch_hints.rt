@@ -26,16 +26,19 @@ pub fn hint_of_partly(
     }
     let end = end_of_if(text, at.from);
     if last_before(text, occurrences, LookupKind::Element, name, end).is_some() {
-        let template = "assign $0 alike in both branches: whole, $0 = [..];, or by elements, $0[0] = ..;";
+        let template =
+            "assign $0 alike in both branches: whole, $0 = [..];, or by elements, $0[0] = ..;";
         return Hint::filled(alloc, template, &[name]);
     }
     match assigned_after(text, occurrences, name, end) {
         Some(after) if is_in_next_if(text, end, after.from) => {
-            let template = "join the two ifs that assign $0 into one: if (..) { .. } else if (..) { .. } else { $0 = ..; }";
+            let template =
+                "join the two ifs that assign $0 into one: if (..) { .. } else if (..) { .. } else { $0 = ..; }";
             Hint::filled(alloc, template, &[name])
         }
         Some(after) => {
-            let template = "give one of the two values of $0 another name: this one, or the one that is assigned";
+            let template =
+                "give one of the two values of $0 another name: this one, or the one that is assigned";
             Ok(placed(Hint::filled(alloc, template, &[name])?, Some(after)))
         }
         None => hint_of_else(alloc, partly, name, at),

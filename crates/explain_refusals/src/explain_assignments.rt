@@ -37,12 +37,7 @@ fn told_of_never<A: Allocator>(
     at: Span,
 ) -> Result<Explanation, AllocError> {
     let name = bytes_at(refused.text, at);
-    let told = Explanation::of(
-        refused.alloc,
-        "`$0` is read but never assigned",
-        name,
-        None,
-    )?;
+    let told = Explanation::of(refused.alloc, "`$0` is read but never assigned", name, None)?;
     Ok(told.with(Hint::filled(refused.alloc, "assign it once: $0 = ..;", &[name])?))
 }
 
@@ -144,7 +139,11 @@ fn hint_of_next<A: Allocator>(
     match scalar_of(text, occurrences, name, at.from) {
         Some(sort) if !is_taken && rest.starts_with(b" =") => {
             let parts = [type_of(sort.base).as_bytes(), next.as_slice(), rest];
-            Hint::filled(refused.alloc, "give the new value another name: $0$1$2", &parts)
+            Hint::filled(
+                refused.alloc,
+                "give the new value another name: $0$1$2",
+                &parts,
+            )
         }
         _ => Ok(None),
     }
@@ -185,10 +184,7 @@ fn told_of_read_only<A: Allocator>(
     };
     let note = note_of("declared at", Some(declared));
     let told = Explanation::of(refused.alloc, template, name, note)?;
-    Ok(told.with(Hint::plain(
-        refused.alloc,
-        "give the new value another name",
-    )?))
+    Ok(told.with(Hint::plain(refused.alloc, "give the new value another name")?))
 }
 
 /// Returns the explanation of an `if` whose branches assign a variable different numbers of times.
@@ -316,7 +312,8 @@ fn told_of_output<A: Allocator>(
         });
         for output in &function.outputs {
             if output.name.span == at && output.shape != Shape::Scalar {
-                template = "assign it in its function, $0 = [..];, or write its elements, $0[0] = ..;";
+                template =
+                    "assign it in its function, $0 = [..];, or write its elements, $0[0] = ..;";
             }
         }
     }

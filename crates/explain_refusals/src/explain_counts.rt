@@ -219,7 +219,10 @@ fn told_of_printed<A: Allocator>(
     write_str(&mut told.sentence, ", found ")?;
     write_count(&mut told.sentence, values)?;
     let hint = if values < wanted {
-        Hint::plain(alloc, "give a value for each %i, %d and %s, and write %% for a % that is printed")?
+        Hint::plain(
+            alloc,
+            "give a value for each %i, %d and %s, and write %% for a % that is printed",
+        )?
     } else if wanted == 0 {
         hint_of_conversion(refused, at)?
     } else {

@@ -31,7 +31,8 @@ pub fn told_of_format(alloc: Global, format: &[u8]) -> Result<Explanation, Alloc
 fn told_of_conversion(alloc: Global, byte: u8) -> Result<Explanation, AllocError> {
     let words = match byte {
         b'f' | b'e' | b'g' => "write %i: all numbers are ints",
-        b'b' => "a boolean is printed by an if: if (b) { printf(\"true\"); } else { printf(\"false\"); }",
+        b'b' =>
+            "a boolean is printed by an if: if (b) { printf(\"true\"); } else { printf(\"false\"); }",
         b'c' => "write %s: a character is a string",
         b'0'..=b'9' | b'-' | b'.' | b'+' => {
             "write %i or %s: conversions have no width; pad by a function that puts blanks before"

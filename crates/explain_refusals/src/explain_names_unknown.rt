@@ -10,7 +10,9 @@ use explain_names::occurrence::{DisplayType, Occurrence, OccurrenceKind};
 use explain_names::occurrences::{function_around, mentions_around};
 use explain_names::refused_script::RefusedScript;
 use explain_searches::calls::is_read_behind;
-use explain_searches::declared::{rest_of_statement, sort_behind, sort_of_target, write_declaration};
+use explain_searches::declared::{
+    rest_of_statement, sort_behind, sort_of_target, write_declaration,
+};
 use explain_searches::scopes::loop_before;
 use explain_text::words::write_str;
 use lexer::token::{Span, TokenKind};
@@ -71,9 +73,17 @@ fn told_of_invisible<A: Allocator>(
         "declared in another block at"
     };
     let template = "variable `$0` is not visible here";
-    let told = Explanation::of(refused.alloc, template, name, note_of(words, Some(other.at)))?;
+    let told = Explanation::of(
+        refused.alloc,
+        template,
+        name,
+        note_of(words, Some(other.at)),
+    )?;
     if is_later {
-        let hint = Hint::plain(refused.alloc, "move the declaration up, before its first use")?;
+        let hint = Hint::plain(
+            refused.alloc,
+            "move the declaration up, before its first use",
+        )?;
         return Ok(told.with(hint));
     }
     let left = loop_before(refused.alloc, refused.text, other.at.to, at.from)?;
@@ -165,11 +175,19 @@ fn hint_of_reading<A: Allocator>(
     }
     if let Some(function) = function_with_output(refused, name) {
         let parts = [name, bytes_at(refused.text, function)];
-        return Hint::filled(refused.alloc, "$0 is an output of $1: call it, $1(..)", &parts);
+        return Hint::filled(
+            refused.alloc,
+            "$0 is an output of $1: call it, $1(..)",
+            &parts,
+        );
     }
     let around = TokenContext::new(refused.alloc, refused.text, at.from)?;
     if around.last.kind == TokenKind::In {
-        return Hint::filled(refused.alloc, "declare the array before: int $0[];", &[name]);
+        return Hint::filled(
+            refused.alloc,
+            "declare the array before: int $0[];",
+            &[name],
+        );
     }
     Ok(None)
 }
@@ -197,10 +215,7 @@ fn array_of_key<'a, A: Allocator>(
 }
 
 /// Returns the place of the name of the first function that has an output with this name.
-fn function_with_output<A: Allocator>(
-    refused: &RefusedScript<'_, A>,
-    name: &[u8],
-) -> Option<Span> {
+fn function_with_output<A: Allocator>(refused: &RefusedScript<'_, A>, name: &[u8]) -> Option<Span> {
     for item in &refused.script.items {
         if let Item::Function(function) = item {
             for output in &function.outputs {

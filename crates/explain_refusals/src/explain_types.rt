@@ -71,27 +71,23 @@ fn words_of_declared<A: Allocator>(
 ) -> Result<&'static str, AllocError> {
     let kind = kind_at(occurrences, at);
     if kind == Some(OccurrenceKind::Given) {
-        return Ok(
-            if function_takes(refused, at) {
-                "choose another name: all inputs and outputs have different names"
-            } else {
-                "choose another name for the loop variable"
-            },
-        );
+        return Ok(if function_takes(refused, at) {
+            "choose another name: all inputs and outputs have different names"
+        } else {
+            "choose another name for the loop variable"
+        });
     }
     let name = bytes_at(refused.text, at);
     let assigned = LookupKind::Assignment;
     let has_value = last_before(refused.text, occurrences, assigned, name, at.from).is_some();
     let around = loop_since(refused.alloc, refused.text, first.at.from, at.from)?;
-    Ok(
-        match kind {
-            Some(OccurrenceKind::Assigned) if !has_value && around.is_none() => {
-                "leave out the type to assign the variable that is there, $0 = ..;, or choose another name"
-            }
-            Some(OccurrenceKind::Declared) => "leave out this declaration, or choose another name",
-            _ => "choose another name",
-        },
-    )
+    Ok(match kind {
+        Some(OccurrenceKind::Assigned) if !has_value && around.is_none() => {
+            "leave out the type to assign the variable that is there, $0 = ..;, or choose another name"
+        }
+        Some(OccurrenceKind::Declared) => "leave out this declaration, or choose another name",
+        _ => "choose another name",
+    })
 }
 
 /// Returns true if a place is that of an input of a function.
@@ -126,7 +122,11 @@ fn told_of_mismatch<A: Allocator>(
             match mismatch.wanted {
                 ExpectedType::Compared => {}
                 ExpectedType::Named => fill(&mut told.sentence, ", found a call", &[])?,
-                _ => fill(&mut told.sentence, ", found $0", &[words_of(mismatch.found)])?,
+                _ => fill(
+                    &mut told.sentence,
+                    ", found $0",
+                    &[words_of(mismatch.found)],
+                )?,
             }
             let listed = occurrences.as_slice();
             let hint = hint_of_mismatch(refused.alloc, refused.text, listed, mismatch, at)?;
@@ -182,7 +182,12 @@ fn told_of_function<A: Allocator>(
     let told = match function_named(name, refused.script) {
         Some(first) if first.name.span != at => {
             let note = Some(defined_at(first));
-            Explanation::of(refused.alloc, "function `$0` is already defined", name, note)?
+            Explanation::of(
+                refused.alloc,
+                "function `$0` is already defined",
+                name,
+                note,
+            )?
         }
         _ => Explanation::of(refused.alloc, "`$0` is a built-in function", name, None)?,
     };

@@ -42,15 +42,10 @@ pub fn hint_of_loop(
     let outer = loop_since(alloc, text, declared.at.from, header.at)?;
     let is_nested = purpose != TurnValue::Whole && outer.is_some();
     let key = key_of(alloc, outer, header, is_nested)?;
-    let parts = [
-        name,
-        array,
-        key.as_slice(),
-        header.value,
-        header.array,
-    ];
+    let parts = [name, array, key.as_slice(), header.value, header.array];
     if is_unordered(text, occurrences, header, purpose) {
-        let template = "the keys of $4 are strings, which have no order: keep the entries under numbers too, and go through those";
+        let template =
+            "the keys of $4 are strings, which have no order: keep the entries under numbers too, and go through those";
         return Hint::filled(alloc, template, &parts);
     }
     let mut words = Vec::new(alloc);
@@ -115,12 +110,7 @@ fn is_unordered(
 }
 
 /// Returns the purpose of the assignment at a place.
-fn purpose_of(
-    text: &[u8],
-    declared: Occurrence,
-    header: LoopHeader<'_>,
-    at: Span,
-) -> TurnValue {
+fn purpose_of(text: &[u8], declared: Occurrence, header: LoopHeader<'_>, at: Span) -> TurnValue {
     let name = bytes_at(text, at);
     if let Some(sort) = declared.sort {
         if sort.shape != Shape::Scalar {
@@ -131,7 +121,10 @@ fn purpose_of(
         TurnValue::Carried
     } else if occurs_between(text, header.at, at.from, name) {
         TurnValue::Chosen
-    } else if matches!(value_behind(text, at.to), TokenKind::True | TokenKind::False) {
+    } else if matches!(
+        value_behind(text, at.to),
+        TokenKind::True | TokenKind::False
+    ) {
         TurnValue::Mark
     } else {
         TurnValue::Other
@@ -151,7 +144,8 @@ fn beginning_of(wants_key: bool) -> &'static str {
 fn words_of(purpose: TurnValue, is_output: bool) -> &'static str {
     match purpose {
         TurnValue::Whole if is_output => "write elements of it: $0[$2] = ..;",
-        TurnValue::Whole => "write elements of it, $0[$2] = ..;, or move its declaration into the loop",
+        TurnValue::Whole =>
+            "write elements of it, $0[$2] = ..;, or move its declaration into the loop",
         TurnValue::Carried => {
             "keep the value of each turn in an array, with the first one before the loop: $1[$2] = $1[$2 - 1] + ..;"
         }

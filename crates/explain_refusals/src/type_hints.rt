@@ -133,8 +133,7 @@ fn words_of_call(wrong: &WrongValue<'_>, wanted: DisplayType) -> Option<&'static
     }
     match (wrong.found.base, wanted.base) {
         (Base::Text, Base::Boolean) | (Base::Boolean, Base::Text)
-            if called == b"assert".as_slice() =>
-        {
+            if called == b"assert".as_slice() => {
             Some("the condition comes first, and the message second")
         }
         (Base::Int, Base::Text) if is_printed(wrong) => Some("print an int by %i"),
@@ -255,12 +254,7 @@ fn hint_of_key(
         (Shape::Scalar, _, _) => return hint_of_bases(wrong, keys.base()),
         _ => return hint_of_array(wrong, one(keys.base()), None),
     };
-    let parts = [
-        wrong.value,
-        name,
-        type_of(array.base).as_bytes(),
-        number,
-    ];
+    let parts = [wrong.value, name, type_of(array.base).as_bytes(), number];
     Hint::filled(wrong.alloc, template, &parts)
 }
 
