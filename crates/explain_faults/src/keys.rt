@@ -1,7 +1,7 @@
 //! The keys of an array, as they are shown in diagnostics.
 
-use explain_blocked::value_text::write_text;
-use explain_text::words::{write_count, write_number, write_str};
+use explain_blocked::value_text::write_key;
+use explain_text::words::{write_count, write_str};
 use std::alloc::AllocError;
 use values::key::Key;
 use values::map::Element;
@@ -87,11 +87,4 @@ pub fn write_element(out: &mut Vec<u8>, key: &Key) -> Result<(), AllocError> {
     write_str(out, "[")?;
     write_key(out, key)?;
     write_str(out, "]")
-}
-
-fn write_key(out: &mut Vec<u8>, key: &Key) -> Result<(), AllocError> {
-    match key {
-        Key::Number(number) => write_number(out, *number),
-        Key::Text(text) => write_text(out, text.as_bytes()),
-    }
 }

@@ -99,7 +99,7 @@ fn write_missing<'t, 'a, A: Allocator>(
 }
 
 /// Returns the key that is the value of a cell, or `None` if it has none.
-fn key_at<'t, 'a, A: Allocator>(
+pub fn key_at<'t, 'a, A: Allocator>(
     context: &ExplainContext<'t, 'a, A>,
     cell: Place,
 ) -> Result<Option<Key>, AllocError> {

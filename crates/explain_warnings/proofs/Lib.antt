@@ -1,4 +1,5 @@
 mod Added
 mod Marking
+mod Needing
 mod Texts
 mod Views

@@ -1,5 +1,5 @@
 -- The calls of a program on its machine, with their results, the newest first.
-use Rattle.std.specs.Prelude.{◌≡◌, ℕ, Bool, true, false, ◌&&◌, List, [], ◌∷◌, ◌++◌, Option, Some, None, option_to_list, option_map, is_some, bytes_eq}
+use Rattle.std.specs.Prelude.{◌≡◌, ℕ, Bool, true, false, ◌&&◌, List, [], ◌∷◌, ◌++◌, Option, Some, None, option_to_list, option_map, is_some, bytes_eq, not, if◌then◌else◌}
 use Rattle.host.specs.declared.identity.Identity.{Identity}
 use Rattle.host.specs.declared.host.Stream.{Stream}
 use Rattle.host.specs.declared.host.Stream.TheVariants.{Out, Error}
@@ -137,28 +137,51 @@ is_clear name (Named asked found ∷ Streamed Error error ∷ Streamed Out out �
     bytes_eq asked name && is_foreign found (option_to_list out ++ (option_to_list error ++ inputs h))
 is_clear name _ = false
 
--- the name was clear, and then a new file was created and written
-abbrev pub was_clear : List ℕ → List Event → Bool
-was_clear name (Began beside ∷ h) = is_clear name h
-was_clear name (Put bytes ∷ h) = was_clear name h
-was_clear name (Failed ∷ h) = was_clear name h
-was_clear name _ = false
+-- the last event is the identity of the file of the name, which exists and is not regular
+abbrev pub is_special : List ℕ → List Event → Bool
+is_special name (Named asked (Some file) ∷ h) = bytes_eq asked name && not file.regular
+is_special name _ = false
 
--- no file is truncated or replaced except one of this name, and each time it was neither a file that was read nor that
--- of standard output or standard error
+-- the new file that was created when the name was clear, and that all later bytes were written to
+abbrev pub begun : List ℕ → List Event → Option (List ℕ)
+begun name (Began beside ∷ h) = if is_clear name h then Some beside else None
+begun name (Put bytes ∷ h) = begun name h
+begun name (Failed ∷ h) = begun name h
+begun name _ = None
+
+abbrev is_named : List ℕ → Option (List ℕ) → Bool
+is_named name None = false
+is_named name (Some found) = bytes_eq name found
+
+-- the new file has this name
+abbrev pub has_begun : List ℕ → (beside : List ℕ) → List Event → Bool
+has_begun name beside h = is_named beside (begun name h)
+
+-- no file is changed except one of this name, and the new file that is renamed to it or removed. An existing file is
+-- replaced only if it was neither a file that was read nor that of standard output or standard error; it is truncated
+-- only if it is not regular besides
 abbrev pub is_safe : List ℕ → List Event → Bool
 is_safe name [] = true
-is_safe name (Emptied emptied ∷ h) = (bytes_eq emptied name && is_clear name h) && is_safe name h
-is_safe name (Renamed before replaced ∷ h) = (bytes_eq replaced name && was_clear name h) && is_safe name h
+is_safe name (Began beside ∷ h) = is_clear name h && is_safe name h
+is_safe name (Emptied emptied ∷ h) = ((bytes_eq emptied name && is_clear name h) && is_special name h) && is_safe name h
+is_safe name (Renamed before replaced ∷ h) = (bytes_eq replaced name && has_begun name before h) && is_safe name h
+is_safe name (Removed gone ∷ h) = has_begun name gone h && is_safe name h
 is_safe name (e ∷ h) = is_safe name h
 
--- the file of this name has the written bytes: it was renamed to the name, or truncated and then written
+-- the file of this name has the written bytes: a new file was renamed to the name, or the file was truncated and then
+-- written
 abbrev pub is_kept : List ℕ → List Event → Bool
 is_kept name (Renamed before n ∷ h) = bytes_eq n name
 is_kept name (Emptied n ∷ h) = bytes_eq n name
 is_kept name (Put bytes ∷ h) = is_kept name h
 is_kept name (Failed ∷ h) = is_kept name h
 is_kept name _ = false
+
+-- the machine refused to rename the new file, which was then removed, or could not be
+abbrev pub is_unplaced : List ℕ → List Event → Bool
+is_unplaced name (Removed gone ∷ (Failed ∷ h)) = has_begun name gone h
+is_unplaced name (Failed ∷ (Failed ∷ h)) = is_some (begun name h)
+is_unplaced name _ = false
 
 -- nothing was received, written or made unsafe between the histories
 pub record Keeps (name : List ℕ) (old new : List Event) : Type 0 where

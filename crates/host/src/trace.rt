@@ -1,7 +1,7 @@
 //! A sink that writes a trace to its file.
-ghost use Rattle.std.specs.Prelude.{◌≡◌, ◌≢◌, ◌<◌, [], List, ℕ, true, false, string_bytes, OnOk};
+ghost use Rattle.std.specs.Prelude.{◌≡◌, ◌≢◌, ◌<◌, ◌+◌, [], List, ℕ, length, true, false, string_bytes, Some};
 ghost use Rattle.host.specs.declared.opening.TraceState.TheVariants.{Unopened, Beside, InPlace};
-ghost use Rattle.host.specs.Events.{Learnt, given, inputs, is_kept, is_safe, learnt, replaced, was_clear};
+ghost use Rattle.host.specs.Events.{Event, Learnt, begun, changes, given, inputs, is_kept, is_safe, is_unplaced, learnt, replaced};
 
 use crate::host::Host;
 use crate::identity::Identity;
@@ -9,16 +9,20 @@ use crate::opening::{TraceState, open_trace};
 use std::marker::{Brand, PhantomData};
 use values::sink::{Sink, SinkFault};
 
-/// Ghost parameters of a trace file: the information received from the machine before the trace, and the final name of
-/// the trace.
+/// Ghost parameters of a trace file: the information received from the machine and the changes made before the trace,
+/// and the final name of the trace.
 pub trait TraceContext {
     ghost learnt: { Learnt };
+
+    ghost changed: { List Event };
 
     ghost place: { List ℕ };
 }
 
 impl TraceContext for Brand {
     ghost learnt = { learnt [] };
+
+    ghost changed = { [] };
 
     ghost place = { [] };
 }
@@ -43,15 +47,18 @@ pub struct TraceFile<H: Host, K: TraceContext> {
     ghost safe: { is_safe K.place (H.history host) ≡ true },
     ghost unnamed: { replaced (H.history host) ≡ [] },
     ghost unopened: { state ≡ Unopened → given (H.history host) ≡ [] },
-    ghost is_beside: { state ≡ Beside → was_clear K.place (H.history host) ≡ true },
+    ghost unchanged: { state ≡ Unopened → changes (H.history host) ≡ K.changed },
+    ghost written: { state ≢ Unopened → 0 < length (given (H.history host)) + failures },
+    ghost is_beside: { state ≡ Beside → begun K.place (H.history host) ≡ Some (string_bytes beside) },
     ghost in_place: { state ≡ InPlace → is_kept K.place (H.history host) ≡ true },
 }
 
 impl<H: Host, K: TraceContext> TraceFile<H, K> {
-    ghost use Rattle.host.specs.TraceFiles.{host_of, failures_of, state_of};
+    ghost use Rattle.host.specs.TraceFiles.{host_of, failures_of};
 
     pub fn new(host: H, known: Vec<Identity>, place: String, beside: String) -> TraceFile<H, K>
         requires past { learnt (H.history host) ≡ K.learnt }
+        requires changed { changes (H.history host) ≡ K.changed }
         requires known { known.items ≡ inputs (H.history host) }
         requires place { string_bytes place ≡ K.place }
         requires safe { is_safe K.place (H.history host) ≡ true }
@@ -70,26 +77,6 @@ impl<H: Host, K: TraceContext> TraceFile<H, K> {
             of: PhantomData,
         }
     }
-
-    /// Opens the file unless it is already open.
-    fn open(&mut self) -> Result<(), SinkFault>
-        ensures open { OnOk result (state_of self.new ≢ TraceState.Unopened) }
-        ensures given { given (H.history (host_of self.new)) ≡ given (H.history (host_of self.old)) }
-        ensures failures { failures_of self.new ≡ failures_of self.old }
-    {
-        if self.state == TraceState::Unopened {
-            match open_trace(
-                &mut self.host,
-                self.known.as_slice(),
-                self.place.as_str(),
-                self.beside.as_str(),
-            ) {
-                Ok(state) => self.state = state,
-                Err(_) => return Err(SinkFault),
-            }
-        }
-        Ok(())
-    }
 }
 
 impl<H: Host, K: TraceContext> Sink for TraceFile<H, K> {
@@ -103,18 +90,32 @@ impl<H: Host, K: TraceContext> Sink for TraceFile<H, K> {
         if piece.is_empty() {
             return Ok(0);
         }
-        if self.open().is_err() {
-            self.failures += 1;
-            return Err(SinkFault);
+        let TraceFile {
+            host,
+            known,
+            place,
+            beside,
+            state,
+            failures,
+            ..
+        } = self;
+        if *state == TraceState::Unopened {
+            match open_trace(host, known.as_slice(), place.as_str(), beside.as_str()) {
+                Ok(opened) => *state = opened,
+                Err(_) => {
+                    *failures += 1;
+                    return Err(SinkFault);
+                }
+            }
         }
-        match self.host.put(piece) {
+        match host.put(piece) {
             Ok(0) => {
-                self.failures += 1;
+                *failures += 1;
                 Ok(0)
             }
             Ok(n) => Ok(n),
             Err(_) => {
-                self.failures += 1;
+                *failures += 1;
                 Err(SinkFault)
             }
         }
@@ -136,6 +137,10 @@ impl<H: Host + Drop, K: TraceContext> TraceFile<H, K> {
         ensures given { given (H.history result.1) ≡ given (H.history (host_of self)) }
         ensures cut { 0 < failures_of self → replaced (H.history result.1) ≡ [] }
         ensures lost { result.0 ≡ false → failures_of self ≡ 0 }
+        ensures written { result.0 ≡ false → 0 < length (given (H.history (host_of self))) }
+        ensures refused { result.0 ≡ false → is_unplaced K.place (H.history result.1) ≡ true }
+        ensures unchanged { given (H.history (host_of self)) ≡ [] → failures_of self ≡ 0
+            → changes (H.history result.1) ≡ K.changed }
         ensures kept { result.0 ≡ true → failures_of self ≡ 0 → IsKept K.place (H.history result.1) }
     {
         let TraceFile {

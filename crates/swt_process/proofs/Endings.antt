@@ -1,6 +1,6 @@
 -- How a command has ended.
-use Rattle.std.proofs.Common.{◌≡◌, ◌∙◌, sym, ap, refl, inl, inr, subst, ℕ, ◌<◌, Bool, List, [], ◌∷◌, arith, Result, Ok, Err, true, false}
-use Rattle.host.specs.Events.{Event, given, replaced}
+use Rattle.std.proofs.Common.{◌≡◌, ◌∙◌, sym, ap, refl, inl, inr, subst, ℕ, ◌<◌, Bool, List, [], ◌∷◌, length, arith, Option, Some, None, is_some, Result, Ok, Err, true, false}
+use Rattle.host.specs.Events.{Event, given, is_unplaced, replaced}
 use Rattle.host.specs.Traces.{IsKept}
 use Rattle.paths.specs.declared.statements.StatementInstance.{StatementInstance}
 use Rattle.board_runs.specs.declared.report.End.{End}
@@ -19,6 +19,7 @@ use Rattle.swt_command.specs.Runs.{Runs, StopsRun}
 use Rattle.swt_command.specs.Sinks.{Held, Given, Kept, Lost, held}
 use Rattle.swt_command.specs.Troubles.{trouble_line}
 use Rattle.swt_process.specs.Ends.{Did, is_reported}
+use Rattle.swt_process.specs.Places.{trace_of}
 use Rattle.std.proofs.lemmas.Bool.{both_ways}
 
 -- WHAT IS SAID
@@ -93,6 +94,38 @@ untouched : {line : Line} {files : Files} {out out_new err err_new trace trace_n
 untouched {line = line} {files = files} {out = out} {out_new = out_new} {trace = trace} {trace_new = trace_new} o n e f =
     does_nothing line files o.ended out out_new trace trace_new o.does (λ z. n (subst (λ (k : ℕ). is_reported k ≡ true) (sym o.number_is) z)) e f
 
+-- a line that wants no trace leaves it as it was
+run_stop_untraced : (files : Files) (engines workers steps : ℕ) (t : CommandFailure) (out out_new trace new : Held) → StopsRun files engines workers steps false t out out_new trace new → Kept trace new
+run_stop_untraced files engines workers steps Is.Unread out out_new trace new h = h.2
+run_stop_untraced files engines workers steps (Is.Refused r) out out_new trace new h = h.2
+run_stop_untraced files engines workers steps (Is.BadLine n) out out_new trace new h = h.2
+run_stop_untraced files engines workers steps (Is.NotARun n) out out_new trace new h = h.2
+run_stop_untraced files engines workers steps (Is.WrongEnd n) out out_new trace new h = h.2
+run_stop_untraced files engines workers steps Is.BadCount out out_new trace new h = h.2
+run_stop_untraced files engines workers steps Is.NoThread out out_new trace new h = h.2
+run_stop_untraced files engines workers steps Is.Stranger out out_new trace new h = h.2
+run_stop_untraced files engines workers steps Is.Memory out out_new trace new h = h.2
+run_stop_untraced files engines workers steps Is.Unprinted out out_new trace new h = h.3
+run_stop_untraced files engines workers steps Is.Untraced out out_new trace new h = absurd (cc (h.3))
+
+run_untraced : (files : Files) (engines workers steps : ℕ) (wanted : Option (List ℕ)) (ended : Result Status CommandStop) (out out_new trace new : Held) → wanted ≡ None
+    → Runs files engines workers steps (is_some wanted) ended out out_new trace new → Kept trace new
+run_untraced files engines workers steps None (Ok status) out out_new trace new n d = d.4
+run_untraced files engines workers steps None (Err stop) out out_new trace new n d = run_stop_untraced files engines workers steps stop.trouble out out_new trace new d.1
+run_untraced files engines workers steps (Some w) ended out out_new trace new n d = absurd (cc (n))
+
+does_untraced : (line : Line) (files : Files) (ended : Result Status CommandStop) (out out_new trace new : Held) → trace_of line ≡ None → Does line files ended out out_new trace new → Kept trace new
+does_untraced (Check names) files ended out out_new trace new n d = d.1
+does_untraced (Mean file rounds) files ended out out_new trace new n d = d.1
+does_untraced (Code file dot) files ended out out_new trace new n d = d.1
+does_untraced (Run file engines workers steps wanted) files ended out out_new trace new n d = run_untraced files engines workers steps wanted ended out out_new trace new n d
+does_untraced (Replay file events) files ended out out_new trace new n d = d.1
+
+pub untraced : {line : Line} {files : Files} {out out_new err err_new trace trace_new : Held} {number : ℕ} → Owes line files out out_new err err_new trace trace_new number
+    → trace_of line ≡ None → Kept trace trace_new
+untraced {line = line} {files = files} {out = out} {out_new = out_new} {trace = trace} {trace_new = trace_new} o n =
+    does_untraced line files o.ended out out_new trace trace_new n o.does
+
 -- HOW IT CLOSES
 
 -- what the trace's file took, and how often that failed
@@ -115,5 +148,5 @@ module _ (line : Line) (files : Files) (place : List ℕ) (h : List Event) (out 
       did_close e f o (λ z. inl (ap (λ (t : Held). t.bytes) (untouched (owed e f o) (λ y. both_ways (is_reported number) n y) refl z))) c
 
   pub did_lose : (last : Held) → trace ≡ held [] 0 → new ≡ held (given h) failures → Owes line files out out_new err mid trace new number → is_reported number ≡ true → failures ≡ 0
-      → Given mid (trouble_line Is.Untraced []) last → Did line files place h out out_new err last 7
-  did_lose last e f o n z s = record { number = number; failures = failures; mid = mid; owes = owed e f o; closes = inr (refl, n, z, s) }
+      → 0 < length (given h) → is_unplaced place h ≡ true → Given mid (trouble_line Is.Untraced []) last → Did line files place h out out_new err last 7
+  did_lose last e f o n z w u s = record { number = number; failures = failures; mid = mid; owes = owed e f o; closes = inr (refl, n, z, w, u, s) }

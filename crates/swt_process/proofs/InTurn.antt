@@ -108,6 +108,7 @@ check_ran names h ended out new err err_new number c s n l e = record {
   read = read ended c n;
   asked = ap (λ (ks : List Link). map name_of ks) l;
   safe = none_unsafe [] h e;
+  unchanged = λ z. e;
   did = record {
     number = number;
     failures = 0;

@@ -1,6 +1,6 @@
 -- The end of a process.
-use Rattle.std.specs.Prelude.{◌≡◌, ◌<◌, ◌⊎◌, ◌||◌, ◌==◌, ℕ, Bool, List, [], map, option_to_list, true}
-use Rattle.host.specs.Events.{Event, changes, given, is_safe, links, reads, replaced}
+use Rattle.std.specs.Prelude.{◌≡◌, ◌<◌, ◌⊎◌, ◌||◌, ◌==◌, ℕ, Bool, List, [], length, map, None, option_to_list, true}
+use Rattle.host.specs.Events.{Event, changes, given, is_safe, is_unplaced, links, reads, replaced}
 use Rattle.host.specs.Traces.{IsKept}
 use Rattle.swt_arguments.specs.declared.line.Line.{Line}
 use Rattle.swt_status.specs.declared.failure.CommandFailure.TheVariants.{Memory, Untraced}
@@ -15,12 +15,13 @@ use Rattle.swt_process.specs.Reads.{HasRead}
 abbrev pub is_reported : ℕ → Bool
 is_reported number = number == 0 || (number == 3 || (number == 4 || number == 5))
 
--- the status is the command's, a complete trace is in its place, and a trace with a failed write is not; or a complete
--- trace could not be moved there, which is reported
+-- the status is the command's, a complete trace is in its place, and a trace with a failed write is not; or the machine
+-- refused to move a complete trace there, which is reported
 abbrev pub Closes : (place : List ℕ) (h : List Event) (trace : Held) (number : ℕ) (mid err : Held) (status : ℕ) → Type 0
 Closes place h trace number mid err status =
     ((status ≡ number) × Kept mid err × (trace.failures ≡ 0 → IsKept place h) × (0 < trace.failures → replaced h ≡ []))
-    ⊎ ((status ≡ 7) × (is_reported number ≡ true) × (trace.failures ≡ 0) × Given mid (trouble_line Untraced []) err)
+    ⊎ ((status ≡ 7) × (is_reported number ≡ true) × (trace.failures ≡ 0) × (0 < length trace.bytes)
+    × (is_unplaced place h ≡ true) × Given mid (trouble_line Untraced []) err)
 
 -- the command satisfied its contract for these files, with the bytes that were written to the trace's file, and then
 -- the process ended
@@ -31,13 +32,14 @@ pub record Did (line : Line) (files : Files) (place : List ℕ) (h : List Event)
   pub owes : Owes line files out out_new err mid (held [] 0) (held (given h) failures) number
   pub closes : Closes place h (held (given h) failures) number mid err_new status
 
--- the files of the line were read, and the command ran on their contents; no file that was read was written, and no
--- file of a standard stream
+-- the files of the line were read, and the command ran on their contents; no file was changed except the trace's, and
+-- no file that was read was written, and no file of a standard stream
 pub record Ran (line : Line) (h : List Event) (out out_new err err_new : Held) (status : ℕ) : Type 0 where
   pub files : Files
   pub read : HasRead line files status (reads h)
   pub asked : map name_of (links h) ≡ option_to_list (trace_of line)
   pub safe : is_safe (place_of (trace_of line) (links h)) h ≡ true
+  pub unchanged : trace_of line ≡ None → changes h ≡ []
   pub did : Did line files (place_of (trace_of line) (links h)) h out out_new err err_new status
 
 -- an allocation failed before the command: nothing is printed, created or changed

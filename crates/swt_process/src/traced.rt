@@ -1,9 +1,10 @@
 //! Execution of a command together with the file of its trace.
-ghost use Rattle.std.specs.Prelude.{◌≡◌, ◌<◌, [], true, string_bytes};
+ghost use Rattle.std.specs.Prelude.{◌≡◌, ◌<◌, [], None, true, string_bytes};
 ghost use Rattle.host.specs.Events.{changes, inputs, is_safe, learnt};
 ghost use Rattle.swt_command.specs.Files.{contents};
 ghost use Rattle.swt_command.specs.Sinks.{held};
 ghost use Rattle.swt_process.specs.Ends.{Did, is_reported};
+ghost use Rattle.swt_process.specs.Places.{trace_of};
 
 use bumpalo::Bump;
 use host::Host;
@@ -57,10 +58,12 @@ pub fn with_trace<
     requires known { known.items ≡ inputs (H.history host) }
     requires place { string_bytes place ≡ K.place }
     requires none { changes (H.history host) ≡ [] }
+    requires changed { K.changed ≡ [] }
     requires out { O.failures out.old < u64.MAX }
     requires err { E.failures err.old < u64.MAX }
     ensures past { learnt (H.history result.1) ≡ K.learnt }
     ensures safe { is_safe K.place (H.history result.1) ≡ true }
+    ensures unchanged { trace_of line.now ≡ None → changes (H.history result.1) ≡ [] }
     ensures did { Did line.now (contents files.now) K.place (H.history result.1)
         (held (O.taken out.old) (O.failures out.old)) (held (O.taken out.new) (O.failures out.new))
         (held (E.taken err.old) (E.failures err.old)) (held (E.taken err.new) (E.failures err.new)) result.0 }

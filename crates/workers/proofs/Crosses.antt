@@ -51,9 +51,9 @@ use Rattle.workers.specs.contracts.audited_board.AuditedBoard as audited_board
 use Rattle.workers.specs.contracts.scheduler.Scheduler as shared
 use Rattle.workers.specs.contracts.worker_state.WorkerState as worker_state
 use Rattle.workers.specs.contracts.idle_workers.IdleWorkers as idle
-use Rattle.workers.specs.contracts.ready_hints.ReadyHints as recent
-use Rattle.workers.proofs.counters.RunCounters.TheSendSync as counters
-use Rattle.workers.proofs.scheduler.ActiveThreads.TheSendSync as shift
+use Rattle.workers_policy.specs.contracts.ready_hints.ReadyHints as recent
+use Rattle.workers_policy.proofs.counters.RunCounters.TheSendSync as counters
+use Rattle.workers_policy.proofs.active_threads.ActiveThreads.TheSendSync as shift
 
 pub job_send : IsSend (job.the_field).row
 job_send = search (entry_send, entry_sync, crosses, sendable) depth 60 fits 4000

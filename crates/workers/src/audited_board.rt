@@ -13,7 +13,6 @@ ghost use Rattle.workers.specs.Offering.{AreListed};
 ghost use Rattle.workers.specs.Threads.{MayRun, IsRunWorker, RunsTo};
 ghost use Rattle.values.specs.Limits.{max_threads};
 
-use crate::counters::RunCounters;
 use crate::gate::RunParams;
 use crate::items::{CompletedItem, StartedItem};
 use crate::ready_items::{list_ready_items, newly_ready_count};
@@ -25,6 +24,7 @@ use pool::offers::ReadyItem;
 use std::marker::{Model, PhantomData};
 use std::sync::ledger::{Book, Ledger, Share};
 use task_code::entry::Kind;
+use workers_policy::counters::RunCounters;
 
 /// Maximum number of items that may have become ready before the next event. No run with a countable number of events
 /// reaches it.

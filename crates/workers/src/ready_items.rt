@@ -4,12 +4,12 @@
 ghost use Rattle.std.specs.Prelude.{◌≡◌, ◌<◌, ◌≤◌, ◌+◌, ◌^◌, length, slice_get, vec_capacity, vec_len, OnErr, OnOk, Some};
 ghost use Rattle.workers.specs.Offering.{AreListed, IsOffer, class_of, pool_kind};
 
-use crate::counters::RunCounters;
 use board::board::Board;
 use pool::HoleKind;
 use pool::offers::ReadyItem;
 use std::alloc::AllocError;
 use task_code::entry::Kind;
+use workers_policy::counters::RunCounters;
 
 /// Converts a kind of item into the kind of pool hole for it.
 pub fn pool_kind(kind: Kind) -> HoleKind
@@ -33,6 +33,20 @@ fn class_of(priority: i32) -> u8
     } else {
         1
     }
+}
+
+/// Returns the number of items that the board has made, of which `made` are known. New items have the next consecutive
+/// numbers.
+fn count_made(board: &Board, made: u64) -> u64 {
+    let mut last = made;
+    for _ in 0..u32::MAX {
+        let next = last.saturating_add(1);
+        if board.kind(next).is_none() {
+            break;
+        }
+        last = next;
+    }
+    last
 }
 
 /// Returns the newly ready item at an index of the board's list: its kind, and its offer.
@@ -89,7 +103,7 @@ pub fn list_ready_items(
     ensures refused { OnErr result (list.new.items ≡ list.old.items) }
     ensures len { vec_len list.new ≤ vec_len list.old + length board.now.newly }
 {
-    counters.record_end(board);
+    counters.record_end(count_made(board, counters.made()));
     match list.reserve(board.newly_len()) {
         Ok(()) => {
             append_ready_items(board, list, counters);

@@ -9,16 +9,13 @@ ghost use Rattle.workers.specs.Reports.{IsReport};
 ghost use Rattle.values.specs.Limits.{max_threads};
 
 use crate::audited_board::{AuditedBoard, StopReason};
-use crate::counters::RunCounters;
 use crate::fault::RunFault;
 use crate::gate::{Gate, RunParams};
 use crate::idle_workers::IdleWorkers;
-use crate::ready_hints::ReadyHints;
-use crate::scheduler::{ActiveThreads, Scheduler};
+use crate::scheduler::Scheduler;
 use crate::start_log::NewLog;
 use crate::threads::run_team;
 use crate::totals::RunTotals;
-use crate::wake_signal::WakeSignal;
 use crate::worker_state::{DrainedWorker, WorkerState};
 use board::board::Board;
 use board_program::program::Program;
@@ -31,6 +28,10 @@ use std::sync::{Mutex, Wait};
 use std::thread::Threads;
 use task_code::entry::Kind;
 use values::limits::MAX_THREADS;
+use workers_policy::active_threads::ActiveThreads;
+use workers_policy::counters::RunCounters;
+use workers_policy::ready_hints::ReadyHints;
+use workers_policy::wake_signal::WakeSignal;
 
 /// Pool counts of a run. Of the items that became ready, some were offered to the pool and the others found no hole. Of
 /// the offered items, some were drawn and the others are left.

@@ -1,13 +1,13 @@
 //! The shared scheduler state, guarded by one mutex.
 
 use crate::audited_board::AuditedBoard;
-use crate::counters::RunCounters;
 use crate::gate::{Progress, RunParams};
 use crate::idle_workers::IdleWorkers;
-use crate::ready_hints::ReadyHints;
-use crate::wake_signal::WakeSignal;
 use std::sync::ledger::Ledger;
 use task_code::entry::Kind;
+use workers_policy::active_threads::ActiveThreads;
+use workers_policy::counters::RunCounters;
+use workers_policy::ready_hints::ReadyHints;
 
 /// State shared by all threads of a run, guarded by one mutex.
 ///
@@ -20,60 +20,6 @@ pub struct Scheduler<J: RunParams, E: Ledger, N: Ledger> {
     pub idle: IdleWorkers<J, E, N>,
     pub hints: ReadyHints,
     pub active: ActiveThreads,
-}
-
-/// The active threads, and the lock epoch that parked threads observe.
-#[derive(Clone, Copy, Drop)]
-pub struct ActiveThreads {
-    /// Number of threads that hold items.
-    busy_threads: usize,
-    /// Number of published releases of the lock, modulo 2^64.
-    epoch: u64,
-    /// Whether the signal currently announces a ready item.
-    published_ready: bool,
-}
-
-impl ActiveThreads {
-    /// Creates the state of a run with no active thread.
-    pub fn new() -> ActiveThreads {
-        ActiveThreads {
-            busy_threads: 0,
-            epoch: 0,
-            published_ready: false,
-        }
-    }
-
-    /// Returns true if a thread other than the caller is active. `had`: whether the caller is counted as active.
-    pub fn has_others(&self, had: bool) -> bool {
-        self.busy_threads > had as usize
-    }
-
-    /// Updates the count for a thread whose activity changes from `had` to `has`.
-    pub fn update_busy(&mut self, had: bool, has: bool) {
-        if had && !has {
-            self.busy_threads = self.busy_threads.saturating_sub(1);
-        }
-        if has && !had {
-            self.busy_threads = self.busy_threads.saturating_add(1);
-        }
-    }
-
-    /// Announces to parked threads that the lock is held. Does nothing unless a ready item was announced.
-    pub fn publish_locked(&self, signal: &WakeSignal) {
-        if self.published_ready {
-            signal.set_locked(self.epoch);
-        }
-    }
-
-    /// Advances the epoch, and announces that the lock is free and whether an item is ready. Announces nothing if no
-    /// item is ready and none was announced.
-    pub fn publish_unlocked(&mut self, signal: &WakeSignal, ready: bool) {
-        self.epoch = self.epoch.wrapping_add(1);
-        if ready || self.published_ready {
-            signal.set_unlocked(self.epoch, ready);
-        }
-        self.published_ready = ready;
-    }
 }
 
 impl<J: RunParams, E: Ledger, N: Ledger> Scheduler<J, E, N> {
@@ -103,7 +49,12 @@ impl<J: RunParams, E: Ledger, N: Ledger> Scheduler<J, E, N> {
 
     /// Returns a snapshot of the progress of the run.
     pub fn progress(&self) -> Progress {
-        self.counters
-            .progress(self.audited_board.events(), self.audited_board.lines())
+        Progress {
+            events: self.audited_board.events(),
+            ready: self.counters.ready(),
+            running: self.counters.running(),
+            waiting: self.counters.waiting(),
+            lines: self.audited_board.lines(),
+        }
     }
 }

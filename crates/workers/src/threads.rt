@@ -9,7 +9,6 @@ use crate::audited_board::StopReason;
 use crate::gate::{Gate, Progress, RunParams};
 use crate::items::CompletedItem;
 use crate::scheduler::Scheduler;
-use crate::wake_signal::WakeSignal;
 use crate::worker_state::WorkerState;
 use board::refusal::BoardRefusal;
 use pool::Pool;
@@ -19,16 +18,8 @@ use std::sync::{Mutex, MutexGuard, Wait};
 use std::thread;
 use std::thread::{JoinHandle, Threads};
 use task_code::entry::Kind;
-
-/// Excess of lock attempts that found the lock taken over those that found it free at which a thread parks.
-const CONTENTION_LIMIT: u32 = 8;
-
-/// Initial contention of a thread that was started or has parked because of contention, so that it parks earlier than
-/// others.
-const CONTENTION_AFTER_PARK: u32 = 4;
-
-/// Number of computed batches between two draws from the pool.
-const DRAW_INTERVAL: u32 = 8;
+use workers_policy::tuning::Tuning;
+use workers_policy::wake_signal::WakeSignal;
 
 /// The next action of a thread.
 #[derive(Clone, Copy, PartialEq, Eq, Drop)]
@@ -242,8 +233,11 @@ fn locked_step<J: RunParams, E: Ledger, N: Ledger>(
     if !release_worker(scheduler, state) || scheduler.audited_board.is_over() {
         return NextStep::Stop;
     }
-    if state.busy && state.contention >= CONTENTION_LIMIT && scheduler.active.has_others(true) {
-        state.contention = CONTENTION_AFTER_PARK;
+    if state.busy
+        && state.contention >= Tuning::MEASURED.contention_limit
+        && scheduler.active.has_others(true)
+    {
+        state.contention = Tuning::MEASURED.contention_after_park;
         return NextStep::Park;
     }
     begin_next(scheduler, state, drawn)
@@ -351,7 +345,7 @@ fn compute<J: RunParams, E: Ledger, N: Ledger, G: Gate>(
     *batches = batches.wrapping_add(1);
     worker_state.offer_all(pool);
     worker_state.compute_all(gate)?;
-    if *batches % DRAW_INTERVAL != 0 {
+    if *batches % Tuning::MEASURED.draw_interval != 0 {
         return Ok(None);
     }
     match worker_state.draw(pool) {
@@ -391,7 +385,11 @@ fn thread_main<J: RunParams, E: Ledger, N: Ledger, R: Wait, G: Gate>(
 )
     requires { pool_id pool.now ≡ J.pool }
 {
-    let mut state = ThreadState::new(if started { CONTENTION_AFTER_PARK } else { 0 });
+    let mut state = ThreadState::new(if started {
+        Tuning::MEASURED.contention_after_park
+    } else {
+        0
+    });
     if started {
         signal.park(rt);
     }

@@ -1,4 +1,4 @@
-use Rattle.std.proofs.Common.{◌≡◌, ◌∙◌, sym, ap, refl, subst, ℕ, ◌<◌, []}
+use Rattle.std.proofs.Common.{◌≡◌, ◌∙◌, sym, ap, refl, subst, ℕ, ◌<◌, List, [], length}
 use Rattle.host.specs.Events.{given}
 use Rattle.swt_status.specs.Statuses.{number_of}
 use Rattle.swt_status.specs.declared.failure.CommandFailure.TheVariants.{Untraced}
@@ -7,7 +7,7 @@ use Rattle.swt_command.specs.Sinks.{Held, held}
 use Rattle.swt_command.specs.Troubles.{trouble_line}
 use Rattle.swt_command.proofs.Sinks.{given as given_by}
 use Rattle.swt_process.specs.Ends.{Did}
-use Rattle.swt_process.proofs.Endings.{did_close, did_lose, did_stop, quiet, same_held}
+use Rattle.swt_process.proofs.Endings.{did_close, did_lose, did_stop, quiet, same_held, untraced}
 use Rattle.swt_process.proofs.Unchanged.{none_given, none_replaced, none_unsafe}
 use Rattle.swt_process.proofs.traced.with_trace.Goals as goal
 
@@ -79,4 +79,27 @@ returns-then-is_reported-clause-did g c =
     let seven : c.number.result ≡ 7 = c.number.ensures ∙ ap number_of c.status.ensures in
     subst (λ (n : ℕ). Did line files place h out out_new err last n) (sym seven) (
     did_lose line files place h out out_new err mid failures number trace new last at_first at_last c.command-status.ensures (sym c.is_reported.ensures ∙ c.if-is_reported.true)
-    (c.finish-is_kept.ensures.lost c.if-is_kept.false) (given_by c.write_failure.result mid last (trouble_line Untraced []) c.write_failure.ensures))
+    (c.finish-is_kept.ensures.lost c.if-is_kept.false)
+    (subst (λ (bs : List ℕ). 0 < length bs) (sym c.finish-is_kept.ensures.given) (c.finish-is_kept.ensures.written c.if-is_kept.false))
+    (c.finish-is_kept.ensures.refused c.if-is_kept.false) (given_by c.write_failure.result mid last (trouble_line Untraced []) c.write_failure.ensures))
+
+pub returns-then-is_kept-clause-unchanged : goal.returns-then-is_kept-clause-unchanged
+returns-then-is_kept-clause-unchanged g c = λ n.
+    let kept = untraced c.command-status.ensures n in
+    c.finish-is_kept.ensures.unchanged
+    (ap (λ (t : Held). t.bytes) kept ∙ ap given c.new-trace.ensures.history ∙ none_given (g.H.Host.history c.args.host) c.requires.none)
+    (ap (λ (t : Held). t.failures) kept ∙ c.new-trace.ensures.failures) ∙ c.requires.changed
+
+pub returns-clause-unchanged : goal.returns-clause-unchanged
+returns-clause-unchanged g c = λ n.
+    let kept = untraced c.command-status.ensures n in
+    c.finish-is_kept.ensures.unchanged
+    (ap (λ (t : Held). t.bytes) kept ∙ ap given c.new-trace.ensures.history ∙ none_given (g.H.Host.history c.args.host) c.requires.none)
+    (ap (λ (t : Held). t.failures) kept ∙ c.new-trace.ensures.failures) ∙ c.requires.changed
+
+pub returns-then-is_reported-clause-unchanged : goal.returns-then-is_reported-clause-unchanged
+returns-then-is_reported-clause-unchanged g c = λ n.
+    let kept = untraced c.command-status.ensures n in
+    c.finish-is_kept.ensures.unchanged
+    (ap (λ (t : Held). t.bytes) kept ∙ ap given c.new-trace.ensures.history ∙ none_given (g.H.Host.history c.args.host) c.requires.none)
+    (ap (λ (t : Held). t.failures) kept ∙ c.new-trace.ensures.failures) ∙ c.requires.changed

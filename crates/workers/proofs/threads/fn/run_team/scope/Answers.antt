@@ -8,9 +8,9 @@ use Rattle.std.proofs.Crossing.{crosses}
 use Rattle.std.specs.contracts.sync.Mutex as mutex
 use Rattle.pool.proofs.pool.Pool.TheSendSync as pools
 use Rattle.pool.specs.contracts.pool.Pool as pool
-use Rattle.workers.proofs.wake_signal.WakeSignal.TheSendSync as bell_sync
+use Rattle.workers_policy.proofs.wake_signal.WakeSignal.TheSendSync as bell_sync
 use Rattle.workers.proofs.Crosses.{closure_send, floor_send}
-use Rattle.workers.specs.contracts.wake_signal.WakeSignal as signal
+use Rattle.workers_policy.specs.contracts.wake_signal.WakeSignal as signal
 use Rattle.workers.specs.contracts.scheduler.Scheduler as shared
 use Rattle.workers.proofs.threads.fn.run_team.scope.Goals as goal
 

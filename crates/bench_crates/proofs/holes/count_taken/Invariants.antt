@@ -1,5 +1,0 @@
-use Rattle.pool.specs.Seats.{IsSeatOf}
-use Rattle.bench_crates.proofs.holes.count_taken.Given as goal
-
-abbrev pub invariant-loop-round : goal.invariant-loop-round
-invariant-loop-round l = IsSeatOf l.pool l.seat
