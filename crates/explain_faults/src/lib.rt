@@ -3,7 +3,6 @@
 //! The values are computed again from the script's meaning, so that no run has to carry them.
 #![tactic(auto)]
 
-pub mod extent;
 pub mod faults;
 mod hints;
 mod keys;
@@ -11,6 +10,5 @@ pub mod limits;
 mod near_keys;
 mod operations;
 mod parts;
-pub mod printed;
 mod reasons;
 pub mod traces;
