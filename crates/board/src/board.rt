@@ -597,6 +597,18 @@ impl Board {
         }
     }
 
+    /// Returns the entry of the item with this number, whether it has ended or not. Returns `None` if there is no such
+    /// item, or if it opens the script.
+    pub fn entry_of(&self, number: u64) -> Option<u32>
+        ensures left { (i : ℕ) → IsLeft self.now number i → result ≡ Some i }
+        ensures none { self.now.state.next ≤ number → result ≡ None }
+    {
+        match item_of(self.core.items.rows.as_slice(), number) {
+            Some(ItemRecord::Does { entry, .. }) => Some(entry),
+            _ => None,
+        }
+    }
+
     /// Returns the environment of the item with this number, which answers what the names and needs of its entry refer
     /// to. Returns `None` if there is no such item that has not ended.
     ///

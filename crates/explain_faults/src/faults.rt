@@ -105,7 +105,7 @@ fn elements_for<'t, 'a, A: Allocator>(
 }
 
 /// Returns the array that lacks an element, for a fault of this kind at a cell that reads one.
-pub fn array_of<'t, 'a, A: Allocator>(
+fn array_of<'t, 'a, A: Allocator>(
     context: &ExplainContext<'t, 'a, A>,
     fact: FaultFact,
 ) -> Option<Name> {
