@@ -25,7 +25,7 @@ use crate::refusal::BoardRefusal;
 use crate::remains::LeftItem;
 use crate::state::BoardState;
 use board_data::inputs::Environment;
-use board_instances::instance::path_of;
+use board_instances::instance::{has_path, path_of};
 use board_instances::item::{ItemRecord, ItemStatus, ItemTask, item_of};
 use board_items::items::order_of;
 use board_program::program::Program;
@@ -649,25 +649,10 @@ impl Board {
     pub fn is_at(&self, number: u64, path: &[Step]) -> Result<bool, AllocError>
         ensures { IfOk result (λ is. (is ≡ true) ↔ IsPathOf self.now number path.now) }
     {
-        let Some(left) = self.left_item(number) else {
-            return Ok(false);
-        };
-        let instances = &self.core.data_state.instances;
-        let mut left_over = path.len();
-        let mut next = Some(left.instance);
-        while let Some(key) = next {
-            let Some(instance) = instances.get(key) else {
-                return Ok(false);
-            };
-            if let Some(step) = instance.way.step()? {
-                if left_over == 0 || !step.is_same(&path[left_over - 1]) {
-                    return Ok(false);
-                }
-                left_over -= 1;
-            }
-            next = instance.parent.key();
+        match self.left_item(number) {
+            Some(left) => has_path(&self.core.data_state.instances, left.instance, path),
+            None => Ok(false),
         }
-        Ok(left_over == 0)
     }
 
     /// Returns the offset at which the statement of the item with this number is blocked, or `None` if the item is not

@@ -227,8 +227,11 @@ fn blocked_of<'b, 'a>(
     let Some(site) = index.site(statement.at) else {
         return Ok(None);
     };
+    let Some(own) = waits.own_item(statement) else {
+        return Ok(None);
+    };
     let items = waits.items(statement);
-    let instance = gathering.open(waits.own_item(statement), items, true)?;
+    let instance = gathering.open(own, items, true)?;
     let inputs = inputs_at(gathering, site);
     let mut missing = Vec::new(gathering.alloc);
     for one in items {
@@ -258,9 +261,10 @@ fn gather_arguments(
     for one in waits.items(statement) {
         add_targets(waits, *one, statement.at, inputs, &mut targets)?;
     }
-    let mut place: usize = 0;
-    while let Some(target) = targets.get(place).copied() {
-        place = place.saturating_add(1);
+    for place in 0..usize::MAX {
+        let Some(target) = targets.get(place).copied() else {
+            break;
+        };
         if !target.argument {
             continue;
         }
@@ -341,7 +345,9 @@ fn stuck_of(
         }
         last = Some(*number);
         if let Some(statement) = waits.statement(*number) {
-            found.push(stuck_statement(gathering, waits, statement)?)?;
+            if let Some(own) = waits.own_item(statement) {
+                found.push(stuck_statement(gathering, own, statement)?)?;
+            }
         }
     }
     by_depth(gathering, found)
@@ -350,10 +356,9 @@ fn stuck_of(
 /// Opens the instance of a statement, gathers the key that it writes, and returns its identity.
 fn stuck_statement(
     gathering: &mut Gathering<'_, '_>,
-    waits: &Waits<'_, '_>,
+    one: NumberedItem,
     statement: LeftStatement,
 ) -> Result<BlockedId, AllocError> {
-    let one = waits.own_item(statement);
     let instance = gathering.open(one, &[], false)?;
     let index = gathering.index;
     if let Some(site) = index.site(statement.at) {
@@ -437,7 +442,7 @@ fn by_depth(
     let mut depths: Vec<Vec<BlockedId>> = Vec::new(gathering.alloc);
     for stuck in &found {
         let depth = instances.path(stuck.instance).len();
-        while depths.len() <= depth {
+        for _ in depths.len()..depth.saturating_add(1) {
             depths.push(Vec::new(gathering.alloc))?;
         }
         if let Some(same) = depths.get_mut(depth) {

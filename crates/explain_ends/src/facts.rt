@@ -4,7 +4,6 @@ use crate::gathering::Gathering;
 use crate::inputs::{MissingInputs, MissingNeed, index_of, written_key};
 use crate::left_statements::NumberedItem;
 use crate::names::{flow_name, inputs_of};
-use board::Board;
 use board_data::inputs::Environment;
 use board_program::program::ResolvedNeed;
 use explain_inputs::input::StatementInput;
@@ -13,7 +12,7 @@ use flow::statement::Action;
 use flow_index::site::{Site, StatementForm};
 use meaning_facts::facts::Place;
 use std::alloc::{AllocError, Global};
-use task_code::entry::{Entry, Name, Need};
+use task_code::entry::{Name, Need};
 
 /// An item whose facts are gathered: its block instance, and the number of inputs of the function around it.
 #[derive(Clone, Copy, Drop)]
@@ -170,7 +169,7 @@ pub fn gather_known(
     gathering: &mut Gathering<'_, '_>,
     item: GatheredItem,
 ) -> Result<(), AllocError> {
-    let board: &Board = gathering.board;
+    let board = gathering.board;
     let (Some(environment), Some(entry), Some(table)) = (
         board.environment(item.one.number),
         board.code().entry(item.one.item.entry),
@@ -181,7 +180,7 @@ pub fn gather_known(
     };
     for (i, need) in entry.needs.iter().enumerate() {
         if let Some(wanted) = table.needs.as_slice().get(i) {
-            gather_need(gathering, item, entry, environment, need, wanted)?;
+            gather_need(gathering, item, environment, need, wanted)?;
         }
     }
     Ok(())
@@ -190,7 +189,6 @@ pub fn gather_known(
 fn gather_need(
     gathering: &mut Gathering<'_, '_>,
     item: GatheredItem,
-    entry: &Entry,
     environment: Environment<'_>,
     need: &Need,
     wanted: &ResolvedNeed,
@@ -213,11 +211,8 @@ fn gather_need(
             }
             Ok(())
         }
-        Need::At(_, _) | Need::AtKey(_, _) => match &gathering.index.cell(entry.node) {
-            Some(spot) => match &spot.cell.form {
-                CellForm::Read { index, .. } => gather_index(gathering, item, *index),
-                CellForm::Compute(_) => Ok(()),
-            },
+        Need::At(_, _) | Need::AtKey(_, _) => match index_node(gathering, item.one) {
+            Some(node) => gather_index(gathering, item, node),
             None => Ok(()),
         },
     }

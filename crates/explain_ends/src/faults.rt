@@ -91,7 +91,8 @@ pub fn add_fault_end(
     if let Some(item) = item_of(script.board, one, instance) {
         facts.gather(item, &mut fact)?;
     }
-    let FaultFacts { mut gathering, .. } = facts;
+    let FaultFacts { gathering, .. } = facts;
+    let mut gathering = gathering;
     let _instance = gathering.open(one, items.as_slice(), true)?;
     let elements = elements_for(script, one, &gathering, fact)?;
     write_fault(script, gathering, fact, elements.as_ref(), out)
@@ -243,8 +244,11 @@ impl<'b, 'a> FaultFacts<'b, 'a> {
                 continue;
             }
             let item = FaultyItem {
+                one: item.one,
+                environment: item.environment,
+                body: item.body,
+                instance: item.instance,
                 inputs: inputs_at(&self.gathering, site),
-                ..item
             };
             self.gather_cells(item, &statement.action)?;
             fact.place.node = match self.first {

@@ -13,7 +13,6 @@ use meaning_facts::instances::{InstanceBindings, LoopVariable};
 use meaning_outcomes::knowledge::{BlockedId, Knowledge};
 use paths::Step;
 use std::alloc::{AllocError, Global};
-use task_code::packed_event::PackedEvent;
 use values::key::Key;
 use values::value::{Scalar, Value};
 
@@ -97,8 +96,9 @@ impl<'b, 'a> Gathering<'b, 'a> {
         path: &[Step],
     ) -> Result<Vec<Option<Scalar>>, AllocError> {
         if self.replay.is_none() {
-            let program = self.board.program().share()?;
-            let history: &[PackedEvent] = self.board.history().as_slice();
+            let board: &'b Board = self.board;
+            let program = board.program().share()?;
+            let history = board.history().as_slice();
             self.replay = Some(Replay::of(self.alloc, program, history, None)?);
         }
         match &self.replay {
@@ -120,7 +120,7 @@ impl<'b, 'a> Gathering<'b, 'a> {
     ) -> Result<usize, AllocError> {
         let mut instance = 0;
         for (i, step) in path.iter().enumerate() {
-            let place = path.len() - 1 - i;
+            let place = path.len().saturating_sub(i).saturating_sub(1);
             let value = match values.get(place) {
                 Some(Some(scalar)) => Some(scalar),
                 _ => None,

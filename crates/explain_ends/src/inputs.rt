@@ -195,10 +195,12 @@ fn cells_of(alloc: Global, code: &Code) -> Result<Vec<bool>, AllocError> {
         if let Some(entry) = code.entry(number as u32) {
             if matches!(&entry.act, Act::Cell(_) | Act::Read) {
                 let node = entry.node as usize;
-                while cells.len() <= node {
+                for _ in cells.len()..node.saturating_add(1) {
                     cells.push(false)?;
                 }
-                cells[node] = true;
+                if let Some(cell) = cells.get_mut(node) {
+                    *cell = true;
+                }
             }
         }
     }

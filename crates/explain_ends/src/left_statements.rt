@@ -74,16 +74,20 @@ fn statements_of(
 ) -> Result<Vec<LeftStatement>, AllocError> {
     let mut found = Vec::new(alloc);
     let mut from = 0;
-    for place in 0..items.len() {
-        if !is_same_statement(board, items[from].item, items[place].item) {
+    for (place, one) in items.iter().enumerate() {
+        let is_same = match items.get(from) {
+            Some(first) => is_same_statement(board, first.item, one.item),
+            None => false,
+        };
+        if !is_same {
             from = place;
         }
-        if let Some(at) = board.blocked_offset(items[place].number)? {
+        if let Some(at) = board.blocked_offset(one.number)? {
             found.push(LeftStatement {
                 at,
                 own: place,
                 from,
-                to: end_of(board, items, place),
+                to: end_of(board, items, *one, place),
             })?;
         }
     }
@@ -91,10 +95,11 @@ fn statements_of(
 }
 
 /// Returns the place after the last item of the statement of an item.
-fn end_of(board: &Board, items: &[NumberedItem], place: usize) -> usize {
+fn end_of(board: &Board, items: &[NumberedItem], one: NumberedItem, place: usize) -> usize {
     for next in place..items.len() {
-        if !is_same_statement(board, items[place].item, items[next].item) {
-            return next;
+        match items.get(next) {
+            Some(other) if is_same_statement(board, one.item, other.item) => {}
+            _ => return next,
         }
     }
     items.len()
@@ -127,7 +132,10 @@ fn in_order(
     }
     let mut next = 0;
     for (i, statement) in found.iter().enumerate() {
-        let number = items[statement.own].number;
+        let Some(own) = items.get(statement.own) else {
+            continue;
+        };
+        let number = own.number;
         let is_next = match blocked.get(next) {
             Some(wanted) => {
                 wanted.at == statement.at && board.is_at(number, wanted.path.as_slice())?
@@ -166,16 +174,18 @@ fn place_in(
     };
     let mut low: usize = 0;
     let mut high = blocked.len();
-    while low < high {
-        let middle = low + (high - low) / 2;
-        if blocked[middle].is_below(&wanted) {
-            low = middle + 1;
-        } else {
-            high = middle;
+    for _ in 0..usize::BITS {
+        if low >= high {
+            break;
+        }
+        let middle = low.saturating_add(high.saturating_sub(low) / 2);
+        match blocked.get(middle) {
+            Some(found) if found.is_below(&wanted) => low = middle.saturating_add(1),
+            _ => high = middle,
         }
     }
     match blocked.get(low) {
         Some(found) if found.is_same(&wanted) => Ok(low),
-        _ => Ok(NONE - 1),
+        _ => Ok(NONE),
     }
 }

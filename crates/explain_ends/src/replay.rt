@@ -245,15 +245,17 @@ impl Replay {
         let mut values = Vec::new(self.alloc);
         let mut item = number;
         let mut left = path.len();
-        while left > 0 {
-            let Some(opening) = self.opening_of(item) else {
+        for _ in 0..self.openings.len() {
+            let (Some(opening), Some(place)) = (self.opening_of(item), left.checked_sub(1)) else {
                 break;
             };
             // The rest of a loop stands where the loop stands.
             let is_rest = self.board.entry_of(item) == self.board.entry_of(opening.opener);
             if !is_rest && self.adds_step(opening.opener) {
-                left -= 1;
-                values.push(self.value_at(opening, &path[left].key)?)?;
+                left = place;
+                if let Some(step) = path.get(place) {
+                    values.push(self.value_at(opening, &step.key)?)?;
+                }
             }
             item = opening.opener;
         }
@@ -292,12 +294,14 @@ impl Replay {
     fn opening_of(&self, item: u64) -> Option<Opening> {
         let mut low: usize = 0;
         let mut high = self.openings.len();
-        while low < high {
-            let middle = low + (high - low) / 2;
-            if self.openings[middle].first <= item {
-                low = middle + 1;
-            } else {
-                high = middle;
+        for _ in 0..usize::BITS {
+            if low >= high {
+                break;
+            }
+            let middle = low.saturating_add(high.saturating_sub(low) / 2);
+            match self.openings.get(middle) {
+                Some(opening) if opening.first <= item => low = middle.saturating_add(1),
+                _ => high = middle,
             }
         }
         self.openings.get(low.checked_sub(1)?).copied()

@@ -165,6 +165,7 @@ fn write_statement(
 }
 
 /// The items of a board that is asked for what an item waits for.
+#[derive(Drop)]
 struct WaitingItems<'s, 'a, 'b> {
     script: TracedScript<'s, 'a>,
     board: &'b Board,

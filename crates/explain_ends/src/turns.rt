@@ -3,6 +3,7 @@
 use crate::left_statements::NumberedItem;
 use board::Board;
 use board_data::inputs::Environment;
+use board_instances::instance::Instance;
 use board_program::lexical_address::LexicalAddress;
 use std::alloc::{AllocError, Global};
 use task_code::code::Opener;
@@ -50,9 +51,8 @@ pub fn turn_values(
         return Ok(found);
     };
     let mut next = Some(one.item.instance);
-    let mut levels: usize = 0;
-    while let Some(key) = next {
-        let Some(instance) = environment.instances.get(key) else {
+    for levels in 0..levels_of(environment) {
+        let Some(instance) = instance_at(environment, next) else {
             break;
         };
         if let Some(step) = instance.way.step()? {
@@ -66,10 +66,22 @@ pub fn turn_values(
             };
             found.values.push(value)?;
         }
-        levels = levels.saturating_add(1);
         next = instance.parent.key();
     }
     Ok(found)
+}
+
+/// Returns the number of instances from that of an environment up to the script's.
+fn levels_of(environment: Environment<'_>) -> usize {
+    match environment.instances.get(environment.at) {
+        Some(instance) => (instance.level as usize).saturating_add(1),
+        None => 0,
+    }
+}
+
+/// Returns the instance with this key, if there is one.
+fn instance_at<'b>(environment: Environment<'b>, key: Option<usize>) -> Option<&'b Instance> {
+    environment.instances.get(key?)
 }
 
 /// Returns the turn that an instance of a body is, or `None` if the body is not that of a loop.

@@ -15,7 +15,10 @@ use explain_blocked::selection::Blocked;
 use explain_blocked::wait_groups::WaitGroups;
 use std::alloc::{AllocError, Global};
 use std::collections::HashMap;
-use task_code::entry::{Need, Owned};
+use task_code::entry::{Need, Owned, Variable};
+
+/// The numbers of the needs of one entry are less than this.
+const CODES: u64 = 4_294_967_296;
 
 /// A target of the wait graph.
 #[derive(Clone, Copy, PartialEq, Eq, Debug)]
@@ -114,13 +117,21 @@ impl<'b, 'a> Waits<'b, 'a> {
     }
 
     /// Returns the own item of a statement.
-    pub fn own_item(&self, statement: LeftStatement) -> NumberedItem {
-        self.left.items[statement.own]
+    pub fn own_item(&self, statement: LeftStatement) -> Option<NumberedItem> {
+        self.left.items.get(statement.own).copied()
+    }
+
+    /// Returns the own item of the statement with this number.
+    fn own_at(&self, number: usize) -> Option<NumberedItem> {
+        self.own_item(self.statement(number)?)
     }
 
     /// Returns the items of a statement that have not ended.
     pub fn items(&self, statement: LeftStatement) -> &[NumberedItem] {
-        &self.left.items[statement.from..statement.to]
+        match self.left.items.as_slice().get(statement.from..statement.to) {
+            Some(items) => items,
+            None => &[],
+        }
     }
 
     /// Returns the statements that may write a target.
@@ -187,7 +198,9 @@ impl<'b, 'a> Waits<'b, 'a> {
     /// Records the writers of each datum.
     fn note_writers(&mut self) {
         for number in 0..self.left.statements.len() {
-            let own = self.left.items[self.left.statements[number].own];
+            let Some(own) = self.own_at(number) else {
+                continue;
+            };
             let board: &'b Board = self.board;
             let (Some(environment), Some(table)) = (
                 board.environment(own.number),
@@ -211,7 +224,9 @@ impl<'b, 'a> Waits<'b, 'a> {
     /// Records the items that compute cells and read elements.
     fn note_makers(&mut self) {
         for place in 0..self.left.items.len() {
-            let one = self.left.items[place];
+            let Some(one) = self.left.items.get(place).copied() else {
+                continue;
+            };
             let board: &'b Board = self.board;
             let (Some(entry), Some(table)) = (
                 board.code().entry(one.item.entry),
@@ -220,7 +235,7 @@ impl<'b, 'a> Waits<'b, 'a> {
             else {
                 continue;
             };
-            if !self.missing.is_cell(Owned::Local(task_code::entry::Variable {
+            if !self.missing.is_cell(Owned::Local(Variable {
                 node: entry.node,
                 array: false,
             })) {
@@ -242,11 +257,15 @@ impl<'b, 'a> Waits<'b, 'a> {
         let mut targets = Vec::new(self.alloc);
         for number in 0..self.left.statements.len() {
             self.starts.push(self.codes.len())?;
-            let statement = self.left.statements[number];
+            let Some(statement) = self.statement(number) else {
+                continue;
+            };
             let inputs = self.inputs_at(statement.at);
             targets.clear();
             for place in statement.from..statement.to {
-                let one = self.left.items[place];
+                let Some(one) = self.left.items.get(place).copied() else {
+                    break;
+                };
                 let missing = self.missing.of_item(one.number, one.item, statement.at)?;
                 for (i, need) in missing.iter().enumerate() {
                     self.codes.push(code_of(one.item.entry, i, need))?;
@@ -313,7 +332,9 @@ impl<'b, 'a> Waits<'b, 'a> {
     /// Adds edges from the targets to the statements that may write them.
     fn add_writers(&mut self) -> Result<(), AllocError> {
         for number in 0..self.left.statements.len() {
-            let own = self.left.items[self.left.statements[number].own];
+            let Some(own) = self.own_at(number) else {
+                continue;
+            };
             let board: &'b Board = self.board;
             let (Some(environment), Some(table)) = (
                 board.environment(own.number),
@@ -351,17 +372,26 @@ impl<'b, 'a> Waits<'b, 'a> {
 
     /// Returns true if a statement waits with the same needs as another one at the same offset.
     fn waits_alike(&self, one: usize, other: usize) -> bool {
-        self.left.statements[one].at == self.left.statements[other].at
-            && self.codes_of(one) == self.codes_of(other)
+        match (self.statement(one), self.statement(other)) {
+            (Some(first), Some(second)) => {
+                first.at == second.at && self.codes_of(one) == self.codes_of(other)
+            }
+            _ => false,
+        }
     }
 
     fn codes_of(&self, number: usize) -> &[u64] {
-        let from = self.starts[number];
+        let Some(from) = self.starts.get(number).copied() else {
+            return &[];
+        };
         let to = match self.starts.get(number.saturating_add(1)) {
             Some(to) => *to,
             None => self.codes.len(),
         };
-        &self.codes[from..to]
+        match self.codes.as_slice().get(from..to) {
+            Some(codes) => codes,
+            None => &[],
+        }
     }
 
     /// Returns the first statement before this one that waits alike, or this one, which is then added to the firsts.
@@ -404,7 +434,10 @@ impl Blocked for Waits<'_, '_> {
                 firsts.push(number)?;
                 continue;
             }
-            let entry = self.own_item(self.left.statements[number]).item.entry;
+            let entry = match self.own_at(number) {
+                Some(own) => own.item.entry,
+                None => u32::MAX,
+            };
             if !by_entry.contains_key(&entry) {
                 by_entry.insert(entry, Vec::new(self.alloc))?;
             }
@@ -483,5 +516,8 @@ fn number_in(numbers: &NodeNumbers, place: usize) -> Option<usize> {
 /// Returns a number for a missing need of an entry, which no other need of the same statement has.
 fn code_of(entry: u32, place: usize, missing: &MissingNeed<'_>) -> u64 {
     let known = if missing.index.is_some() { 1 } else { 0 };
-    ((entry as u64) << 32) | ((place as u64) << 1) | known
+    (entry as u64)
+        .saturating_mul(CODES)
+        .saturating_add((place as u64).saturating_mul(2))
+        .saturating_add(known)
 }
