@@ -3,7 +3,7 @@
 use crate::context::ExplainContext;
 use crate::sites::action_of;
 use crate::value_text::{write_scalar, write_text};
-use explain_text::words::{write_count, write_str};
+use explain_text::words::{write_count, write_number, write_str};
 use flow::statement::{Action, Variable};
 use meaning_facts::facts::Place;
 use meaning_outcomes::Step;
@@ -77,8 +77,8 @@ fn write_step<'t, 'a, A: Allocator>(
         return context.lines.say_place(out, step.offset);
     }
     match opener(context, step.offset) {
-        Some(Action::Range { value, .. }) => write_turn(context, out, instance, value, &step.key)?,
-        Some(Action::Each { value, .. }) => write_turn(context, out, instance, value, &step.key)?,
+        Some(Action::Range { value, .. }) => write_turn(context, out, instance, value, None)?,
+        Some(Action::Each { value, .. }) => write_turn(context, out, instance, value, Some(&step.key))?,
         Some(Action::Choose { .. }) => write_branch(out, &step.key)?,
         _ => write_str(out, "in the if at ")?,
     }
@@ -100,13 +100,20 @@ fn write_branch(out: &mut Vec<u8>, key: &Key) -> Result<(), AllocError> {
     }
 }
 
-/// Appends the turn of a loop that an instance is: the value of the loop variable and, if the key is a text, the key.
+fn write_key(out: &mut Vec<u8>, key: &Key) -> Result<(), AllocError> {
+    match key {
+        Key::Number(number) => write_number(out, *number),
+        Key::Text(text) => write_text(out, text.as_bytes()),
+    }
+}
+
+/// Appends the turn of a loop that an instance is: the value of the loop variable and, for a loop over an array, the key.
 fn write_turn<'t, 'a, A: Allocator>(
     context: &ExplainContext<'t, 'a, A>,
     out: &mut Vec<u8>,
     instance: usize,
     value: &Variable<A>,
-    key: &Key,
+    key: Option<&Key>,
 ) -> Result<(), AllocError> {
     write_str(out, "turn ")?;
     out.extend_from_slice(value.name.as_slice())?;
@@ -118,9 +125,9 @@ fn write_turn<'t, 'a, A: Allocator>(
         write_str(out, " = ")?;
         write_scalar(out, scalar)?;
     }
-    if let Key::Text(text) = key {
+    if let Some(key) = key {
         write_str(out, " under ")?;
-        write_text(out, text.as_bytes())?;
+        write_key(out, key)?;
     }
     write_str(out, " of the loop at ")
 }

@@ -1,4 +1,6 @@
 //! The inputs of an item that are not known on the board.
+ghost use Rattle.std.specs.Prelude.{IfOk};
+ghost use Rattle.explain_ends.specs.Missing.{AreMissing};
 
 use board::Board;
 use board::remains::LeftItem;
@@ -74,7 +76,9 @@ impl<'b> MissingInputs<'b> {
         number: u64,
         item: LeftItem,
         at: usize,
-    ) -> Result<Vec<MissingNeed<'b>>, AllocError> {
+    ) -> Result<Vec<MissingNeed<'b>>, AllocError>
+        ensures { IfOk result (λ found. AreMissing self.now.board.now number at found.items) }
+    {
         let mut found = Vec::new(self.alloc);
         let board: &'b Board = self.board;
         let Some(entry) = board.code().entry(item.entry) else {

@@ -1,4 +1,6 @@
 //! The items of a quiet board that have not ended, by statement.
+ghost use Rattle.std.specs.Prelude.{IfOk};
+ghost use Rattle.explain_ends.specs.Left.{AreLeft};
 
 use board::Board;
 use board::remains::LeftItem;
@@ -55,7 +57,9 @@ impl LeftStatements {
 /// # Errors
 ///
 /// Returns `AllocError` if an allocation fails.
-pub fn left_items(alloc: Global, board: &Board) -> Result<Vec<NumberedItem>, AllocError> {
+pub fn left_items(alloc: Global, board: &Board) -> Result<Vec<NumberedItem>, AllocError>
+    ensures { IfOk result (λ items. AreLeft board.now items.items) }
+{
     let mut items = Vec::new(alloc);
     for place in 0..board.item_count() {
         let number = (place as u64).saturating_add(1);
