@@ -1,6 +1,6 @@
 //! Diagnostics for faults, for runs cut off at a limit, and for invalid traces, with positions, values and paths.
 //!
-//! The values are computed again from the script's meaning, so that no run has to carry them.
+//! The values are known facts: those of the script's meaning, or those that were gathered where a run stopped.
 #![tactic(auto)]
 
 pub mod faults;
