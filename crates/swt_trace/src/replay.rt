@@ -86,12 +86,36 @@ pub fn replay_to_stop(
     let _whole = code.entry_count();
     let told = read_trace(alloc, trace)?;
     let program = Program::new(alloc, code.copy()?)?;
-    let mut board = Board::new(alloc, program, told.events.len() as u32)?;
-    if let Err(fault) = take_all(&mut board, told.events.as_slice()) {
-        return Err(refused_at(fault, board, told.events.as_slice(), keeps));
-    }
-    let run = stopped_run(alloc, board, keeps)?;
+    let board = Board::new(alloc, program, told.events.len() as u32)?;
+    let run = run_behind(alloc, board, told.events.as_slice(), keeps)?;
     ended_as(run, told.ending, told.events.len() as u64 + 2)
+}
+
+/// Runs the events of a trace on a board without history, and returns the report, and the board if it is wanted.
+fn run_behind(
+    alloc: Global,
+    board: Board,
+    events: &[Event],
+    keeps: bool,
+) -> Result<StoppedRun, RefusedReplay>
+    requires trace { (bytes : List ℕ) × (e : Option Ending) × IsTrace bytes events.now e }
+    requires none { board.history ≡ [] }
+    requires room { board.limit ≡ length events.now }
+    ensures history { IfOk result (λ run. run.report.history.items ≡ events.now) }
+    ensures reports { IfOk result (λ run. Reports board.code (length events.now) run.report) }
+    ensures kept { IfOk result (IsStopped keeps) }
+    ensures bad { IfErr result (λ refused. (n : ℕ) → refused.fault ≡ ReplayFault.BadLine n → ⊥) }
+    ensures wrong { IfErr result (λ refused. (n : ℕ) → refused.fault ≡ ReplayFault.WrongEnd n → ⊥) }
+    ensures no_step { IfErr result (λ refused. (n : ℕ) → refused.fault ≡ ReplayFault.NotARun n
+        → (bytes : List ℕ) (e : Option Ending) → IsTrace bytes events.now e → IsFirstNoStep board.code bytes n) }
+    ensures left { IfErr result (λ refused. IfSome refused.board (λ left. (bytes : List ℕ) (e : Option Ending)
+        → IsTrace bytes events.now e → IsRefusedBy board.code bytes keeps refused.event left)) }
+{
+    let mut board = board;
+    match take_all(&mut board, events) {
+        Ok(()) => Ok(stopped_run(alloc, board, keeps)?),
+        Err(fault) => Err(refused_at(fault, board, events, keeps)),
+    }
 }
 
 /// Returns the refusal of the first event that is not a step, with the board before it if that is wanted.
