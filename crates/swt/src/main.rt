@@ -117,7 +117,9 @@ fn perform<'r, R: Threads + Wait + Sync>(
         err,
     );
     if request.explain || request.json {
-        reporter.tell_explaining();
+        if status != Status::Done.number() {
+            reporter.tell_explaining();
+        }
         let ended = EndedProcess {
             line,
             all: request.all,

@@ -3,6 +3,7 @@
 use board_work::work::{Done, Work};
 use meaning::observer::{RoundObserver, RoundProgress};
 use std::alloc::AllocError;
+use std::io::IsTerminal;
 use std::sync::atomic::{AtomicU64, Ordering};
 use std::time::Instant;
 use workers::gate::{Gate, Progress};
@@ -12,8 +13,10 @@ use workers::gate::{Gate, Progress};
 #[derive(Drop)]
 pub struct ProgressReporter<'a> {
     rt: &'a HostRuntime,
-    /// Start time, if progress is reported.
+    /// Start time, if the system has a clock.
     start: Option<Instant>,
+    /// Whether progress is reported.
+    wanted: bool,
     /// The last second since the start in which progress was reported.
     told: AtomicU64,
 }
@@ -21,20 +24,23 @@ pub struct ProgressReporter<'a> {
 impl ProgressReporter<'_> {
     /// Creates a reporter. It reports progress if this is requested and the system has a clock.
     pub fn new(rt: &HostRuntime, wanted: bool) -> ProgressReporter<'_> {
-        let start = if wanted { Instant::now(rt).ok() } else { None };
         ProgressReporter {
             rt,
-            start,
+            start: Instant::now(rt).ok(),
+            wanted,
             told: AtomicU64::new(0),
         }
     }
 
-    /// Reports that the end is explained, if progress is requested and the run has taken a second or more. An
-    /// explanation takes less time than its run.
+    /// Reports that the end is explained, on a terminal or if progress is requested, if the run has taken a second or
+    /// more. An explanation takes less time than its run.
     pub fn tell_explaining(&self) {
         let Some(start) = &self.start else {
             return;
         };
+        if !self.wanted && !self.rt.stderr().is_terminal() {
+            return;
+        }
         if let Ok(elapsed) = start.elapsed(self.rt) {
             let second = elapsed.as_secs();
             if second > 0 {
@@ -47,6 +53,9 @@ impl ProgressReporter<'_> {
     /// Returns the current second and marks it as reported, if progress is requested and has not been reported in this
     /// second.
     fn next_second(&self) -> Option<u64> {
+        if !self.wanted {
+            return None;
+        }
         let start = self.start.as_ref()?;
         let second = start.elapsed(self.rt).ok()?.as_secs();
         let told = self.told.load(Ordering::SeqCst);
