@@ -1,5 +1,5 @@
 //! A completed run, with the board on which it ended.
-ghost use Rattle.std.specs.Prelude.{IfOk};
+ghost use Rattle.std.specs.Prelude.{◌≡◌, IfOk};
 ghost use Rattle.board_runs.specs.Report.{IsOver, Reports, Tells};
 ghost use Rattle.board_runs.specs.Stopped.{IsStopped};
 
@@ -20,6 +20,24 @@ impl Drop for StoppedRun {
             report: _,
             board: _,
         } = self;
+    }
+}
+
+impl StoppedRun {
+    /// Returns the report alone.
+    pub fn into_report(self) -> Report
+        ensures { result ≡ self.report }
+    {
+        let StoppedRun { report, board: _ } = self;
+        report
+    }
+
+    /// Returns the board alone, if it was kept.
+    pub fn into_board(self) -> Option<Board>
+        ensures { result ≡ self.board }
+    {
+        let StoppedRun { report: _, board } = self;
+        board
     }
 }
 

@@ -146,7 +146,7 @@ fn check_next<H: Host, V: VerdictObserver, O: Sink>(
     let arena = Bump::new(alloc);
     let files = [file];
     let refusal = check_file(alloc, &arena, name, &files, 0, out)?;
-    if let [Some(text)] = &files {
+    if let Some(text) = &files[0] {
         observer.judge(name, text.as_slice(), refusal);
     }
     Ok(refusal)

@@ -11,7 +11,7 @@ use board::Board;
 use board_runs::report::Report;
 use board_runs::stopped::StoppedRun;
 use std::alloc::Global;
-use swt_trace::fault::{RefusedReplay, ReplayFault};
+use swt_trace::fault::ReplayFault;
 use swt_trace::replay::replay_to_stop;
 use task_code::code::Code;
 use task_code::event::Event;
@@ -45,10 +45,7 @@ pub fn report_of_trace(alloc: Global, code: &Code, trace: &[u8]) -> Result<Repor
         (λ stop. (stop.place ≡ 1) × StopsAtTrace (Some trace.now) code.now stop.trouble) }
 {
     match run_of_trace(alloc, code, trace, false) {
-        Ok(run) => {
-            let StoppedRun { report, board: _ } = run;
-            Ok(report)
-        }
+        Ok(run) => Ok(run.into_report()),
         Err(refused) => Err(refused.stop),
     }
 }
@@ -74,11 +71,7 @@ pub fn run_of_trace(
     match replay_to_stop(alloc, code, trace, keeps) {
         Ok(run) => Ok(run),
         Err(refused) => {
-            let RefusedReplay {
-                fault,
-                board,
-                event,
-            } = refused;
+            let (fault, board, event) = refused.into_parts();
             let stop = CommandStop {
                 place: 1,
                 trouble: failure_of(fault),

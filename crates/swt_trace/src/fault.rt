@@ -99,6 +99,22 @@ impl Drop for RefusedReplay {
 }
 
 impl RefusedReplay {
+    ghost use Rattle.std.specs.Prelude.{◌≡◌};
+
+    /// Returns the fault, the board and the event.
+    pub fn into_parts(self) -> (ReplayFault, Option<Board>, Option<Event>)
+        ensures fault { result.0 ≡ self.fault }
+        ensures board { result.1 ≡ self.board }
+        ensures event { result.2 ≡ self.event }
+    {
+        let RefusedReplay {
+            fault,
+            board,
+            event,
+        } = self;
+        (fault, board, event)
+    }
+
     /// Creates the refusal of a replay of which no board is left.
     fn alone(fault: ReplayFault) -> RefusedReplay {
         RefusedReplay {

@@ -40,10 +40,7 @@ pub fn replay(alloc: Global, code: &Code, trace: &[u8]) -> Result<Report, Replay
     ensures only_memory { (report : Report) → IsTraceOf code.now trace.now report → IfErr result (λ fault. fault ≡ ReplayFault.Memory) }
 {
     match replay_to_stop(alloc, code, trace, false) {
-        Ok(run) => {
-            let StoppedRun { report, board: _ } = run;
-            Ok(report)
-        }
+        Ok(run) => Ok(run.into_report()),
         Err(refused) => Err(refused.fault),
     }
 }
@@ -146,10 +143,9 @@ fn ended_as(run: StoppedRun, ending: Option<Ending>, line: u64) -> Result<Stoppe
 {
     if let Some(named) = ending {
         if named != Ending::of(&run.report.end) {
-            let StoppedRun { report: _, board } = run;
             return Err(RefusedReplay {
                 fault: ReplayFault::WrongEnd(line),
-                board,
+                board: run.into_board(),
                 event: None,
             });
         }

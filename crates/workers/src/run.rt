@@ -419,8 +419,7 @@ pub fn run_threads<R: Threads + Wait + Sync, G: Gate>(
     ensures count { (result ≡ Err RunFault.BadCount) ↔ ((engines ≡ 0) ⊎ ((workers ≡ 0) ⊎ (64 < engines + workers))) }
 {
     let (run, count) = run_threads_to_stop(rt, alloc, program, engines, workers, limit, gate, false)?;
-    let StoppedRun { report, board: _ } = run;
-    Ok((report, count))
+    Ok((run.into_report(), count))
 }
 
 /// Runs a program on threads, and returns its report with the pool counts, and the board on which it ended if that is
