@@ -42,7 +42,7 @@ pub fn root_causes(
 fn has_cause(graph: &Graph, parts: &Components, holds: &NodeNumbers, node: usize) -> bool {
     let own = parts.part.at(node);
     for to in graph.successors(node) {
-        let part = parts.part.at(*to);
+        let part = parts.part.at(*to as usize);
         if part != own && holds.at(part) != NONE {
             return true;
         }

@@ -63,7 +63,8 @@ impl WaitGraph {
             self.note_inputs(context, i, waiting.instance, waiting.missing.as_slice())?;
         }
         let numbers = numbers_of(context, listed)?;
-        self.note_targets(context, &numbers)
+        self.note_targets(context, &numbers)?;
+        self.graph.sort()
     }
 
     /// Returns the number of statements.

@@ -416,10 +416,11 @@ fn add_writers(
         if offsets.len() >= MOST_WRITERS {
             break;
         }
-        if let Some(writer) = waits.statement(*number) {
+        let number = *number as usize;
+        if let Some(writer) = waits.statement(number) {
             if !offsets.as_slice().contains(&writer.at) {
                 offsets.push(writer.at)?;
-                numbers.push(*number)?;
+                numbers.push(number)?;
             }
         }
     }

@@ -103,6 +103,7 @@ impl<'b, 'a> Waits<'b, 'a> {
         waits.note_statements()?;
         waits.note_arguments()?;
         waits.add_writers()?;
+        waits.graph.sort()?;
         Ok(waits)
     }
 
@@ -135,7 +136,7 @@ impl<'b, 'a> Waits<'b, 'a> {
     }
 
     /// Returns the statements that may write a target.
-    pub fn writers_of(&self, target: Target) -> &[usize] {
+    pub fn writers_of(&self, target: Target) -> &[u32] {
         let node = self.nodes.find(target);
         if node == NONE {
             &[]

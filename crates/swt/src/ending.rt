@@ -39,12 +39,11 @@ pub struct EndedProcess<'e> {
     pub reason: Option<&'e Error>,
 }
 
-/// What is explained of a script: the facts of its meaning, a run, a replay, or a refused trace.
+/// What is explained of a script: the facts of its meaning, a run or a replay, or a refused trace.
 #[derive(Clone, Copy)]
 enum Topic<'e> {
     Meaning(&'e Knowledge),
     Run(&'e StoppedRun),
-    Replay(&'e StoppedRun),
     Trace(&'e RefusedTrace),
 }
 
@@ -115,7 +114,7 @@ fn add_end(
         }
         CommandEnd::Replay(run) => {
             if is_explained(run) {
-                explain_script(alloc, ended, Topic::Replay(run), out)
+                explain_script(alloc, ended, Topic::Run(run), out)
             } else {
                 Ok(())
             }
@@ -183,7 +182,9 @@ fn name_at(line: &Line, place: usize) -> &str {
             Some(name) => name.as_str(),
             None => "",
         },
-        Line::Mean { file, .. } | Line::Code { file, .. } | Line::Run { file, .. } => file.as_str(),
+        Line::Mean { file, .. } => file.as_str(),
+        Line::Code { file, .. } => file.as_str(),
+        Line::Run { file, .. } => file.as_str(),
         Line::Replay { file, trace } => {
             if place == 0 {
                 file.as_str()
@@ -237,7 +238,7 @@ fn explain_flow(
         Topic::Meaning(known) => {
             add_meaning_end(alloc, file, &lines, &index, known, ended.all, out)
         }
-        Topic::Run(run) | Topic::Replay(run) => {
+        Topic::Run(run) => {
             let Some(board) = &run.board else {
                 return Ok(());
             };

@@ -37,7 +37,8 @@ impl CommandEnd {
             CommandEnd::Checked(status) => *status,
             CommandEnd::Meaning(end) => mean::status_of(&end.summary),
             CommandEnd::Listing(_) => Status::Done,
-            CommandEnd::Run(run) | CommandEnd::Replay(run) => status_of(&run.report),
+            CommandEnd::Run(run) => status_of(&run.report),
+            CommandEnd::Replay(run) => status_of(&run.report),
             CommandEnd::RefusedTrace(refused) => refused.stop.trouble.status(),
             CommandEnd::Failed(stop) => stop.trouble.status(),
         }
