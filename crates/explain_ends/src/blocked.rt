@@ -8,9 +8,8 @@ use crate::facts::{
 };
 use crate::gathering::Gathering;
 use crate::left_statements::{LeftStatement, LeftStatements, NumberedItem};
-use crate::names::inputs_of;
 use crate::script::StoppedScript;
-use crate::waits::{Target, Waits};
+use crate::waits::{Target, Waits, inputs_around};
 use explain_blocked::blocked::{add_blocked, write_left, write_others};
 use explain_blocked::causes::root_causes;
 use explain_blocked::context::ExplainContext;
@@ -282,13 +281,7 @@ fn gather_argument(
     maker: NumberedItem,
     targets: &mut Vec<Target>,
 ) -> Result<(), AllocError> {
-    let inputs = match gathering.board.code().entry(maker.item.entry) {
-        Some(entry) => match gathering.index.cell(entry.node) {
-            Some(spot) => inputs_of(gathering.index, spot.function),
-            None => 0,
-        },
-        None => 0,
-    };
+    let inputs = inputs_around(gathering.index, gathering.board, maker);
     let instance = gathering.open(maker, &[], false)?;
     gather_known(
         gathering,

@@ -14,10 +14,11 @@ use task_code::expr::Expr;
 use values::key::KeyRef;
 use values::value::Scalar;
 
-/// An input of an item that is not known: the need of its entry, and what is missing.
+/// An input of an item that is not known: the need of its entry or header with its place there, and what is missing.
 #[derive(Drop)]
 pub struct MissingNeed<'c> {
     pub need: &'c Need,
+    pub place: usize,
     /// The number of the datum that is missing, or that lacks the element.
     pub datum: usize,
     /// The mark of the key, if an element with a known key is missing.
@@ -133,7 +134,7 @@ impl<'b> MissingInputs<'b> {
         };
         for (i, need) in entry.needs.iter().enumerate() {
             if let Some(wanted) = table.needs.as_slice().get(i) {
-                add_missing(environment, need, wanted, found)?;
+                add_missing(environment, need, i, wanted, found)?;
             }
         }
         Ok(())
@@ -148,9 +149,9 @@ impl<'b> MissingInputs<'b> {
         let Some(instance) = environment.instances.get(environment.at) else {
             return Ok(());
         };
-        for need in needs {
+        for (i, need) in needs.iter().enumerate() {
             let wanted = environment.program.wanted(instance.body, need)?;
-            add_missing(environment, need, &wanted, found)?;
+            add_missing(environment, need, i, &wanted, found)?;
         }
         Ok(())
     }
@@ -160,6 +161,7 @@ impl<'b> MissingInputs<'b> {
 fn add_missing<'b>(
     environment: Environment<'b>,
     need: &'b Need,
+    place: usize,
     wanted: &ResolvedNeed,
     found: &mut Vec<MissingNeed<'b>>,
 ) -> Result<(), AllocError> {
@@ -169,6 +171,7 @@ fn add_missing<'b>(
     let missing = match input {
         Input::Element(datum, mark) => MissingNeed {
             need,
+            place,
             datum: datum as usize,
             mark: Some(mark),
             index: None,
@@ -176,12 +179,14 @@ fn add_missing<'b>(
         Input::Whole(datum) => match wanted {
             ResolvedNeed::At(array, _) => MissingNeed {
                 need,
+                place,
                 datum: environment.datum(*array).unwrap_or(datum as usize),
                 mark: None,
                 index: Some(datum as usize),
             },
             _ => MissingNeed {
                 need,
+                place,
                 datum: datum as usize,
                 mark: None,
                 index: None,

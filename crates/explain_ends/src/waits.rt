@@ -268,8 +268,8 @@ impl<'b, 'a> Waits<'b, 'a> {
                     break;
                 };
                 let missing = self.missing.of_item(one.number, one.item, statement.at)?;
-                for (i, need) in missing.iter().enumerate() {
-                    self.codes.push(code_of(one.item.entry, i, need))?;
+                for need in &missing {
+                    self.codes.push(code_of(one.item.entry, need))?;
                     self.add_targets(need, inputs, &mut targets)?;
                 }
             }
@@ -320,10 +320,7 @@ impl<'b, 'a> Waits<'b, 'a> {
             targets.push(whole(datum, false))?;
             return Ok(());
         };
-        let inputs = match self.board.code().entry(maker.item.entry) {
-            Some(entry) => self.inputs_at(entry.at),
-            None => 0,
-        };
+        let inputs = inputs_around(self.index, self.board, maker);
         for need in &self.missing.of_item(maker.number, maker.item, 0)? {
             self.add_targets(need, inputs, targets)?;
         }
@@ -492,6 +489,21 @@ impl TargetNodes {
     }
 }
 
+/// Returns the number of inputs of the function around the cell that an item computes.
+pub fn inputs_around(
+    index: &ScriptIndex<'_, Global>,
+    board: &Board,
+    maker: NumberedItem,
+) -> usize {
+    let Some(entry) = board.code().entry(maker.item.entry) else {
+        return 0;
+    };
+    match index.cell(entry.node) {
+        Some(spot) => inputs_of(index, spot.function),
+        None => 0,
+    }
+}
+
 /// Returns the target of a whole datum.
 fn whole(datum: usize, argument: bool) -> Target {
     Target {
@@ -515,10 +527,10 @@ fn number_in(numbers: &NodeNumbers, place: usize) -> Option<usize> {
 }
 
 /// Returns a number for a missing need of an entry, which no other need of the same statement has.
-fn code_of(entry: u32, place: usize, missing: &MissingNeed<'_>) -> u64 {
+fn code_of(entry: u32, missing: &MissingNeed<'_>) -> u64 {
     let known = if missing.index.is_some() { 1 } else { 0 };
     (entry as u64)
         .saturating_mul(CODES)
-        .saturating_add((place as u64).saturating_mul(2))
+        .saturating_add((missing.place as u64).saturating_mul(2))
         .saturating_add(known)
 }
