@@ -1,5 +1,6 @@
 -- What a command came to, as its caller owns it.
-use Rattle.std.specs.Prelude.{◌≡◌, ◌↔◌, ◌∷◌, [], ℕ, Bool, true, List, Option, Some, None, Result, Ok, Err, result_map, IfSome, IsSome}
+use Rattle.std.specs.Prelude.{◌≡◌, ◌↔◌, ◌∷◌, [], ℕ, Bool, true, List, Option, Some, None, Result, Ok, Err, IfSome, IsSome}
+use Rattle.task_code.specs.Code.{Code}
 use Rattle.board_runs.specs.Stopped.{IsStopped}
 use Rattle.board_runs.specs.declared.stopped.StoppedRun.{StoppedRun}
 use Rattle.swt_arguments.specs.declared.line.Line.{Line}
@@ -17,6 +18,11 @@ use Rattle.swt_command.specs.Files.{Files, HasCode, source_of}
 use Rattle.swt_command.specs.Listings.{IsAcceptedAt}
 use Rattle.swt_command.specs.Means.{IsKept, ToldOf, mean_status}
 use Rattle.swt_command.specs.Runs.{Ran, Replayed}
+
+-- the status of a command that returns something else
+abbrev pub with_status : {A : Type 0} → (A → Status) → Result A CommandStop → Result Status CommandStop
+with_status f (Ok a) = Ok (f a)
+with_status f (Err stop) = Err stop
 
 -- the status of a replay
 abbrev pub replay_status : Result StoppedRun RefusedTrace → Result Status CommandStop
@@ -53,6 +59,6 @@ IsEndOf (Lines.Code file dot) files keeps (End.Listing text) = IsAcceptedAt file
 IsEndOf (Lines.Run file engines workers steps trace) files keeps (End.Run run) = Ran files engines workers steps run.report × IsStopped keeps run
 IsEndOf (Lines.Replay file events) files keeps (End.Replay run) = Replayed files run.report × IsStopped keeps run
 IsEndOf (Lines.Replay file events) files keeps (End.RefusedTrace refused) =
-    IfSome refused.board (λ board. (code : _) × HasCode files 0 code × ((bytes : List ℕ) × (source_of files 1 ≡ Some bytes) × IsRefusedBy code bytes keeps refused.event board))
+    IfSome refused.board (λ board. (code : Code) × HasCode files 0 code × ((bytes : List ℕ) × (source_of files 1 ≡ Some bytes) × IsRefusedBy code bytes keeps refused.event board))
 IsEndOf line files keeps (End.Failed stop) = Unit {0}
 IsEndOf _ files keeps _ = ⊥

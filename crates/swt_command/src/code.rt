@@ -1,5 +1,6 @@
 //! The command `code`: prints the listing of a script's code, or its drawing.
-ghost use Rattle.std.specs.Prelude.{◌<◌, ◌≡◌, MatchResult, result_map};
+ghost use Rattle.std.specs.Prelude.{◌<◌, ◌≡◌, MatchResult};
+ghost use Rattle.swt_command.specs.EndOf.{with_status};
 ghost use Rattle.swt_command.specs.Files.{StopsAt, contents};
 ghost use Rattle.swt_status.specs.declared.status.Status.TheVariants.{Done};
 ghost use Rattle.swt_command.specs.Listings.{IsAcceptedAt, Lists};
@@ -27,7 +28,7 @@ pub fn code<O: Sink>(
     out: &mut O,
 ) -> Result<Vec<u8>, CommandStop>
     requires { O.failures out.old < u64.MAX }
-    ensures { Lists (contents files.now) (result_map (λ text. Done) result) (held (O.taken out.old) (O.failures out.old))
+    ensures { Lists (contents files.now) (with_status (λ text. Done) result) (held (O.taken out.old) (O.failures out.old))
         (held (O.taken out.new) (O.failures out.new)) }
 {
     let text = text_of(alloc, arena, files, dot)?;

@@ -1,9 +1,9 @@
 //! The commands `run` and `replay`.
-ghost use Rattle.std.specs.Prelude.{◌≡◌, ◌<◌, true, None, result_map, IfOk, MatchResult};
+ghost use Rattle.std.specs.Prelude.{◌≡◌, ◌<◌, true, None, IfOk, MatchResult};
 ghost use Rattle.board_runs.specs.Stopped.{IsStopped};
 ghost use Rattle.swt_trace.specs.Report.{TraceOf};
 ghost use Rattle.swt_status.specs.Statuses.{report_status};
-ghost use Rattle.swt_command.specs.EndOf.{replay_status};
+ghost use Rattle.swt_command.specs.EndOf.{replay_status, with_status};
 ghost use Rattle.swt_command.specs.Files.{contents};
 ghost use Rattle.swt_command.specs.Runs.{Ran, Replayed, Replays, Runs, StopsBeforeReplay, StopsBeforeRun, Traces};
 ghost use Rattle.swt_command.specs.Sinks.{Lost, held};
@@ -58,7 +58,7 @@ pub fn run<R: Threads + Wait + Sync, G: Gate, O: Sink, S: Sink>(
 ) -> Result<StoppedRun, CommandStop>
     requires out { O.failures out.old < u64.MAX }
     requires trace { S.failures trace.old < u64.MAX }
-    ensures runs { Runs (contents files.now) engines workers steps wanted (result_map (λ run. report_status run.report) result)
+    ensures runs { Runs (contents files.now) engines workers steps wanted (with_status (λ run. report_status run.report) result)
         (held (O.taken out.old) (O.failures out.old)) (held (O.taken out.new) (O.failures out.new))
         (held (S.taken trace.old) (S.failures trace.old)) (held (S.taken trace.new) (S.failures trace.new)) }
     ensures ran { IfOk result (λ run. Ran (contents files.now) engines workers steps run.report × IsStopped keeps run) }
