@@ -16,7 +16,6 @@ pub mod limits;
 pub mod meaning;
 mod names;
 mod replay;
-mod probe;
 pub mod script;
 pub mod trace_refusals;
 mod turns;
