@@ -1,7 +1,7 @@
 //! The missing inputs of items as inputs of statements of the flow, and what is known beside them.
 
 use crate::gathering::Gathering;
-use crate::inputs::{MissingInputs, MissingNeed, index_of, written_key};
+use crate::inputs::{UnknownNeeds, MissingNeed, index_of, written_key};
 use crate::left_statements::NumberedItem;
 use crate::names::{flow_name, inputs_of};
 use board_data::inputs::Environment;
@@ -34,7 +34,7 @@ pub fn inputs_at(gathering: &Gathering<'_, '_>, site: &Site<'_, Global>) -> usiz
 /// Returns `AllocError` if an allocation fails.
 pub fn add_inputs(
     gathering: &mut Gathering<'_, '_>,
-    missing: &MissingInputs<'_>,
+    missing: &UnknownNeeds<'_>,
     item: GatheredItem,
     at: usize,
     found: &mut Vec<StatementInput>,
@@ -47,7 +47,7 @@ pub fn add_inputs(
 
 fn add_input(
     gathering: &mut Gathering<'_, '_>,
-    missing: &MissingInputs<'_>,
+    missing: &UnknownNeeds<'_>,
     item: GatheredItem,
     need: &MissingNeed<'_>,
     found: &mut Vec<StatementInput>,

@@ -5,7 +5,7 @@
 
 use crate::facts::inputs_at;
 use crate::gathering::Gathering;
-use crate::inputs::MissingInputs;
+use crate::inputs::UnknownNeeds;
 use crate::left_statements::{NumberedItem, left_items};
 use crate::replay::{ElementWriter, Replay, SoughtElement};
 use crate::script::StoppedScript;
@@ -50,7 +50,7 @@ struct FaultyItem<'b> {
 #[derive(Drop)]
 struct FaultFacts<'b, 'a> {
     gathering: Gathering<'b, 'a>,
-    missing: MissingInputs<'b>,
+    missing: UnknownNeeds<'b>,
     kind: FaultKind,
     /// The nodes of the entries of the faulty item's instance whose items have not ended.
     open: Vec<u32>,
@@ -75,7 +75,7 @@ pub fn add_fault_end(
     let items = left_items(script.alloc, script.board)?;
     let mut facts = FaultFacts {
         gathering: Gathering::new(script.alloc, script.board, script.index)?,
-        missing: MissingInputs::new(script.alloc, script.board)?,
+        missing: UnknownNeeds::new(script.alloc, script.board)?,
         kind: fault.kind,
         open: Vec::new(script.alloc),
         held: Vec::new(script.alloc),

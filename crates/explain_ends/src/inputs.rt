@@ -29,21 +29,21 @@ pub struct MissingNeed<'c> {
 
 /// The inputs of the items of a board that are not known there.
 #[derive(Drop)]
-pub struct MissingInputs<'b> {
+pub struct UnknownNeeds<'b> {
     alloc: Global,
     board: &'b Board,
     /// Whether a node is that of a cell or of an element read, whose value an item of its own computes.
     cells: Vec<bool>,
 }
 
-impl<'b> MissingInputs<'b> {
+impl<'b> UnknownNeeds<'b> {
     /// Creates the access to the missing inputs of a board.
     ///
     /// # Errors
     ///
     /// Returns `AllocError` if an allocation fails.
-    pub fn new(alloc: Global, board: &'b Board) -> Result<MissingInputs<'b>, AllocError> {
-        Ok(MissingInputs {
+    pub fn new(alloc: Global, board: &'b Board) -> Result<UnknownNeeds<'b>, AllocError> {
+        Ok(UnknownNeeds {
             alloc,
             board,
             cells: cells_of(alloc, board.code())?,

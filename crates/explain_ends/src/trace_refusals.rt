@@ -1,6 +1,6 @@
 //! Explanation of a trace that is not one of a run of its script.
 
-use crate::inputs::{MissingInputs, MissingNeed, index_of};
+use crate::inputs::{UnknownNeeds, MissingNeed, index_of};
 use crate::left_statements::{NumberedItem, left_items};
 use crate::names::{binding_of, inputs_of};
 use board::Board;
@@ -169,7 +169,7 @@ fn write_statement(
 struct WaitingItems<'s, 'a, 'b> {
     script: TracedScript<'s, 'a>,
     board: &'b Board,
-    missing: MissingInputs<'b>,
+    missing: UnknownNeeds<'b>,
     items: Vec<NumberedItem>,
 }
 
@@ -186,7 +186,7 @@ fn write_item_waits(
     let waiting = WaitingItems {
         script,
         board,
-        missing: MissingInputs::new(script.alloc, board)?,
+        missing: UnknownNeeds::new(script.alloc, board)?,
         items: left_items(script.alloc, board)?,
     };
     let mut queue = Vec::new(script.alloc);

@@ -4,7 +4,7 @@
 //! A target is a datum, an element, or a datum that was passed as an argument. An argument has edges to what it waits
 //! for in turn. The first nodes are the statements, in the order of the report.
 
-use crate::inputs::{MissingInputs, MissingNeed, written_mark};
+use crate::inputs::{UnknownNeeds, MissingNeed, written_mark};
 use crate::left_statements::{LeftStatement, LeftStatements, NumberedItem};
 use crate::names::inputs_of;
 use board::Board;
@@ -54,7 +54,7 @@ pub struct Waits<'b, 'a> {
     alloc: Global,
     board: &'b Board,
     index: &'b ScriptIndex<'a, Global>,
-    pub missing: MissingInputs<'b>,
+    pub missing: UnknownNeeds<'b>,
     pub left: LeftStatements,
     pub graph: Graph,
     nodes: TargetNodes,
@@ -81,7 +81,7 @@ impl<'b, 'a> Waits<'b, 'a> {
             alloc,
             board,
             index,
-            missing: MissingInputs::new(alloc, board)?,
+            missing: UnknownNeeds::new(alloc, board)?,
             left,
             graph: Graph::new(alloc),
             nodes: TargetNodes {
