@@ -103,6 +103,17 @@ impl RunCounters {
         self.waiting().saturating_add(self.workers.ready as u64) > SATURATION
     }
 
+    /// Returns true if no leaf item is ready.
+    pub fn lacks_leaves(&self) -> bool {
+        self.workers.ready == 0
+    }
+
+    /// Returns true if fewer leaf items are ready than one batch for each worker, and than 1,024.
+    pub fn wants_leaves(&self) -> bool {
+        let wanted = BATCH.saturating_mul(self.workers.threads);
+        self.workers.ready < cmp::min(wanted, SATURATION as usize)
+    }
+
     /// Returns the number of control items expected to create one batch of items, from the average number of items per
     /// control item so far.
     fn control_batch_size(&self) -> usize {
@@ -125,18 +136,11 @@ impl RunCounters {
         cmp::max(part, 1)
     }
 
-    /// Records that an item ended, and counts the items that it created: they have the next consecutive numbers on the
-    /// board.
+    /// Records that an item ended, and that the board has created this many items by now.
     pub fn record_end(&mut self, board: &Board) {
         self.running = self.running.saturating_sub(1);
         self.ended = self.ended.saturating_add(1);
-        for _ in 0..u32::MAX {
-            let next = self.made.saturating_add(1);
-            if board.kind(next).is_none() {
-                break;
-            }
-            self.made = next;
-        }
+        self.made = board.item_count();
     }
 
     /// Returns a snapshot of the progress of a run with this number of events and printed lines.

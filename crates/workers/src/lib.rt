@@ -2,7 +2,7 @@
 //! mutex-guarded board and a lock-free pool.
 //!
 //! The entry point is `run_threads` in `run`. The scheduling policy is in `scheduler`, `counters`, `ready_hints`,
-//! `idle_workers` and `wake_signal`; `threads` holds the main loop of a thread. The proof of the report rests on
+//! `idle_workers` and `wake_signal`; `threads` holds the main loop of a thread, `in_place` what it performs under the lock. The proof of the report rests on
 //! `audited_board`, `start_log`, `worker_state` and `totals`.
 #![tactic(auto)]
 
@@ -11,6 +11,7 @@ mod counters;
 pub mod fault;
 pub mod gate;
 mod idle_workers;
+mod in_place;
 mod items;
 mod ready_hints;
 mod ready_items;
