@@ -31,7 +31,6 @@ use paths::{Fault, StatementInstance};
 use rules::input::Input;
 use std::alloc::{AllocError, Global};
 use std::marker::Model;
-use std::mem::replace;
 use task_code::code::Code;
 use task_code::entry::Kind;
 use task_code::event::Event;
@@ -144,8 +143,10 @@ impl Board {
         let Ok(()) = self.core.sort_arrays(&self.program, job) else {
             return Err(BoardRefusal::Memory);
         };
-        let list = replace(&mut self.answers, Vec::new(self.core.alloc));
-        let Ok(work) = self.core.work(&self.program, item, job, list) else {
+        let Ok(work) = self
+            .core
+            .work(&self.program, item, job, &mut self.answers)
+        else {
             return Err(BoardRefusal::Memory);
         };
         // Room for this event, and for the next event of each running item.
@@ -245,7 +246,7 @@ impl Board {
         };
         self.history
             .push_reserved(PackedEvent::new(Event::End { worker, item }));
-        self.answers = done.into_list();
+        done.return_list(&mut self.answers);
         Ok(())
     }
 
@@ -350,8 +351,8 @@ impl Board {
         let Some(job) = self.core.running_job(worker, item) else {
             return Err(BoardRefusal::NotYours);
         };
-        let list = Vec::new(self.core.alloc);
-        let Ok(work) = self.core.work(&self.program, item, job, list) else {
+        let mut list = Vec::new(self.core.alloc);
+        let Ok(work) = self.core.work(&self.program, item, job, &mut list) else {
             return Err(BoardRefusal::Memory);
         };
         Ok(work)

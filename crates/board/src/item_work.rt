@@ -11,7 +11,7 @@ ghost use Rattle.board_work.specs.View.{answers_view};
 ghost use Rattle.board.specs.Working.{IsThere, IsWorkAt, answers_at};
 
 use crate::state::BoardState;
-use board_data::answers::{answers, are_answers};
+use board_data::answers::{answers, are_given, numbers};
 use board_data::data;
 use board_instances::instance::datum_at;
 use board_instances::item::ItemTask;
@@ -19,6 +19,7 @@ use board_program::program::{Program, ResolvedNeed};
 use board_work::answer::Answer;
 use board_work::work::{Done, Work, WorkTask};
 use std::alloc::AllocError;
+use std::mem::replace;
 
 impl BoardState {
     /// Sorts by key the elements of each array that the needs require to be closed. Names are resolved in the
@@ -88,13 +89,14 @@ impl BoardState {
         Ok(())
     }
 
-    /// Returns the work of the item with this number and task. The buffer `list` is emptied and reused for the answers.
+    /// Returns the work of the item with this number and task. The buffer `list` is taken for the answers, unless they
+    /// are one or two numbers.
     pub fn work(
         &self,
         program: &Program,
         number: u64,
         job: ItemTask,
-        list: Vec<Answer>,
+        list: &mut Vec<Answer>,
     ) -> Result<Work, AllocError>
         requires { IsThere program.now (job_view job) }
         ensures number { IfOk result (λ work. work.item ≡ number) }
@@ -112,9 +114,14 @@ impl BoardState {
                 program.entry(entry),
             ) {
                 let view = self.view(program, instance);
-                let mut found = list;
-                answers(&mut found, view, table.needs.as_slice())?;
-                return Ok(Work::new(number, WorkTask::Entry(shared), found));
+                let needs = table.needs.as_slice();
+                let task = WorkTask::Entry(shared);
+                if let Some(given) = numbers(view, needs) {
+                    return Ok(Work::given(self.alloc, number, task, given));
+                }
+                let mut found = replace(list, Vec::new(self.alloc));
+                answers(&mut found, view, needs)?;
+                return Ok(Work::new(number, task, found));
             }
         }
         Ok(Work::new(number, WorkTask::Script, Vec::new(self.alloc)))
@@ -140,7 +147,7 @@ impl BoardState {
             (Some(found), Some(table)) => {
                 let view = self.view(program, instance);
                 done.is_of(found)
-                    && are_answers(view, table.needs.as_slice(), done.answers().as_slice())
+                    && are_given(view, table.needs.as_slice(), done.answers())
             }
             _ => false,
         }
