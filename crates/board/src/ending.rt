@@ -56,6 +56,7 @@ fn outcome_for(
 
 impl BoardState {
     /// Returns the effect of an item with this task and outcome.
+    #[inline(never)]
     fn effect_of(
         &self,
         program: &Program,
@@ -96,6 +97,7 @@ impl BoardState {
 
     /// Records a fault and clears the list of newly enabled items. The item that met the fault stays running. Allocates
     /// no memory.
+    #[inline(never)]
     fn fail(&mut self, fault: Fault)
         ensures { HasFailed fault self.old self.new }
     {
@@ -217,7 +219,6 @@ impl BoardState {
     }
 
     /// Ends a running item with this effect, which may be a fault. `most` and `known` are as in `apply_effect`.
-    #[inline(always)]
     fn end_with_buffer(
         &mut self,
         program: &Program,

@@ -67,7 +67,7 @@ fn answer(view: Environment<'_>, wanted: &ResolvedNeed) -> Result<Answer, AllocE
 /// # Errors
 ///
 /// Returns `AllocError` if an allocation fails. The list itself is not reallocated if it has room.
-#[inline(always)]
+#[inline(never)]
 pub fn answers(
     list: &mut Vec<Answer>,
     view: Environment<'_>,
