@@ -124,7 +124,7 @@ impl<J: RunParams, E: Ledger, N: Ledger> AuditedBoard<J, E, N> {
 
     /// Returns the number of events.
     pub fn events(&self) -> usize {
-        self.board.history().len()
+        event_count(&self.board)
     }
 
     /// Returns the number of printed lines.
@@ -452,15 +452,24 @@ fn perform_on_board(board: &mut Board, worker: u8, item: u64) -> Result<bool, Bo
         (Accepts board.old (Machine.Begin worker item) board.new × (board.new.newly ≡ []))) }
     ensures unchanged { OnErr result (board.new ≡ board.old) }
 {
-    let before = board.history().len();
+    let before = event_count(board);
     match board.perform(worker, item) {
         Ok(ended) => Ok(ended),
         Err(refusal) => {
-            if board.history().len() > before {
+            let after = event_count(board);
+            if before < after {
                 Ok(false)
             } else {
                 Err(refusal)
             }
         }
     }
+}
+
+/// Returns the number of events of a board.
+#[tactic(auto, using(Rattle.std.proofs.lemmas.List.length-map))]
+fn event_count(board: &Board) -> usize
+    ensures { result ≡ length board.now.history }
+{
+    board.history().len()
 }
