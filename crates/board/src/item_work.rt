@@ -11,7 +11,7 @@ ghost use Rattle.board_work.specs.View.{answers_view};
 ghost use Rattle.board.specs.Working.{IsThere, IsWorkAt, answers_at};
 
 use crate::state::BoardState;
-use board_data::answers::{answers, are_given, numbers};
+use board_data::answers::{answers, are_given, stored_numbers};
 use board_data::data;
 use board_instances::instance::datum_at;
 use board_instances::item::ItemTask;
@@ -116,7 +116,7 @@ impl BoardState {
                 let view = self.view(program, instance);
                 let needs = table.needs.as_slice();
                 let task = WorkTask::Entry(shared);
-                if let Some(given) = numbers(view, needs) {
+                if let Some(given) = stored_numbers(view, needs) {
                     return Ok(Work::given(self.alloc, number, task, given));
                 }
                 let mut found = replace(list, Vec::new(self.alloc));

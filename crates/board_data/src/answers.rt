@@ -87,7 +87,7 @@ pub fn answers(
 
 /// Returns the number that answers the need for a stored scalar, or `None` for any other need or answer.
 #[inline(always)]
-fn number(view: Environment<'_>, wanted: &ResolvedNeed) -> Option<i64>
+fn stored_number(view: Environment<'_>, wanted: &ResolvedNeed) -> Option<i64>
     ensures { IfSome result (λ n. Found (Number n)
         ≡ wanted_answer view.entry.program.now (cells_view view.entry.store.now.cells)
         (led_slot (frames_view view.entry.instances.now.slots) view.entry.at) wanted.now) }
@@ -104,16 +104,16 @@ fn number(view: Environment<'_>, wanted: &ResolvedNeed) -> Option<i64>
 /// Returns the answers to these needs as numbers without a list. Returns `None` unless there are one or two needs, each
 /// for a stored scalar that is a number. Allocates no memory.
 #[inline(always)]
-pub fn numbers(view: Environment<'_>, needs: &[ResolvedNeed]) -> Option<GivenAnswers>
+pub fn stored_numbers(view: Environment<'_>, needs: &[ResolvedNeed]) -> Option<GivenAnswers>
     ensures { IfSome result (λ given. given_view given
         ≡ map (wanted_answer view.entry.program.now (cells_view view.entry.store.now.cells)
         (led_slot (frames_view view.entry.instances.now.slots) view.entry.at)) needs.now) }
 {
     match needs {
-        [one] => Some(GivenAnswers::Number(number(view, one)?)),
+        [one] => Some(GivenAnswers::Number(stored_number(view, one)?)),
         [one, other] => {
-            let first = number(view, one)?;
-            let second = number(view, other)?;
+            let first = stored_number(view, one)?;
+            let second = stored_number(view, other)?;
             Some(GivenAnswers::Numbers(first, second))
         }
         _ => None,

@@ -467,7 +467,6 @@ fn perform_on_board(board: &mut Board, worker: u8, item: u64) -> Result<bool, Bo
 }
 
 /// Returns the number of events of a board.
-#[tactic(auto, using(Rattle.std.proofs.lemmas.List.length-map))]
 fn event_count(board: &Board) -> usize
     ensures { result ≡ length board.now.history }
 {
