@@ -44,7 +44,7 @@ fn new_items(program: &Program, change: &Change) -> Option<Counts>
 
 /// Reserves memory for new items; does nothing if both counts are zero. Nothing but capacity changes.
 #[tactic(auto, using(crate::proofs::NoMore::none_more))]
-#[inline(never)]
+#[inline(always)]
 fn reserve_items(items: &mut Items, added: Counts) -> Result<(), AllocError>
     ensures stays { StaysButRoom items.old items.new }
     ensures roomy { OnOk result ((code : Code) → IsRoomy code items.old → IsRoomyFor code added.controls added.leaves items.new) }

@@ -40,6 +40,19 @@ invariant_of-self-then-not-ended g c =
       items = λ work h. work_later old new c.history-before.ensures.whole c.history-before.ensures.replays (Begin c.args.worker c.args.item) a work (k.items work h);
     }
 
+pub returns-then-not-ended-clause-events : goal.returns-then-not-ended-clause-events
+returns-then-not-ended-clause-events g c = c.audit.ensures.amount ∙ c.add.ensures.amount
+
+pub returns-then-not-ended-clause-few : goal.returns-then-not-ended-clause-few
+returns-then-not-ended-clause-few g c =
+    let k = c.self.invariant in
+    let old = c.self.inside.board in
+    let new = c.perform_on_board.new.board in
+    let both : Accepts old (Begin c.args.worker c.args.item) new × (new.newly ≡ []) = search rules in
+    let more = counted_more old new (Begin c.args.worker c.args.item) both.0 in
+    let amount = c.audit.ensures.amount ∙ c.add.ensures.amount in
+    omega (arith, amount, more, k.counted, c.add.ensures.total, c.audit.ensures.bound, c.history-within.ensures.within, c.history-within.ensures.few)
+
 -- the item has begun and ended
 pub invariant_of-self-2 : goal.invariant_of-self-2
 invariant_of-self-2 g c =
@@ -72,3 +85,23 @@ invariant_of-self-2 g c =
 
 pub returns-clause-listed : goal.returns-clause-listed
 returns-clause-listed g c = either_way c.list_ready_items-listed.result c.list_ready_items-listed.ensures.listed c.list_ready_items-listed.ensures.refused
+
+pub returns-clause-events : goal.returns-clause-events
+returns-clause-events g c = c.audit-2.ensures.amount ∙ c.add-2.ensures.amount
+
+pub returns-clause-few : goal.returns-clause-few
+returns-clause-few g c =
+    let k = c.self.invariant in
+    let old = c.self.inside.board in
+    let new = c.perform_on_board.new.board in
+    let both : (mid : Seen) × Accepts old (Begin c.args.worker c.args.item) mid × (mid.newly ≡ []) × Accepts mid (End c.args.worker c.args.item) new = search rules in
+    let first = counted_more old both.0 (Begin c.args.worker c.args.item) both.1 in
+    let second = counted_more both.0 new (End c.args.worker c.args.item) both.3 in
+    let amount = c.audit-2.ensures.amount ∙ c.add-2.ensures.amount in
+    omega (arith, amount, first, second, k.counted, c.add-2.ensures.total, c.audit-2.ensures.bound, c.history-within.ensures.within, c.history-within.ensures.few)
+
+pub returns-clause-enabled_total : goal.returns-clause-enabled_total
+returns-clause-enabled_total g c =
+    let k = c.self.invariant in
+    let amount = c.audit-3.ensures.amount ∙ c.add-3.ensures.amount in
+    (amount, omega (arith, amount, k.enabled_total_is, c.add-3.ensures.total, c.audit-3.ensures.bound, c.if-self-ge-MAX_ENABLED.false, c.newly_ready_count-count.ensures.few), omega (arith, c.list_ready_items-listed.ensures.len, c.newly_ready_count-count.ensures.count))
