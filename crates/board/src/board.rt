@@ -143,10 +143,7 @@ impl Board {
         let Ok(()) = self.core.sort_arrays(&self.program, job) else {
             return Err(BoardRefusal::Memory);
         };
-        let Ok(work) = self
-            .core
-            .work(&self.program, item, job, &mut self.answers)
-        else {
+        let Ok(work) = self.core.work(&self.program, item, job, &mut self.answers) else {
             return Err(BoardRefusal::Memory);
         };
         // Room for this event, and for the next event of each running item.

@@ -146,8 +146,7 @@ impl BoardState {
         match (program.code().entry(entry), program.entry(entry)) {
             (Some(found), Some(table)) => {
                 let view = self.view(program, instance);
-                done.is_of(found)
-                    && are_given(view, table.needs.as_slice(), done.answers())
+                done.is_of(found) && are_given(view, table.needs.as_slice(), done.answers())
             }
             _ => false,
         }
