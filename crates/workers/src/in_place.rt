@@ -63,13 +63,15 @@ fn perform_one<J: RunParams, E: Ledger, N: Ledger>(
     number: u64,
 ) -> bool {
     match engine.perform(scheduler, number) {
-        Ok(true) => return true,
-        Err(BoardRefusal::NotReady) => return true,
-        Ok(false) => {
+        Ok(ended) => {
+            if ended {
+                return true;
+            }
             if !scheduler.audited_board.is_over() {
                 give_back_locked(scheduler, engine, number);
             }
         }
+        Err(BoardRefusal::NotReady) => return true,
         Err(BoardRefusal::Ended) => {}
         Err(BoardRefusal::Memory) => scheduler.audited_board.halt(StopReason::Memory),
         Err(_) => scheduler.audited_board.halt(StopReason::Stranger),

@@ -2,8 +2,8 @@
 //! mutex-guarded board and a lock-free pool.
 //!
 //! The entry point is `run_threads` in `run`. The scheduling policy is in `scheduler`, `counters`, `ready_hints`,
-//! `idle_workers` and `wake_signal`; `threads` holds the main loop of a thread, `in_place` what it performs under the lock. The proof of the report rests on
-//! `audited_board`, `start_log`, `worker_state` and `totals`.
+//! `idle_workers` and `wake_signal`; `threads` holds the main loop of a thread, and `in_place` what a thread performs
+//! under the lock. The proof of the report rests on `audited_board`, `start_log`, `worker_state` and `totals`.
 #![tactic(auto)]
 
 mod audited_board;
