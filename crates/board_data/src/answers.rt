@@ -86,7 +86,6 @@ pub fn answers(
 }
 
 /// Returns the number that answers the need for a stored scalar, or `None` for any other need or answer.
-#[inline(always)]
 fn stored_number(view: Environment<'_>, wanted: &ResolvedNeed) -> Option<i64>
     ensures { IfSome result (λ n. Found (Number n)
         ≡ wanted_answer view.entry.program.now (cells_view view.entry.store.now.cells)
