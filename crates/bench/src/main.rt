@@ -29,15 +29,10 @@ fn main(rt: HostRuntime) -> io::Result<()> {
         "store" => data::time(&rt, rt.alloc()),
         name => match words.next() {
             None => laps::time(&rt, rt.alloc(), name, None),
-            Some(number) => time_number(&rt, name, number.as_str()),
+            Some(number) => match number.as_str().parse::<u32>() {
+                Ok(number) => laps::time(&rt, rt.alloc(), name, Some(number)),
+                Err(_) => println!(rt; "{number} is not a number"),
+            },
         },
-    }
-}
-
-/// Prints the times of the script of a name with a number.
-fn time_number(rt: &HostRuntime, name: &str, word: &str) -> io::Result<()> {
-    match word.parse::<u32>() {
-        Ok(number) => laps::time(rt, rt.alloc(), name, Some(number)),
-        Err(_) => println!(rt; "{word} is not a number"),
     }
 }
