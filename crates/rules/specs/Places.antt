@@ -14,7 +14,7 @@ datum (Whole d) = d % 2 ^ 32
 datum (Element d k) = d % 2 ^ 32
 
 -- 32 bits to which both halves of a hash of 64 bits contribute
-abbrev pub folded : ℕ → ℕ
+unfoldable pub folded : ℕ → ℕ
 folded h = (h + h / 2 ^ 32 * 2654435769 % 2 ^ 64) % 2 ^ 64 % 2 ^ 32
 
 -- the address at which items that wait for the input are noted

@@ -79,6 +79,7 @@ impl Input {
 }
 
 // Returns 32 bits to which both halves of a hash contribute.
+#[tactic(auto, unfolding(crate::specs::Places::folded))]
 fn folded(hash: u64) -> u32
     ensures { result ≡ folded hash }
 {
