@@ -26,10 +26,10 @@ pub fn on_byte(alloc: Global, text: &[u8], at: usize) -> Result<Option<Vec<u8>>,
 }
 
 /// Returns the hint of a rule about the byte at an offset. `rest`: the text from it on.
-fn by_rules(
+fn by_rules<'a>(
     alloc: Global,
-    text: &[u8],
-    rest: &[u8],
+    text: &'a [u8],
+    rest: &'a [u8],
     at: usize,
 ) -> Result<Option<&'static str>, AllocError> {
     let mut lexer = Lexer::behind(text, at.saturating_add(1).min(text.len()));
