@@ -1,4 +1,5 @@
 mod Added
+mod First
 mod Marking
 mod Needing
 mod Texts
