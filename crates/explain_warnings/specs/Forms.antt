@@ -1,5 +1,5 @@
 -- Forms of expressions, calls and blocks that are certainly mistakes, whatever the values of a run are.
-use Rattle.std.specs.Prelude.{ℕ, ◌-◌, ℤ, pos, Bool, true, false, List, [], ◌∷◌, length, Option, Some, None, is_some, codes, nat_eq, int_lt, slice_get, ◌&&◌, ◌||◌}
+use Rattle.std.specs.Prelude.{ℕ, ◌-◌, ℤ, pos, Bool, true, false, List, length, Option, Some, None, is_some, codes, nat_eq, int_lt, slice_get, ◌&&◌, ◌||◌}
 use Rattle.std.specs.Str.{bytes_eq}
 use Rattle.language.specs.declared.tree.Prefix.{Prefix}
 use Rattle.language.specs.declared.tree.Prefix.TheVariants as Prefixes

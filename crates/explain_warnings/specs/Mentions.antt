@@ -1,9 +1,9 @@
 -- Occurrences in the statements of a script, in the order of the text: of variables, of called functions, and of forms that are mistakes.
-use Rattle.std.specs.Prelude.{ℕ, ◌+◌, min, Bool, true, false, List, [], ◌∷◌, ◌++◌, map, Option, Some, None, if◌then◌else◌, nat_eq}
+use Rattle.std.specs.Prelude.{ℕ, ◌+◌, min, Bool, false, List, [], ◌∷◌, ◌++◌, map, Option, Some, None, if◌then◌else◌, nat_eq}
 use Rattle.lexer.specs.declared.token.Span.{Span}
 use Rattle.language.specs.declared.tree.Shape.{Shape}
 use Rattle.language.specs.declared.tree.Shape.TheVariants.{Scalar, Array}
-use Rattle.language.specs.Tree.{Word, Node, Declaration, Expression, expression, Form, number, text, truth, variable, element, call, prefixed, chain, Expressions, no_expressions, and_expression, expressions_of, RightSide, value, list, Calling, Over, array, range, Statement, statement, Command, declare, assign, write, assign_all, calls, choice, choice_else, loop, waits, Body, body, Statements, no_statements, and_statement, Part, Tree, import, function, single}
+use Rattle.language.specs.Tree.{Word, Declaration, Expression, expression, Form, number, text, truth, variable, element, call, prefixed, chain, Expressions, no_expressions, and_expression, expressions_of, RightSide, value, list, Calling, Over, array, range, Statement, statement, Command, declare, assign, write, assign_all, calls, choice, choice_else, loop, waits, Body, body, Statements, no_statements, and_statement, Part, Tree, import, function, single}
 use Rattle.explain_warnings.specs.declared.name_use.NameUseKind.{NameUseKind}
 use Rattle.explain_warnings.specs.declared.name_use.NameUseKind.TheVariants.{Declared, DeclaredArray, Read, ReadElement, Written, Called, EmptyRange, ExtraLine, EmptyBlock, StepBelowOne, AlwaysHolds, WaitsForItself}
 use Rattle.explain_warnings.specs.declared.name_use.NameUse.{NameUse}
