@@ -201,7 +201,7 @@ module _ (C : Code) (I : IsCode C) (es : List Event) (F : Fields) (x : Stands C 
   own_task = of_row.task_is ∙ ap (λ (r : Row). task_of F.frames r.job) own_row
 
   live : row.status ≡ Over → ⊥
-  live h = of_row.not_over (ap (λ (r : Row). r.offset) own_row ∙ h)
+  live h = of_row.not_over (ap (λ (r : Row). r.status) own_row ∙ h)
 
   same_answers : ends.answers ≡ xs
   same_answers = (answers_are_one (code_system C) (code_laws C I) s log follows).one ends.item here ends.answers xs ends.known (subst (λ (u : Task). SeesAll (code_system C) s (task_inputs C u) xs) (sym own_task) known)

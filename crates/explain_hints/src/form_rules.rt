@@ -55,6 +55,7 @@ found== -> leave the value out: each call passes one, f(3)
 found=; next=$type -> write a , between outputs, and between inputs: (int r, int s) f(int n, int m) { .. }
 when first=( second=$type opener!=( [
 last=$name -> write the inputs in brackets: (int r) f(int n) { r = n; }
+last=) found=; closed=$name -> write the block in place of the ;, or leave this out: a function can be called before it is defined
 last=) found!=$closing closed=$name -> write the block right after the inputs: (int r) f(int n) { r = n; }
 last=) found={ -> a name and the inputs are missing: (int r) f(int n) { r = n; }
 last=) found=( -> a name is missing between outputs and inputs: (int r) f(int n) { r = n; }

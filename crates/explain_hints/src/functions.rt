@@ -25,7 +25,8 @@ factorial fact -> write it as a function: (int r) factorial(int n) { if (n <= 1)
 sign sgn signum -> write it as a function: (int r) sign(int n) { if (n > 0) { r = 1; } else if (n < 0) { r = -1; } else { r = 0; } }
 abs abs_integer fabs -> write it as a function: (int r) abs(int n) { if (n < 0) { r = -n; } else { r = n; } }
 sum total -> add along an array: s[0] = A[0]; foreach i in [1:9] { s[i] = s[i - 1] + A[i]; }
-contains exists has isset has_key -> nothing tells whether an element is there: write a value for each key, or note the keys in a second array
+contains includes member -> mark what fits, a value v or a key k: int hit[]; foreach v, k in A { if (v == 2) { hit[k] = 1; } }, and test size(hit) > 0
+exists has isset has_key -> nothing tells whether an element is there: write a value for each key, or note the keys in a second array
 range -> write foreach i in [0:9] { .. }: a range stands after in
 argv args argp getenv input read glob open fopen readline readln readint gets scanf stdin file system exec run time now date clock -> a script reads no files and no arguments: write the value into it, int n = 10;
 exit quit stop abort error throw raise -> leave it out: a run ends when all statements have run; assert(x > 0, "x is positive"); ends it before

@@ -156,6 +156,7 @@ last=( opener_before=$operator , -> write toint(s) for the number in a string, a
 when found=; else
 found=; found=@first last=} -> leave this ; out: none comes after a }
 found=; found=@first -> leave this ; out: a statement ends with one
+found=else closed=else -> an if has one else: write else if (x > 0) { .. } for the one before
 found=else -> write else right after the } of its if: if (x > 0) { .. } else { .. }
 
 # Priorities.

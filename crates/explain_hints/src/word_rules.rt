@@ -26,6 +26,7 @@ next_third=$type ) -> write a function outside of all blocks: (int r) f(int n) {
 
 # Operators as words, but not a variable of a loop and not a name that begins the next line.
 when before_last!=foreach gap!=line comment
+found=do begin next={ -> leave the word out: foreach i in [0:9] { .. }
 found=$name -> $operators found
 last=$name found=$plain $type -> $operators last
 when before_last!=foreach gap=line comment next!== [ (
