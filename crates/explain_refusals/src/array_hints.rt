@@ -21,13 +21,14 @@ pub fn hint_of_array(
     } else {
         b"%i".as_slice()
     };
-    let parts = [
+    Hint::of_parts(
+        wrong.alloc,
+        words_of_array(wrong, wanted, operator),
         wrong.around.found.text,
         declaration.as_slice(),
         sign_of(operator),
         conversion,
-    ];
-    Hint::filled(wrong.alloc, words_of_array(wrong, wanted, operator), &parts)
+    )
 }
 
 /// Returns the template of the hint about an array in place of a scalar.

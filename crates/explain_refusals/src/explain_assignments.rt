@@ -138,11 +138,15 @@ fn hint_of_next<A: Allocator>(
     let is_taken = last_before(text, occurrences, declaration, next.as_slice(), to).is_some();
     match scalar_of(text, occurrences, name, at.from) {
         Some(sort) if !is_taken && rest.starts_with(b" =") => {
-            let parts = [type_of(sort.base).as_bytes(), next.as_slice(), rest];
-            Hint::filled(
+            let template = "give the new value another name: $0$1$2";
+            let declared = type_of(sort.base).as_bytes();
+            Hint::of_parts(
                 refused.alloc,
-                "give the new value another name: $0$1$2",
-                &parts,
+                template,
+                declared,
+                next.as_slice(),
+                rest,
+                rest,
             )
         }
         _ => Ok(None),
@@ -303,7 +307,7 @@ fn told_of_output<A: Allocator>(
     refused: &RefusedScript<'_, A>,
     at: Span,
 ) -> Result<Explanation, AllocError> {
-    let mut template = "assign it in its function: $0 = ..;";
+    let mut is_array = false;
     let mut note = None;
     if let Some(function) = function_around(at.from, refused.script) {
         note = Some(Note {
@@ -312,12 +316,16 @@ fn told_of_output<A: Allocator>(
         });
         for output in &function.outputs {
             if output.name.span == at && output.shape != Shape::Scalar {
-                template =
-                    "assign it in its function, $0 = [..];, or write its elements, $0[0] = ..;";
+                is_array = true;
             }
         }
     }
     let name = bytes_at(refused.text, at);
     let told = Explanation::of(refused.alloc, "output `$0` is never assigned", name, note)?;
+    let template = if is_array {
+        "assign it in its function, $0 = [..];, or write its elements, $0[0] = ..;"
+    } else {
+        "assign it in its function: $0 = ..;"
+    };
     Ok(told.with(Hint::filled(refused.alloc, template, &[name])?))
 }

@@ -143,8 +143,8 @@ fn add_wish(out: &mut Vec<u8>, text: &[u8], wanted: ExpectedType) -> Result<(), 
         }
         ExpectedType::Key(array, name) => {
             let key = one(keys_of(array).base());
-            let parts = [words_of(key), bytes_at(text, name)];
-            fill(out, "expected $0 as key of `$1`", &parts)
+            fill(out, "expected $0 as key of ", &[words_of(key)])?;
+            fill(out, "`$0`", &[bytes_at(text, name)])
         }
         ExpectedType::Element | ExpectedType::Size => fill(out, "expected an array", &[]),
         ExpectedType::Named => fill(out, "expected the name of an array", &[]),

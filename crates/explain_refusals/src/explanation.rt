@@ -50,6 +50,18 @@ impl Hint {
         Ok(Some(Hint { words, at: None }))
     }
 
+    /// Creates a hint from a template, in which `$0` to `$3` are replaced by these parts.
+    pub fn of_parts<'p>(
+        alloc: Global,
+        template: &str,
+        first: &'p [u8],
+        second: &'p [u8],
+        third: &'p [u8],
+        fourth: &'p [u8],
+    ) -> Result<Option<Hint>, AllocError> {
+        Hint::filled(alloc, template, &[first, second, third, fourth])
+    }
+
     /// Converts an optional piece of advice to an optional hint.
     pub fn of(alloc: Global, advice: Option<Advice>) -> Result<Option<Hint>, AllocError> {
         match advice {

@@ -97,13 +97,14 @@ fn hint_of_form(wrong: &WrongValue<'_>, wanted: ExpectedType) -> Result<Option<H
     };
     let mut declaration = Vec::new(wrong.alloc);
     write_declaration(&mut declaration, wrong.found, b"A")?;
-    let parts = [
+    Hint::of_parts(
+        wrong.alloc,
+        template,
         wrong.around.found.text,
         type_of(wrong.found.base).as_bytes(),
         wrong.value,
         declaration.as_slice(),
-    ];
-    Hint::filled(wrong.alloc, template, &parts)
+    )
 }
 
 /// Returns the hint about an expression of another type than the expected one.
@@ -254,8 +255,8 @@ fn hint_of_key(
         (Shape::Scalar, _, _) => return hint_of_bases(wrong, keys.base()),
         _ => return hint_of_array(wrong, one(keys.base()), None),
     };
-    let parts = [wrong.value, name, type_of(array.base).as_bytes(), number];
-    Hint::filled(wrong.alloc, template, &parts)
+    let base = type_of(array.base).as_bytes();
+    Hint::of_parts(wrong.alloc, template, wrong.value, name, base, number)
 }
 
 /// Returns the hint about the variables of a loop over an array that are exchanged, or `None` if they are not.

@@ -76,8 +76,8 @@ form_ends_line (prefixed p e) = false
 form_ends_line (chain os es) = false
 
 -- a `printf` of this format prints an empty line after its line
-abbrev pub is_extra_line : (function : List ℕ) → Expression → Bool
-is_extra_line function (expression nd f) = bytes_eq function (codes "printf") && form_ends_line f
+abbrev pub is_extra_line : (called : List ℕ) → Expression → Bool
+is_extra_line called (expression nd f) = bytes_eq called (codes "printf") && form_ends_line f
 
 -- the literal `true`
 abbrev pub form_is_true : Form → Bool
@@ -91,8 +91,8 @@ form_is_true (prefixed p e) = false
 form_is_true (chain os es) = false
 
 -- an `assert` of this condition always holds
-abbrev pub always_holds : (function : List ℕ) → Expression → Bool
-always_holds function (expression nd f) = bytes_eq function (codes "assert") && form_is_true f
+abbrev pub always_holds : (called : List ℕ) → Expression → Bool
+always_holds called (expression nd f) = bytes_eq called (codes "assert") && form_is_true f
 
 -- BLOCKS
 
@@ -103,8 +103,8 @@ is_without (and_statement s ss) = false
 -- NEEDS
 
 -- a built-in function with a value: an operator, which waits for its arguments
-abbrev pub is_operator : (function : List ℕ) → Bool
-is_operator function = bytes_eq function (codes "strcat") || (bytes_eq function (codes "fromint") || (bytes_eq function (codes "toint") || bytes_eq function (codes "size")))
+abbrev pub is_operator : (called : List ℕ) → Bool
+is_operator called = bytes_eq called (codes "strcat") || (bytes_eq called (codes "fromint") || (bytes_eq called (codes "toint") || bytes_eq called (codes "size")))
 
 -- An expression has no value before the variable of this name, or an element of it, has one. The argument of a function of the script is not needed:
 -- the function runs without it.

@@ -49,12 +49,12 @@ abbrev pub calling_reads : Calling → List NameUse
 calling_reads c = name_use Called c.name ∷ all_reads (expressions_of c.arguments)
 
 -- the mistakes of a call by its first argument
-abbrev pub first_mistakes : (function : List ℕ) → Expression → List NameUse
-first_mistakes function e = noted (is_extra_line function e) (at_expression ExtraLine e) ++ noted (always_holds function e) (at_expression AlwaysHolds e)
+abbrev pub first_mistakes : (called : List ℕ) → Expression → List NameUse
+first_mistakes called e = noted (is_extra_line called e) (at_expression ExtraLine e) ++ noted (always_holds called e) (at_expression AlwaysHolds e)
 
-abbrev pub argument_mistakes : (function : List ℕ) → List Expression → List NameUse
-argument_mistakes function [] = []
-argument_mistakes function (e ∷ es) = first_mistakes function e
+abbrev pub argument_mistakes : (called : List ℕ) → List Expression → List NameUse
+argument_mistakes called [] = []
+argument_mistakes called (e ∷ es) = first_mistakes called e
 
 -- a call that is a statement
 abbrev pub call_mentions : Calling → List NameUse
@@ -101,8 +101,8 @@ abbrev pub byte_at : ℕ → Span
 byte_at from = record { from = from; to = min (from + 1) 18446744073709551615 }
 
 -- a block without a statement, at its brace
-abbrev pub block_mistakes : (from : ℕ) → Statements → List NameUse
-block_mistakes from ss = noted (is_without ss) (record { kind = EmptyBlock; number = 0; at = byte_at from })
+abbrev pub block_mistakes : Body → List NameUse
+block_mistakes (body from ss) = noted (is_without ss) (record { kind = EmptyBlock; number = 0; at = byte_at from })
 
 abbrev mutual
   pub mentions_in : Statement → List NameUse
@@ -120,7 +120,7 @@ abbrev mutual
   command_mentions (waits ws b) = map (name_use Read) ws ++ body_mentions b
 
   pub body_mentions : Body → List NameUse
-  body_mentions (body from ss) = block_mistakes from ss ++ all_mentions ss
+  body_mentions (body from ss) = block_mistakes (body from ss) ++ all_mentions ss
 
   pub all_mentions : Statements → List NameUse
   all_mentions no_statements = []

@@ -331,7 +331,7 @@ fn block_mistakes<A: Allocator>(
     name_uses: &mut Vec<NameUse>,
 ) -> Result<(), AllocError>
     ensures { OnOk result (name_uses.new.items ≡ name_uses.old.items
-        ++ specs.block_mistakes body.now.from (trees.statements_of (map statement_view body.now.statements.items))) }
+        ++ specs.block_mistakes (body_view body.now)) }
 {
     let brace = Span {
         from: body.from,
