@@ -105,19 +105,23 @@ fn add_unchecked(
         return Ok(());
     };
     let mut place: usize = 0;
-    let mut before = "swt: not checked: ";
     for file in files.as_slice() {
         if place >= kept.opened() {
-            write_str(text, before)?;
-            write_str(text, file.as_str())?;
-            before = ", ";
+            add_name(text, place == kept.opened(), file.as_str())?;
         }
         place = place.saturating_add(1);
     }
-    if before == ", " {
+    if place > kept.opened() {
         write_str(text, "\n")?;
     }
     Ok(())
+}
+
+/// Appends the name of a file that was not opened, after the words for the first one or after a comma.
+fn add_name(text: &mut Vec<u8>, is_first: bool, name: &str) -> Result<(), AllocError> {
+    let before = if is_first { "swt: not checked: " } else { ", " };
+    write_str(text, before)?;
+    write_str(text, name)
 }
 
 /// Appends the explanation of a command whose script is not refused.
