@@ -29,7 +29,7 @@ explain_flags = codes "--explain" ∷ codes "--explain=all" ∷ []
 
 -- the options of a command without a value
 abbrev pub flags_of : Command → List (List ℕ)
-flags_of Code = codes "--dot" ∷ explain_flags
+flags_of Code = codes "--dot" ∷ codes "--draw" ∷ explain_flags
 flags_of Check = codes "--json" ∷ explain_flags
 flags_of Mean = codes "--progress" ∷ explain_flags
 flags_of Run = codes "--progress" ∷ explain_flags

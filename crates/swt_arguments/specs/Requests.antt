@@ -5,6 +5,7 @@ use Rattle.swt_arguments.specs.declared.command.Command.{Command}
 use Rattle.swt_arguments.specs.declared.command.Command.TheVariants.{Check, Mean, Code, Run, Replay}
 use Rattle.swt_arguments.specs.declared.request.Request.{Request}
 use Rattle.swt_arguments.specs.Commands.{command_of}
+use Rattle.swt_arguments.specs.Forms.{form_given}
 use Rattle.swt_arguments.specs.Lines.{formed_line}
 use Rattle.swt_arguments.specs.Words.{all_divided, before_dashes, behind_dashes, flag_given, often, unflagged}
 
@@ -50,7 +51,7 @@ request_with c ws behind =
     (progress_given c ws))
     (all_given ws))
     (explain_given ws))
-    (formed_line c (all_divided c (unflagged c ws)) behind (often (codes "--dot") ws))
+    (formed_line c (all_divided c (unflagged c ws)) behind (form_given ws))
 
 -- a command with these words after it
 abbrev pub behind_command : Command → List (List ℕ) → Option Request

@@ -206,12 +206,21 @@ fn twice<'a>(command: Command, word: &'a str, before: &[Word]) -> Option<Argumen
 }
 
 /// Returns true if a word equals `option`, or is `option` with a value. The two forms of `--explain` count as the same
-/// option.
+/// option, and so do `--dot` and `--draw`.
 fn names(command: Command, word: &str, option: &str) -> bool {
     match divided(command, word) {
         Some((other, _)) => is(other, option),
-        None => is(word, option) || (explains(word) && explains(option)),
+        None => {
+            is(word, option)
+                || (explains(word) && explains(option))
+                || (draws(word) && draws(option))
+        }
     }
+}
+
+/// Returns true if a word is `--dot` or `--draw`.
+fn draws(word: &str) -> bool {
+    is(word, "--dot") || is(word, "--draw")
 }
 
 fn wrong_option<'a>(command: Command, word: &'a str, before: &[Word]) -> Option<ArgumentError<'a>> {

@@ -13,7 +13,7 @@ pub enum Command {
     Check,
     /// Prints the meaning of a script.
     Mean,
-    /// Lists a script's code.
+    /// Lists or draws a script's code.
     Code,
     /// Runs a script.
     Run,
@@ -46,7 +46,7 @@ impl Command {
         ensures { result ≡ is_flag self word.now }
     {
         match self {
-            Command::Code => is(word, "--dot") || explains(word),
+            Command::Code => is(word, "--dot") || is(word, "--draw") || explains(word),
             Command::Check => is(word, "--json") || explains(word),
             Command::Run | Command::Mean => is(word, "--progress") || explains(word),
             Command::Replay => explains(word),
@@ -88,7 +88,7 @@ impl Command {
             Command::Check => &["--explain", "--json"],
             Command::Replay => &["--explain"],
             Command::Mean => &["--rounds", "--explain", "--progress"],
-            Command::Code => &["--dot", "--explain"],
+            Command::Code => &["--dot", "--draw", "--explain"],
             Command::Run => &[
                 "--engines",
                 "--workers",

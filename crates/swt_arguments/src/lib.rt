@@ -12,6 +12,7 @@
 #![tactic(auto)]
 
 pub mod argument_error;
+pub mod code_form;
 pub mod command;
 pub mod fault;
 pub mod line;

@@ -1,9 +1,11 @@
 //! A parsed command line.
-ghost use Rattle.std.specs.Prelude.{◌≡◌, [], ◌∷◌, codes, IfOk, MatchOption};
+ghost use Rattle.std.specs.Prelude.{◌≡◌, [], ◌∷◌, IfOk, MatchOption};
+ghost use Rattle.swt_arguments.specs.Forms.{form_given};
 ghost use Rattle.swt_arguments.specs.Lines.{formed_line, IsInRange};
 ghost use Rattle.swt_arguments.specs.Requests.{all_given, behind_command, explain_given, json_given, one_given, progress_given, request_of, request_with};
-ghost use Rattle.swt_arguments.specs.Words.{all_divided, before_dashes, behind_dashes, divided, often, unflagged, Answers};
+ghost use Rattle.swt_arguments.specs.Words.{all_divided, before_dashes, behind_dashes, divided, unflagged, Answers};
 
+use crate::code_form::CodeForm;
 use crate::command::Command;
 use crate::fault::LineFault;
 use crate::line::{self, Line};
@@ -85,7 +87,7 @@ fn read_line(
     behind: &[Word],
 ) -> Result<Line, LineFault>
     ensures line { Answers (formed_line command (all_divided command (unflagged command words.now)) behind.now
-        (often (codes "--dot") words.now)) result }
+        (form_given words.now)) result }
     ensures in_range { IfOk result IsInRange }
 {
     let others = unflagged(alloc, command, words)?;
@@ -95,7 +97,7 @@ fn read_line(
         command,
         parts.as_slice(),
         behind,
-        words::often("--dot", words),
+        CodeForm::of(words),
     )
 }
 

@@ -4,6 +4,7 @@ use crate::doing::{command_of, request_of, words_of};
 use std::alloc::{AllocError, Global};
 use std::process::Abort;
 use swt_arguments::argument_error::{ArgumentError, first_wrong};
+use swt_arguments::code_form::CodeForm;
 use swt_arguments::command::Command;
 use swt_arguments::fault::LineFault;
 use swt_arguments::line::Line;
@@ -67,9 +68,13 @@ fn shown_line(alloc: Global, line: &Line) -> Result<String, AllocError> {
     match line {
         Line::Check { files } => checked(alloc, files.as_slice()),
         Line::Mean { file, rounds } => { format!(in alloc; "mean {} {}", file.as_str(), rounds) }
-        Line::Code { file, dot } => {
-            let form = if *dot { " dot" } else { "" };
-            format!(in alloc; "code {}{}", file.as_str(), form)
+        Line::Code { file, form } => {
+            let shown = match form {
+                CodeForm::Listing => "",
+                CodeForm::Graph => " dot",
+                CodeForm::Drawing => " draw",
+            };
+            format!(in alloc; "code {}{}", file.as_str(), shown)
         }
         Line::Run {
             file,
@@ -153,6 +158,7 @@ mean a 4294967295 | mean --rounds 4294967295 a
 code a | code a
 code a dot | code a --dot
 code a dot | code --dot a
+code a draw | code a --draw
 run a 1 3 10000000 none | run a
 run a 2 63 0 t | run --trace t --engines 2 a --steps 0 --workers 63
 replay a t | replay a t
@@ -194,6 +200,7 @@ mean a --steps 1
 code
 code --dot
 code --dot a --dot
+code --dot a --draw
 mean a --dot
 code a b
 run
@@ -393,6 +400,7 @@ swt: --steps has no value behind it | run --steps --engines 1 a
 swt: 64 is no number from 1 to 63 | run a --workers 64
 swt: many is no number from 1 to 4294967295 | mean a --rounds many
 swt: --dot stands twice | code a --dot --dot
+swt: --draw stands twice | code a --dot --draw
 swt: b is one file too many for mean | mean a b
 swt: check wants one file or more | check
 swt: replay wants a file and its trace | replay a
