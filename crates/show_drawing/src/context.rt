@@ -107,7 +107,8 @@ impl<'p, 'a, A: Allocator> DrawingContext<'p, 'a, A> {
         }
     }
 
-    /// Appends the tip and the label of a box: its line, the first bytes of its words, and a stripe of a colour.
+    /// Appends the tip and the label of a box: its line, the first bytes of its words, and a stripe of a colour. A box
+    /// of no statement is that of a function, with bold words.
     pub fn add_label(
         &self,
         text: &mut DotText,
@@ -127,10 +128,17 @@ impl<'p, 'a, A: Allocator> DrawingContext<'p, 'a, A> {
         text.add(DIM);
         text.add_counted("\">", line);
         text.add("</FONT></TD><TD ALIGN=\"LEFT\">");
-        add_shortened(text, words, WIDTH);
-        text.add("</TD></TR>");
-        if let Some(statement) = statement {
-            self.add_remark(text, colour, statement);
+        match statement {
+            Some(statement) => {
+                add_shortened(text, words, WIDTH);
+                text.add("</TD></TR>");
+                self.add_remark(text, colour, statement);
+            }
+            None => {
+                text.add("<B>");
+                add_shortened(text, words, WIDTH);
+                text.add("</B></TD></TR>");
+            }
         }
         text.add("</TABLE>>];\n");
     }

@@ -41,7 +41,8 @@ impl DotText {
     }
 
     /// Appends bytes of the script, with the characters that have a meaning in labels written as entities. A quoted
-    /// text needs it as much as a label in angle brackets does. A byte that is not printable ASCII becomes `?`.
+    /// text needs it as much as a label in angle brackets does, and in both `dot` reads two `\` as one. A byte that is
+    /// not printable ASCII becomes `?`.
     pub fn add_escaped(&mut self, bytes: &[u8]) {
         for byte in bytes {
             match *byte {
@@ -49,7 +50,7 @@ impl DotText {
                 b'<' => self.add("&lt;"),
                 b'>' => self.add("&gt;"),
                 b'"' => self.add("&quot;"),
-                b'\\' => self.add("&#92;"),
+                b'\\' => self.add("&#92;&#92;"),
                 b' '..=b'~' => self.add_bytes(&[*byte]),
                 _ => self.add("?"),
             }

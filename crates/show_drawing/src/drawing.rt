@@ -1,10 +1,10 @@
 //! The drawing of a script.
 
 use crate::call_order::CallOrder;
+use crate::context::DrawingContext;
 use crate::dot_text::DotText;
 use crate::edges::add_edges;
 use crate::frames::add_frames;
-use crate::context::DrawingContext;
 use crate::style::{add_first, add_last};
 use crate::traffic::Traffic;
 use crate::walk::scene_of;

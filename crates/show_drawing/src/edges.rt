@@ -1,9 +1,9 @@
 //! Arrows of a drawing, and the invisible ones that keep its boxes in their places.
 
 use crate::call_order::{CallOrder, calls_once};
-use crate::dot_text::DotText;
 use crate::context::DrawingContext;
-use crate::scene::{BlockHead, BoxKind, CallUse, StatementBox, DrawingStep};
+use crate::dot_text::DotText;
+use crate::scene::{BlockHead, BoxKind, CallUse, DrawingStep, StatementBox};
 use crate::style::{CALL, OPEN};
 use crate::traffic::Shown;
 use std::alloc::{AllocError, Allocator, Global};
@@ -185,7 +185,11 @@ fn push_arrows(
 }
 
 /// Appends arrows, in order. Arrows of several variables between the same statements are one.
-fn add_arrows<A: Allocator>(context: &DrawingContext<'_, '_, A>, text: &mut DotText, arrows: &[Arrow]) {
+fn add_arrows<A: Allocator>(
+    context: &DrawingContext<'_, '_, A>,
+    text: &mut DotText,
+    arrows: &[Arrow],
+) {
     let mut before: Option<Arrow> = None;
     for arrow in arrows {
         match before {
@@ -205,7 +209,11 @@ fn add_arrows<A: Allocator>(context: &DrawingContext<'_, '_, A>, text: &mut DotT
 }
 
 /// Appends an arrow up to the names of its variables.
-fn begin_arrow<A: Allocator>(context: &DrawingContext<'_, '_, A>, text: &mut DotText, arrow: Arrow) {
+fn begin_arrow<A: Allocator>(
+    context: &DrawingContext<'_, '_, A>,
+    text: &mut DotText,
+    arrow: Arrow,
+) {
     text.add("  ");
     context.add_statement(text, arrow.from);
     text.add(" -> ");
@@ -256,7 +264,7 @@ fn add_calls<A: Allocator>(
             context.add_statement(text, call.statement);
             text.add(" -> ");
             context.add_function(text, call.function);
-            text.add(" [class=\"calls\", style=dotted, arrowsize=0.6, color=\"");
+            text.add(" [class=\"calls\", style=dotted, penwidth=1.5, arrowsize=0.6, color=\"");
             text.add(CALL);
             text.add(if order.leads_down(caller.place.function, call.function) {
                 "\"];\n"
@@ -267,7 +275,7 @@ fn add_calls<A: Allocator>(
     }
 }
 
-/// Returns some of the last statements of the script: those that no arrow leaves.
+/// Returns some of the last statements of the script: those that no arrow to another statement leaves.
 fn anchors<A: Allocator>(
     context: &DrawingContext<'_, '_, A>,
     arrows: &[Arrow],
@@ -292,7 +300,7 @@ fn is_end(statement: &StatementBox) -> bool {
     statement.place.function.is_none() && statement.kind != BoxKind::Opens
 }
 
-/// Returns for each statement whether an arrow of a variable leaves it.
+/// Returns for each statement whether an arrow to another statement leaves it.
 fn leaving<A: Allocator>(
     context: &DrawingContext<'_, '_, A>,
     arrows: &[Arrow],
@@ -300,13 +308,6 @@ fn leaving<A: Allocator>(
     let mut leaves = falses(context.alloc, context.scene.boxes.len())?;
     for arrow in arrows {
         mark(&mut leaves, arrow.from);
-    }
-    for variable in 0..context.scene.variables.len() {
-        if context.traffic.shown(variable) == Shown::OwnBox {
-            for writer in context.traffic.writers(variable) {
-                mark(&mut leaves, *writer);
-            }
-        }
     }
     Ok(leaves)
 }

@@ -1,9 +1,9 @@
 //! Frames and boxes of a drawing.
 
+use crate::context::DrawingContext;
 use crate::dot_text::DotText;
 use crate::excerpt::start_before;
-use crate::context::DrawingContext;
-use crate::scene::{Frame, DrawingStep};
+use crate::scene::{DrawingStep, Frame};
 use crate::style::{CALL, box_style, frame_style, stripe};
 use std::alloc::{AllocError, Allocator};
 
@@ -72,7 +72,11 @@ fn add_head<A: Allocator>(
 }
 
 /// Appends the boxes of the variables of a block that have one.
-fn add_variables<A: Allocator>(context: &DrawingContext<'_, '_, A>, text: &mut DotText, block: usize) {
+fn add_variables<A: Allocator>(
+    context: &DrawingContext<'_, '_, A>,
+    text: &mut DotText,
+    block: usize,
+) {
     for variable in context.own_boxes(block) {
         text.add_counted("    v", *variable);
         text.add(

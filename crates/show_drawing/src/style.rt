@@ -25,7 +25,7 @@ const FIRST: &str = r##"digraph script {
 /// The last lines: the legend.
 const LAST: &str = r##"  labelloc=b;
   labeljust=l;
-  label=<<TABLE BORDER="0" CELLBORDER="0" CELLSPACING="5" CELLPADDING="2"><TR><TD WIDTH="14" BGCOLOR="#e69f00"> </TD><TD>opens a block</TD><TD WIDTH="14" BGCOLOR="#56b4e9"> </TD><TD>moves an element</TD><TD WIDTH="14" BGCOLOR="#0a6aab"> </TD><TD>computes</TD><TD WIDTH="14" BGCOLOR="#8a6fc0"> </TD><TD>calls a function</TD><TD WIDTH="14" BGCOLOR="#c4609a"> </TD><TD>prints or asserts</TD></TR><TR><TD COLSPAN="10" ALIGN="LEFT">arrows: a variable, from who writes it to who reads it; dashed: to a branch; dotted: to the function called</TD></TR></TABLE>>;
+  label=<<TABLE BORDER="0" CELLBORDER="0" CELLSPACING="0" CELLPADDING="2"><TR><TD ALIGN="LEFT"><TABLE BORDER="0" CELLBORDER="0" CELLSPACING="5" CELLPADDING="2"><TR><TD WIDTH="14" BGCOLOR="#e69f00"> </TD><TD>opens a block</TD><TD WIDTH="14" BGCOLOR="#56b4e9"> </TD><TD>moves an element</TD><TD WIDTH="14" BGCOLOR="#0a6aab"> </TD><TD>computes</TD><TD WIDTH="14" BGCOLOR="#8a6fc0"> </TD><TD>calls a function</TD><TD WIDTH="14" BGCOLOR="#c4609a"> </TD><TD>prints or asserts</TD></TR></TABLE></TD></TR><TR><TD ALIGN="LEFT">solid arrow: a variable, from who writes it to who reads it; dashed: to a branch; dotted: to the function called</TD></TR></TABLE>>;
 }
 "##;
 

@@ -1,6 +1,6 @@
 //! The forms in which `code` prints a script.
 ghost use Rattle.std.specs.Prelude.{◌≡◌};
-ghost use Rattle.swt_arguments.specs.Forms.{form_given};
+ghost use Rattle.swt_arguments.specs.Forms.{form_given, form_of, with_dot, without_dot};
 
 use crate::word::Word;
 use crate::words;
@@ -16,16 +16,41 @@ pub enum CodeForm {
     Drawing,
 }
 
-impl CodeForm {
-    /// Returns the form that the options among these words ask for, or `None` if they ask for two or repeat one.
-    pub fn of(words: &[Word]) -> Option<CodeForm>
-        ensures { result ≡ form_given words.now }
-    {
-        match (words::often("--dot", words), words::often("--draw", words)) {
-            (0, 0) => Some(CodeForm::Listing),
-            (1, 0) => Some(CodeForm::Graph),
-            (0, 1) => Some(CodeForm::Drawing),
-            _ => None,
-        }
+/// Returns the form that the options among these words ask for, or `None` if they ask for two or repeat one.
+pub(crate) fn form_given(words: &[Word]) -> Option<CodeForm>
+    ensures { result ≡ form_given words.now }
+{
+    form_of(words::often("--dot", words), words::often("--draw", words))
+}
+
+/// Returns the form by the numbers of `--dot` and `--draw`.
+fn form_of(dots: usize, draws: usize) -> Option<CodeForm>
+    ensures { result ≡ form_of dots draws }
+{
+    match dots {
+        0 => without_dot(draws),
+        1 => with_dot(draws),
+        _ => None,
+    }
+}
+
+/// Returns the form by the number of `--draw`, without `--dot`.
+fn without_dot(draws: usize) -> Option<CodeForm>
+    ensures { result ≡ without_dot draws }
+{
+    match draws {
+        0 => Some(CodeForm::Listing),
+        1 => Some(CodeForm::Drawing),
+        _ => None,
+    }
+}
+
+/// Returns the form by the number of `--draw`, beside one `--dot`.
+fn with_dot(draws: usize) -> Option<CodeForm>
+    ensures { result ≡ with_dot draws }
+{
+    match draws {
+        0 => Some(CodeForm::Graph),
+        _ => None,
     }
 }

@@ -168,11 +168,7 @@ fn read_mean(alloc: Global, files: &[Word], matches: &ArgMatches) -> Result<Line
     Ok(Line::Mean { file, rounds })
 }
 
-fn read_code(
-    alloc: Global,
-    files: &[Word],
-    given: Option<CodeForm>,
-) -> Result<Line, LineFault>
+fn read_code(alloc: Global, files: &[Word], given: Option<CodeForm>) -> Result<Line, LineFault>
     ensures line { Answers (code_line files.now given) result }
     ensures in_range { IfOk result IsInRange }
 {

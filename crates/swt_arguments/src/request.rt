@@ -5,7 +5,7 @@ ghost use Rattle.swt_arguments.specs.Lines.{formed_line, IsInRange};
 ghost use Rattle.swt_arguments.specs.Requests.{all_given, behind_command, explain_given, json_given, one_given, progress_given, request_of, request_with};
 ghost use Rattle.swt_arguments.specs.Words.{all_divided, before_dashes, behind_dashes, divided, unflagged, Answers};
 
-use crate::code_form::CodeForm;
+use crate::code_form::form_given;
 use crate::command::Command;
 use crate::fault::LineFault;
 use crate::line::{self, Line};
@@ -97,7 +97,7 @@ fn read_line(
         command,
         parts.as_slice(),
         behind,
-        CodeForm::of(words),
+        form_given(words),
     )
 }
 
