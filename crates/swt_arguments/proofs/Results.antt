@@ -21,6 +21,7 @@ use Rattle.swt_arguments.specs.declared.code_form.CodeForm.{CodeForm}
 use Rattle.swt_arguments.specs.declared.command.Command.{Command}
 use Rattle.swt_arguments.specs.declared.command.Command.TheVariants.{Check, Mean, Code, Run, Replay}
 use Rattle.swt_arguments.specs.Commands.{has_option, options_of}
+use Rattle.swt_arguments.specs.Forms.{with_passes}
 use Rattle.swt_arguments.specs.Numbers.{number_given}
 use Rattle.swt_arguments.specs.Words.{Answers, well_formed, files_in, input_once, only, written, values_of}
 use Rattle.swt_arguments.specs.Lines.{command_line, formed_line, run_line}
@@ -67,7 +68,7 @@ pub record IsPlainApp (a : App) : Type 0 where
 
 pub plain_app : (c : Command) → IsPlainApp (app_with (options_of c))
 plain_app Check = record { simple = refl; subs = refl; bare = refl; defaults = (refl, tt); checks = λ rows. refl }
-plain_app Code = record { simple = refl; subs = refl; bare = refl; defaults = (refl, tt); checks = λ rows. refl }
+plain_app Code = record { simple = refl; subs = refl; bare = refl; defaults = (refl, (refl, tt)); checks = λ rows. refl }
 plain_app Replay = record { simple = refl; subs = refl; bare = refl; defaults = (refl, tt); checks = λ rows. refl }
 plain_app Mean = record { simple = refl; subs = refl; bare = refl; defaults = (refl, (refl, tt)); checks = λ rows. refl }
 plain_app Run = record { simple = refl; subs = refl; bare = refl; defaults = (refl, (refl, (refl, (refl, (refl, tt))))); checks = λ rows. refl }
@@ -199,6 +200,11 @@ twice_text [] h = absurd (omega arith)
 twice_text (v ∷ []) h = absurd (omega arith)
 twice_text (v ∷ w ∷ vs) h = refl
 
+twice_pass : (given : Option CodeForm) (vs : List Text) → 2 ≤ length vs → with_passes given vs ≡ None
+twice_pass given [] h = absurd (omega arith)
+twice_pass given (v ∷ []) h = absurd (omega arith)
+twice_pass given (v ∷ w ∷ vs) h = refl
+
 and_then_none : {T U : Type 0} (o : Option T) → option_and_then {T = T} {U = U} (λ _. None) o ≡ None
 and_then_none None = refl
 and_then_none (Some x) = refl
@@ -208,7 +214,7 @@ twice_line c ws fs n o is = each_option c (λ p. 2 ≤ length (values_of p false
   where
     all : (d : Command) → EachOf (λ p. 2 ≤ length (values_of p false ws) → command_line d ws fs n ≡ None) (options_of d)
     all Check = tt
-    all Code = tt
+    all Code = (λ h. rw (twice_pass n (values_of (codes "--after") false ws) h) (and_then_none (only fs)), tt)
     all Replay = tt
     all Mean = (λ h. rw (twice_number 1 4294967295 1000000 (values_of (codes "--rounds") false ws) h) (and_then_none (only fs)), tt)
     all Run = (

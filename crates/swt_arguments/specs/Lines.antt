@@ -5,6 +5,7 @@ use Rattle.swt_arguments.specs.declared.command.Command.{Command}
 use Rattle.swt_arguments.specs.declared.command.Command.TheVariants as command
 use Rattle.swt_arguments.specs.declared.line.Line.{Line}
 use Rattle.swt_arguments.specs.declared.line.Line.TheVariants.{Check, Mean, Code, Run, Replay}
+use Rattle.swt_arguments.specs.Forms.{with_passes}
 use Rattle.swt_arguments.specs.Numbers.{number_given}
 use Rattle.swt_arguments.specs.Words.{well_formed, files_in, input_once, values_of, only, written}
 use Rattle.values.specs.Limits.{max_events, max_threads}
@@ -22,9 +23,13 @@ mean_line files rounds =
     (number_given 1 4294967295 1000000 rounds))
     (only files)
 
--- `code`, with its file and the form in which it is printed
-abbrev pub code_line : List (List ℕ) → Option CodeForm → Option Line
-code_line files given = option_and_then (λ file. option_and_then (λ form. Some (Code file form)) given) (only files)
+-- `code`, with its file and the form in which it is printed, by its other options and the values of `--after`
+abbrev pub code_line : List (List ℕ) → Option CodeForm → List (List ℕ) → Option Line
+code_line files given passes =
+    option_and_then (λ file.
+    option_and_then (λ form. Some (Code file form))
+    (with_passes given passes))
+    (only files)
 
 -- `run`, with its file and the values of the engines, the workers, the steps and the trace
 abbrev pub run_line : List (List ℕ) → List (List ℕ) → List (List ℕ) → List (List ℕ) → List (List ℕ) → Option Line
@@ -47,11 +52,11 @@ replay_line (f ∷ []) = None
 replay_line (f ∷ t ∷ []) = Some (Replay f t)
 replay_line (f ∷ t ∷ u ∷ ws) = None
 
--- a command with the words after it, its files, and the form that is asked for
+-- a command with the words after it, its files, and the form that its options without a value ask for
 abbrev pub command_line : Command → List (List ℕ) → List (List ℕ) → Option CodeForm → Option Line
 command_line command.Check ws files form = check_line files
 command_line command.Mean ws files form = mean_line files (values_of (codes "--rounds") false ws)
-command_line command.Code ws files form = code_line files form
+command_line command.Code ws files form = code_line files form (values_of (codes "--after") false ws)
 command_line command.Run ws files form = run_line files (values_of (codes "--engines") false ws) (values_of (codes "--workers") false ws)
     (values_of (codes "--steps") false ws) (values_of (codes "--trace") false ws)
 command_line command.Replay ws files form = replay_line files

@@ -1,5 +1,5 @@
 -- The request of the words after the program's name: a line, and whether to explain, in short or in full, to show
--- progress, and to report refusals as JSON.
+-- progress, to report refusals as JSON, and to deny warnings.
 use Rattle.std.specs.Prelude.{ℕ, Bool, true, false, List, [], ◌∷◌, Option, Some, None, codes, option_and_then}
 use Rattle.swt_arguments.specs.declared.command.Command.{Command}
 use Rattle.swt_arguments.specs.declared.command.Command.TheVariants.{Check, Mean, Code, Run, Replay}
@@ -39,6 +39,14 @@ json_given Code ws = Some false
 json_given Run ws = Some false
 json_given Replay ws = Some false
 
+-- whether an accepted script with a warning counts as refused, for `check` only
+abbrev pub deny_given : Command → List (List ℕ) → Option Bool
+deny_given Check ws = flag_given (often (codes "--deny-warnings") ws)
+deny_given Mean ws = Some false
+deny_given Code ws = Some false
+deny_given Run ws = Some false
+deny_given Replay ws = Some false
+
 -- a command with its options and files, followed by more files
 abbrev pub request_with : Command → List (List ℕ) → List (List ℕ) → Option Request
 request_with c ws behind =
@@ -46,7 +54,9 @@ request_with c ws behind =
     option_and_then (λ explain.
     option_and_then (λ all.
     option_and_then (λ progress.
-    option_and_then (λ json. Some (record { line = line; explain = explain; all = all; progress = progress; json = json }))
+    option_and_then (λ json.
+    option_and_then (λ deny. Some (record { line = line; explain = explain; all = all; progress = progress; json = json; deny = deny }))
+    (deny_given c ws))
     (json_given c ws))
     (progress_given c ws))
     (all_given ws))

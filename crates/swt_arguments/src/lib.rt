@@ -18,6 +18,7 @@ pub mod fault;
 pub mod line;
 pub mod nearest;
 pub mod option_number;
+pub mod pass;
 mod reading;
 pub mod request;
 pub mod word;

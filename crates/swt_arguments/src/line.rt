@@ -6,7 +6,7 @@ ghost use Rattle.swt_arguments.specs.Reader.{files_given, values_given};
 ghost use Rattle.swt_arguments.specs.Lines.{formed_line, check_line, mean_line, code_line, run_line, replay_line, files_of, IsInRange};
 ghost use Rattle.values.specs.Limits.{max_threads};
 
-use crate::code_form::CodeForm;
+use crate::code_form::{CodeForm, with_passes};
 use crate::command::Command;
 use crate::fault::LineFault;
 use crate::word::Word;
@@ -111,7 +111,7 @@ fn copies(alloc: Global, words: &[Word]) -> Result<Vec<Word>, AllocError>
 }
 
 /// Parses the line of a command. `words` are its options and files, `behind` the files after `--`, and `form` is the
-/// form that `code` is asked for, if it is asked for one.
+/// form that the options of `code` without a value ask for, if they ask for one.
 pub fn read(
     alloc: Global,
     command: Command,
@@ -130,7 +130,7 @@ pub fn read(
     match command {
         Command::Check => read_check(files),
         Command::Mean => read_mean(alloc, &files, &matches),
-        Command::Code => read_code(alloc, &files, form),
+        Command::Code => read_code(alloc, &files, form, &matches),
         Command::Run => read_run(alloc, &files, &matches),
         Command::Replay => read_replay(alloc, &files),
     }
@@ -168,12 +168,17 @@ fn read_mean(alloc: Global, files: &[Word], matches: &ArgMatches) -> Result<Line
     Ok(Line::Mean { file, rounds })
 }
 
-fn read_code(alloc: Global, files: &[Word], given: Option<CodeForm>) -> Result<Line, LineFault>
-    ensures line { Answers (code_line files.now given) result }
+fn read_code(
+    alloc: Global,
+    files: &[Word],
+    given: Option<CodeForm>,
+    matches: &ArgMatches,
+) -> Result<Line, LineFault>
+    ensures line { Answers (code_line files.now given (values_given matches.now (codes "--after"))) result }
     ensures in_range { IfOk result IsInRange }
 {
     let file = words::only(alloc, files)?;
-    match given {
+    match with_passes(given, matches.get_str("--after")) {
         Some(form) => Ok(Line::Code { file, form }),
         None => Err(LineFault::Usage),
     }

@@ -2,7 +2,7 @@
 ghost use Rattle.std.specs.Prelude.{◌≡◌, [], ◌∷◌, IfOk, MatchOption};
 ghost use Rattle.swt_arguments.specs.Forms.{form_given};
 ghost use Rattle.swt_arguments.specs.Lines.{formed_line, IsInRange};
-ghost use Rattle.swt_arguments.specs.Requests.{all_given, behind_command, explain_given, json_given, one_given, progress_given, request_of, request_with};
+ghost use Rattle.swt_arguments.specs.Requests.{all_given, behind_command, deny_given, explain_given, json_given, one_given, progress_given, request_of, request_with};
 ghost use Rattle.swt_arguments.specs.Words.{all_divided, before_dashes, behind_dashes, divided, unflagged, Answers};
 
 use crate::code_form::form_given;
@@ -25,6 +25,8 @@ pub struct Request {
     pub progress: bool,
     /// Whether to report refusals as JSON.
     pub json: bool,
+    /// Whether an accepted script with a warning counts as refused.
+    pub deny: bool,
 }
 
 impl Request {
@@ -70,12 +72,14 @@ fn read_parts(
     let all = explains_all(words)?;
     let progress = shows_progress(command, words)?;
     let json = tells_json(command, words)?;
+    let deny = denies_warnings(command, words)?;
     Ok(Request {
         line,
         explain,
         all,
         progress,
         json,
+        deny,
     })
 }
 
@@ -214,6 +218,16 @@ fn tells_json(command: Command, words: &[Word]) -> Result<bool, LineFault>
 {
     match command {
         Command::Check => words::flag(words::often("--json", words)),
+        Command::Mean | Command::Code | Command::Run | Command::Replay => Ok(false),
+    }
+}
+
+/// Returns true if `--deny-warnings` is given to `check`. `Usage` if it is repeated.
+fn denies_warnings(command: Command, words: &[Word]) -> Result<bool, LineFault>
+    ensures { Answers (deny_given command words.now) result }
+{
+    match command {
+        Command::Check => words::flag(words::often("--deny-warnings", words)),
         Command::Mean | Command::Code | Command::Run | Command::Replay => Ok(false),
     }
 }

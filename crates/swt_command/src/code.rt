@@ -1,9 +1,11 @@
-//! The command `code`: prints the listing of a script's code, its drawing, or the drawing of the script.
+//! The command `code`: prints the listing of a script's code, its drawing, the drawing of the script, or what the script
+//! is after a pass.
 ghost use Rattle.std.specs.Prelude.{◌<◌, ◌≡◌, MatchResult};
 ghost use Rattle.swt_command.specs.Files.{StopsAt, contents};
 ghost use Rattle.swt_command.specs.Listings.{IsAcceptedAt, Lists};
 ghost use Rattle.swt_command.specs.Sinks.{held};
 
+use crate::passes::text_after;
 use crate::pictures::picture_of;
 use crate::scripts::{drawing_of, listing_of};
 use bumpalo::Bump;
@@ -59,5 +61,6 @@ fn text_of(
         CodeForm::Listing => listing_of(alloc, arena, files),
         CodeForm::Graph => drawing_of(alloc, arena, files),
         CodeForm::Drawing => picture_of(alloc, arena, files),
+        CodeForm::After(pass) => text_after(alloc, arena, files, pass),
     }
 }
