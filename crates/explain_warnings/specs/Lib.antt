@@ -1,4 +1,5 @@
 pub mod Forms
+pub mod Guards
 pub mod Marks
 pub mod Mentions
 pub mod View

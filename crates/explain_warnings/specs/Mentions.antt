@@ -5,8 +5,9 @@ use Rattle.language.specs.declared.tree.Shape.{Shape}
 use Rattle.language.specs.declared.tree.Shape.TheVariants.{Scalar, Array}
 use Rattle.language.specs.Tree.{Word, Node, Declaration, Expression, expression, Form, number, text, truth, variable, element, call, prefixed, chain, Expressions, no_expressions, and_expression, expressions_of, RightSide, value, list, Calling, Over, array, range, Statement, statement, Command, declare, assign, write, assign_all, calls, choice, choice_else, loop, waits, Body, body, Statements, no_statements, and_statement, Part, Tree, import, function, single}
 use Rattle.explain_warnings.specs.declared.name_use.NameUseKind.{NameUseKind}
-use Rattle.explain_warnings.specs.declared.name_use.NameUseKind.TheVariants.{Declared, DeclaredArray, Read, ReadElement, Written, Called, EmptyRange, ExtraLine, EmptyBlock, StepBelowOne, AlwaysHolds, WaitsForItself}
+use Rattle.explain_warnings.specs.declared.name_use.NameUseKind.TheVariants.{Declared, DeclaredArray, Read, ReadElement, Written, Called, EmptyRange, ExtraLine, EmptyBlock, StepBelowOne, AlwaysHolds, WaitsForItself, IdleGuard}
 use Rattle.explain_warnings.specs.declared.name_use.NameUse.{NameUse}
+use Rattle.explain_warnings.specs.Guards.{guards_nothing}
 use Rattle.explain_warnings.specs.Forms.{is_empty, below_one, is_extra_line, always_holds, is_without, right_needs}
 
 abbrev pub name_use : NameUseKind → Word → NameUse
@@ -23,7 +24,7 @@ noted holds m = if holds then m ∷ [] else []
 
 abbrev mutual
   pub reads_of : Expression → List NameUse
-  reads_of (expression nd f) = form_reads f
+  reads_of (expression nd f) = noted (guards_nothing f) (record { kind = IdleGuard; number = nd.number; at = nd.first }) ++ form_reads f
 
   pub form_reads : Form → List NameUse
   form_reads (number z) = []

@@ -15,6 +15,7 @@ warning_code Kind.EmptyBlock = codes "V8"
 warning_code Kind.StepBelowOne = codes "V9"
 warning_code Kind.AlwaysHolds = codes "V10"
 warning_code Kind.WaitsForItself = codes "V11"
+warning_code Kind.IdleGuard = codes "V13"
 
 abbrev pub warning_name : WarningKind → List ℕ
 warning_name Kind.NeverUsed = codes "NeverUsed"
@@ -28,3 +29,4 @@ warning_name Kind.EmptyBlock = codes "EmptyBlock"
 warning_name Kind.StepBelowOne = codes "StepBelowOne"
 warning_name Kind.AlwaysHolds = codes "AlwaysHolds"
 warning_name Kind.WaitsForItself = codes "WaitsForItself"
+warning_name Kind.IdleGuard = codes "IdleGuard"

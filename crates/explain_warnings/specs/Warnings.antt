@@ -9,7 +9,7 @@ use Rattle.explain_warnings.specs.declared.name_use.NameUseKind.{NameUseKind}
 use Rattle.explain_warnings.specs.declared.name_use.NameUseKind.TheVariants as Is
 use Rattle.explain_warnings.specs.declared.name_use.NameUse.{NameUse}
 use Rattle.explain_warnings.specs.declared.warning.WarningKind.{WarningKind}
-use Rattle.explain_warnings.specs.declared.warning.WarningKind.TheVariants.{NeverUsed, NeverRead, IdleInput, EmptyRange, ExtraLine, NeverWritten, NeverCalled, EmptyBlock, StepBelowOne, AlwaysHolds, WaitsForItself}
+use Rattle.explain_warnings.specs.declared.warning.WarningKind.TheVariants.{NeverUsed, NeverRead, IdleInput, EmptyRange, ExtraLine, NeverWritten, NeverCalled, EmptyBlock, StepBelowOne, AlwaysHolds, WaitsForItself, IdleGuard}
 use Rattle.explain_warnings.specs.declared.warning.Warning.{Warning}
 use Rattle.explain_warnings.specs.Mentions.{is_spared, mentions_in, function_mentions, tree_mentions}
 use Rattle.explain_warnings.specs.Marks.{uses_local, uses_input, counted, is_called}
@@ -48,6 +48,7 @@ warning_by Is.EmptyBlock u n = Some EmptyBlock
 warning_by Is.StepBelowOne u n = Some StepBelowOne
 warning_by Is.AlwaysHolds u n = Some AlwaysHolds
 warning_by Is.WaitsForItself u n = Some WaitsForItself
+warning_by Is.IdleGuard u n = Some IdleGuard
 
 abbrev pub warning_at : Uses → NameUse → Option WarningKind
 warning_at u m = warning_by m.kind u m.number

@@ -7,6 +7,7 @@
 
 mod calls;
 mod forms;
+mod guards;
 mod marks;
 pub mod name_use;
 mod name_uses;

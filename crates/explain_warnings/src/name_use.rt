@@ -29,6 +29,8 @@ pub enum NameUseKind {
     AlwaysHolds,
     /// An assignment whose right side needs the variable that it assigns.
     WaitsForItself,
+    /// A chain of `&&` or `||` of which one operand is to guard a division in the next.
+    IdleGuard,
 }
 
 /// An occurrence: its kind, its place, and the number of the name or of the node at that place, which is 0 for a brace.

@@ -7,7 +7,7 @@ ghost use Rattle.explain_warnings.specs.Mentions as specs;
 use crate::forms::{always_holds, below_one, is_empty, is_extra_line};
 use crate::name_use::{NameUse, NameUseKind};
 use crate::needs::right_needs;
-use crate::reads::{add, add_all, read, read_call, read_right};
+use crate::reads::{add, add_all, at_expression, note, read, read_call, read_right};
 use lexer::token::Span;
 use std::alloc::{AllocError, Allocator, Global};
 use syntax_trees::tree::{
@@ -56,27 +56,6 @@ pub fn is_spared(name: &[u8]) -> bool
     match name {
         [first, ..] => *first == b'_',
         [] => false,
-    }
-}
-
-/// Appends an occurrence, if the condition holds.
-fn note(holds: bool, name_use: NameUse, name_uses: &mut Vec<NameUse>) -> Result<(), AllocError>
-    ensures { OnOk result (name_uses.new.items ≡ name_uses.old.items ++ specs.noted holds name_use) }
-{
-    if holds {
-        name_uses.push(name_use)?;
-    }
-    Ok(())
-}
-
-/// Returns the occurrence of an expression.
-fn at_expression<A: Allocator>(kind: NameUseKind, expr: &Expr<A>) -> NameUse
-    ensures { result ≡ specs.at_expression kind (expression_view expr.now) }
-{
-    NameUse {
-        kind,
-        number: expr.number,
-        at: expr.first,
     }
 }
 

@@ -61,7 +61,7 @@ fn begins_with_name(warning_kind: WarningKind) -> bool {
         WarningKind::NeverUsed | WarningKind::NeverRead | WarningKind::IdleInput => true,
         WarningKind::NeverWritten | WarningKind::NeverCalled | WarningKind::WaitsForItself => true,
         WarningKind::EmptyRange | WarningKind::ExtraLine | WarningKind::EmptyBlock => false,
-        WarningKind::StepBelowOne | WarningKind::AlwaysHolds => false,
+        WarningKind::StepBelowOne | WarningKind::AlwaysHolds | WarningKind::IdleGuard => false,
     }
 }
 
@@ -78,6 +78,9 @@ fn words_of(warning_kind: WarningKind) -> &'static str {
         WarningKind::StepBelowOne => "a step below 1 is a fault",
         WarningKind::AlwaysHolds => "this assertion always holds",
         WarningKind::WaitsForItself => "waits for itself: its value is computed from itself",
+        WarningKind::IdleGuard => {
+            "this comparison does not guard the division after it: both sides are computed"
+        }
     }
 }
 
@@ -101,6 +104,9 @@ pub fn hint_of(warning_kind: WarningKind) -> &'static str {
         WarningKind::WaitsForItself => {
             "a variable has one value: give the new value a name of its own, as int y = x + 1;"
         }
+        WarningKind::IdleGuard => {
+            "a divisor of 0 is a fault: put the division into the block of an if, as if (n != 0) { .. }"
+        }
     }
 }
 
@@ -120,6 +126,7 @@ pub fn code_of(warning_kind: WarningKind) -> &'static str
         WarningKind::StepBelowOne => "V9",
         WarningKind::AlwaysHolds => "V10",
         WarningKind::WaitsForItself => "V11",
+        WarningKind::IdleGuard => "V13",
     }
 }
 
@@ -139,6 +146,7 @@ pub fn name_of(warning_kind: WarningKind) -> &'static str
         WarningKind::StepBelowOne => "StepBelowOne",
         WarningKind::AlwaysHolds => "AlwaysHolds",
         WarningKind::WaitsForItself => "WaitsForItself",
+        WarningKind::IdleGuard => "IdleGuard",
     }
 }
 

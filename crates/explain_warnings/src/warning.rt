@@ -43,6 +43,8 @@ pub enum WarningKind {
     AlwaysHolds,
     /// An assignment that needs the variable that it assigns.
     WaitsForItself,
+    /// A comparison with 0 that is to guard a division.
+    IdleGuard,
 }
 
 /// A warning with its place: a name, the beginning of an expression, or a brace.
@@ -240,6 +242,7 @@ fn warning_at(uses: &NamesInUse<'_>, name_use: NameUse) -> Option<WarningKind>
         NameUseKind::StepBelowOne => Some(WarningKind::StepBelowOne),
         NameUseKind::AlwaysHolds => Some(WarningKind::AlwaysHolds),
         NameUseKind::WaitsForItself => Some(WarningKind::WaitsForItself),
+        NameUseKind::IdleGuard => Some(WarningKind::IdleGuard),
     }
 }
 

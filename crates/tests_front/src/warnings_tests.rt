@@ -41,7 +41,11 @@ V11 WaitsForItself 4 5 | int x = x + 1; printf("%i", x);
 V11 WaitsForItself 7 8 | int x; x = 2 * (1 - x); printf("%i", x);
 V11 WaitsForItself 34 35 | boolean b = true; int x; if (b) { x = -x; } else { x = 1; } printf("%i", x);
 V11 WaitsForItself 19 20 | int A[] = [1]; int i = A[i]; printf("%i", i);
-V11 WaitsForItself 7 8 | string s = strcat("a", fromint(toint(s))); printf("%s", s);"#;
+V11 WaitsForItself 7 8 | string s = strcat("a", fromint(toint(s))); printf("%s", s);
+V13 IdleGuard 15 16 | int n = 2; if (n != 0 && 10 %/ n > 1) { printf("x"); }
+V13 IdleGuard 15 16 | int n = 2; if (n == 0 || 10 %% n > 1) { printf("x"); }
+V13 IdleGuard 15 16 | int n = 2; if (0 != n && 3 > 4 * 10 %/ n) { printf("x"); }
+V13 IdleGuard 18 22 | int n = 2; assert(true && n != 0 && 1 == toint(fromint(7 %/ n)), "x");"#;
 
 #[test]
 fn odd_scripts(rt: HostRuntime) {
@@ -73,6 +77,12 @@ none | int n = 1; foreach i in [0:9:-n] { printf("%i", i); } foreach i in [0:9:1
 none | assert(!false, "x"); assert(1 == 1, "true"); boolean b = true; assert(b, "x");
 none | (int r) f(int _n) { r = 1; } int x = f(x); int y = f(y + 1); printf("%i %i", x, y);
 none | int A[]; A[0] = 1; A[1] = A[0]; printf("%i", A[1]);
+none | int n = 2; if (n != 0) { printf("%i", 10 %/ n); }
+none | int n = 2; if (n != 0 || 10 %/ n > 1) { printf("x"); }
+none | int n = 2; if (10 %/ n > 1 && n != 0) { printf("x"); }
+none | int n = 2; if (n != 1 && 10 %/ n > 1) { printf("x"); }
+none | int n = 2; if (n != 0 && n %/ 10 > 1) { printf("x"); }
+none | int n = 2; int m = 3; if (m != 0 && 10 %/ n > m) { printf("x"); }
 none | int x; int y = z;
 none | int x"#;
 
