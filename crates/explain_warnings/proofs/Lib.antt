@@ -1,5 +1,6 @@
 mod Added
 mod Marking
 mod Needing
+mod Repeated
 mod Texts
 mod Views

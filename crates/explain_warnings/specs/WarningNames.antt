@@ -15,6 +15,7 @@ warning_code Kind.EmptyBlock = codes "V8"
 warning_code Kind.StepBelowOne = codes "V9"
 warning_code Kind.AlwaysHolds = codes "V10"
 warning_code Kind.WaitsForItself = codes "V11"
+warning_code Kind.KeyTwice = codes "V12"
 warning_code Kind.IdleGuard = codes "V13"
 
 abbrev pub warning_name : WarningKind → List ℕ
@@ -29,4 +30,5 @@ warning_name Kind.EmptyBlock = codes "EmptyBlock"
 warning_name Kind.StepBelowOne = codes "StepBelowOne"
 warning_name Kind.AlwaysHolds = codes "AlwaysHolds"
 warning_name Kind.WaitsForItself = codes "WaitsForItself"
+warning_name Kind.KeyTwice = codes "KeyTwice"
 warning_name Kind.IdleGuard = codes "IdleGuard"

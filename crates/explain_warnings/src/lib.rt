@@ -14,4 +14,5 @@ mod name_uses;
 mod needs;
 mod reads;
 pub mod render;
+mod repeats;
 pub mod warning;

@@ -29,6 +29,8 @@ pub enum NameUseKind {
     AlwaysHolds,
     /// An assignment whose right side needs the variable that it assigns.
     WaitsForItself,
+    /// A write of an element under a literal under which a statement before it in the same list writes one.
+    KeyTwice,
     /// A chain of `&&` or `||` of which one operand is to guard a division in the next.
     IdleGuard,
 }
