@@ -53,11 +53,7 @@ fn is_divisor<A: Allocator>(
 }
 
 /// Returns true if one of these operands is the variable of this name, and the operator at the same place divides.
-fn divided_from<A: Allocator>(
-    operators: &[Operator],
-    operands: &[Expr<A>],
-    name: &[u8],
-) -> bool
+fn divided_from<A: Allocator>(operators: &[Operator], operands: &[Expr<A>], name: &[u8]) -> bool
     ensures { result ≡ specs.divided_from name.now operators.now 0 (expressions_of (map expression_view operands.now)) }
 {
     for i in 0..operands.len() {
@@ -69,11 +65,7 @@ fn divided_from<A: Allocator>(
 }
 
 /// Returns true if a chain divides by the variable of this name. Its first operand has no operator.
-fn divided_by<A: Allocator>(
-    operators: &[Operator],
-    operands: &[Expr<A>],
-    name: &[u8],
-) -> bool
+fn divided_by<A: Allocator>(operators: &[Operator], operands: &[Expr<A>], name: &[u8]) -> bool
     ensures { result ≡ specs.divided_by name.now operators.now (expressions_of (map expression_view operands.now)) }
 {
     match operands {

@@ -34,12 +34,7 @@ pub fn add_parts<A: Allocator>(
 }
 
 /// Adds a cell.
-fn add_cell<A: Allocator>(
-    out: &mut FlowPage<'_, '_, A>,
-    depth: usize,
-    role: &str,
-    cell: &Cell<A>,
-) {
+fn add_cell<A: Allocator>(out: &mut FlowPage<'_, '_, A>, depth: usize, role: &str, cell: &Cell<A>) {
     out.page.begin(cell.at, depth);
     out.page.add(role);
     out.page.add_counted("#", cell.node as usize);

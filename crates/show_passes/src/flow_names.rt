@@ -108,14 +108,20 @@ fn collect_statement<'f, A: Allocator>(
             collect_block(locals, other)
         }
         Action::Range {
-            value, turn, body, ..
+            value,
+            turn,
+            body,
+            ..
         } => {
             collect(locals, value)?;
             collect_some(locals, turn)?;
             collect_block(locals, body)
         }
         Action::Each {
-            value, key, body, ..
+            value,
+            key,
+            body,
+            ..
         } => {
             collect(locals, value)?;
             collect_some(locals, key)?;

@@ -131,7 +131,10 @@ fn add_head<A: Allocator>(out: &mut FlowPage<'_, '_, A>, action: &Action<A>) {
             out.page.add(" in a range");
         }
         Action::Each {
-            array, value, key, ..
+            array,
+            value,
+            key,
+            ..
         } => {
             out.page.add("foreach ");
             out.add_loop_variables(value, key);

@@ -108,12 +108,7 @@ fn add_parts<A: Allocator>(out: &mut TreePage<'_, '_>, depth: usize, kind: &Stmt
 
 /// Adds a block with its statements.
 #[cycle(statement)]
-fn add_block<A: Allocator>(
-    out: &mut TreePage<'_, '_>,
-    depth: usize,
-    role: &str,
-    block: &Block<A>,
-) {
+fn add_block<A: Allocator>(out: &mut TreePage<'_, '_>, depth: usize, role: &str, block: &Block<A>) {
     out.page.begin(block.from, depth);
     out.page.add(role);
     out.page.end();

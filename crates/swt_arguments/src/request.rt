@@ -96,13 +96,7 @@ fn read_line(
 {
     let others = unflagged(alloc, command, words)?;
     let parts = all_divided(alloc, command, others.as_slice())?;
-    line::read(
-        alloc,
-        command,
-        parts.as_slice(),
-        behind,
-        form_given(words),
-    )
+    line::read(alloc, command, parts.as_slice(), behind, form_given(words))
 }
 
 /// Returns the words before the first `--`.

@@ -39,12 +39,7 @@ pub fn text_after(
 /// # Errors
 ///
 /// Returns the refusal of the first step that refuses the script, or `Memory` if an allocation fails.
-fn shown(
-    alloc: Global,
-    arena: &Bump,
-    source: &[u8],
-    pass: Pass,
-) -> Result<Vec<u8>, CompileFault>
+fn shown(alloc: Global, arena: &Bump, source: &[u8], pass: Pass) -> Result<Vec<u8>, CompileFault>
     ensures script { IsOk result → IsScript source.now }
     ensures unfit { IfErr result (λ fault. IsUnfit source.now fault) }
 {
