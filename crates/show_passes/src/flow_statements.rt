@@ -10,6 +10,9 @@ use std::alloc::{AllocError, Allocator, Global};
 
 /// Returns the text of a flow.
 ///
+/// Each statement, cell and call has a line with its position. The cells and calls of a statement precede the cell that
+/// they are part of.
+///
 /// # Errors
 ///
 /// Returns `AllocError` if an allocation fails.

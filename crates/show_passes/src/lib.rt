@@ -1,15 +1,13 @@
-//! The passes of the compiler as text for a reader: the syntax tree with or without types, the folded tree, and the
-//! flow before and after waits are merged.
+//! What a script is after a pass of the compiler, as text for a reader: a syntax tree with or without types, and a flow.
 #![tactic(auto)]
 
 mod flow_cells;
 mod flow_names;
 mod flow_page;
-mod flow_statements;
+pub mod flow_statements;
 mod page;
-pub mod passes;
 mod tree_expressions;
 mod tree_page;
-mod tree_statements;
+pub mod tree_statements;
 mod type_table;
 mod words;

@@ -6,13 +6,44 @@ use crate::tree_page::TreePage;
 use crate::type_table::TypeTable;
 use std::alloc::{AllocError, Allocator, Global};
 use syntax_trees::tree::{Block, Decl, Function, Header, Item, Script, Stmt, StmtKind};
+use types::typed::Typed;
 
-/// Returns the text of a syntax tree. With `types`, each name and expression has its type.
+/// Returns the text of a syntax tree.
+///
+/// Each node has a line with its position, indented below the node that it is part of.
 ///
 /// # Errors
 ///
 /// Returns `AllocError` if an allocation fails.
 pub fn tree_text<A: Allocator>(
+    alloc: Global,
+    source: &[u8],
+    script: &Script<A>,
+) -> Result<Vec<u8>, AllocError> {
+    text_of(alloc, source, script, None)
+}
+
+/// Returns the text of the syntax tree of a well typed script, with the type of each name and expression.
+///
+/// # Errors
+///
+/// Returns `AllocError` if an allocation fails.
+pub fn typed_text<A: Allocator>(
+    alloc: Global,
+    source: &[u8],
+    script: &Script<A>,
+    typed: &Typed,
+) -> Result<Vec<u8>, AllocError> {
+    let types = TypeTable::of(alloc, script, typed)?;
+    text_of(alloc, source, script, Some(&types))
+}
+
+/// Returns the text of a syntax tree, with types if they are given.
+///
+/// # Errors
+///
+/// Returns `AllocError` if an allocation fails.
+fn text_of<A: Allocator>(
     alloc: Global,
     source: &[u8],
     script: &Script<A>,
@@ -23,6 +54,13 @@ pub fn tree_text<A: Allocator>(
         types,
         function: None,
     };
+    add_items(&mut out, script);
+    let TreePage { page, .. } = out;
+    page.finish()
+}
+
+/// Adds the parts of a script in order.
+fn add_items<A: Allocator>(out: &mut TreePage<'_, '_>, script: &Script<A>) {
     let mut position = 0usize;
     for item in &script.items {
         match item {
@@ -33,15 +71,13 @@ pub fn tree_text<A: Allocator>(
             }
             Item::Function(function) => {
                 out.function = Some(position);
-                add_function(&mut out, function);
+                add_function(out, function);
                 out.function = None;
                 position = position.saturating_add(1);
             }
-            Item::Statement(statement) => add_statement(&mut out, 0, statement),
+            Item::Statement(statement) => add_statement(out, 0, statement),
         }
     }
-    let TreePage { page, .. } = out;
-    page.finish()
 }
 
 /// Adds a function: its outputs, its inputs and its body.

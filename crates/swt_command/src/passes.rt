@@ -6,10 +6,13 @@ ghost use Rattle.swt_command.specs.Listings.{IsAcceptedAt};
 
 use crate::scripts::{at_script, source};
 use bumpalo::Bump;
-use compile::compile::listed;
+use compile::check::{Accepted, accept};
+use compile::compile::{folded_flow_of, listed};
 use compile::fault::CompileFault;
-use show_passes::passes::{after_fold, after_lower, after_merge, after_parse, after_types};
-use std::alloc::Global;
+use compile::steps::{folded, lowered};
+use show_passes::flow_statements::flow_text;
+use show_passes::tree_statements::{tree_text, typed_text};
+use std::alloc::{AllocError, Allocator, Global};
 use swt_arguments::pass::Pass;
 use swt_status::stop::CommandStop;
 
@@ -34,22 +37,25 @@ pub fn text_after(
     }
 }
 
-/// Returns what a script is after a pass, as text for a reader. After the last pass it is the listing of its code.
+/// Returns what a script is after a pass, as text for a reader.
 ///
 /// # Errors
 ///
 /// Returns the refusal of the first step that refuses the script, or `Memory` if an allocation fails.
-fn shown(alloc: Global, arena: &Bump, source: &[u8], pass: Pass) -> Result<Vec<u8>, CompileFault>
+fn shown<A: Allocator + Clone>(
+    machine: Global,
+    alloc: A,
+    source: &[u8],
+    pass: Pass,
+) -> Result<Vec<u8>, CompileFault>
     ensures script { IsOk result → IsScript source.now }
     ensures unfit { IfErr result (λ fault. IsUnfit source.now fault) }
 {
     match pass {
-        Pass::Parse => after_parse(alloc, arena, source),
-        Pass::Types => after_types(alloc, arena, source),
-        Pass::Fold => after_fold(alloc, arena, source),
-        Pass::Lower => after_lower(alloc, arena, source),
-        Pass::Merge => after_merge(alloc, arena, source),
-        Pass::Emit => emitted(alloc, arena, source),
+        Pass::Emit => emitted(machine, alloc, source),
+        Pass::Parse | Pass::Types | Pass::Fold | Pass::Lower | Pass::Merge => {
+            before_code(machine, alloc, source, pass)
+        }
     }
 }
 
@@ -58,10 +64,85 @@ fn shown(alloc: Global, arena: &Bump, source: &[u8], pass: Pass) -> Result<Vec<u
 /// # Errors
 ///
 /// Returns the refusal of the first step that refuses the script, or `Memory` if an allocation fails.
-fn emitted(alloc: Global, arena: &Bump, source: &[u8]) -> Result<Vec<u8>, CompileFault>
+fn emitted<A: Allocator + Clone>(
+    machine: Global,
+    alloc: A,
+    source: &[u8],
+) -> Result<Vec<u8>, CompileFault>
     ensures script { IsOk result → IsScript source.now }
     ensures unfit { IfErr result (λ fault. IsUnfit source.now fault) }
 {
-    let listed = listed(alloc, arena, source)?;
+    let listed = listed(machine, alloc, source)?;
     Ok(listed.into_text())
+}
+
+/// Returns what a script is after a pass before the last.
+///
+/// # Errors
+///
+/// Returns the refusal of the first step that refuses the script, or `Memory` if an allocation fails.
+fn before_code<A: Allocator + Clone>(
+    machine: Global,
+    alloc: A,
+    source: &[u8],
+    pass: Pass,
+) -> Result<Vec<u8>, CompileFault>
+    ensures script { IsOk result → IsScript source.now }
+    ensures unfit { IfErr result (λ fault. IsUnfit source.now fault) }
+{
+    let accepted = accept(machine, alloc, source)?;
+    match accepted_text(machine, source, accepted, pass) {
+        Ok(text) => Ok(text),
+        Err(_) => Err(CompileFault::Memory),
+    }
+}
+
+/// Returns what an accepted script is after a pass before the last.
+///
+/// # Errors
+///
+/// Returns `AllocError` if an allocation fails.
+fn accepted_text<A: Allocator + Clone>(
+    machine: Global,
+    source: &[u8],
+    accepted: Accepted<A>,
+    pass: Pass,
+) -> Result<Vec<u8>, AllocError> {
+    match pass {
+        Pass::Parse => tree_text(machine, source, &accepted.script),
+        Pass::Types => typed_text(machine, source, &accepted.script, &accepted.typed),
+        Pass::Fold => folded_text(machine, source, accepted),
+        Pass::Lower => lowered_text(machine, source, accepted),
+        Pass::Merge | Pass::Emit => merged_text(machine, source, accepted),
+    }
+}
+
+/// Returns the text of an accepted script's folded tree.
+fn folded_text<A: Allocator + Clone>(
+    machine: Global,
+    source: &[u8],
+    accepted: Accepted<A>,
+) -> Result<Vec<u8>, AllocError> {
+    let folded = folded(machine, accepted)?;
+    tree_text(machine, source, &folded.script)
+}
+
+/// Returns the text of an accepted script's flow.
+fn lowered_text<A: Allocator + Clone>(
+    machine: Global,
+    source: &[u8],
+    accepted: Accepted<A>,
+) -> Result<Vec<u8>, AllocError> {
+    let flow = lowered(machine, accepted)?;
+    flow_text(machine, source, &flow)
+}
+
+/// Returns the text of an accepted script's flow with merged waits.
+fn merged_text<A: Allocator + Clone>(
+    machine: Global,
+    source: &[u8],
+    accepted: Accepted<A>,
+) -> Result<Vec<u8>, AllocError> {
+    let flow = folded_flow_of(machine, accepted)?;
+    flow_text(machine, source, &flow)
 }
