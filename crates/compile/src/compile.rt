@@ -72,7 +72,11 @@ pub fn read_folded<A: Allocator + Clone>(
 }
 
 /// Returns the flow of an accepted script, with folded literal expressions and merged waits.
-fn folded_flow_of<A: Allocator + Clone>(
+///
+/// # Errors
+///
+/// Returns `AllocError` if an allocation fails.
+pub fn folded_flow_of<A: Allocator + Clone>(
     machine: Global,
     accepted: Accepted<A>,
 ) -> Result<Flow<A>, AllocError>

@@ -37,6 +37,16 @@ impl<'r> CachingHost<'r> {
         self.kept.want(request);
     }
 
+    /// Returns true if a file of a check was reported as accepted with a warning.
+    pub fn warned(&self) -> bool {
+        self.kept.warned()
+    }
+
+    /// Returns true if an allocation failed, for a file or for a report about it.
+    pub fn lacks(&self) -> bool {
+        self.kept.lacks()
+    }
+
     /// Explains the result of a command on standard error.
     pub fn explain(&mut self, ended: CommandResult<'_, '_, '_>)
         ensures { events_of self.new ≡ events_of self.old }

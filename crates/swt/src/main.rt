@@ -1,14 +1,14 @@
 //! The program `swt`: checks, explains and runs scripts of a profile of Swift/T. Without arguments it prints its usage.
 #![tactic(auto)]
 
-ghost use Rattle.std.specs.Prelude.{◌≡◌, ◌<◌, ◌⊎◌, []};
+ghost use Rattle.std.specs.Prelude.{◌≡◌, ◌<◌, ◌⊎◌, ℕ, []};
 ghost use Rattle.host.specs.Events.{asked, changes, inputs, links, reads};
 ghost use Rattle.swt_arguments.specs.declared.fault.LineFault.TheVariants.{Usage};
 ghost use Rattle.swt_command.specs.Sinks.{Given, held};
 ghost use Rattle.swt_command.specs.Troubles.{trouble_line};
 ghost use Rattle.swt_status.specs.declared.failure.CommandFailure.TheVariants.{Memory};
 ghost use Rattle.swt_process.specs.Ends.{Ends};
-ghost use Rattle.swt_process.specs.Process.{IsProcess};
+ghost use Rattle.swt_process.specs.Process.{IsProcess, IsStatus};
 ghost use Rattle.swt.specs.Keepers.{events_of};
 ghost use Rattle.swt.specs.Outputs.{failures_of, taken_of};
 ghost use Rattle.host_system.specs.Streams as Streams;
@@ -98,10 +98,10 @@ fn perform<'r, R: Threads + Wait + Sync>(
     requires changes { changes (events_of host) ≡ [] }
     requires out { failures_of out.old < u64.MAX }
     requires err { Streams.failures_of err.old < u64.MAX }
-    ensures ends { Ends request.now.line (events_of result.1)
+    ensures ends { (number : ℕ) × Ends request.now.line (events_of result.1)
         (held (taken_of out.old) (failures_of out.old)) (held (taken_of out.new) (failures_of out.new))
         (held (Streams.taken_of err.old) (Streams.failures_of err.old)) (held (Streams.taken_of err.new) (Streams.failures_of err.new))
-        result.0 }
+        number × IsStatus request.now.deny number result.0 }
     ensures asked { asked (events_of result.1) ≡ asked (events_of host.entry) }
 {
     let mut host = host;
@@ -111,7 +111,7 @@ fn perform<'r, R: Threads + Wait + Sync>(
     out.want(request.explain);
     let number = process::id(rt.process());
     let (status, mut host) = program(threads, rt.alloc(), host, number, line, &reporter, out, err);
-    if request.explain || request.json {
+    if request.explain || request.json || request.deny {
         host.explain(CommandResult {
             line,
             all: request.all,
@@ -121,7 +121,27 @@ fn perform<'r, R: Threads + Wait + Sync>(
             unprinted: out.reason(),
         });
     }
-    (status, host)
+    let warned = host.warned();
+    let lacks = host.lacks();
+    (denied(request.deny, warned, lacks, status), host)
+}
+
+/// Returns the exit status of a command that ended with this status.
+///
+/// Where warnings are denied, a check that would end with 0 ends as a refused one if a file has a warning, and as one
+/// without memory if the warnings could not be computed.
+fn denied(denies: bool, warned: bool, lacks: bool, status: u8) -> u8
+    ensures { IsStatus denies status result }
+{
+    if !denies || status != 0 {
+        status
+    } else if lacks {
+        Status::Memory.number()
+    } else if warned {
+        Status::Refused.number()
+    } else {
+        status
+    }
 }
 
 /// Returns the maximum number of events of the line's run.

@@ -3,7 +3,7 @@
 use explain_json::json::{json_line, warning_lines};
 use explain_refusals::diagnostic::explained;
 use explain_warnings::render;
-use std::alloc::{AllocError, Global};
+use std::alloc::AllocError;
 use std::io::Write;
 use swt_arguments::line::Line;
 use swt_arguments::request::Request;
@@ -18,14 +18,34 @@ enum CachePolicy {
 }
 
 impl CachePolicy {
-    /// Returns the policy for a request: the files that may have to be explained.
+    /// Returns the policy for a request: the files that may have to be explained, or whose warnings are denied.
     fn by(request: &Request) -> CachePolicy {
-        if !request.explain && !request.json {
+        if !request.explain && !request.json && !request.deny {
             return CachePolicy::Nothing;
         }
         match &request.line {
             Line::Check { .. } => CachePolicy::Each,
             _ => CachePolicy::All,
+        }
+    }
+}
+
+/// The verdict on a file of a check.
+#[derive(Clone, Copy, PartialEq, Eq, Debug, Drop)]
+enum Verdict {
+    Refused,
+    Accepted,
+    /// Accepted, with a warning.
+    Warned,
+}
+
+impl Verdict {
+    /// Returns the verdict on an accepted file with these warnings.
+    fn of(warnings: &[u8]) -> Verdict {
+        if warnings.is_empty() {
+            Verdict::Accepted
+        } else {
+            Verdict::Warned
         }
     }
 }
@@ -42,6 +62,8 @@ struct SourceFile {
 pub struct SourceCache<'r> {
     rt: &'r HostRuntime,
     wanted: CachePolicy,
+    /// Whether refusals and other ends are explained.
+    explain: bool,
     /// Whether refusals and warnings are reported as JSON.
     json: bool,
     sources: Vec<SourceFile>,
@@ -49,6 +71,8 @@ pub struct SourceCache<'r> {
     opened: usize,
     /// The number of files that were reported as accepted.
     accepted: usize,
+    /// Whether a file was reported as accepted with a warning.
+    warned: bool,
     /// Whether an allocation failed, for a file or for a report about it.
     lacks: bool,
 }
@@ -59,10 +83,12 @@ impl<'r> SourceCache<'r> {
         SourceCache {
             rt,
             wanted: CachePolicy::Nothing,
+            explain: false,
             json: false,
             sources: Vec::new(rt.alloc()),
             opened: 0,
             accepted: 0,
+            warned: false,
             lacks: false,
         }
     }
@@ -70,6 +96,7 @@ impl<'r> SourceCache<'r> {
     /// Sets which files are kept for this request.
     pub fn want(&mut self, request: &Request) {
         self.wanted = CachePolicy::by(request);
+        self.explain = request.explain;
         self.json = request.json;
     }
 
@@ -78,9 +105,9 @@ impl<'r> SourceCache<'r> {
         self.rt
     }
 
-    /// Returns true if refusals and warnings are reported as JSON.
-    pub fn tells_json(&self) -> bool {
-        self.json
+    /// Returns true if the end of a command is explained as text.
+    pub fn tells_text(&self) -> bool {
+        self.explain && !self.json
     }
 
     /// Returns the name of the last file if it could not be read.
@@ -100,6 +127,11 @@ impl<'r> SourceCache<'r> {
     /// Returns the number of files that were reported as accepted.
     pub fn accepted(&self) -> usize {
         self.accepted
+    }
+
+    /// Returns true if a file was reported as accepted with a warning.
+    pub fn warned(&self) -> bool {
+        self.warned
     }
 
     /// Returns true if an allocation failed.
@@ -175,49 +207,57 @@ impl<'r> SourceCache<'r> {
     /// Reports the refusal or the warnings of the first file on standard error, and empties the cache.
     pub fn tell_checked(&mut self) {
         match self.told_checked() {
-            Ok(true) => self.accepted = self.accepted.saturating_add(1),
-            Ok(false) => {}
+            Ok(Verdict::Refused) => {}
+            Ok(Verdict::Accepted) => self.accepted = self.accepted.saturating_add(1),
+            Ok(Verdict::Warned) => {
+                self.accepted = self.accepted.saturating_add(1);
+                self.warned = true;
+            }
             Err(AllocError) => self.lacks = true,
         }
         self.sources.clear();
     }
 
-    /// Reports the refusal or the warnings of the first file, and returns true if there is one that is accepted.
-    fn told_checked(&self) -> Result<bool, AllocError> {
+    /// Reports the refusal or the warnings of the first file, and returns the verdict on it. Without a file the result is
+    /// `Refused`.
+    fn told_checked(&self) -> Result<Verdict, AllocError> {
         match self.first() {
             Some((name, text)) if self.json => write_json(self.rt, name, text),
-            Some((name, text)) => write_checked(self.rt, self.rt.alloc(), name, text),
-            None => Ok(false),
+            Some((name, text)) => write_checked(self.rt, self.explain, name, text),
+            None => Ok(Verdict::Refused),
         }
     }
 }
 
-/// Reports the refusal of a text on standard error, or its warnings if it is accepted. Returns true if it is accepted.
+/// Reports the warnings of an accepted text on standard error, or its refusal if refusals are explained. Returns the
+/// verdict on the text.
 fn write_checked(
     rt: &HostRuntime,
-    alloc: Global,
+    explain: bool,
     name: &str,
     text: &[u8],
-) -> Result<bool, AllocError> {
-    if let Some(refusal) = explained(alloc, name, text)? {
-        // If this cannot be written, the status is enough.
-        let _ = rt.stderr().write_all(refusal.as_slice());
-        return Ok(false);
+) -> Result<Verdict, AllocError> {
+    if let Some(refusal) = explained(rt.alloc(), name, text)? {
+        if explain {
+            // If this cannot be written, the status is enough.
+            let _ = rt.stderr().write_all(refusal.as_slice());
+        }
+        return Ok(Verdict::Refused);
     }
-    let warnings = render::explained(alloc, name, text)?;
+    let warnings = render::explained(rt.alloc(), name, text)?;
     let _ = rt.stderr().write_all(warnings.as_slice());
-    Ok(true)
+    Ok(Verdict::of(warnings.as_slice()))
 }
 
-/// Reports the refusal of a text on standard error, or its warnings if it is accepted, as lines of JSON. Returns true if
-/// it is accepted.
-fn write_json(rt: &HostRuntime, name: &str, text: &[u8]) -> Result<bool, AllocError> {
+/// Reports the refusal of a text on standard error, or its warnings if it is accepted, as lines of JSON. Returns the
+/// verdict on the text.
+fn write_json(rt: &HostRuntime, name: &str, text: &[u8]) -> Result<Verdict, AllocError> {
     if let Some(refusal) = json_line(rt.alloc(), name, text)? {
         // If this cannot be written, the status is enough.
         let _ = eprintln!(rt; "{refusal}");
-        return Ok(false);
+        return Ok(Verdict::Refused);
     }
     let lines = warning_lines(rt.alloc(), name, text)?;
     let _ = rt.stderr().write_all(lines.as_slice());
-    Ok(true)
+    Ok(Verdict::of(lines.as_slice()))
 }

@@ -1,5 +1,5 @@
 -- The relation between the words of a command line and the end of the process.
-use Rattle.std.specs.Prelude.{◌≡◌, ◌⊎◌, ℕ, List, [], Option, Some, None, option_and_then}
+use Rattle.std.specs.Prelude.{◌≡◌, ◌⊎◌, ℕ, Bool, true, List, [], Option, Some, None, option_and_then}
 use Rattle.host.specs.Events.{Event, asked, changes, links, reads}
 use Rattle.swt_arguments.specs.Requests.{request_of}
 use Rattle.swt_arguments.specs.declared.request.Request.{Request}
@@ -24,11 +24,18 @@ pub record Declined (h : List Event) (out out_new err err_new : Held) (status : 
   pub unprinted : Kept out out_new
   pub declines : Declines h err err_new status
 
--- the request of the words was executed, and its line ended by its contract
+-- the status of a process whose line ended with this number: that number, or where warnings are denied, of an accepted
+-- check, that of a refused script or of an allocation failure
+abbrev pub IsStatus : (denies : Bool) (number status : ℕ) → Type 0
+IsStatus denies number status = (status ≡ number) ⊎ ((denies ≡ true) × (number ≡ 0) × ((status ≡ 1) ⊎ (status ≡ 6)))
+
+-- the request of the words was executed, and its line ended by its contract with this number
 pub record Obeyed (h : List Event) (out out_new err err_new : Held) (status : ℕ) : Type 0 where
   pub request : Request
   pub requested_is : requested h ≡ Some request
-  pub ends : Ends request.line h out out_new err err_new status
+  pub number : ℕ
+  pub ends : Ends request.line h out out_new err err_new number
+  pub status_is : IsStatus request.deny number status
 
 -- a process with this history of its machine, the contents of standard output and standard error before and after, and
 -- its status
