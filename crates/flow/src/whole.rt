@@ -94,7 +94,8 @@ fn are_blocks_fit<'a, A: Allocator>(
             is_block_fit(&inside, functions, body)
         }
         Action::Wait { inner, content, .. } => {
-            are_headers_fit(scopes, inner) && is_block_fit(scopes, functions, content)
+            let inside = Scopes::Content(&*content, &*scopes);
+            are_headers_fit(scopes, inner) && is_block_fit(&inside, functions, content)
         }
         Action::Declare(_)
         | Action::Call { .. }
