@@ -43,7 +43,7 @@ use Rattle.code_laws.proofs.Small.{laid_small}
 use Rattle.code_laws.proofs.Offsets.{accepted_calls}
 use Rattle.compile.proofs.Whole.{exact_rights, headline_emitted, whole_emitted}
 use Rattle.code_laws.specs.Described.{DeclaredIn, KindsOf, is_array_shape, kinds_of_signature}
-use Rattle.emit_cells.specs.Marks.{marks_of}
+use Rattle.emit.specs.Marks.{marks_of}
 use Rattle.lowering.specs.Nodes.{nodes_of}
 use Rattle.fold_laws.specs.Same.{SameCore}
 use Rattle.fold_laws.proofs.Turned.{turned_core}

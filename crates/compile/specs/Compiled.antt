@@ -27,7 +27,7 @@ use Rattle.code_rules.specs.IsCodeOf.{IsCodeOf, Layout}
 use Rattle.code_rules.specs.Laying.{Kinds}
 use Rattle.code_rules.specs.NodesOnce.{NodesOnce}
 use Rattle.code_laws.specs.Described.{DeclaredIn, KindsOf}
-use Rattle.emit_cells.specs.Marks.{marks_of}
+use Rattle.emit.specs.Marks.{marks_of}
 use Rattle.headline.specs.Live.{IsBounded, IsLiveItem}
 use Rattle.constant_fold.specs.Folded.{folded_tree}
 use Rattle.compile.specs.Accepted.{IsAccepted}

@@ -2,7 +2,7 @@
 ghost use Rattle.std.specs.Prelude.{◌≡◌, ℕ, List, IfOk, IfErr, IsOk};
 ghost use Rattle.code_rules.specs.Emitted.{IsEmitted};
 ghost use Rattle.constant_fold.specs.Folded.{folded_tree};
-ghost use Rattle.emit_cells.specs.Marks.{marks_of};
+ghost use Rattle.emit.specs.Marks.{marks_of};
 ghost use Rattle.flow.specs.Cells.{AreAmong, anchors_of};
 ghost use Rattle.flow.specs.Shapes.{declared_of, kinds_of};
 ghost use Rattle.flow.specs.View.{core_of};

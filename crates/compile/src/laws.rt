@@ -9,7 +9,7 @@ ghost use Rattle.code_rules.specs.Laying.{Kinds};
 ghost use Rattle.compile.specs.Compiled.{IsCompiled};
 ghost use Rattle.compile.specs.Accepted.{IsAccepted};
 ghost use Rattle.constant_fold.specs.Folded.{folded_tree};
-ghost use Rattle.emit_cells.specs.Marks.{marks_of};
+ghost use Rattle.emit.specs.Marks.{marks_of};
 ghost use Rattle.flow.specs.Cells.{AreAmong};
 ghost use Rattle.lowering.specs.Nodes.{nodes_of};
 ghost use Rattle.std.specs.Prelude.{◌≡◌, ℕ, Bool, List, []};

@@ -5,7 +5,7 @@ ghost use Rattle.assign_check.specs.Faults as faults;
 ghost use Rattle.code_rules.specs.Emitted.{IsEmitted};
 ghost use Rattle.compile.specs.Compiled.{IsCompiled, IsFoldedFlowOf, IsOfScript};
 ghost use Rattle.constant_fold.specs.Folded.{folded_tree};
-ghost use Rattle.emit_cells.specs.Marks.{marks_of};
+ghost use Rattle.emit.specs.Marks.{marks_of};
 ghost use Rattle.flow.specs.Cells.{AreAmong, anchors_of};
 ghost use Rattle.flow.specs.Listed.{shown_of};
 ghost use Rattle.flow.specs.Shapes.{declared_of, kinds_of};
