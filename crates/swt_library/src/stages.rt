@@ -37,9 +37,12 @@ pub use types::check;
 use types::typed::Typed;
 pub use wait_merge::merge;
 
-/// Evidence that `check_single` accepted a script. It has no content: what names refer to is in the table of types.
+/// Evidence that `check_single` accepted a script, which alone makes one. It has no content: what names refer to is in
+/// the table of types.
 #[derive(Clone, Copy, Debug, PartialEq, Eq, Drop)]
-pub struct Single;
+pub struct Single {
+    checked: (),
+}
 
 /// Checks single assignment of a script, given the names resolved by the type check.
 ///
@@ -67,7 +70,7 @@ pub fn check_single<A: Allocator>(
         → (other : AssignFault) → Breaks (table_of typed.now) (tree_of script.now) other → faults.precedes other fault ≡ false) }
 {
     match assign_check::check(alloc, script, typed) {
-        Ok(()) => Ok(Single),
+        Ok(()) => Ok(Single { checked: () }),
         Err(fault) => Err(fault),
     }
 }
@@ -138,7 +141,7 @@ pub fn emit<A: Allocator>(
     let text = listing(machine, &counted.flow, &counted.code)?;
     let copy = counted.code.copy()?;
     let program = Program::new(machine, copy)?;
-    Ok(CompiledScript { program, text })
+    Ok(CompiledScript::of(program, text))
 }
 
 /// Computes the facts about a script that are known after `limit` rounds, or after fewer if no further round adds a

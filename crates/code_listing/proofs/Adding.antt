@@ -1,0 +1,34 @@
+-- Parts of a text, one after another.
+use Rattle.std.proofs.Common.{◌≡◌, sym, ap, ◌∙◌, ℕ, List, [], ◌∷◌, ◌++◌, append-nil, append_assoc, subst}
+use Rattle.code_listing.specs.Buffers.{Adds, Leaves}
+use Rattle.code_listing.specs.declared.text_buffer.TextBuffer.{TextBuffer}
+
+-- a part, and one more
+pub adds_more : (a b c : TextBuffer) (s t : List ℕ) → Adds a b s → Adds b c t → Adds a c (s ++ t)
+adds_more a b c s t p q h =
+    let r = q h in
+    let l = p r.0 in
+    (l.0, r.1 ∙ ap (λ xs. xs ++ t) l.1 ∙ append_assoc a.bytes.items s t)
+
+-- nothing was added
+pub adds_none : (a : TextBuffer) → Adds a a []
+adds_none a h = (h, sym (append-nil a.bytes.items))
+
+-- the same bytes in another form
+pub adds_same : (a b : TextBuffer) (s t : List ℕ) → s ≡ t → Adds a b s → Adds a b t
+adds_same a b s t e p = subst (Adds a b) e p
+
+-- the first part is all that is left
+pub leaves_all : (a : TextBuffer) (whole : List ℕ) → Leaves a a whole whole
+leaves_all a whole h = (h, ap (λ xs. a.bytes.items ++ xs) (λ i. whole))
+
+-- a part less is left
+pub leaves_less : (a b c : TextBuffer) (whole s rest : List ℕ) → Leaves a b whole (s ++ rest) → Adds b c s → Leaves a c whole rest
+leaves_less a b c whole s rest p q h =
+    let r = q h in
+    let l = p r.0 in
+    (l.0, ap (λ xs. xs ++ rest) r.1 ∙ append_assoc b.bytes.items s rest ∙ l.1)
+
+-- nothing is left
+pub leaves_none : (a b : TextBuffer) (whole : List ℕ) → Leaves a b whole [] → Adds a b whole
+leaves_none a b whole p h = let l = p h in (l.0, sym (append-nil b.bytes.items) ∙ l.1)
