@@ -28,11 +28,7 @@ pub struct ListingContext<'a, 's, A: Allocator> {
 }
 
 /// Writes the needs of an entry, each preceded by a space.
-pub fn needs<A: Allocator>(
-    page: &mut TextBuffer,
-    scope: &ListingContext<'_, '_, A>,
-    entry: &Entry,
-)
+pub fn needs<A: Allocator>(page: &mut TextBuffer, scope: &ListingContext<'_, '_, A>, entry: &Entry)
     ensures { Adds page.old page.new (flat_map (need_text (labels_of scope.now) scope.now.function) (map need_view entry.now.needs.items)) }
 {
     for need in &entry.needs {

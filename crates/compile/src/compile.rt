@@ -104,10 +104,7 @@ pub struct Compiled<A: Allocator> {
 /// # Errors
 ///
 /// Returns `AllocError` if an allocation fails. There is no other error.
-pub fn with_rights<A: Allocator>(
-    machine: Global,
-    flow: Flow<A>,
-) -> Result<Compiled<A>, AllocError>
+pub fn with_rights<A: Allocator>(machine: Global, flow: Flow<A>) -> Result<Compiled<A>, AllocError>
     requires { IsOfScript flow }
     ensures flow { IfOk result (λ compiled. compiled.flow ≡ flow) }
     ensures emitted { IfOk result (λ compiled. IsEmitted (core_of flow) (kinds_of flow) (declared_of flow) compiled.code) }

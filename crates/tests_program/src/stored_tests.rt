@@ -34,7 +34,8 @@ fn stored_after(rt: &impl Abort, alloc: Global, script: &[u8]) -> usize {
 
 #[test]
 fn a_whole_run_leaves_no_datum(rt: HostRuntime) {
-    let script = b"(int r) fib(int n) { if (n < 2) { r = n; } else { r = fib(n-1) + fib(n-2); } } printf(\"%i\", fib(10));";
+    let script =
+        b"(int r) fib(int n) { if (n < 2) { r = n; } else { r = fib(n-1) + fib(n-2); } } printf(\"%i\", fib(10));";
     is_equal(&rt, stored_after(&rt, rt.alloc(), script), 0);
 }
 
