@@ -1,5 +1,7 @@
 -- Parts of a text, one after another.
-use Rattle.std.proofs.Common.{◌≡◌, sym, ap, ◌∙◌, ℕ, List, [], ◌∷◌, ◌++◌, append-nil, append_assoc, subst}
+use Rattle.std.proofs.Common.{◌≡◌, sym, ap, ◌∙◌, refl, ℕ, ◌+◌, ◌<◌, List, [], ◌∷◌, ◌++◌, length, drop, map, get_or, append-nil, append_assoc, subst}
+use Rattle.std.proofs.lemmas.List.{drop_more}
+use Rattle.std.specs.List.{flat_map}
 use Rattle.code_listing.specs.Buffers.{Adds, Leaves}
 use Rattle.code_listing.specs.declared.text_buffer.TextBuffer.{TextBuffer}
 
@@ -20,7 +22,7 @@ adds_same a b s t e p = subst (Adds a b) e p
 
 -- the first part is all that is left
 pub leaves_all : (a : TextBuffer) (whole : List ℕ) → Leaves a a whole whole
-leaves_all a whole h = (h, ap (λ xs. a.bytes.items ++ xs) (λ i. whole))
+leaves_all a whole h = (h, refl)
 
 -- a part less is left
 pub leaves_less : (a b c : TextBuffer) (whole s rest : List ℕ) → Leaves a b whole (s ++ rest) → Adds b c s → Leaves a c whole rest
@@ -32,3 +34,7 @@ leaves_less a b c whole s rest p q h =
 -- nothing is left
 pub leaves_none : (a b : TextBuffer) (whole : List ℕ) → Leaves a b whole [] → Adds a b whole
 leaves_none a b whole p h = let l = p h in (l.0, sym (append-nil b.bytes.items) ∙ l.1)
+
+-- the texts that are left begin with the next one
+pub texts_step : {X Y : Type 0} (v : X → Y) (f : Y → List ℕ) (xs : List X) (i : ℕ) (d : X) → i < length xs → get_or xs i d ≡ d → flat_map f (map v (drop i xs)) ≡ f (v d) ++ flat_map f (map v (drop (i + 1) xs))
+texts_step v f xs i d l e = ap (λ zs. flat_map f (map v zs)) (drop_more xs i d l) ∙ ap (λ z. f (v z) ++ flat_map f (map v (drop (i + 1) xs))) e

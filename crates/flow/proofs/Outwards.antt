@@ -1,6 +1,6 @@
 -- Scopes, seen one after another.
-use Rattle.std.specs.Prelude.{◌≡◌, ℕ, zero, suc, false, List, [], ◌∷◌, nat_eq, nat_lt, refl}
-use Rattle.std.proofs.Common.{rules, ap, ◌∙◌, Bor}
+use Rattle.std.specs.Prelude.{◌≡◌, ◌<◌, ℕ, zero, suc, false, List, [], ◌∷◌, nat_eq, nat_lt, refl}
+use Rattle.std.proofs.Common.{rules, arith, sym, ap, ◌∙◌, Bor}
 use Rattle.language.specs.Core as core
 use Rattle.language.specs.Core.{Owned, local, input, output}
 use Rattle.flow.specs.Names.{block_nodes}
@@ -29,9 +29,10 @@ owners_content b o = search (rules, the_lemmas)
 
 -- WHAT THE CONTENT OF A WAIT CHANGES
 
-pub leads_content : (c : core.Block) (os : List Owner) (k : ℕ) (w : Owned) → leads (in_content c os) (suc k) w ≡ leads os (suc k) w
-leads_content c [] k w = refl
-leads_content c (o ∷ os) k w = refl
+pub leads_content : (c : core.Block) (os : List Owner) (k : ℕ) (w : Owned) → 0 < k → leads (in_content c os) k w ≡ leads os k w
+leads_content c os zero w l = absurd (omega (arith, l))
+leads_content c [] (suc k) w l = refl
+leads_content c (o ∷ os) (suc k) w l = refl
 
 pub inputs_content : (c : core.Block) (os : List Owner) → inputs_within (in_content c os) ≡ inputs_within os
 inputs_content c [] = refl
@@ -52,18 +53,18 @@ once_is_one zero = refl
 once_is_one (suc zero) = refl
 once_is_one (suc (suc k)) = refl
 
-pub leads_local : (os : List Owner) (n : ℕ) → is_once (times_within n Multiplicity.Never os) ≡ leads os 0 (local n)
+pub leads_local : (os : List Owner) (n : ℕ) → leads os 0 (local n) ≡ is_once (times_within n Multiplicity.Never os)
 leads_local [] n = refl
-leads_local (o ∷ os) n = once_is_one (times n o.nodes)
+leads_local (o ∷ os) n = sym (once_is_one (times n o.nodes))
 
 none_below : (i : ℕ) → nat_lt i 0 ≡ false
 none_below zero = refl
 none_below (suc i) = refl
 
-pub leads_input : (os : List Owner) (i : ℕ) → nat_lt i (inputs_within os) ≡ leads os 0 (input i)
-leads_input [] i = none_below i
+pub leads_input : (os : List Owner) (i : ℕ) → leads os 0 (input i) ≡ nat_lt i (inputs_within os)
+leads_input [] i = sym (none_below i)
 leads_input (o ∷ os) i = refl
 
-pub leads_output : (os : List Owner) (i : ℕ) → nat_lt i (outputs_within os) ≡ leads os 0 (output i)
-leads_output [] i = none_below i
+pub leads_output : (os : List Owner) (i : ℕ) → leads os 0 (output i) ≡ nat_lt i (outputs_within os)
+leads_output [] i = sym (none_below i)
 leads_output (o ∷ os) i = refl

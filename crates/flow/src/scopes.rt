@@ -38,6 +38,7 @@ pub(crate) fn is_declared<'a, A: Allocator>(scopes: &Scopes<'a, A>, name: Name) 
 }
 
 /// Returns true if the block that is `up` blocks further out declares the binding exactly once.
+#[tactic(auto, using(crate::proofs::Outwards::leads_content))]
 fn leads<'a, A: Allocator>(scopes: &Scopes<'a, A>, up: usize, what: NameBinding) -> bool
     ensures { result ≡ leads (owners_of scopes.now) up (owned_view what) }
 {
@@ -52,6 +53,7 @@ fn leads<'a, A: Allocator>(scopes: &Scopes<'a, A>, up: usize, what: NameBinding)
 }
 
 /// Returns true if the innermost block, with the contents of waits in it, declares the binding exactly once.
+#[tactic(auto, using(crate::proofs::Outwards::leads_local, crate::proofs::Outwards::leads_input, crate::proofs::Outwards::leads_output))]
 fn declares<'a, A: Allocator>(scopes: &Scopes<'a, A>, what: NameBinding) -> bool
     ensures { result ≡ leads (owners_of scopes.now) 0 (owned_view what) }
 {
@@ -63,6 +65,7 @@ fn declares<'a, A: Allocator>(scopes: &Scopes<'a, A>, what: NameBinding) -> bool
 }
 
 /// Returns how often the innermost block and the contents of waits in it declare a node, added to `before`.
+#[tactic(auto, using(crate::proofs::Outwards::times_content))]
 fn times_within<'a, A: Allocator>(
     scopes: &Scopes<'a, A>,
     node: u32,
@@ -81,6 +84,7 @@ fn times_within<'a, A: Allocator>(
 }
 
 /// Returns the number of inputs of the function whose body the innermost block is.
+#[tactic(auto, using(crate::proofs::Outwards::inputs_content))]
 fn inputs_within<'a, A: Allocator>(scopes: &Scopes<'a, A>) -> usize
     ensures { result ≡ inputs_within (owners_of scopes.now) }
 {
@@ -92,6 +96,7 @@ fn inputs_within<'a, A: Allocator>(scopes: &Scopes<'a, A>) -> usize
 }
 
 /// Returns the number of outputs of the function whose body the innermost block is.
+#[tactic(auto, using(crate::proofs::Outwards::outputs_content))]
 fn outputs_within<'a, A: Allocator>(scopes: &Scopes<'a, A>) -> usize
     ensures { result ≡ outputs_within (owners_of scopes.now) }
 {
