@@ -1,5 +1,7 @@
 -- Parts of a text, one after another.
-use Rattle.std.proofs.Common.{◌≡◌, sym, ap, ◌∙◌, refl, ℕ, ◌+◌, ◌<◌, List, [], ◌∷◌, ◌++◌, length, drop, map, get_or, append-nil, append_assoc, subst}
+use Rattle.std.specs.Prelude.{◌≤◌, Bool, true, false, if◌then◌else◌, nat_lt}
+use Rattle.std.proofs.lemmas.Bool.{ltb-true, lt-ltb}
+use Rattle.std.proofs.Common.{◌≡◌, arith, sym, ap, ◌∙◌, refl, ℕ, ◌+◌, ◌<◌, List, [], ◌∷◌, ◌++◌, length, drop, map, get_or, append-nil, append_assoc, subst}
 use Rattle.std.proofs.lemmas.List.{drop_more}
 use Rattle.std.specs.List.{flat_map}
 use Rattle.code_listing.specs.Buffers.{Adds, Leaves}
@@ -38,3 +40,15 @@ leaves_none a b whole p h = let l = p h in (l.0, sym (append-nil b.bytes.items) 
 -- the texts that are left begin with the next one
 pub texts_step : {X Y : Type 0} (v : X → Y) (f : Y → List ℕ) (xs : List X) (i : ℕ) (d : X) → i < length xs → get_or xs i d ≡ d → flat_map f (map v (drop i xs)) ≡ f (v d) ++ flat_map f (map v (drop (i + 1) xs))
 texts_step v f xs i d l e = ap (λ zs. flat_map f (map v zs)) (drop_more xs i d l) ∙ ap (λ z. f (v z) ++ flat_map f (map v (drop (i + 1) xs))) e
+
+-- NUMBERS WITHIN A LIST
+
+pub if_so : {X : Type 0} (i n : ℕ) (x y : X) → i < n → (if nat_lt i n then x else y) ≡ x
+if_so i n x y l = ap (λ (b : Bool). if b then x else y) (lt-ltb i n l)
+
+pub if_not : {X : Type 0} (i n : ℕ) (x y : X) → n ≤ i → (if nat_lt i n then x else y) ≡ y
+if_not {X} i n x y l = by (nat_lt i n) refl
+  where
+    by : (b : Bool) → nat_lt i n ≡ b → (if b then x else y) ≡ y
+    by true e = let h = ltb-true i n e in absurd (omega (arith, l, h))
+    by false e = refl

@@ -1,5 +1,5 @@
 -- The text of a listing: a line for each body, and one for each of its entries.
-use Rattle.std.specs.Prelude.{ℕ, zero, suc, List, [], ◌∷◌, ◌++◌, map, length, codes, Option, None, Some, slice_get, if◌then◌else◌, nat_lt}
+use Rattle.std.specs.Prelude.{ℕ, zero, suc, ◌+◌, List, [], ◌∷◌, ◌++◌, map, length, codes, Option, None, Some, slice_get, if◌then◌else◌, nat_lt}
 use Rattle.std.specs.List.{flat_map}
 use Rattle.std.specs.Fmt.{decimal, signed_decimal}
 use Rattle.task_code.specs.Code.{Kind, Control, Leaf, Owned, Local, Parameter, Name, Need, Stored, Closed, At, AtKey, Act, Cell, Read, Call, Set, Fill, Copy, InsertElement, Print, Assert, If, Range, Each, Wait, Entry, Code, kind_of, nth, entry, body, ways}
@@ -92,10 +92,14 @@ abbrev pub entry_text : Labels → ℕ → List ℕ → ℕ → Entry → List �
 entry_text l f places number e =
     (codes "  " ++ decimal number) ++ (act_line e ++ (flat_map (need_text l f) e.needs ++ (opened_text places (bodies_opened e.act) ++ 10 ∷ [])))
 
+-- the same by the entry's number in the code; nothing if there is none
+abbrev pub entry_line : Code → Labels → ℕ → List ℕ → ℕ → ℕ → List ℕ
+entry_line C l f places number i = if nat_lt i (length C.entries) then entry_text l f places number (entry C i) else []
+
 -- the lines of the entries of a body, counted from a number on
 abbrev pub entries_text : Code → Labels → ℕ → List ℕ → ℕ → List ℕ → List ℕ
 entries_text C l f places n [] = []
-entries_text C l f places n (i ∷ is) = (if nat_lt i (length C.entries) then entry_text l f places (suc n) (entry C i) else []) ++ entries_text C l f places (suc n) is
+entries_text C l f places n (i ∷ is) = entry_line C l f places (n + 1) i ++ entries_text C l f places (n + 1) is
 
 -- BODIES
 
@@ -125,4 +129,4 @@ body_text C infos l places place b = elim (slice_get infos b) [
 -- bodies in this order, counted from a place on
 abbrev pub bodies_text : Code → List BodyInfo → Labels → List ℕ → ℕ → List ℕ → List ℕ
 bodies_text C infos l places place [] = []
-bodies_text C infos l places place (b ∷ bs) = body_text C infos l places place b ++ bodies_text C infos l places (suc place) bs
+bodies_text C infos l places place (b ∷ bs) = body_text C infos l places place b ++ bodies_text C infos l places (place + 1) bs

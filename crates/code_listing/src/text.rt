@@ -4,7 +4,7 @@ ghost use Rattle.task_code.specs.Code.{kind_of};
 ghost use Rattle.task_code.specs.View.{act_view, entry_view};
 ghost use Rattle.code_listing.specs.Buffers.{Adds};
 ghost use Rattle.code_listing.specs.Labels.{drawing_labels, infos_of, labels_of, signatures_of};
-ghost use Rattle.code_listing.specs.Listing.{act_line, act_text, bodies_opened, body_text, entries_text, entry_text, kind_text, opened_text, place_text, title_text, what_text};
+ghost use Rattle.code_listing.specs.Listing.{act_line, act_text, bodies_opened, body_text, entries_text, entry_line, entry_text, kind_text, opened_text, place_text, title_text, what_text};
 
 use crate::bodies::{in_order, places};
 use crate::drawing::Drawing;
@@ -109,12 +109,25 @@ fn add_entries<A: Allocator>(
     ensures { Adds page.old page.new (entries_text drawing.now.code.now (drawing_labels drawing.now) function drawing.now.places.now.items 0 entries.now) }
 {
     for k in 0..entries.len() {
-        match drawing.code.entry(entries[k]) {
-            None => {}
-            Some(entry) => {
-                let scope = drawing.scope(function, k + 1);
-                add_entry(page, &scope, drawing.places, entry);
-            }
+        add_entry_at(page, drawing, function, entries[k], k + 1);
+    }
+}
+
+/// Writes the line of the entry of this number in the code, if there is one.
+fn add_entry_at<A: Allocator>(
+    page: &mut TextBuffer,
+    drawing: &Drawing<'_, '_, A>,
+    function: u32,
+    entry: u32,
+    number: usize,
+)
+    ensures { Adds page.old page.new (entry_line drawing.now.code.now (drawing_labels drawing.now) function drawing.now.places.now.items number entry) }
+{
+    match drawing.code.entry(entry) {
+        None => {}
+        Some(found) => {
+            let scope = drawing.scope(function, number);
+            add_entry(page, &scope, drawing.places, found);
         }
     }
 }

@@ -2,8 +2,7 @@
 //!
 //! The allocator of `.ci/data/refuse.c` knows the marks, and writes how many requests were made between them. Where the calls that come
 //! before them are refused, nothing is tried.
-ghost use Rattle.std.specs.Prelude.{◌≡◌, ◌<◌, All, IfOk, vec_len};
-ghost use Rattle.board.specs.Board.{IsWorker};
+ghost use Rattle.std.specs.Prelude.{◌≡◌, IfOk, vec_len};
 ghost use Rattle.pool.specs.Seats.{IsSeatOf, seats_of};
 
 use crate::told::{calls_begin, calls_end, wrong};
@@ -81,22 +80,26 @@ fn try_rules(rt: &HostRuntime, alloc: Global) -> io::Result<()> {
     };
     calls_begin(rt, "forget, known")?;
     rules.forget(1);
-    if rules.waiting() + out.len() <= out.capacity() {
+    if out.len() <= out.capacity() && rules.waiting() <= out.capacity() - out.len() {
         rules.known(&Input::Whole(7), &mut out);
     }
     calls_end(rt)?;
-    if rules.waiting() == 0 && out.as_slice() == &[2] {
+    if rules.waiting() == 0 && out.as_slice() == [2].as_slice() {
         return Ok(());
     }
     wrong(rt, "rules")
 }
 
-/// A pool with one seat.
-fn pool_of_one(alloc: Global) -> Result<(Pool, Vec<PoolSeat>), AllocError>
-    ensures count { IfOk result (λ r. (vec_len r.1 ≡ 1) × (seats_of r.0 ≡ 1)) }
-    ensures seats { IfOk result (λ r. All (IsSeatOf r.0) r.1.items) }
+/// A pool with one seat, and a list with room for it.
+fn pool_of_one(alloc: Global) -> Result<(Pool, PoolSeat, Vec<PoolSeat>), AllocError>
+    ensures seat { IfOk result (λ r. IsSeatOf r.0 r.1 × (seats_of r.0 ≡ 1)) }
+    ensures list { IfOk result (λ r. vec_len r.2 ≡ 0) }
 {
-    Pool::new(alloc, 1)
+    let (pool, mut seats) = Pool::new(alloc, 1)?;
+    let Some(seat) = seats.pop() else {
+        unreachable!()
+    };
+    Ok((pool, seat, seats))
 }
 
 /// Offers seventeen numbers of one class, of which the last finds no hole, and takes one of them.
@@ -115,15 +118,40 @@ fn offer_and_take(pool: &Pool, seat: &mut PoolSeat) -> bool
     offered == 16 && taken == Some(1) && none.is_none()
 }
 
+/// Closes a pool with its one seat, which is put into an empty list, and returns how many numbers are left in it.
+fn left_in(pool: Pool, seat: PoolSeat, seats: Vec<PoolSeat>) -> Option<usize>
+    requires seat { IsSeatOf pool seat }
+    requires all { seats_of pool ≡ 1 }
+    requires list { vec_len seats ≡ 0 }
+{
+    let mut seats = seats;
+    match seats.push(seat) {
+        Ok(()) => {
+            let left = pool.close(seats);
+            Some(left.holes.iter().filter(|number| **number != 0).count())
+        }
+        Err(_) => None,
+    }
+}
+
 fn try_pool(rt: &HostRuntime, alloc: Global) -> io::Result<()> {
-    let Ok((pool, mut seats)) = pool_of_one(alloc) else {
-        return Ok(());
-    };
+    match pool_of_one(alloc) {
+        Ok((pool, seat, seats)) => use_pool(rt, pool, seat, seats),
+        Err(_) => Ok(()),
+    }
+}
+
+fn use_pool(rt: &HostRuntime, pool: Pool, seat: PoolSeat, seats: Vec<PoolSeat>) -> io::Result<()>
+    requires seat { IsSeatOf pool seat }
+    requires all { seats_of pool ≡ 1 }
+    requires list { vec_len seats ≡ 0 }
+{
+    let mut seat = seat;
     calls_begin(rt, "offer, take of a pool, close")?;
-    let right = offer_and_take(&pool, &mut seats[0]);
-    let left = pool.close(seats);
+    let right = offer_and_take(&pool, &mut seat);
+    let left = left_in(pool, seat, seats);
     calls_end(rt)?;
-    if right && left.holes.iter().filter(|number| **number != 0).count() == 15 {
+    if right && left == Some(15) {
         return Ok(());
     }
     wrong(rt, "a pool")
@@ -240,14 +268,17 @@ fn shows(rt: &HostRuntime, board: &Board) -> io::Result<()> {
         Some(item) => board.kind(item),
         None => Some(Kind::Leaf),
     };
-    let kept = board.stored() <= usize::MAX
-        && board.lines().len() <= board.history().len()
-        && board.newly_len() <= usize::MAX
-        && board.fault().is_none();
+    let few = board.lines().len() <= board.history().len();
+    let none = board.newly_len() == 0 && newly.is_none() || newly.is_some();
+    let faulty = board.fault().is_some();
+    let stored = board.stored();
     calls_end(rt)?;
     let ready = control.is_some() || leaf.is_some();
-    if quiet && ready || kind != Some(Kind::Leaf) || newly.is_some() && !ready || !kept && going {
+    if quiet && ready || faulty && going || going && newly.is_some() && !ready {
         return wrong(rt, "a board");
     }
-    Ok(())
+    if few && none && kind == Some(Kind::Leaf) && (stored == 0 || board.history().len() > 1) {
+        return Ok(());
+    }
+    wrong(rt, "a board")
 }
