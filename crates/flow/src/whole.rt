@@ -151,10 +151,7 @@ fn are_headers_fit<'a, A: Allocator>(scopes: &Scopes<'a, A>, headers: &Vec<Heade
 
 /// Creates the scopes of the content of a `wait`.
 #[tactic(auto, using(crate::proofs::Outwards::owners_content))]
-fn within_wait<'a, A: Allocator>(
-    content: &'a Block<A>,
-    outer: &'a Scopes<'a, A>,
-) -> Scopes<'a, A>
+fn within_wait<'a, A: Allocator>(content: &'a Block<A>, outer: &'a Scopes<'a, A>) -> Scopes<'a, A>
     ensures { owners_of result ≡ in_content (block_view content.now) (owners_of outer.now) }
 {
     Scopes::Content(content, outer)
