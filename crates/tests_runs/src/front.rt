@@ -210,7 +210,7 @@ fn folded<A: Allocator + Clone>(
         let Some(copy) = copied(rt, alloc, script)? else {
             return Ok(None);
         };
-        match stages::fold(machine, alloc.clone()?, copy) {
+        match stages::fold(machine, copy) {
             Ok(folded) => return Ok(Some(folded)),
             Err(_) => note(rt, "fold")?,
         }
@@ -230,6 +230,8 @@ fn lowered<A: Allocator + Clone>(
     ensures declared { IfOk result (λ found. IfSome found (λ flow.
         declared_of flow ≡ flagged (own_declarations (tree_of script.now)) ++ flagged (function_declarations (tree_of script.now)))) }
     ensures kinds { IfOk result (λ found. IfSome found (λ flow. kinds_of flow ≡ map kinds_of_signature (signatures (tree_of script.now)))) }
+    ensures shown { IfOk result (λ found. IfSome found (λ flow. shown_of flow ≡ shown (tree_of script.now))) }
+    ensures cells { IfOk result (λ found. IfSome found (λ flow. AreAmong (anchors_of flow) (nodes_of (tree_of script.now)))) }
 {
     for _ in 0..TRIES {
         match stages::lower(alloc.clone()?, script, typed, single) {
@@ -252,6 +254,8 @@ fn merged<A: Allocator + Clone>(
     ensures declared { IfOk result (λ found. IfSome found (λ flow.
         declared_of flow ≡ flagged (own_declarations (tree_of script.now)) ++ flagged (function_declarations (tree_of script.now)))) }
     ensures kinds { IfOk result (λ found. IfSome found (λ flow. kinds_of flow ≡ map kinds_of_signature (signatures (tree_of script.now)))) }
+    ensures shown { IfOk result (λ found. IfSome found (λ flow. shown_of flow ≡ shown (tree_of script.now))) }
+    ensures cells { IfOk result (λ found. IfSome found (λ flow. AreAmong (anchors_of flow) (nodes_of (tree_of script.now)))) }
     ensures merged { IfOk result (λ found. IfSome found (λ flow. IsMerged flow)) }
 {
     for _ in 0..TRIES {

@@ -1,0 +1,37 @@
+-- What the program keeps for a listing, in terms of the definitions.
+use Rattle.std.specs.Prelude.{ℕ, List, [], ◌++◌, map, Option, None, Some}
+use Rattle.indexmap.specs.IndexMap.{get}
+use Rattle.flow.specs.declared.script.Function.{Function}
+use Rattle.task_code.specs.Code.{nth}
+use Rattle.code_listing.specs.Listing.{Labels, Signature}
+use Rattle.code_listing.specs.declared.needs.ListingContext.{ListingContext}
+use Rattle.code_listing.specs.declared.drawing.Drawing.{Drawing}
+use Rattle.code_listing.specs.declared.producers.Producers.{Producers}
+use Rattle.code_listing.specs.declared.source_map.SourceMap.{SourceMap}
+use Rattle.code_listing.specs.declared.source_map.BodyInfo.{BodyInfo}
+
+abbrev pub signature_of : {A : Type 0} → Function A → Signature
+signature_of f = record { name = f.name.items; parameters = map (λ v. v.name.items) (f.inputs.items ++ f.outputs.items) }
+
+abbrev pub signatures_of : {A : Type 0} → List (Function A) → List Signature
+signatures_of fs = map signature_of fs
+
+abbrev pub maker_in : Option ℕ → ℕ
+maker_in None = 0
+maker_in (Some number) = number
+
+abbrev pub maker_of : Producers → ℕ → ℕ
+maker_of p node = maker_in (get p.numbers node)
+
+-- the name of the variable of a node, empty if it has none
+abbrev pub name_of : SourceMap → ℕ → List ℕ
+name_of m node = nth [] m.names.items node
+
+abbrev pub infos_of : SourceMap → List BodyInfo
+infos_of m = m.roots.items ++ m.inner.items
+
+abbrev pub labels_of : {A : Type 0} → ListingContext A → Labels
+labels_of s = record { names = name_of s.found.now; functions = signatures_of s.functions.now.items; makers = maker_of s.producers.now }
+
+abbrev pub drawing_labels : {A : Type 0} → Drawing A → Labels
+drawing_labels d = record { names = name_of d.found.now; functions = signatures_of d.functions.now.items; makers = maker_of d.producers.now }
