@@ -145,8 +145,12 @@ pub fn explained(alloc: Global, file: &str, text: &[u8]) -> Result<Option<Vec<u8
 }
 
 /// Formats a refusal: its place, followed by the rule and the explanation.
+///
+/// # Errors
+///
+/// Returns `AllocError` if an allocation fails.
 #[tactic(auto, using(crate::proofs::Verdicts::begins))]
-fn shown(
+pub fn shown(
     alloc: Global,
     file: &str,
     text: &[u8],

@@ -1,7 +1,7 @@
 //! Cache of the files that were read, for explanations.
 
-use explain_json::json::{json_line, warning_lines};
-use explain_refusals::diagnostic::explained;
+use explain_all::explain::all_explained;
+use explain_json::json::{json_lines, warning_lines};
 use explain_warnings::render;
 use std::alloc::{AllocError, Global};
 use std::io::Write;
@@ -192,16 +192,16 @@ impl<'r> SourceCache<'r> {
     }
 }
 
-/// Reports the refusal of a text on standard error, or its warnings if it is accepted. Returns true if it is accepted.
+/// Reports the mistakes of a text on standard error, or its warnings if it is accepted. Returns true if it is accepted.
 fn write_checked(
     rt: &HostRuntime,
     alloc: Global,
     name: &str,
     text: &[u8],
 ) -> Result<bool, AllocError> {
-    if let Some(refusal) = explained(alloc, name, text)? {
+    if let Some(mistakes) = all_explained(alloc, name, text)? {
         // If this cannot be written, the status is enough.
-        let _ = rt.stderr().write_all(refusal.as_slice());
+        let _ = rt.stderr().write_all(mistakes.as_slice());
         return Ok(false);
     }
     let warnings = render::explained(alloc, name, text)?;
@@ -209,12 +209,12 @@ fn write_checked(
     Ok(true)
 }
 
-/// Reports the refusal of a text on standard error, or its warnings if it is accepted, as lines of JSON. Returns true if
+/// Reports the mistakes of a text on standard error, or its warnings if it is accepted, as lines of JSON. Returns true if
 /// it is accepted.
 fn write_json(rt: &HostRuntime, name: &str, text: &[u8]) -> Result<bool, AllocError> {
-    if let Some(refusal) = json_line(rt.alloc(), name, text)? {
+    if let Some(mistakes) = json_lines(rt.alloc(), name, text)? {
         // If this cannot be written, the status is enough.
-        let _ = eprintln!(rt; "{refusal}");
+        let _ = rt.stderr().write_all(mistakes.as_slice());
         return Ok(false);
     }
     let lines = warning_lines(rt.alloc(), name, text)?;
