@@ -15,7 +15,7 @@ use std::alloc::{AllocError, Global};
 /// # Errors
 ///
 /// Returns `AllocError` if an allocation fails.
-#[tactic(auto, using(explain_refusals::proofs::Verdicts::explains, crate::proofs::Begun::begins_more))]
+#[tactic(auto, using(explain_refusals::proofs::Verdicts::explains, explain_refusals::proofs::Verdicts::begins_more))]
 pub fn all_explained(alloc: Global, file: &str, text: &[u8]) -> Result<Option<Vec<u8>>, AllocError>
     ensures { IfOk result (λ told. MatchOption told (IsScript text.now) (λ words. Explains file.now text.now words.items)) }
 {

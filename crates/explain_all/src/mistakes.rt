@@ -5,7 +5,9 @@ ghost use Rattle.explain_refusals.specs.Verdicts.{IsRefusedAt, IsScript};
 use crate::reading::add_unread;
 use crate::typing::add_ill_typed;
 use crate::variables::add_not_single;
-use explain_refusals::diagnostic::{Diagnostic, refusal_of};
+pub use explain_refusals::diagnostic::Diagnostic;
+use explain_refusals::diagnostic::refusal_of;
+pub use explain_refusals::explanation::{Hint, Note};
 use std::alloc::{AllocError, Global};
 
 /// The maximum number of mistakes that are told, with the first one.

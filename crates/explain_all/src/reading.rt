@@ -6,7 +6,7 @@
 //! that the ends of these blocks are no mistakes.
 
 use crate::mistakes::{FurtherMistakes, Stage, stage_of};
-use crate::search::Search;
+use crate::search::{MAX_CHECKS, Search};
 use crate::tokens::{PlacedToken, end_of_line, is_end, kind_of, tokens_from};
 use explain_names::lookup::bytes_at;
 use explain_refusals::diagnostic::Diagnostic;
@@ -44,7 +44,10 @@ pub fn add_unread(
     let mut search = Search::new(alloc, text);
     let mut from = Resumption { at: 0, open: 0 };
     let mut refused = first;
-    while !search.is_spent() {
+    for _ in 0..MAX_CHECKS {
+        if search.is_spent() {
+            break;
+        }
         let tokens = tokens_from(alloc, text, from.at)?;
         let Some(next) = resumption(text, tokens.as_slice(), refused, from.open) else {
             return Ok(());

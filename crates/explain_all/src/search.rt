@@ -6,7 +6,7 @@ use explain_refusals::explanation::Note;
 use std::alloc::{AllocError, Global};
 
 /// The maximum number of checks.
-const MAX_CHECKS: usize = 400;
+pub const MAX_CHECKS: usize = 400;
 /// The maximum number of bytes that all checks read.
 const MAX_BYTES: usize = 4_000_000;
 
@@ -19,7 +19,7 @@ pub struct Search<'t> {
 }
 
 /// Returns the number of checks that a text of this length gets.
-pub fn checks_for(length: usize) -> usize {
+fn checks_for(length: usize) -> usize {
     let by_bytes = MAX_BYTES / length.max(1);
     by_bytes.min(MAX_CHECKS)
 }

@@ -5,7 +5,7 @@
 //! for every type that the expression may have.
 
 use crate::mistakes::{FurtherMistakes, Stage, stage_of};
-use crate::search::Search;
+use crate::search::{MAX_CHECKS, Search};
 use crate::tokens::{PlacedToken, index_at, tokens_from};
 use crate::type_parts::{FaultyPart, Substitute, expression_around, faulty_part};
 use explain_names::lookup::bytes_at;
@@ -71,7 +71,10 @@ pub fn add_ill_typed(
         names: 0,
     };
     let mut mistake = TypeMistake::of(first);
-    while !types.search.is_spent() {
+    for _ in 0..MAX_CHECKS {
+        if types.search.is_spent() {
+            break;
+        }
         let before = types.search.mended.original_place(mistake.at);
         if !types.mend(mistake)? {
             return Ok(());

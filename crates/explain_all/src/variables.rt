@@ -5,15 +5,14 @@
 
 use crate::mended_text::Replacement;
 use crate::mistakes::{FurtherMistakes, Stage, stage_of};
-use crate::search::Search;
+use crate::search::{MAX_CHECKS, Search};
 use crate::tokens::{PlacedToken, index_at, place_of, statement_around, tokens_from};
 use crate::type_parts::between;
 use explain_names::lookup::{LookupKind, bytes_at};
 use explain_names::occurrence::{DisplayType, Occurrence, OccurrenceKind};
 use explain_names::occurrences::{function_around, mentions_around};
 use explain_names::partial_assignment::partly_assigned;
-use explain_refusals::diagnostic::Diagnostic;
-use explain_searches::declared::write_declaration;
+use explain_refusals::diagnostic::{Diagnostic, write_declaration};
 use lexer::token::Span;
 use std::alloc::{AllocError, Global};
 use syntax::parser::parse;
@@ -59,7 +58,10 @@ pub fn add_not_single(
         names: 0,
     };
     let mut mistake = AssignMistake::of(first);
-    while !variables.search.is_spent() {
+    for _ in 0..MAX_CHECKS {
+        if variables.search.is_spent() {
+            break;
+        }
         if !variables.take_out(mistake)? {
             return Ok(());
         }
@@ -71,7 +73,7 @@ pub fn add_not_single(
         }
         let before = mistake.at;
         mistake = AssignMistake::of(&refusal);
-        if mistake.at == before {
+        if mistake.at == before && !mistake.is_if {
             return Ok(());
         }
         let placed = variables.search.placed(refusal);
@@ -103,16 +105,13 @@ impl<'t> VariableSearch<'t> {
         };
         let mut edits = Vec::new(alloc);
         let tokens = tokens_from(alloc, text, 0)?;
-        self.redirect_all(tokens.as_slice(), occurrences.as_slice(), sort, &mut edits)?;
-        let is_assigned = is_assigned_at(occurrences.as_slice(), declared.at);
-        if declared.kind == OccurrenceKind::Declared && !is_assigned {
+        let listed = occurrences.as_slice();
+        self.redirect_all(tokens.as_slice(), listed, declared, &mut edits)?;
+        if declared.kind == OccurrenceKind::Declared && !is_assigned_at(listed, declared.at) {
             self.initialize(declared.at, sort, &mut edits)?;
         }
         if declared.kind == OccurrenceKind::Output {
-            let Some(function) = function_around(name.from, &script) else {
-                return Ok(false);
-            };
-            let body = function.body.from.saturating_add(1);
+            let body = body_around(declared.at.from, &script);
             self.assign(bytes_at(text, declared.at), body, sort, &mut edits)?;
         }
         for edit in &edits {
@@ -121,19 +120,22 @@ impl<'t> VariableSearch<'t> {
         Ok(true)
     }
 
-    /// Makes each target of a variable one of its own. The first occurrence is that of the declaration.
+    /// Makes each target of a variable one of its own, except that of its declaration.
     fn redirect_all(
         &mut self,
         tokens: &[PlacedToken],
         occurrences: &[Occurrence],
-        sort: DisplayType,
+        declared: Occurrence,
         edits: &mut Vec<Replacement>,
     ) -> Result<(), AllocError> {
+        let Some(sort) = declared.sort else {
+            return Ok(());
+        };
         for occurrence in occurrences {
             match occurrence.kind {
                 OccurrenceKind::Declared | OccurrenceKind::Output | OccurrenceKind::Given => {}
                 OccurrenceKind::Assigned | OccurrenceKind::Written => {
-                    if Some(&occurrence.at) != occurrences.first().map(|declared| &declared.at) {
+                    if occurrence.at != declared.at {
                         self.redirect(tokens, occurrence.at, sort, edits)?;
                     }
                 }
@@ -255,6 +257,14 @@ fn of_variable(
         }
     }
     Ok(found)
+}
+
+/// Returns the offset at which the body of the function around an offset begins, behind its brace.
+fn body_around(at: usize, script: &Script<Global>) -> usize {
+    match function_around(at, script) {
+        None => at,
+        Some(function) => function.body.from.saturating_add(1),
+    }
 }
 
 /// Returns true if one of these occurrences assigns a variable at a place.

@@ -1,8 +1,6 @@
 //! Conversion of a refusal or of warnings to JSON objects, one a line.
 
-use explain_all::mistakes::{Mistakes, mistakes_of};
-use explain_refusals::diagnostic::Diagnostic;
-use explain_refusals::explanation::{Hint, Note};
+use explain_all::mistakes::{Diagnostic, Hint, Mistakes, Note, mistakes_of};
 use explain_text::line_index::LineIndex;
 use explain_text::position::{Position, position_of};
 use explain_text::words::write_place;
