@@ -64,10 +64,18 @@ impl FurtherMistakes {
 
 /// Returns the part of the check that found a refusal.
 pub fn stage_of(refusal: &Diagnostic) -> Stage {
-    match refusal.rule.as_bytes().first() {
-        Some(b'Y') => Stage::Typing,
-        Some(b'S') => Stage::Assigning,
+    match letter_of(refusal, 0) {
+        b'Y' => Stage::Typing,
+        b'S' => Stage::Assigning,
         _ => Stage::Reading,
+    }
+}
+
+/// Returns a letter of the number of the broken rule, as the `Y` and the `3` of Y3, or 0 beyond the end.
+pub fn letter_of(refusal: &Diagnostic, index: usize) -> u8 {
+    match refusal.rule.as_bytes().get(index) {
+        Some(letter) => *letter,
+        None => 0,
     }
 }
 

@@ -7,7 +7,7 @@
 
 use crate::mistakes::{FurtherMistakes, Stage, stage_of};
 use crate::search::{MAX_CHECKS, Search};
-use crate::tokens::{PlacedToken, end_of_line, is_end, kind_of, tokens_from};
+use crate::tokens::{PlacedToken, end_of_line, is_blank, is_end, kind_of, tokens_from};
 use explain_names::lookup::bytes_at;
 use explain_refusals::diagnostic::Diagnostic;
 use lexer::token::{Span, TokenKind};
@@ -80,10 +80,13 @@ fn refusal_from(
         },
         b"",
     )?;
-    let refusal = search.refusal()?;
-    match refusal {
-        Some(refusal) if stage_of(&refusal) == Stage::Reading => Ok(Some(refusal)),
-        _ => Ok(None),
+    let Some(refusal) = search.refusal()? else {
+        return Ok(None);
+    };
+    if stage_of(&refusal) == Stage::Reading {
+        Ok(Some(refusal))
+    } else {
+        Ok(None)
     }
 }
 
@@ -237,11 +240,13 @@ fn begins_statement(text: &[u8], token: PlacedToken) -> bool {
 /// Returns true if only blanks stand on the line before an offset.
 fn begins_line(text: &[u8], at: usize) -> bool {
     let before = bytes_at(text, Span { from: 0, to: at });
-    for byte in before.iter().rev() {
-        match *byte {
-            b' ' | b'\t' | b'\r' => {}
-            b'\n' => return true,
-            _ => return false,
+    for back in 0..before.len() {
+        let byte = before[before.len() - 1 - back];
+        if byte == b'\n' {
+            return true;
+        }
+        if !is_blank(byte) {
+            return false;
         }
     }
     true
@@ -249,13 +254,15 @@ fn begins_line(text: &[u8], at: usize) -> bool {
 
 /// Returns true if only blanks stand on the line behind an offset, or a comment `//`.
 fn ends_line(text: &[u8], at: usize) -> bool {
-    let rest = bytes_at(
-        text,
-        Span {
-            from: at,
-            to: end_of_line(text, at),
-        },
-    );
-    let rest = rest.trim_ascii();
-    rest.is_empty() || rest.starts_with(b"//")
+    for from in at..end_of_line(text, at) {
+        let to = from.saturating_add(2);
+        if bytes_at(text, Span { from, to }) == b"//".as_slice() {
+            return true;
+        }
+        match text.get(from) {
+            Some(byte) if is_blank(*byte) => {}
+            _ => return false,
+        }
+    }
+    true
 }

@@ -51,7 +51,7 @@ pub fn tokens_from(
                     before = behind_comment(text, at.to);
                 } else {
                     before = end_of_line(text, at.to);
-                    if let Some(last) = last_of_line(text, at.to, before) {
+                    if let Some(last) = last_of_line(text, at.from, before) {
                         tokens.push(last)?;
                     }
                 }
@@ -110,11 +110,16 @@ fn last_of_line(text: &[u8], from: usize, to: usize) -> Option<PlacedToken> {
     let mut last = None;
     for at in from..to {
         match text.get(at) {
-            Some(b' ' | b'\t' | b'\r') | None => {}
-            Some(byte) => last = ending_token(*byte, at),
+            Some(byte) if !is_blank(*byte) => last = ending_token(*byte, at),
+            _ => {}
         }
     }
     last
+}
+
+/// Returns true if a byte is a blank within a line.
+pub fn is_blank(byte: u8) -> bool {
+    byte == b' ' || byte == b'\t' || byte == b'\r'
 }
 
 fn ending_token(byte: u8, from: usize) -> Option<PlacedToken> {

@@ -4,7 +4,7 @@
 //! expression is replaced, by a literal of each type in turn: another mistake of the same statement is told if it is one
 //! for every type that the expression may have.
 
-use crate::mistakes::{FurtherMistakes, Stage, stage_of};
+use crate::mistakes::{FurtherMistakes, Stage, letter_of, stage_of};
 use crate::search::{MAX_CHECKS, Search};
 use crate::tokens::{PlacedToken, index_at, tokens_from};
 use crate::type_parts::{FaultyPart, Substitute, expression_around, faulty_part};
@@ -99,11 +99,11 @@ pub fn add_ill_typed(
 impl TypeMistake {
     /// Returns the place and the rule of a refusal.
     fn of(refusal: &Diagnostic) -> TypeMistake {
-        let rule = match refusal.rule.as_bytes().get(1) {
-            Some(b'1' | b'6') => Rule::NoSuchName,
-            Some(b'2') => Rule::Declared,
-            Some(b'4') => Rule::WrongCount,
-            Some(b'5') => Rule::BadFormat,
+        let rule = match letter_of(refusal, 1) {
+            b'1' | b'6' => Rule::NoSuchName,
+            b'2' => Rule::Declared,
+            b'4' => Rule::WrongCount,
+            b'5' => Rule::BadFormat,
             _ => Rule::Mismatch,
         };
         TypeMistake {
@@ -173,7 +173,7 @@ impl<'t> TypeSearch<'t> {
         let mut common = None;
         let mut chosen = "";
         let mut is_clear = true;
-        for literal in LITERALS {
+        for literal in LITERALS.iter() {
             self.search.mended.replace(expression, literal.as_bytes())?;
             match self.trial(part, expression)? {
                 Trial::Fits => return Ok(true),
@@ -184,7 +184,7 @@ impl<'t> TypeSearch<'t> {
                     }
                     is_clear = is_clear && (common.is_none() || common == Some(mistake));
                     common = Some(mistake);
-                    chosen = literal;
+                    chosen = *literal;
                 }
             }
         }

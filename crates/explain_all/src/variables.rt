@@ -4,7 +4,7 @@
 //! declared. Then the script is checked again.
 
 use crate::mended_text::Replacement;
-use crate::mistakes::{FurtherMistakes, Stage, stage_of};
+use crate::mistakes::{FurtherMistakes, Stage, letter_of, stage_of};
 use crate::search::{MAX_CHECKS, Search};
 use crate::tokens::{PlacedToken, index_at, place_of, statement_around, tokens_from};
 use crate::type_parts::between;
@@ -30,7 +30,7 @@ impl AssignMistake {
     fn of(refusal: &Diagnostic) -> AssignMistake {
         AssignMistake {
             at: refusal.at,
-            is_if: refusal.rule.as_bytes().get(1) == Some(&b'2'),
+            is_if: letter_of(refusal, 1) == b'2',
         }
     }
 }
