@@ -1,7 +1,7 @@
 //! Cache of the files that were read, for explanations.
 
-use explain_json::json::{json_line, warning_lines};
-use explain_refusals::diagnostic::explained;
+use explain_all::explain::all_explained;
+use explain_json::json::{json_lines, warning_lines};
 use explain_warnings::render;
 use std::alloc::AllocError;
 use std::io::Write;
@@ -229,7 +229,7 @@ impl<'r> SourceCache<'r> {
     }
 }
 
-/// Reports the warnings of an accepted text on standard error, or its refusal if refusals are explained. Returns the
+/// Reports the warnings of an accepted text on standard error, or its mistakes if refusals are explained. Returns the
 /// verdict on the text.
 fn write_checked(
     rt: &HostRuntime,
@@ -237,10 +237,10 @@ fn write_checked(
     name: &str,
     text: &[u8],
 ) -> Result<Verdict, AllocError> {
-    if let Some(refusal) = explained(rt.alloc(), name, text)? {
+    if let Some(mistakes) = all_explained(rt.alloc(), name, text)? {
         if explain {
             // If this cannot be written, the status is enough.
-            let _ = rt.stderr().write_all(refusal.as_slice());
+            let _ = rt.stderr().write_all(mistakes.as_slice());
         }
         return Ok(Verdict::Refused);
     }
@@ -249,12 +249,12 @@ fn write_checked(
     Ok(Verdict::of(warnings.as_slice()))
 }
 
-/// Reports the refusal of a text on standard error, or its warnings if it is accepted, as lines of JSON. Returns the
+/// Reports the mistakes of a text on standard error, or its warnings if it is accepted, as lines of JSON. Returns the
 /// verdict on the text.
 fn write_json(rt: &HostRuntime, name: &str, text: &[u8]) -> Result<Verdict, AllocError> {
-    if let Some(refusal) = json_line(rt.alloc(), name, text)? {
+    if let Some(mistakes) = json_lines(rt.alloc(), name, text)? {
         // If this cannot be written, the status is enough.
-        let _ = eprintln!(rt; "{refusal}");
+        let _ = rt.stderr().write_all(mistakes.as_slice());
         return Ok(Verdict::Refused);
     }
     let lines = warning_lines(rt.alloc(), name, text)?;
