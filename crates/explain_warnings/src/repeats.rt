@@ -5,6 +5,7 @@ ghost use Rattle.std.specs.Prelude.{◌≡◌, ◌++◌, [], OnOk, IfOk, map};
 ghost use Rattle.syntax_trees.specs.View.{word_of, expression_view, form_view, statement_view, command_view, part_of, tree_of};
 ghost use Rattle.language.specs.Tree.{statements_of};
 ghost use Rattle.explain_warnings.specs.Repeats as specs;
+ghost use Rattle.explain_warnings.specs.View.{statements_in};
 
 use crate::forms::same_text;
 use crate::name_use::{NameUse, NameUseKind};
@@ -91,7 +92,7 @@ fn writes_key<A: Allocator>(name: &[u8], key: &ExprKind<A>, stmt: &Stmt<A>) -> b
 
 /// Returns true if one of the statements writes this key of the array of this name.
 fn some_writes<A: Allocator>(name: &[u8], key: &ExprKind<A>, before: &[&Stmt<A>]) -> bool
-    ensures { result ≡ specs.some_writes name.now (form_view key.now) (map (λ s. statement_view s.now) before.now) }
+    ensures { result ≡ specs.some_writes name.now (form_view key.now) (statements_in before.now) }
 {
     for stmt in before {
         if writes_key(name, key, stmt) {
@@ -109,7 +110,7 @@ fn write_again<A: Allocator>(
     name_uses: &mut Vec<NameUse>,
 ) -> Result<(), AllocError>
     ensures { OnOk result (name_uses.new.items ≡ name_uses.old.items
-        ++ specs.write_again (map (λ s. statement_view s.now) before.now) (word_of name.now) (expression_view index.now)) }
+        ++ specs.write_again (statements_in before.now) (word_of name.now) (expression_view index.now)) }
 {
     if some_writes(name.text.as_slice(), &index.kind, before) {
         add(NameUseKind::KeyTwice, name, name_uses)?;
@@ -124,7 +125,7 @@ fn again<A: Allocator>(
     name_uses: &mut Vec<NameUse>,
 ) -> Result<(), AllocError>
     ensures { OnOk result (name_uses.new.items ≡ name_uses.old.items
-        ++ specs.again (map (λ s. statement_view s.now) before.now) (statement_view stmt.now)) }
+        ++ specs.again (statements_in before.now) (statement_view stmt.now)) }
 {
     command_again(before, &stmt.kind, name_uses)
 }
@@ -135,7 +136,7 @@ fn command_again<A: Allocator>(
     name_uses: &mut Vec<NameUse>,
 ) -> Result<(), AllocError>
     ensures { OnOk result (name_uses.new.items ≡ name_uses.old.items
-        ++ specs.command_again (map (λ s. statement_view s.now) before.now) (command_view kind.now)) }
+        ++ specs.command_again (statements_in before.now) (command_view kind.now)) }
 {
     match kind {
         StmtKind::Write(name, index, _) => write_again(before, name, index, name_uses),
@@ -174,8 +175,8 @@ fn keep<'e, A: Allocator>(
     before: &mut Vec<&'e Stmt<A>>,
     stmt: &'e Stmt<A>,
 ) -> Result<(), AllocError>
-    ensures { OnOk result (map (λ s. statement_view s.now) before.new.items
-        ≡ specs.kept (map (λ s. statement_view s.now) before.old.items) (statement_view stmt.now)) }
+    ensures { OnOk result (statements_in before.new.items
+        ≡ specs.kept (statements_in before.old.items) (statement_view stmt.now)) }
 {
     if before.len() <= MOST && is_plain(stmt) {
         before.push(stmt)?;
@@ -206,7 +207,7 @@ fn part_again<A: Allocator>(
     name_uses: &mut Vec<NameUse>,
 ) -> Result<(), AllocError>
     ensures { OnOk result (name_uses.new.items ≡ name_uses.old.items
-        ++ specs.part_again (map (λ s. statement_view s.now) before.now) (part_of item.now)) }
+        ++ specs.part_again (statements_in before.now) (part_of item.now)) }
 {
     match item {
         Item::Import(_) | Item::Function(_) => Ok(()),
@@ -218,8 +219,8 @@ fn part_keep<'e, A: Allocator>(
     before: &mut Vec<&'e Stmt<A>>,
     item: &'e Item<A>,
 ) -> Result<(), AllocError>
-    ensures { OnOk result (map (λ s. statement_view s.now) before.new.items
-        ≡ specs.part_kept (map (λ s. statement_view s.now) before.old.items) (part_of item.now)) }
+    ensures { OnOk result (statements_in before.new.items
+        ≡ specs.part_kept (statements_in before.old.items) (part_of item.now)) }
 {
     match item {
         Item::Import(_) | Item::Function(_) => Ok(()),

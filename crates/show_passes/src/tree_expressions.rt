@@ -8,7 +8,7 @@ use syntax_trees::tree::{Call, Expr, ExprKind, Range, Right, Source};
 /// Adds an expression and its parts. `role` is what it is to the node above it, as `key: `, or nothing.
 #[cycle(expression)]
 pub fn add_expression<A: Allocator>(
-    out: &mut TreePage<'_, '_>,
+    out: &mut TreePage<'_, '_, '_>,
     depth: usize,
     role: &str,
     expr: &Expr<A>,
@@ -23,7 +23,7 @@ pub fn add_expression<A: Allocator>(
 
 /// Adds the parts of an expression.
 #[cycle(expression)]
-fn add_parts<A: Allocator>(out: &mut TreePage<'_, '_>, depth: usize, kind: &ExprKind<A>) {
+fn add_parts<A: Allocator>(out: &mut TreePage<'_, '_, '_>, depth: usize, kind: &ExprKind<A>) {
     match kind {
         ExprKind::Number(_) | ExprKind::Text(_) | ExprKind::Truth(_) => {}
         ExprKind::Variable(_) => {}
@@ -37,7 +37,7 @@ fn add_parts<A: Allocator>(out: &mut TreePage<'_, '_>, depth: usize, kind: &Expr
 /// Adds expressions in order.
 #[cycle(expression)]
 pub fn add_expressions<A: Allocator>(
-    out: &mut TreePage<'_, '_>,
+    out: &mut TreePage<'_, '_, '_>,
     depth: usize,
     exprs: &Vec<Expr<A>, A>,
 ) {
@@ -47,7 +47,7 @@ pub fn add_expressions<A: Allocator>(
 }
 
 /// Appends the words of an expression, without its parts.
-fn add_head<A: Allocator>(out: &mut TreePage<'_, '_>, kind: &ExprKind<A>) {
+fn add_head<A: Allocator>(out: &mut TreePage<'_, '_, '_>, kind: &ExprKind<A>) {
     let page = &mut out.page;
     match kind {
         ExprKind::Number(number) => {
@@ -89,7 +89,7 @@ fn add_head<A: Allocator>(out: &mut TreePage<'_, '_>, kind: &ExprKind<A>) {
 }
 
 /// Adds the right side of a declaration or an assignment.
-pub fn add_right<A: Allocator>(out: &mut TreePage<'_, '_>, depth: usize, right: &Right<A>) {
+pub fn add_right<A: Allocator>(out: &mut TreePage<'_, '_, '_>, depth: usize, right: &Right<A>) {
     match right {
         Right::Value(value) => add_expression(out, depth, "", value),
         Right::List(list) => {
@@ -102,7 +102,7 @@ pub fn add_right<A: Allocator>(out: &mut TreePage<'_, '_>, depth: usize, right: 
 }
 
 /// Adds a call whose outputs are assigned.
-pub fn add_call<A: Allocator>(out: &mut TreePage<'_, '_>, depth: usize, call: &Call<A>) {
+pub fn add_call<A: Allocator>(out: &mut TreePage<'_, '_, '_>, depth: usize, call: &Call<A>) {
     out.page.begin(call.first.from, depth);
     out.page.add("call ");
     out.page.add_bytes(call.name.text.as_slice());
@@ -112,7 +112,7 @@ pub fn add_call<A: Allocator>(out: &mut TreePage<'_, '_>, depth: usize, call: &C
 }
 
 /// Adds the source of a loop.
-pub fn add_source<A: Allocator>(out: &mut TreePage<'_, '_>, depth: usize, source: &Source<A>) {
+pub fn add_source<A: Allocator>(out: &mut TreePage<'_, '_, '_>, depth: usize, source: &Source<A>) {
     match source {
         Source::Array(name) => {
             out.page.begin(name.span.from, depth);
@@ -125,7 +125,7 @@ pub fn add_source<A: Allocator>(out: &mut TreePage<'_, '_>, depth: usize, source
 }
 
 /// Adds the bounds and the step of a range.
-fn add_range<A: Allocator>(out: &mut TreePage<'_, '_>, depth: usize, range: &Range<A>) {
+fn add_range<A: Allocator>(out: &mut TreePage<'_, '_, '_>, depth: usize, range: &Range<A>) {
     add_expression(out, depth, "from: ", &range.low);
     add_expression(out, depth, "to: ", &range.high);
     if let Some(step) = &range.step {

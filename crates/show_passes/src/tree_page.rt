@@ -9,15 +9,15 @@ use types::typed::{Callee, VariableType};
 
 /// The text of a syntax tree under construction.
 #[derive(Drop)]
-pub struct TreePage<'p, 't> {
+pub struct TreePage<'p, 's, 't> {
     pub page: Page<'t>,
     /// The types of the script, if they are to be shown.
-    pub types: Option<&'p TypeTable<'p>>,
+    pub types: Option<&'p TypeTable<'s>>,
     /// The function in which the next node stands, by its position among the functions.
     pub function: Option<usize>,
 }
 
-impl TreePage<'_, '_> {
+impl TreePage<'_, '_, '_> {
     /// Appends a declaration, as `int x[]`.
     pub fn add_declaration<A: Allocator>(&mut self, declaration: &Decl<A>) {
         self.page.add(base_word(declaration.base));

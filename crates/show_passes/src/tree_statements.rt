@@ -60,7 +60,7 @@ fn text_of<A: Allocator>(
 }
 
 /// Adds the parts of a script in order.
-fn add_items<A: Allocator>(out: &mut TreePage<'_, '_>, script: &Script<A>) {
+fn add_items<A: Allocator>(out: &mut TreePage<'_, '_, '_>, script: &Script<A>) {
     let mut position = 0usize;
     for item in &script.items {
         match item {
@@ -81,7 +81,7 @@ fn add_items<A: Allocator>(out: &mut TreePage<'_, '_>, script: &Script<A>) {
 }
 
 /// Adds a function: its outputs, its inputs and its body.
-fn add_function<A: Allocator>(out: &mut TreePage<'_, '_>, function: &Function<A>) {
+fn add_function<A: Allocator>(out: &mut TreePage<'_, '_, '_>, function: &Function<A>) {
     out.page.begin(function.first.from, 0);
     out.page.add("function ");
     out.page.add_bytes(function.name.text.as_slice());
@@ -93,7 +93,7 @@ fn add_function<A: Allocator>(out: &mut TreePage<'_, '_>, function: &Function<A>
 
 /// Adds the outputs or the inputs of a function.
 fn add_declarations<A: Allocator>(
-    out: &mut TreePage<'_, '_>,
+    out: &mut TreePage<'_, '_, '_>,
     role: &str,
     declarations: &Vec<Decl<A>, A>,
 ) {
@@ -107,7 +107,7 @@ fn add_declarations<A: Allocator>(
 
 /// Adds a statement and its parts.
 #[cycle(statement)]
-fn add_statement<A: Allocator>(out: &mut TreePage<'_, '_>, depth: usize, statement: &Stmt<A>) {
+fn add_statement<A: Allocator>(out: &mut TreePage<'_, '_, '_>, depth: usize, statement: &Stmt<A>) {
     out.page.begin(statement.first.from, depth);
     add_head(out, &statement.kind);
     out.page.end();
@@ -116,7 +116,7 @@ fn add_statement<A: Allocator>(out: &mut TreePage<'_, '_>, depth: usize, stateme
 
 /// Adds the expressions and the blocks of a statement.
 #[cycle(statement)]
-fn add_parts<A: Allocator>(out: &mut TreePage<'_, '_>, depth: usize, kind: &StmtKind<A>) {
+fn add_parts<A: Allocator>(out: &mut TreePage<'_, '_, '_>, depth: usize, kind: &StmtKind<A>) {
     match kind {
         StmtKind::Declare(_, None) => {}
         StmtKind::Declare(_, Some(right)) => add_right(out, depth, right),
@@ -144,7 +144,7 @@ fn add_parts<A: Allocator>(out: &mut TreePage<'_, '_>, depth: usize, kind: &Stmt
 
 /// Adds a block with its statements.
 #[cycle(statement)]
-fn add_block<A: Allocator>(out: &mut TreePage<'_, '_>, depth: usize, role: &str, block: &Block<A>) {
+fn add_block<A: Allocator>(out: &mut TreePage<'_, '_, '_>, depth: usize, role: &str, block: &Block<A>) {
     out.page.begin(block.from, depth);
     out.page.add(role);
     out.page.end();
@@ -154,7 +154,7 @@ fn add_block<A: Allocator>(out: &mut TreePage<'_, '_>, depth: usize, role: &str,
 }
 
 /// Appends the words of a statement, without its parts.
-fn add_head<A: Allocator>(out: &mut TreePage<'_, '_>, kind: &StmtKind<A>) {
+fn add_head<A: Allocator>(out: &mut TreePage<'_, '_, '_>, kind: &StmtKind<A>) {
     match kind {
         StmtKind::Declare(declaration, _) => {
             out.page.add("declare ");
@@ -188,7 +188,7 @@ fn add_head<A: Allocator>(out: &mut TreePage<'_, '_>, kind: &StmtKind<A>) {
 }
 
 /// Appends the words of a loop and its variables.
-fn add_header<A: Allocator>(out: &mut TreePage<'_, '_>, header: &Header<A>) {
+fn add_header<A: Allocator>(out: &mut TreePage<'_, '_, '_>, header: &Header<A>) {
     out.page.add("foreach ");
     out.add_loop_variable(&header.value);
     if let Some(key) = &header.key {
