@@ -1,6 +1,4 @@
 //! Producers: the entries that produce the values without a name in the script.
-ghost use Rattle.std.specs.Prelude.{◌≡◌};
-ghost use Rattle.code_listing.specs.Labels.{maker_of};
 
 use crate::bodies::BodyPosition;
 use indexmap::IndexMap;
@@ -37,9 +35,7 @@ impl Producers {
     }
 
     /// Returns the number in its body, from 1, of the entry that produces the value of a node, or 0 if there is none.
-    pub fn of(&self, node: u32) -> usize
-        ensures { result ≡ maker_of self.now node }
-    {
+    pub fn of(&self, node: u32) -> usize {
         match self.numbers.get(&node) {
             Some(number) => *number,
             None => 0,

@@ -1,6 +1,4 @@
 //! The source map of a script: the offsets and kinds of its blocks and the names of its variables, which code lacks.
-ghost use Rattle.std.specs.Prelude.{◌≡◌, ◌≢◌, ◌++◌, ◌∷◌, [], IfSome, IfNone, length, option_copied, slice_get};
-ghost use Rattle.code_listing.specs.Labels.{infos_of, name_of};
 
 use flow::script::{Flow, Function};
 use flow::statement::{Action, Block, Statement, Variable};
@@ -75,10 +73,7 @@ impl<'a> SourceMap<'a> {
     }
 
     /// Returns the name of the variable of a node, if it has one.
-    pub fn name(&self, node: u32) -> Option<&'a [u8]>
-        ensures some { IfSome result (λ name. (name ≡ name_of self.now node) × (name ≢ [])) }
-        ensures none { IfNone result (name_of self.now node ≡ []) }
-    {
+    pub fn name(&self, node: u32) -> Option<&'a [u8]> {
         match self.names.get(node as usize) {
             Some(name) if !name.is_empty() => Some(*name),
             _ => None,
@@ -86,9 +81,7 @@ impl<'a> SourceMap<'a> {
     }
 
     /// Returns the description of the body of this number.
-    pub fn stand(&self, body: u32) -> Option<BodyInfo>
-        ensures { result ≡ slice_get (infos_of self.now) body }
-    {
+    pub fn stand(&self, body: u32) -> Option<BodyInfo> {
         let number = body as usize;
         if number < self.roots.len() {
             return Some(self.roots[number]);

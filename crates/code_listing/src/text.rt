@@ -1,10 +1,4 @@
 //! The textual listing: bodies and entries.
-ghost use Rattle.std.specs.Prelude.{◌≡◌, ◌++◌, ◌∷◌, [], List, ℕ, codes, length, IfOk, slice_get};
-ghost use Rattle.task_code.specs.Code.{kind_of};
-ghost use Rattle.task_code.specs.View.{act_view, entry_view};
-ghost use Rattle.code_listing.specs.Buffers.{Adds};
-ghost use Rattle.code_listing.specs.Labels.{drawing_labels, infos_of, labels_of, signatures_of};
-ghost use Rattle.code_listing.specs.Listing.{act_line, act_text, bodies_opened, body_text, entries_text, entry_line, entry_text, kind_text, opened_text, place_text, title_text, what_text};
 
 use crate::bodies::{in_order, places};
 use crate::drawing::Drawing;
@@ -52,9 +46,7 @@ fn add_body<A: Allocator>(
     drawing: &Drawing<'_, '_, A>,
     body: u32,
     place: usize,
-)
-    ensures { Adds page.old page.new (body_text drawing.now.code.now (infos_of drawing.now.found.now) (drawing_labels drawing.now) drawing.now.places.now.items place body) }
-{
+) {
     let Some(stand) = drawing.found.stand(body) else {
         return;
     };
@@ -72,9 +64,7 @@ pub fn add_title<A: Allocator>(
     functions: &Vec<Function<A>, A>,
     stand: BodyInfo,
     place: usize,
-)
-    ensures { Adds page.old page.new (title_text (signatures_of functions.now.items) stand place) }
-{
+) {
     page.add_counted(b"body ", place);
     page.add(kind_name(stand.what).as_bytes());
     if stand.what == BodyKind::Function && stand.function > 0 {
@@ -86,9 +76,7 @@ pub fn add_title<A: Allocator>(
 }
 
 /// Returns the word for a kind of body, preceded by a space.
-fn kind_name(what: BodyKind) -> &'static str
-    ensures { result.now ≡ what_text what }
-{
+fn kind_name(what: BodyKind) -> &'static str {
     match what {
         BodyKind::Script => " script",
         BodyKind::Function => " function ",
@@ -105,29 +93,14 @@ fn add_entries<A: Allocator>(
     drawing: &Drawing<'_, '_, A>,
     function: u32,
     entries: &[u32],
-)
-    ensures { Adds page.old page.new (entries_text drawing.now.code.now (drawing_labels drawing.now) function drawing.now.places.now.items 0 entries.now) }
-{
+) {
     for k in 0..entries.len() {
-        add_entry_at(page, drawing, function, entries[k], k + 1);
-    }
-}
-
-/// Writes the line of the entry of this number in the code, if there is one.
-fn add_entry_at<A: Allocator>(
-    page: &mut TextBuffer,
-    drawing: &Drawing<'_, '_, A>,
-    function: u32,
-    entry: u32,
-    number: usize,
-)
-    ensures { Adds page.old page.new (entry_line drawing.now.code.now (drawing_labels drawing.now) function drawing.now.places.now.items number entry) }
-{
-    match drawing.code.entry(entry) {
-        None => {}
-        Some(found) => {
-            let scope = drawing.scope(function, number);
-            add_entry(page, &scope, drawing.places, found);
+        match drawing.code.entry(entries[k]) {
+            None => {}
+            Some(entry) => {
+                let scope = drawing.scope(function, k + 1);
+                add_entry(page, &scope, drawing.places, entry);
+            }
         }
     }
 }
@@ -138,9 +111,7 @@ fn add_entry<A: Allocator>(
     scope: &ListingContext<'_, '_, A>,
     places: &Vec<usize>,
     entry: &Entry,
-)
-    ensures { Adds page.old page.new (entry_text (labels_of scope.now) scope.now.function places.now.items scope.now.number (entry_view entry.now)) }
-{
+) {
     page.add_counted(b"  ", scope.number);
     add_act(page, entry);
     needs(page, scope, entry);
@@ -149,9 +120,7 @@ fn add_entry<A: Allocator>(
 }
 
 /// Writes the kind of an entry, its act, its offset in the script, and its priority.
-pub fn add_act(page: &mut TextBuffer, entry: &Entry)
-    ensures { Adds page.old page.new (act_line (entry_view entry.now)) }
-{
+pub fn add_act(page: &mut TextBuffer, entry: &Entry) {
     page.add(kind_text(entry.act.kind()).as_bytes());
     page.add_counted(act_text(&entry.act).as_bytes(), entry.offset);
     page.add(b" ");
@@ -159,9 +128,7 @@ pub fn add_act(page: &mut TextBuffer, entry: &Entry)
 }
 
 /// Returns the word for a kind of entry, preceded by a space.
-pub fn kind_text(kind: Kind) -> &'static str
-    ensures { result.now ≡ kind_text kind }
-{
+pub fn kind_text(kind: Kind) -> &'static str {
     match kind {
         Kind::Control => " control",
         Kind::Leaf => " leaf",
@@ -169,9 +136,7 @@ pub fn kind_text(kind: Kind) -> &'static str
 }
 
 /// Returns the word for an act, between spaces.
-pub fn act_text(act: &Act) -> &'static str
-    ensures { result.now ≡ act_text (act_view act.now) }
-{
+pub fn act_text(act: &Act) -> &'static str {
     match act {
         Act::Cell(_) => " cell ",
         Act::Read => " read ",
@@ -190,9 +155,7 @@ pub fn act_text(act: &Act) -> &'static str
 }
 
 /// Writes the bodies that an entry opens.
-fn add_opened(page: &mut TextBuffer, places: &Vec<usize>, act: &Act)
-    ensures { Adds page.old page.new (opened_text places.now.items (bodies_opened (act_view act.now))) }
-{
+fn add_opened(page: &mut TextBuffer, places: &Vec<usize>, act: &Act) {
     match act {
         Act::Call { body, .. } => add_first(page, places, *body),
         Act::If(_, then, None) => add_first(page, places, *then),
@@ -215,17 +178,13 @@ fn add_opened(page: &mut TextBuffer, places: &Vec<usize>, act: &Act)
 }
 
 /// Writes ` >` and the first body that an entry opens.
-fn add_first(page: &mut TextBuffer, places: &Vec<usize>, body: u32)
-    ensures { Adds page.old page.new (codes " >" ++ place_text (slice_get places.now.items body)) }
-{
+fn add_first(page: &mut TextBuffer, places: &Vec<usize>, body: u32) {
     page.add(b" >");
     add_place(page, places, body);
 }
 
 /// Writes a space and the number of a body in the listing.
-fn add_place(page: &mut TextBuffer, places: &Vec<usize>, body: u32)
-    ensures { Adds page.old page.new (place_text (slice_get places.now.items body)) }
-{
+fn add_place(page: &mut TextBuffer, places: &Vec<usize>, body: u32) {
     page.add(b" ");
     match places.get(body as usize) {
         Some(place) => page.add_number(*place),

@@ -94,7 +94,7 @@ fn are_blocks_fit<'a, A: Allocator>(
             is_block_fit(&inside, functions, body)
         }
         Action::Wait { inner, content, .. } => {
-            let inside = within_wait(&*content, scopes);
+            let inside = within_wait(&*content, &*scopes);
             are_headers_fit(scopes, inner) && is_block_fit(&inside, functions, content)
         }
         Action::Declare(_)
