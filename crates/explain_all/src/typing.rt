@@ -181,7 +181,7 @@ impl<'t> TypeSearch<'t> {
         let mut is_clear = true;
         for literal in LITERALS.iter() {
             self.search.mended.replace(expression, literal.as_bytes())?;
-            match self.trial(part, expression)? {
+            match self.outcome_of(part, expression)? {
                 Trial::Fits => return Ok(true),
                 Trial::Misfits => {}
                 Trial::Another(mistake) => {
@@ -205,7 +205,7 @@ impl<'t> TypeSearch<'t> {
     }
 
     /// Checks the text after an expression of a part was replaced.
-    fn trial(&mut self, part: Span, expression: Span) -> Result<Trial, AllocError> {
+    fn outcome_of(&mut self, part: Span, expression: Span) -> Result<Trial, AllocError> {
         let Some(refusal) = self.search.refusal()? else {
             return Ok(Trial::Fits);
         };
@@ -231,11 +231,9 @@ impl<'t> TypeSearch<'t> {
         }
         let at = self.search.mended.original_place(mistake.at);
         let rule = mistake.rule;
-        if self.agreed == Some(TypeMistake { at, rule }) {
-            return Ok(true);
-        }
+        let is_agreed = self.agreed == Some(TypeMistake { at, rule });
         if let Some(part) = self.uncertain {
-            if is_within(at, part) {
+            if is_within(at, part) && !is_agreed {
                 return Ok(false);
             }
         }
