@@ -1,6 +1,6 @@
 //! The explanations of all mistakes of a text, one after another.
 ghost use Rattle.std.specs.Prelude.{IfOk, MatchOption};
-ghost use Rattle.explain_refusals.specs.Verdicts.{BeginsAt, Explains, IsScript};
+ghost use Rattle.explain_refusals.specs.Verdicts.{Explains, IsScript};
 
 use crate::mistakes::{FurtherMistakes, mistakes_of};
 use explain_refusals::diagnostic::shown;
