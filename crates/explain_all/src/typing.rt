@@ -179,7 +179,7 @@ impl<'t> TypeSearch<'t> {
         let mut common = None;
         let mut chosen = "";
         let mut is_clear = true;
-        for literal in LITERALS.iter() {
+        for literal in &LITERALS {
             self.search.mended.replace(expression, literal.as_bytes())?;
             match self.outcome_of(part, expression)? {
                 Trial::Fits => return Ok(true),
