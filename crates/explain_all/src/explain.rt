@@ -1,6 +1,6 @@
 //! The explanations of all mistakes of a text, one after another.
 ghost use Rattle.std.specs.Prelude.{IfOk, MatchOption};
-ghost use Rattle.explain_refusals.specs.Verdicts.{BeginsAt, Explains, IsScript};
+ghost use Rattle.explain_refusals.specs.Verdicts.{Explains, IsScript};
 
 use crate::mistakes::{FurtherMistakes, mistakes_of};
 use explain_refusals::diagnostic::shown;
@@ -54,11 +54,11 @@ fn add_more(words: &mut Vec<u8>, further: &FurtherMistakes) -> Result<(), AllocE
     words.extend_from_slice(b"and ")?;
     let mut buffer = Buffer::new();
     words.extend_from_slice(buffer.format(further.more as u64).as_bytes())?;
-    words.extend_from_slice(if further.is_cut {
-        b" or more"
+    let ending = if further.is_cut {
+        " or more\n"
     } else {
-        b" more"
-    })?;
-    words.push(b'\n')?;
+        " more\n"
+    };
+    words.extend_from_slice(ending.as_bytes())?;
     Ok(())
 }

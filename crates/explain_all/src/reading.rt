@@ -49,7 +49,7 @@ pub fn add_unread(
             break;
         }
         let tokens = tokens_from(alloc, text, from.at)?;
-        let Some(next) = resumption(text, tokens.as_slice(), refused, from.open) else {
+        let Some(next) = next_statement(text, tokens.as_slice(), refused, from.open) else {
             return Ok(());
         };
         if next.at <= from.at {
@@ -115,7 +115,7 @@ fn is_begun_before(
 
 /// Returns the place at which the text is read on after a refused place. The tokens begin in a statement of a block that
 /// `open` blocks contain.
-fn resumption(
+fn next_statement(
     text: &[u8],
     tokens: &[PlacedToken],
     refused: Span,

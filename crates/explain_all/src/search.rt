@@ -20,7 +20,10 @@ pub struct Search<'t> {
 
 /// Returns the number of checks that a text of this length gets.
 fn checks_for(length: usize) -> usize {
-    let by_bytes = MAX_BYTES / length.max(1);
+    if length == 0 {
+        return MAX_CHECKS;
+    }
+    let by_bytes = MAX_BYTES / length;
     by_bytes.min(MAX_CHECKS)
 }
 

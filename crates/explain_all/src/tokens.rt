@@ -173,8 +173,8 @@ pub fn is_end(kind: TokenKind) -> bool {
 /// Returns the statement or the header that contains a token. An `else` is not part of it.
 pub fn statement_around(tokens: &[PlacedToken], index: usize) -> Option<StatementTokens> {
     let mut first: usize = 0;
-    for i in 0..index.min(tokens.len()) {
-        if is_end(tokens[i].kind) {
+    for i in 0..tokens.len() {
+        if i < index && is_end(tokens[i].kind) {
             first = i + 1;
         }
     }

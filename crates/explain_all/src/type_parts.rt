@@ -109,58 +109,30 @@ fn source(tokens: &[PlacedToken], statement: StatementTokens) -> Option<FaultyPa
 
 /// Returns the index of the first token of a kind in a statement.
 fn first_of(tokens: &[PlacedToken], statement: StatementTokens, kind: TokenKind) -> Option<usize> {
-    for i in statement.first..statement.end.min(tokens.len()) {
-        if tokens[i].kind == kind {
+    for i in statement.first..tokens.len() {
+        if i < statement.end && tokens[i].kind == kind {
             return Some(i);
         }
     }
     None
 }
 
-/// Returns the argument, or the whole expression, that begins at a token or contains it: what lies between two commas,
-/// brackets, or ends of its part. `is_operand`: only the operand that begins at the token, with its brackets.
+/// Returns the expression around a token: what lies between two commas, brackets, or ends of its part. `is_operand`: only
+/// the operand that begins at the token, with its brackets.
 ///
-/// Returns an empty place if a bracket has no partner.
+/// Returns an empty place if no expression contains the token.
 pub fn expression_around(
     tokens: &[PlacedToken],
     index: usize,
     part: Span,
     is_operand: bool,
 ) -> Span {
-    let mut first = index;
-    if !is_operand {
-        for _ in 0..index {
-            let before = first.saturating_sub(1);
-            if first == 0
-                || is_limit(kind_of(tokens, before))
-                || place_of(tokens, before).from < part.from
-            {
-                break;
-            }
-            if is_closing(kind_of(tokens, before)) {
-                first = opener_of(tokens, before);
-            } else {
-                first = before;
-            }
-        }
-    }
-    let mut end = index;
-    for _ in index..tokens.len() {
-        let at = place_of(tokens, end);
-        let kind = kind_of(tokens, end);
-        let is_over = is_limit(kind) && end > index && !is_opening(kind)
-            || is_closing(kind)
-            || at.from >= part.to
-            || is_operand && end > index && !is_opening(kind);
-        if is_over {
-            break;
-        }
-        end = if is_opening(kind) {
-            closer_of(tokens, end).saturating_add(1)
-        } else {
-            end.saturating_add(1)
-        };
-    }
+    let first = if is_operand {
+        index
+    } else {
+        begin_of(tokens, index, part)
+    };
+    let end = end_of(tokens, index, part, is_operand);
     if end <= index {
         return between(0, 0);
     }
@@ -168,6 +140,43 @@ pub fn expression_around(
         place_of(tokens, first).from,
         place_of(tokens, end.saturating_sub(1)).to,
     )
+}
+
+/// Returns the index of the first token of the expression around a token.
+fn begin_of(tokens: &[PlacedToken], index: usize, part: Span) -> usize {
+    let mut first = index;
+    for _ in 0..index {
+        let before = first.saturating_sub(1);
+        let kind = kind_of(tokens, before);
+        if first == 0 || is_limit(kind) || place_of(tokens, before).from < part.from {
+            break;
+        }
+        first = if is_closing(kind) {
+            opener_of(tokens, before)
+        } else {
+            before
+        };
+    }
+    first
+}
+
+/// Returns the index behind the last token of the expression around a token, or of the operand that begins there.
+fn end_of(tokens: &[PlacedToken], index: usize, part: Span, is_operand: bool) -> usize {
+    let mut end = index;
+    for _ in index..tokens.len() {
+        let kind = kind_of(tokens, end);
+        let is_other = end > index && !is_opening(kind) && (is_operand || is_limit(kind));
+        if is_other || is_closing(kind) || place_of(tokens, end).from >= part.to {
+            break;
+        }
+        let last = if is_opening(kind) {
+            closer_of(tokens, end)
+        } else {
+            end
+        };
+        end = last.saturating_add(1);
+    }
+    end
 }
 
 fn is_opening(kind: TokenKind) -> bool {
@@ -212,7 +221,7 @@ fn closer_of(tokens: &[PlacedToken], index: usize) -> usize {
 /// Returns the index of the bracket that the one at an index closes, or 0.
 fn opener_of(tokens: &[PlacedToken], index: usize) -> usize {
     let mut depth: usize = 0;
-    for back in 0..=index.min(tokens.len()) {
+    for back in 0..tokens.len() {
         let i = index.saturating_sub(back);
         if is_closing(kind_of(tokens, i)) {
             depth = depth.saturating_add(1);

@@ -45,12 +45,16 @@ enum Trial {
     Another(TypeMistake),
 }
 
-/// A search with the names whose types are not known any more, as places of the original text, and the number of names
-/// that were made up.
+/// A search with what is not known any more. The places are those of the original text.
 #[derive(Drop)]
 struct TypeSearch<'t> {
     search: Search<'t>,
+    /// Names whose types are not known.
     doubtful: Vec<Span>,
+    /// The last part with an expression whose type is not known, and the mistake in it that there is for each type.
+    uncertain: Option<Span>,
+    agreed: Option<TypeMistake>,
+    /// The number of names that were made up.
     names: usize,
 }
 
@@ -68,6 +72,8 @@ pub fn add_ill_typed(
     let mut types = TypeSearch {
         search: Search::new(alloc, text),
         doubtful: Vec::new(alloc),
+        uncertain: None,
+        agreed: None,
         names: 0,
     };
     let mut mistake = TypeMistake::of(first);
@@ -173,13 +179,14 @@ impl<'t> TypeSearch<'t> {
         let mut common = None;
         let mut chosen = "";
         let mut is_clear = true;
-        for literal in LITERALS.iter() {
+        for literal in &LITERALS {
             self.search.mended.replace(expression, literal.as_bytes())?;
-            match self.trial(part, expression)? {
+            match self.outcome_of(part, expression)? {
                 Trial::Fits => return Ok(true),
                 Trial::Misfits => {}
                 Trial::Another(mistake) => {
                     if mistake.rule == Rule::NoSuchName {
+                        self.uncertain = Some(part);
                         return Ok(true);
                     }
                     is_clear = is_clear && (common.is_none() || common == Some(mistake));
@@ -192,11 +199,13 @@ impl<'t> TypeSearch<'t> {
             return Ok(false);
         }
         self.search.mended.replace(expression, chosen.as_bytes())?;
+        self.uncertain = Some(part);
+        self.agreed = common;
         Ok(true)
     }
 
     /// Checks the text after an expression of a part was replaced.
-    fn trial(&mut self, part: Span, expression: Span) -> Result<Trial, AllocError> {
+    fn outcome_of(&mut self, part: Span, expression: Span) -> Result<Trial, AllocError> {
         let Some(refusal) = self.search.refusal()? else {
             return Ok(Trial::Fits);
         };
@@ -214,11 +223,19 @@ impl<'t> TypeSearch<'t> {
         }
     }
 
-    /// Returns true if a mistake is one whatever the types of the doubtful names are.
+    /// Returns true if a mistake is one whatever the types that are not known are.
     fn is_certain(&self, mistake: TypeMistake) -> Result<bool, AllocError> {
         match mistake.rule {
             Rule::NoSuchName | Rule::Declared | Rule::BadFormat => return Ok(true),
             Rule::Mismatch | Rule::WrongCount => {}
+        }
+        let at = self.search.mended.original_place(mistake.at);
+        let rule = mistake.rule;
+        let is_agreed = self.agreed == Some(TypeMistake { at, rule });
+        if let Some(part) = self.uncertain {
+            if is_within(at, part) && !is_agreed {
+                return Ok(false);
+            }
         }
         let bytes = self.search.mended.bytes()?;
         let tokens = tokens_from(self.search.alloc, bytes.as_slice(), 0)?;

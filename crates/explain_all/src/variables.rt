@@ -15,6 +15,7 @@ use explain_names::partial_assignment::partly_assigned;
 use explain_refusals::diagnostic::{Diagnostic, write_declaration};
 use lexer::token::Span;
 use std::alloc::{AllocError, Global};
+use syntax::error::ParseFault;
 use syntax::parser::parse;
 use syntax_trees::tree::{Base, Keys, Script, Shape};
 
@@ -89,8 +90,10 @@ impl<'t> VariableSearch<'t> {
         let alloc = self.search.alloc;
         let bytes = self.search.mended.bytes()?;
         let text = bytes.as_slice();
-        let Ok(script) = parse(alloc, text) else {
-            return Ok(false);
+        let script = match parse(alloc, text) {
+            Ok(script) => script,
+            Err(ParseFault::Memory) => return Err(AllocError),
+            Err(_) => return Ok(false),
         };
         let Some(name) = name_of(alloc, text, &script, mistake)? else {
             return Ok(false);
