@@ -5,19 +5,21 @@
 #![tactic(auto)]
 
 pub mod blocked;
+pub mod causes;
 mod components;
 pub mod context;
-mod cycles;
-mod graph;
+pub mod cycles;
+pub mod graph;
 pub mod index;
-mod inputs;
-mod list;
+pub mod inputs;
+pub mod list;
 pub mod names;
-mod numbers;
+pub mod numbers;
 pub mod path;
-mod remedies;
+pub mod remedies;
+pub mod selection;
 pub mod sites;
 pub mod value_text;
-mod wait_graph;
-mod wait_groups;
+pub mod wait_graph;
+pub mod wait_groups;
 pub mod writers;

@@ -2,6 +2,8 @@
 ghost use Rattle.std.specs.Prelude.{◌≡◌, ◌<◌, [], OnOk};
 ghost use Rattle.host.specs.Events.{asked, changes, inputs, links, reads};
 ghost use Rattle.swt_arguments.specs.declared.line.Line.TheVariants.{Check};
+ghost use Rattle.swt_command.specs.EndOf.{status_of_end};
+ghost use Rattle.swt_status.specs.Statuses.{number_of};
 ghost use Rattle.swt_command.specs.Files.{name_at};
 ghost use Rattle.swt_command.specs.Sinks.{held};
 ghost use Rattle.swt_process.specs.Each.{ChecksEach, IsChecked};
@@ -14,6 +16,7 @@ use host::reading::read_file;
 use std::alloc::{AllocError, Global};
 use swt_arguments::word::Word;
 use swt_command::check::{after, check_file};
+use swt_command::end::CommandEnd;
 use swt_command::trouble::write_failure;
 use swt_status::failure::CommandFailure;
 use swt_status::refusal::Refusal;
@@ -22,16 +25,31 @@ use swt_status::stop::CommandStop;
 use values::limits::MAX_SOURCE;
 use values::sink::Sink;
 
-/// Reads and checks each file, in order, and stops at the first that fails. Returns the exit status of the process.
+/// Receives the verdict of each file of `check`, after its line is written and before the next file is read.
+pub trait VerdictObserver {
+    /// Receives a file with its verdict: its refusal, or `None` if it is accepted.
+    fn judge(&mut self, _name: &str, _text: &[u8], _refusal: Option<Refusal>) {}
+}
+
+/// An observer that ignores all verdicts.
+#[derive(Clone, Copy, Debug, Drop)]
+pub struct NoVerdictObserver;
+
+impl VerdictObserver for NoVerdictObserver {}
+
+/// Reads and checks each file, in order, and stops at the first that fails. Returns the exit status of the process, and
+/// what the command came to.
 ///
-/// Only one file is kept in memory at a time. If a file fails, the error message is written to `err`.
-pub fn check_files<H: Host, O: Sink, E: Sink>(
+/// Only one file is kept in memory at a time. `observer` receives it with its verdict. If a file fails, the error
+/// message is written to `err`.
+pub fn check_files<H: Host, V: VerdictObserver, O: Sink, E: Sink>(
     host: &mut H,
     alloc: Global,
     names: &[Word],
+    observer: &mut V,
     out: &mut O,
     err: &mut E,
-) -> u8
+) -> (u8, CommandEnd)
     requires reads { reads (H.history host.old) ≡ [] }
     requires links { links (H.history host.old) ≡ [] }
     requires inputs { inputs (H.history host.old) ≡ [] }
@@ -40,14 +58,15 @@ pub fn check_files<H: Host, O: Sink, E: Sink>(
     requires err { E.failures err.old < u64.MAX }
     ensures ran { Ran (Check names.now) (H.history host.new)
         (held (O.taken out.old) (O.failures out.old)) (held (O.taken out.new) (O.failures out.new))
-        (held (E.taken err.old) (E.failures err.old)) (held (E.taken err.new) (E.failures err.new)) result }
+        (held (E.taken err.old) (E.failures err.old)) (held (E.taken err.new) (E.failures err.new)) result.0 }
+    ensures status { result.0 ≡ number_of (status_of_end result.1) }
     ensures asked { asked (H.history host.new) ≡ asked (H.history host.old) }
 {
-    match check_each(host, alloc, names, out) {
-        Ok(status) => status.number(),
+    match check_each(host, alloc, names, observer, out) {
+        Ok(status) => (status.number(), CommandEnd::Checked(status)),
         Err(stop) => {
             let _ = write_failure(stop.trouble, name_at(names, stop.place), err);
-            stop.trouble.status().number()
+            (stop.trouble.status().number(), CommandEnd::Failed(stop))
         }
     }
 }
@@ -68,10 +87,11 @@ fn name_at(names: &[Word], place: usize) -> &str
 ///
 /// Returns `CommandStop` for the first file that cannot be read, for which an allocation fails, or whose line cannot be
 /// written.
-fn check_each<H: Host, O: Sink>(
+fn check_each<H: Host, V: VerdictObserver, O: Sink>(
     host: &mut H,
     alloc: Global,
     names: &[Word],
+    observer: &mut V,
     out: &mut O,
 ) -> Result<Status, CommandStop>
     requires reads { reads (H.history host.old) ≡ [] }
@@ -86,7 +106,7 @@ fn check_each<H: Host, O: Sink>(
     let mut known = Vec::new(alloc);
     let mut status = Status::Done;
     for place in 0..names.len() {
-        match check_next(host, alloc, &mut known, names[place].as_str(), out) {
+        match check_next(host, alloc, &mut known, names[place].as_str(), observer, out) {
             Ok(refusal) => status = after(refusal, status),
             Err(trouble) => return Err(CommandStop { place, trouble }),
         }
@@ -102,11 +122,12 @@ fn check_each<H: Host, O: Sink>(
 ///
 /// Returns `Unread` if the file cannot be read, `Memory` if an allocation fails, or `Unprinted` if the line cannot be
 /// written.
-fn check_next<H: Host, O: Sink>(
+fn check_next<H: Host, V: VerdictObserver, O: Sink>(
     host: &mut H,
     alloc: Global,
     known: &mut Vec<Identity>,
     name: &str,
+    observer: &mut V,
     out: &mut O,
 ) -> Result<Option<Refusal>, CommandFailure>
     requires known { known.old.items ≡ inputs (H.history host.old) }
@@ -124,5 +145,9 @@ fn check_next<H: Host, O: Sink>(
     };
     let arena = Bump::new(alloc);
     let files = [file];
-    check_file(alloc, &arena, name, &files, 0, out)
+    let refusal = check_file(alloc, &arena, name, &files, 0, out)?;
+    if let Some(text) = &files[0] {
+        observer.judge(name, text.as_slice(), refusal);
+    }
+    Ok(refusal)
 }
