@@ -4,12 +4,11 @@
 //! are gathered that their diagnostics name.
 
 use crate::facts::{
-    GatheredItem, add_inputs, gather_known, gather_written_key, inputs_at,
+    GatheredItem, add_inputs, gather_inner_keys, gather_known, gather_statement,
+    gather_written_key, inputs_at,
 };
 use crate::gathering::Gathering;
-use crate::left_statements::{LeftStatement, LeftStatements, NumberedItem};
 use crate::script::StoppedScript;
-use crate::waits::{Target, Waits, inputs_around};
 use explain_blocked::blocked::{add_blocked, write_left, write_others};
 use explain_blocked::causes::root_causes;
 use explain_blocked::context::ExplainContext;
@@ -17,9 +16,12 @@ use explain_blocked::cycles::{add_cycle, is_listed};
 use explain_blocked::index::ScriptIndex;
 use explain_blocked::list::BlockedList;
 use explain_blocked::numbers::{NONE, NodeNumbers};
+use explain_blocked::remedies::write_remedy;
 use explain_blocked::selection::{Selected, Selection, select};
 use explain_blocked::wait_graph::WaitGraph;
 use explain_blocked::writers::WriterIndex;
+use explain_board::left_statements::{LeftStatement, LeftStatements, NumberedItem};
+use explain_board::waits::{Target, Waits, inputs_around};
 use explain_inputs::blocked_statement::BlockedStatement;
 use meaning_outcomes::knowledge::BlockedId;
 use paths::StatementInstance;
@@ -44,12 +46,14 @@ pub fn add_blocked_end(
     let mut left = LeftStatements::of(script.alloc, script.board, blocked)?;
     keep_indexed(script, &mut left)?;
     let waits = Waits::of(script.alloc, script.board, script.index, left)?;
+    let parts = waits.graph.parts()?;
+    let causes = root_causes(script.alloc, &waits.graph, waits.len(), &parts)?;
     let selection = if all {
         every_statement(script.alloc, waits.len())?
     } else {
-        select_shortened(script.alloc, &waits)?
+        select(script.alloc, &waits, &waits.graph, &parts, causes.as_slice())?
     };
-    let told = ToldStatements::of(script.alloc, &waits, &selection)?;
+    let told = ToldStatements::of(script.alloc, &waits, &selection, causes)?;
     tell(script, &waits, &told, &selection, out)
 }
 
@@ -77,17 +81,12 @@ fn every_statement(alloc: Global, count: usize) -> Result<Selection, AllocError>
     Ok(Selection { listed, left: 0 })
 }
 
-fn select_shortened(alloc: Global, waits: &Waits<'_, '_>) -> Result<Selection, AllocError> {
-    let parts = waits.graph.parts()?;
-    let causes = root_causes(alloc, &waits.graph, waits.len(), &parts)?;
-    select(alloc, waits, &waits.graph, &parts, causes.as_slice())
-}
-
-/// The statements that a selection tells, and the place of each among them.
+/// The statements that a selection tells, the place of each among them, and which statements are root causes.
 #[derive(Drop)]
 struct ToldStatements {
     numbers: Vec<usize>,
     places: NodeNumbers,
+    causes: Vec<bool>,
     has_cycle: bool,
 }
 
@@ -96,10 +95,12 @@ impl ToldStatements {
         alloc: Global,
         waits: &Waits<'_, '_>,
         selection: &Selection,
+        causes: Vec<bool>,
     ) -> Result<ToldStatements, AllocError> {
         let mut told = ToldStatements {
             numbers: Vec::new(alloc),
             places: NodeNumbers::new(alloc, waits.len())?,
+            causes,
             has_cycle: false,
         };
         for selected in &selection.listed {
@@ -171,8 +172,12 @@ fn write_selection(
     for selected in &selection.listed {
         match selected {
             Selected::Statement(number, others) => {
-                add_blocked(list, out, told.places.at(*number))?;
+                let place = told.places.at(*number);
+                add_blocked(list, out, place)?;
                 write_others(out, *others)?;
+                if told.causes.get(*number) == Some(&true) {
+                    write_remedy(list, out, place)?;
+                }
             }
             Selected::Cycle(circle) => {
                 let start = match circle.last() {
@@ -196,7 +201,8 @@ fn write_circle(
     if !circle.is_empty() && is_listed(list, circle.as_slice()) {
         add_cycle(list, out, circle.as_slice())
     } else {
-        add_blocked(list, out, start)
+        add_blocked(list, out, start)?;
+        write_remedy(list, out, start)
     }
 }
 
@@ -241,6 +247,16 @@ fn blocked_of<'b, 'a>(
         };
         add_inputs(gathering, &waits.missing, item, statement.at, &mut missing)?;
     }
+    gather_statement(
+        gathering,
+        GatheredItem {
+            one: own,
+            instance,
+            inputs,
+        },
+        items,
+        site,
+    )?;
     gather_arguments(gathering, waits, statement, inputs)?;
     Ok(Some(BlockedStatement {
         site,
@@ -339,16 +355,17 @@ fn stuck_of(
         last = Some(*number);
         if let Some(statement) = waits.statement(*number) {
             if let Some(own) = waits.own_item(statement) {
-                found.push(stuck_statement(gathering, own, statement)?)?;
+                found.push(stuck_statement(gathering, waits, own, statement)?)?;
             }
         }
     }
     by_depth(gathering, found)
 }
 
-/// Opens the instance of a statement, gathers the key that it writes, and returns its identity.
+/// Opens the instance of a statement, gathers the keys that it writes, and returns its identity.
 fn stuck_statement(
     gathering: &mut Gathering<'_, '_>,
+    waits: &Waits<'_, '_>,
     one: NumberedItem,
     statement: LeftStatement,
 ) -> Result<BlockedId, AllocError> {
@@ -362,6 +379,7 @@ fn stuck_statement(
             inputs,
         };
         gather_written_key(gathering, item, site)?;
+        gather_inner_keys(gathering, item, waits.inner_writes(one.item.entry))?;
     }
     Ok(BlockedId {
         instance,

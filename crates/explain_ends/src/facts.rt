@@ -1,12 +1,14 @@
 //! The missing inputs of items as inputs of statements of the flow, and what is known beside them.
 
 use crate::gathering::Gathering;
-use crate::inputs::{UnknownNeeds, MissingNeed, index_of, written_key};
-use crate::left_statements::NumberedItem;
-use crate::names::{flow_name, inputs_of};
+use crate::held_names::{GatheredBlock, HeldNames, gather_elements};
 use board_data::inputs::Environment;
 use board_program::program::ResolvedNeed;
-use explain_inputs::input::StatementInput;
+use explain_board::inner_writes::InnerWrite;
+use explain_board::inputs::{MissingNeed, UnknownNeeds, index_of, written_key};
+use explain_board::left_statements::NumberedItem;
+use explain_board::names::{self, flow_name};
+use explain_inputs::input::{StatementInput, inputs_of};
 use flow::cell::CellForm;
 use flow::statement::Action;
 use flow_index::site::{Site, StatementForm};
@@ -24,7 +26,7 @@ pub struct GatheredItem {
 
 /// Returns the number of inputs of the function that contains a statement.
 pub fn inputs_at(gathering: &Gathering<'_, '_>, site: &Site<'_, Global>) -> usize {
-    inputs_of(gathering.index, site.function)
+    names::inputs_of(gathering.index, site.function)
 }
 
 /// Appends the missing inputs of an item as inputs of its statement, and gathers the index of each missing element.
@@ -160,6 +162,58 @@ pub fn gather_written_key(
     }
 }
 
+/// Gathers the names on which the keys of elements depend that the statement of an item would write in the blocks that
+/// it opens.
+///
+/// # Errors
+///
+/// Returns `AllocError` if an allocation fails.
+pub fn gather_inner_keys(
+    gathering: &mut Gathering<'_, '_>,
+    item: GatheredItem,
+    writes: &[InnerWrite<'_>],
+) -> Result<(), AllocError> {
+    let Some(environment) = gathering.board.environment(item.one.number) else {
+        return Ok(());
+    };
+    for write in writes {
+        for outer in &write.names {
+            if let Some(scalar) = environment.scalar(Some(outer.spot)) {
+                let place = place_of(gathering, item, outer.name);
+                gathering.add_scalar(place, scalar)?;
+            }
+        }
+    }
+    Ok(())
+}
+
+/// Gathers the inputs of the statement of an item that are known, as far as its items hold them.
+///
+/// # Errors
+///
+/// Returns `AllocError` if an allocation fails.
+pub fn gather_statement(
+    gathering: &mut Gathering<'_, '_>,
+    item: GatheredItem,
+    items: &[NumberedItem],
+    site: &Site<'_, Global>,
+) -> Result<(), AllocError> {
+    let StatementForm::Whole(statement) = &site.form else {
+        return Ok(());
+    };
+    let Some(held) = HeldNames::of(gathering.alloc, gathering.board, item.one, items)? else {
+        return Ok(());
+    };
+    let block = GatheredBlock {
+        instance: item.instance,
+        inputs: item.inputs,
+    };
+    for input in &inputs_of(gathering.alloc, &statement.action)? {
+        held.gather(gathering, block, *input)?;
+    }
+    Ok(())
+}
+
 /// Gathers the inputs of an item that are known: scalars that are stored, and arrays that are closed.
 ///
 /// # Errors
@@ -203,13 +257,16 @@ fn gather_need(
         }
         Need::Closed(name) => {
             let place = place_of(gathering, item, *name);
-            if !environment.is_missing_any(wanted) {
-                gathering
-                    .fact_base
-                    .closed
-                    .insert((place.instance, place.node))?;
+            if environment.is_missing_any(wanted) {
+                return Ok(());
             }
-            Ok(())
+            match wanted {
+                ResolvedNeed::Closed(spot) => match environment.datum(*spot) {
+                    Some(datum) => gather_elements(gathering, environment.store, datum, place),
+                    None => Ok(()),
+                },
+                _ => Ok(()),
+            }
         }
         Need::At(_, _) | Need::AtKey(_, _) => match index_node(gathering, item.one) {
             Some(node) => gather_index(gathering, item, node),

@@ -5,45 +5,34 @@
 
 use crate::facts::inputs_at;
 use crate::gathering::Gathering;
-use crate::inputs::UnknownNeeds;
-use crate::left_statements::{NumberedItem, left_items};
-use crate::replay::{ElementWriter, Replay, SoughtElement};
+use crate::held_names::{GatheredBlock, HeldNames, add_write, unknown_writer};
 use crate::script::StoppedScript;
 use board::Board;
 use board_data::data;
-use board_data::inputs::Environment;
-use board_program::lexical_address::LexicalAddress;
 use board_program::program::ResolvedNeed;
-use emit_cells::names::{named, own};
+use emit_cells::names::own;
 use explain_blocked::context::ExplainContext;
 use explain_blocked::index::ScriptIndex;
 use explain_blocked::writers::WriterIndex;
+use explain_board::inputs::UnknownNeeds;
+use explain_board::left_statements::{NumberedItem, left_items};
+use explain_board::replay::{ElementWriter, Replay, SoughtElement};
 use explain_faults::faults::add_fault;
-use explain_inputs::input::{StatementInput, add_form};
+use explain_inputs::input::add_form;
 use flow::cell::{Cell, CellForm, CellPart};
 use flow::expression::Expr;
-use flow::name::Name;
+use flow::name::{Name, NameBinding};
 use flow::statement::{Action, Statement};
 use flow_index::site::StatementForm;
 use meaning_cells::parts::outers_of;
-use meaning_facts::facts::{Fact, FaultFact, Place, Write};
-use paths::{Fault, FaultKind};
+use meaning_facts::facts::{Fact, FaultFact, Place};
+use paths::{Fault, FaultKind, Step};
 use std::alloc::{AllocError, Global};
-use task_code::entry::{self, Need, Owned, Variable};
+use task_code::entry::{Owned, Variable};
 use task_code::event::Event;
 use values::key::{Key, KeyRef};
 use values::map::Map;
 use values::value::{Scalar, Value};
-
-/// The faulty item: its environment and body, its block instance, and the number of inputs of the function around it.
-#[derive(Clone, Copy)]
-struct FaultyItem<'b> {
-    one: NumberedItem,
-    environment: Environment<'b>,
-    body: u32,
-    instance: usize,
-    inputs: usize,
-}
 
 /// What is gathered about the fault: the facts, the cells of its statement whose items have not ended, and the first
 /// cell with a fault of its kind.
@@ -51,11 +40,13 @@ struct FaultyItem<'b> {
 struct FaultFacts<'b, 'a> {
     gathering: Gathering<'b, 'a>,
     missing: UnknownNeeds<'b>,
+    /// The names that the items of the faulty item's instance hold.
+    names: HeldNames<'b>,
+    /// The entry of the faulty item.
+    entry: u32,
     kind: FaultKind,
     /// The nodes of the entries of the faulty item's instance whose items have not ended.
     open: Vec<u32>,
-    /// The addresses that these entries may read or write. The data of others can be free.
-    held: Vec<LexicalAddress>,
     first: Option<u32>,
 }
 
@@ -73,12 +64,16 @@ pub fn add_fault_end(
         return Ok(());
     };
     let items = left_items(script.alloc, script.board)?;
+    let Some(names) = HeldNames::of(script.alloc, script.board, one, items.as_slice())? else {
+        return Ok(());
+    };
     let mut facts = FaultFacts {
         gathering: Gathering::new(script.alloc, script.board, script.index)?,
         missing: UnknownNeeds::new(script.alloc, script.board)?,
+        names,
+        entry: one.item.entry,
         kind: fault.kind,
         open: Vec::new(script.alloc),
-        held: Vec::new(script.alloc),
         first: None,
     };
     facts.note_open(one, items.as_slice())?;
@@ -88,14 +83,60 @@ pub fn add_fault_end(
         at: fault.statement.at,
         place: Place { instance, node: 0 },
     };
-    if let Some(item) = item_of(script.board, one, instance) {
-        facts.gather(item, &mut fact)?;
-    }
+    facts.gather(instance, &mut fact)?;
     let FaultFacts { gathering, .. } = facts;
     let mut gathering = gathering;
     let _instance = gathering.open(one, items.as_slice(), true)?;
+    if fault.kind == FaultKind::TooDeep {
+        gather_arguments(&mut gathering, fault.statement.path.as_slice())?;
+    }
     let elements = elements_for(script, one, &gathering, fact)?;
     write_fault(script, gathering, fact, elements.as_ref(), out)
+}
+
+/// Gathers the arguments of the calls of a path, given outermost step first, as far as they follow from what is known.
+fn gather_arguments(gathering: &mut Gathering<'_, '_>, path: &[Step]) -> Result<(), AllocError> {
+    let index = gathering.index;
+    let mut instance = 0;
+    for step in path {
+        if let Some(call) = index.call_at(step.offset) {
+            for name in &call.inputs {
+                gather_argument(gathering, instance, *name)?;
+            }
+        }
+        match gathering.fact_base.instances.child(instance, step.offset, &step.key) {
+            Some(child) => instance = child,
+            None => break,
+        }
+    }
+    Ok(())
+}
+
+/// Gathers the value of a cell that is an argument, if it follows from what is known in the instance of its call.
+fn gather_argument(
+    gathering: &mut Gathering<'_, '_>,
+    instance: usize,
+    name: Name,
+) -> Result<(), AllocError> {
+    let NameBinding::Local(node) = name.what else {
+        return Ok(());
+    };
+    let index = gathering.index;
+    let Some(spot) = index.cell(node) else {
+        return Ok(());
+    };
+    let alloc = gathering.alloc;
+    match gathering.fact_base.outcome(alloc, instance, &spot.cell.form)? {
+        Some(Ok(value)) => {
+            let place = gathering.fact_base.instances.place(instance, name);
+            gathering
+                .fact_base
+                .facts
+                .add(alloc, Fact::Value(place, value))?;
+            Ok(())
+        }
+        _ => Ok(()),
+    }
 }
 
 /// Returns the item that met the fault: that of the last event.
@@ -106,18 +147,6 @@ fn faulty_item(board: &Board) -> Option<NumberedItem> {
     Some(NumberedItem {
         number: item,
         item: board.left_item(item)?,
-    })
-}
-
-fn item_of(board: &Board, one: NumberedItem, instance: usize) -> Option<FaultyItem<'_>> {
-    let environment = board.environment(one.number)?;
-    let body = environment.instances.get(environment.at)?.body;
-    Some(FaultyItem {
-        one,
-        environment,
-        body,
-        instance,
-        inputs: 0,
     })
 }
 
@@ -191,48 +220,16 @@ impl<'b, 'a> FaultFacts<'b, 'a> {
             if other.item.instance != one.item.instance {
                 continue;
             }
-            if let (Some(entry), Some(table)) = (
-                board.code().entry(other.item.entry),
-                board.program().entry(other.item.entry),
-            ) {
+            if let Some(entry) = board.code().entry(other.item.entry) {
                 self.open.push(entry.node)?;
-                self.held.extend_from_slice(table.reads.as_slice())?;
-                self.held.extend_from_slice(table.writes.as_slice())?;
             }
         }
         Ok(())
     }
 
-    /// Returns the address of a name of code in the body of an item, if its datum is held.
-    fn spot(
-        &self,
-        item: FaultyItem<'b>,
-        name: entry::Name,
-    ) -> Result<Option<LexicalAddress>, AllocError> {
-        let wanted = item.environment.program.wanted(item.body, &Need::Stored(name))?;
-        match wanted {
-            ResolvedNeed::Stored(Some(spot)) if self.held.as_slice().contains(&spot) => {
-                Ok(Some(spot))
-            }
-            _ => Ok(None),
-        }
-    }
-
-    /// Returns the scalar of a name of the statement.
-    fn scalar(&self, item: FaultyItem<'b>, name: Name) -> Result<Option<Scalar>, AllocError> {
-        let spot = self.spot(item, named(item.inputs, name, false))?;
-        shared(item.environment.scalar(spot))
-    }
-
-    /// Returns the datum of an array of the statement.
-    fn array(&self, item: FaultyItem<'b>, name: Name) -> Result<Option<usize>, AllocError> {
-        let spot = self.spot(item, named(item.inputs, name, true))?;
-        Ok(item.environment.datum(spot))
-    }
-
     /// Gathers the values that the statement of the fault reads, and sets the node of the fault: that of the first cell
     /// with such a fault, or that of the statement.
-    fn gather(&mut self, item: FaultyItem<'b>, fact: &mut FaultFact) -> Result<(), AllocError> {
+    fn gather(&mut self, instance: usize, fact: &mut FaultFact) -> Result<(), AllocError> {
         let index: &'b ScriptIndex<'a, Global> = self.gathering.index;
         for site in &index.sites.all {
             let StatementForm::Whole(statement) = &site.form else {
@@ -243,20 +240,17 @@ impl<'b, 'a> FaultFacts<'b, 'a> {
             if statement.at != fact.at || matches!(&statement.action, Action::Declare(_)) {
                 continue;
             }
-            let item = FaultyItem {
-                one: item.one,
-                environment: item.environment,
-                body: item.body,
-                instance: item.instance,
+            let block = GatheredBlock {
+                instance,
                 inputs: inputs_at(&self.gathering, site),
             };
-            self.gather_cells(item, &statement.action)?;
+            self.gather_cells(block, &statement.action)?;
             fact.place.node = match self.first {
                 Some(node) => node,
                 None => statement.node,
             };
             if self.kind == FaultKind::ElementTwice {
-                self.gather_twice(item, fact.place, &statement.action)?;
+                self.gather_twice(block, fact.place, &statement.action)?;
             }
         }
         Ok(())
@@ -264,28 +258,28 @@ impl<'b, 'a> FaultFacts<'b, 'a> {
 
     fn gather_cells(
         &mut self,
-        item: FaultyItem<'b>,
+        block: GatheredBlock,
         action: &'a Action<Global>,
     ) -> Result<(), AllocError> {
         if let Action::Call { parts, .. } = action {
-            self.gather_parts(item, parts.as_slice())?;
+            self.gather_parts(block, parts.as_slice())?;
         }
         let outers = outers_of(self.gathering.alloc, action)?;
         for outer in &outers {
-            self.gather_parts(item, outer.parts.as_slice())?;
-            self.gather_cell(item, &outer.cell)?;
+            self.gather_parts(block, outer.parts.as_slice())?;
+            self.gather_cell(block, &outer.cell)?;
         }
         Ok(())
     }
 
     fn gather_parts(
         &mut self,
-        item: FaultyItem<'b>,
+        block: GatheredBlock,
         parts: &[CellPart<Global>],
     ) -> Result<(), AllocError> {
         for part in parts {
             if let CellPart::Inner(cell) = part {
-                self.gather_cell(item, cell)?;
+                self.gather_cell(block, cell)?;
             }
         }
         Ok(())
@@ -295,33 +289,33 @@ impl<'b, 'a> FaultFacts<'b, 'a> {
     /// recorded.
     fn gather_cell(
         &mut self,
-        item: FaultyItem<'b>,
+        block: GatheredBlock,
         cell: &Cell<Global>,
     ) -> Result<(), AllocError> {
         if !self.is_over(cell.node) {
             let mut inputs = Vec::new(self.gathering.alloc);
             add_form(&mut inputs, &cell.form)?;
             for input in &inputs {
-                self.gather_input(item, *input)?;
+                self.names.gather(&mut self.gathering, block, *input)?;
             }
-            if self.has_fault(item, cell)? {
+            if self.has_fault(block, cell)? {
                 return Ok(());
             }
         }
-        self.gather_value(item, cell)
+        self.gather_value(block, cell)
     }
 
     /// Returns true if a cell has a fault, which is recorded if it is the first of the kind.
     fn has_fault(
         &mut self,
-        item: FaultyItem<'b>,
+        block: GatheredBlock,
         cell: &Cell<Global>,
     ) -> Result<bool, AllocError> {
-        let met = if self.lacks_element(item, cell) {
+        let met = if self.lacks_element(cell) {
             FaultKind::NoElement
         } else {
             let alloc = self.gathering.alloc;
-            match self.gathering.fact_base.outcome(alloc, item.instance, &cell.form)? {
+            match self.gathering.fact_base.outcome(alloc, block.instance, &cell.form)? {
                 Some(Err(met)) => met,
                 _ => return Ok(false),
             }
@@ -337,11 +331,11 @@ impl<'b, 'a> FaultFacts<'b, 'a> {
     }
 
     /// Returns true if a cell is the element that the faulty item has not found.
-    fn lacks_element(&self, item: FaultyItem<'b>, cell: &Cell<Global>) -> bool {
+    fn lacks_element(&self, cell: &Cell<Global>) -> bool {
         if self.kind != FaultKind::NoElement || !matches!(&cell.form, CellForm::Read { .. }) {
             return false;
         }
-        match item.environment.program.code().entry(item.one.item.entry) {
+        match self.gathering.board.code().entry(self.entry) {
             Some(entry) => entry.node == cell.node,
             None => false,
         }
@@ -353,82 +347,25 @@ impl<'b, 'a> FaultFacts<'b, 'a> {
         self.missing.is_cell(Owned::Local(variable)) && !self.open.as_slice().contains(&node)
     }
 
-    fn gather_input(
-        &mut self,
-        item: FaultyItem<'b>,
-        input: StatementInput,
-    ) -> Result<(), AllocError> {
-        match input {
-            StatementInput::Scalar(name) => match self.scalar(item, name)? {
-                Some(scalar) => {
-                    let place = self.gathering.fact_base.instances.place(item.instance, name);
-                    self.gathering.add_scalar(place, &scalar)
-                }
-                None => Ok(()),
-            },
-            StatementInput::Array(name) => self.gather_array(item, name),
-            StatementInput::Element { .. } => Ok(()),
-        }
-    }
-
-    /// Gathers all elements of a closed array.
-    fn gather_array(&mut self, item: FaultyItem<'b>, name: Name) -> Result<(), AllocError> {
-        let Some(datum) = self.array(item, name)? else {
-            return Ok(());
-        };
-        if !data::is_closed(item.environment.store, datum) {
-            return Ok(());
-        }
-        let place = self.gathering.fact_base.instances.place(item.instance, name);
-        let closed = (place.instance, place.node);
-        if !self.gathering.fact_base.closed.insert(closed)? {
-            return Ok(());
-        }
-        if let Some(map) = data::listed(item.environment.store, datum)? {
-            for element in map.elements() {
-                self.add_write(place, unknown_writer(), &element.key, &element.value)?;
-            }
-        }
-        Ok(())
-    }
-
-    fn add_write(
-        &mut self,
-        array: Place,
-        writer: Place,
-        key: &Key,
-        value: &Scalar,
-    ) -> Result<(), AllocError> {
-        let write = Write {
-            key: key.share()?,
-            writer,
-            value: value.share()?,
-        };
-        let alloc = self.gathering.alloc;
-        self.gathering
-            .fact_base
-            .facts
-            .add(alloc, Fact::Element(array, write))?;
-        Ok(())
-    }
-
     /// Gathers the value of a cell, if it has one.
     fn gather_value(
         &mut self,
-        item: FaultyItem<'b>,
+        block: GatheredBlock,
         cell: &Cell<Global>,
     ) -> Result<(), AllocError> {
         let place = Place {
-            instance: item.instance,
+            instance: block.instance,
             node: cell.node,
         };
-        let spot = self.spot(item, own(cell.node))?;
+        let spot = self.names.spot(own(cell.node))?;
         let value = match (spot, &cell.form) {
-            (Some(_), _) => as_value(shared(item.environment.scalar(spot))?),
-            (None, CellForm::Compute(Expr::Name(name))) => as_value(self.scalar(item, *name)?),
+            (Some(_), _) => as_value(shared(self.names.environment.scalar(spot))?),
+            (None, CellForm::Compute(Expr::Name(name))) => {
+                as_value(shared(self.names.scalar(block.inputs, *name)?)?)
+            }
             (None, form) => {
                 let alloc = self.gathering.alloc;
-                match self.gathering.fact_base.outcome(alloc, item.instance, form)? {
+                match self.gathering.fact_base.outcome(alloc, block.instance, form)? {
                     Some(Ok(value)) => Some(value),
                     _ => None,
                 }
@@ -447,7 +384,7 @@ impl<'b, 'a> FaultFacts<'b, 'a> {
     /// Gathers what a statement would write under a key that is written, and who has written it.
     fn gather_twice(
         &mut self,
-        item: FaultyItem<'b>,
+        block: GatheredBlock,
         place: Place,
         action: &'a Action<Global>,
     ) -> Result<(), AllocError> {
@@ -455,16 +392,16 @@ impl<'b, 'a> FaultFacts<'b, 'a> {
             Action::Insert { array, .. } | Action::Fill { array, .. } => *array,
             _ => return Ok(()),
         };
-        let Some(datum) = self.array(item, array)? else {
+        let Some(datum) = self.names.array(block.inputs, array)? else {
             return Ok(());
         };
-        let target = self.gathering.fact_base.instances.place(item.instance, array);
-        for (key, value) in &self.written_by(item, action)? {
-            let store = item.environment.store;
+        let target = self.gathering.fact_base.instances.place(block.instance, array);
+        for (key, value) in &self.written_by(block, action)? {
+            let store = self.names.environment.store;
             if let Some(there) = data::element(store, datum, key.as_ref()) {
                 let other = self.first_writer(datum, key)?;
-                self.add_write(target, place, key, value)?;
-                return self.add_write(target, other, key, there);
+                add_write(&mut self.gathering, target, place, key, value)?;
+                return add_write(&mut self.gathering, target, other, key, there);
             }
         }
         Ok(())
@@ -473,14 +410,14 @@ impl<'b, 'a> FaultFacts<'b, 'a> {
     /// Returns the elements that a statement would write.
     fn written_by(
         &self,
-        item: FaultyItem<'b>,
+        block: GatheredBlock,
         action: &'a Action<Global>,
     ) -> Result<Vec<(Key, Scalar)>, AllocError> {
         let mut elements = Vec::new(self.gathering.alloc);
         match action {
             Action::Insert { index, right, .. } => {
                 let facts = &self.gathering.fact_base.facts;
-                let instance = item.instance;
+                let instance = block.instance;
                 let key = facts.value(Place {
                     instance,
                     node: index.cell.node,
@@ -496,7 +433,7 @@ impl<'b, 'a> FaultFacts<'b, 'a> {
             Action::Fill { right, .. } => {
                 let alloc = self.gathering.alloc;
                 let form = &right.cell.form;
-                let found = self.gathering.fact_base.outcome(alloc, item.instance, form)?;
+                let found = self.gathering.fact_base.outcome(alloc, block.instance, form)?;
                 if let Some(Ok(Value::Many(map))) = found {
                     for element in map.elements() {
                         elements.push((element.key.share()?, element.value.share()?))?;
@@ -531,14 +468,6 @@ impl<'b, 'a> FaultFacts<'b, 'a> {
         }
         self.gathering.keep_replay(replay);
         Ok(place)
-    }
-}
-
-/// Returns a place that no statement has.
-fn unknown_writer() -> Place {
-    Place {
-        instance: usize::MAX,
-        node: 0,
     }
 }
 

@@ -1,13 +1,13 @@
 //! Explanation of a trace that is not one of a run of its script.
 
-use crate::inputs::{UnknownNeeds, MissingNeed, index_of};
-use crate::left_statements::{NumberedItem, left_items};
-use crate::names::{binding_of, inputs_of};
 use board::Board;
 use board_instances::item::ItemStatus;
 use explain_blocked::index::ScriptIndex;
 use explain_blocked::names::write_owned;
 use explain_blocked::value_text::{write_scalar, write_text};
+use explain_board::inputs::{UnknownNeeds, MissingNeed, index_of};
+use explain_board::left_statements::{NumberedItem, left_items};
+use explain_board::names::{binding_of, inputs_of};
 use explain_faults::traces::{
     InvalidEvent, InvalidEventText, InvalidReason, add_bad_line, add_no_step, add_wrong_end,
 };

@@ -1,6 +1,6 @@
 //! The inputs of an item that are not known on the board.
 ghost use Rattle.std.specs.Prelude.{IfOk};
-ghost use Rattle.explain_ends.specs.Missing.{AreMissing};
+ghost use Rattle.explain_board.specs.Missing.{AreMissing};
 
 use board::Board;
 use board::remains::LeftItem;

@@ -4,10 +4,13 @@
 //! A target is a datum, an element, or a datum that was passed as an argument. An argument has edges to what it waits
 //! for in turn. The first nodes are the statements, in the order of the report.
 
-use crate::inputs::{UnknownNeeds, MissingNeed, written_mark};
+use crate::inner_writes::{InnerWrite, inner_writes};
+use crate::inputs::{MissingNeed, UnknownNeeds, written_mark};
 use crate::left_statements::{LeftStatement, LeftStatements, NumberedItem};
 use crate::names::inputs_of;
 use board::Board;
+use board_data::inputs::Environment;
+use board_program::lexical_address::LexicalAddress;
 use explain_blocked::graph::Graph;
 use explain_blocked::index::ScriptIndex;
 use explain_blocked::numbers::{NONE, NodeNumbers};
@@ -48,6 +51,13 @@ struct Writers {
     maker: NodeNumbers,
 }
 
+/// A write of a statement: the datum and, if it is one element whose key is known, the mark of the key.
+#[derive(Clone, Copy, Drop)]
+struct StatementWrite {
+    datum: usize,
+    mark: Option<u64>,
+}
+
 /// The wait graph of the blocked statements of a board.
 #[derive(Drop)]
 pub struct Waits<'b, 'a> {
@@ -59,6 +69,8 @@ pub struct Waits<'b, 'a> {
     pub graph: Graph,
     nodes: TargetNodes,
     writers: Writers,
+    /// The writes in the blocks that a statement opens, by its entry.
+    inner: HashMap<u32, Vec<InnerWrite<'b>>>,
     /// For each statement, the needs that it waits for, as numbers: those from its start up to that of the next.
     codes: Vec<u64>,
     starts: Vec<usize>,
@@ -95,10 +107,12 @@ impl<'b, 'a> Waits<'b, 'a> {
                 open: NodeNumbers::new(alloc, bound)?,
                 maker: NodeNumbers::new(alloc, bound)?,
             },
+            inner: HashMap::new(alloc),
             codes: Vec::new(alloc),
             starts: Vec::new(alloc),
         };
-        waits.note_writers();
+        waits.note_inner()?;
+        waits.note_writers()?;
         waits.note_makers();
         waits.note_statements()?;
         waits.note_arguments()?;
@@ -196,30 +210,86 @@ impl<'b, 'a> Waits<'b, 'a> {
         self.writers.first.at(datum) != NONE && self.writers.open.at(datum) == NONE
     }
 
-    /// Records the writers of each datum.
-    fn note_writers(&mut self) {
+    /// Returns the writes in the blocks that a statement opens.
+    pub fn inner_writes(&self, entry: u32) -> &[InnerWrite<'b>] {
+        match self.inner.get(&entry) {
+            Some(writes) => writes.as_slice(),
+            None => &[],
+        }
+    }
+
+    /// Records the writes in the blocks that the statements open.
+    fn note_inner(&mut self) -> Result<(), AllocError> {
         for number in 0..self.left.statements.len() {
             let Some(own) = self.own_at(number) else {
                 continue;
             };
-            let board: &'b Board = self.board;
-            let (Some(environment), Some(table)) = (
-                board.environment(own.number),
-                board.program().entry(own.item.entry),
-            )
-            else {
-                continue;
-            };
-            let mark = written_mark(environment, own.item.entry);
-            for spot in table.writes.as_slice() {
-                if let Some(datum) = environment.datum(Some(*spot)) {
-                    self.writers.first.set_min(datum, number);
-                    if mark.is_none() {
-                        self.writers.open.set_min(datum, number);
-                    }
+            if !self.inner.contains_key(&own.item.entry) {
+                let writes = self.inner_of(own)?;
+                self.inner.insert(own.item.entry, writes)?;
+            }
+        }
+        Ok(())
+    }
+
+    fn inner_of(&self, own: NumberedItem) -> Result<Vec<InnerWrite<'b>>, AllocError> {
+        let board: &'b Board = self.board;
+        let (Some(environment), Some(entry)) = (
+            board.environment(own.number),
+            board.code().entry(own.item.entry),
+        )
+        else {
+            return Ok(Vec::new(self.alloc));
+        };
+        match environment.instances.get(environment.at) {
+            Some(instance) => inner_writes(self.alloc, board, instance.body, entry),
+            None => Ok(Vec::new(self.alloc)),
+        }
+    }
+
+    /// Appends the writes of a statement.
+    fn add_writes(
+        &self,
+        number: usize,
+        writes: &mut Vec<StatementWrite>,
+    ) -> Result<(), AllocError> {
+        let Some(own) = self.own_at(number) else {
+            return Ok(());
+        };
+        let board: &'b Board = self.board;
+        let (Some(environment), Some(table)) = (
+            board.environment(own.number),
+            board.program().entry(own.item.entry),
+        )
+        else {
+            return Ok(());
+        };
+        let mark = written_mark(environment, own.item.entry);
+        let inner = self.inner_writes(own.item.entry);
+        for spot in table.writes.as_slice() {
+            if let Some(datum) = environment.datum(Some(*spot)) {
+                if !add_inner(self.alloc, environment, inner, *spot, datum, writes)? {
+                    writes.push(StatementWrite { datum, mark })?;
                 }
             }
         }
+        Ok(())
+    }
+
+    /// Records the writers of each datum.
+    fn note_writers(&mut self) -> Result<(), AllocError> {
+        let mut writes = Vec::new(self.alloc);
+        for number in 0..self.left.statements.len() {
+            writes.clear();
+            self.add_writes(number, &mut writes)?;
+            for write in &writes {
+                self.writers.first.set_min(write.datum, number);
+                if write.mark.is_none() {
+                    self.writers.open.set_min(write.datum, number);
+                }
+            }
+        }
+        Ok(())
     }
 
     /// Records the items that compute cells and read elements.
@@ -329,30 +399,19 @@ impl<'b, 'a> Waits<'b, 'a> {
 
     /// Adds edges from the targets to the statements that may write them.
     fn add_writers(&mut self) -> Result<(), AllocError> {
+        let mut writes = Vec::new(self.alloc);
         for number in 0..self.left.statements.len() {
-            let Some(own) = self.own_at(number) else {
-                continue;
-            };
-            let board: &'b Board = self.board;
-            let (Some(environment), Some(table)) = (
-                board.environment(own.number),
-                board.program().entry(own.item.entry),
-            )
-            else {
-                continue;
-            };
-            let mark = written_mark(environment, own.item.entry);
-            for spot in table.writes.as_slice() {
-                if let Some(datum) = environment.datum(Some(*spot)) {
-                    self.add_writer(whole(datum, false), number)?;
-                    if mark.is_some() {
-                        let element = Target {
-                            datum,
-                            mark,
-                            argument: false,
-                        };
-                        self.add_writer(element, number)?;
-                    }
+            writes.clear();
+            self.add_writes(number, &mut writes)?;
+            for write in &writes {
+                self.add_writer(whole(write.datum, false), number)?;
+                if write.mark.is_some() {
+                    let element = Target {
+                        datum: write.datum,
+                        mark: write.mark,
+                        argument: false,
+                    };
+                    self.add_writer(element, number)?;
                 }
             }
         }
@@ -487,6 +546,26 @@ impl TargetNodes {
             None => false,
         }
     }
+}
+
+/// Appends the writes of inner blocks to the datum at an address. Returns true if there are any.
+fn add_inner(
+    alloc: Global,
+    environment: Environment<'_>,
+    inner: &[InnerWrite<'_>],
+    spot: LexicalAddress,
+    datum: usize,
+    writes: &mut Vec<StatementWrite>,
+) -> Result<bool, AllocError> {
+    let mut is_found = false;
+    for write in inner {
+        if write.array == spot {
+            is_found = true;
+            let mark = write.mark(alloc, environment)?;
+            writes.push(StatementWrite { datum, mark })?;
+        }
+    }
+    Ok(is_found)
 }
 
 /// Returns the number of inputs of the function around the cell that an item computes.

@@ -6,7 +6,7 @@ use Rattle.task_code.specs.Places.{Step}
 use Rattle.task_code.specs.View.{need_view}
 use Rattle.board.specs.Board.{Seen}
 use Rattle.board.specs.Remains.{IsNeedKnown, StandsAt}
-use Rattle.explain_ends.specs.declared.inputs.MissingNeed.{MissingNeed}
+use Rattle.explain_board.specs.declared.inputs.MissingNeed.{MissingNeed}
 
 -- the needs of the headers at an offset
 abbrev pub needs_of_headers : ℕ → List Header → List Need

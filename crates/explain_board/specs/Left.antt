@@ -3,7 +3,7 @@ use Rattle.std.specs.Prelude.{◌≡◌, ◌↔◌, ◌<◌, ℕ, List, map}
 use Rattle.dataflow.specs.System.{In}
 use Rattle.board.specs.Board.{Rises, Seen}
 use Rattle.board.specs.Remains.{IsLeft}
-use Rattle.explain_ends.specs.declared.left_statements.NumberedItem.{NumberedItem}
+use Rattle.explain_board.specs.declared.left_statements.NumberedItem.{NumberedItem}
 
 -- these are all items that have not ended, by number, with their entries
 pub record AreLeft (b : Seen) (items : List NumberedItem) : Type 0 where

@@ -1,6 +1,6 @@
 //! The items of a quiet board that have not ended, by statement.
 ghost use Rattle.std.specs.Prelude.{IfOk};
-ghost use Rattle.explain_ends.specs.Left.{AreLeft};
+ghost use Rattle.explain_board.specs.Left.{AreLeft};
 
 use board::Board;
 use board::remains::LeftItem;
