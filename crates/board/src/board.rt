@@ -2,7 +2,7 @@
 //!
 //! Each accepted event is appended to the history. A refused call changes nothing, apart from `perform` when it fails
 //! after its Begin.
-ghost use Rattle.std.specs.Prelude.{ℕ, ℤ, true, ◌+◌, ◌≡◌, ◌⊎◌, ◌<◌, ◌≤◌, ◌^◌, ◌∷◌, [], map, length, vec_len, MatchBool, IfOk, IfErr, IfSome, IfNone, OnOk, OnErr, IsTrue, ◌↔◌, None, Some, slice_get};
+ghost use Rattle.std.specs.Prelude.{ℕ, ℤ, ◌+◌, ◌≡◌, ◌⊎◌, ◌<◌, ◌≤◌, ◌^◌, ◌∷◌, [], map, length, vec_len, MatchBool, IfOk, IfErr, IfSome, IfNone, OnOk, OnErr, IsTrue, ◌↔◌, None, Some, slice_get};
 ghost use Rattle.dataflow.specs.Machine.{start};
 ghost use Rattle.dataflow.specs.Machine as Machine;
 ghost use Rattle.task_code.specs.Machine.{CodeItem, DataAreExact, Quiet, Run, run_log};
@@ -25,7 +25,7 @@ use crate::refusal::BoardRefusal;
 use crate::remains::LeftItem;
 use crate::state::BoardState;
 use board_data::inputs::Environment;
-use board_instances::instance::{has_path, path_of};
+use board_instances::instance::path_of;
 use board_instances::item::{ItemRecord, ItemStatus, ItemTask, item_of};
 use board_items::items::order_of;
 use board_program::program::Program;
@@ -638,20 +638,6 @@ impl Board {
                 left.instance,
             ),
             None => Ok(Vec::new(state.alloc)),
-        }
-    }
-
-    /// Returns true if the item with this number stands at this path, given outermost step first.
-    ///
-    /// # Errors
-    ///
-    /// Returns `AllocError` if the text of a key has too many owners to count.
-    pub fn is_at(&self, number: u64, path: &[Step]) -> Result<bool, AllocError>
-        ensures { IfOk result (λ is. (is ≡ true) ↔ IsPathOf self.now number path.now) }
-    {
-        match self.left_item(number) {
-            Some(left) => has_path(&self.core.data_state.instances, left.instance, path),
-            None => Ok(false),
         }
     }
 

@@ -1,5 +1,5 @@
 //! Block instances: their slots, their paths and their live counts.
-ghost use Rattle.std.specs.Prelude.{◌≡◌, ◌↔◌, true, ◌<◌, ◌≤◌, ◌+◌, ◌++◌, ◌^◌, ℕ, suc, List, Option, Some, None, map, reverse, option_copied, option_map, IfOk, IfSome, IsSome, OnSome};
+ghost use Rattle.std.specs.Prelude.{◌≡◌, ◌<◌, ◌≤◌, ◌+◌, ◌++◌, ◌^◌, ℕ, suc, List, Option, Some, None, map, reverse, option_copied, option_map, IfOk, IfSome, IsSome, OnSome};
 ghost use Rattle.slab.specs.Slab.{get, slab_len};
 ghost use Rattle.board_history.specs.Ending.{Sets, TakenOff, with_live};
 ghost use Rattle.board_history.specs.Fields.{Frame, frame_up, level_of, path_from, path_of, slot_at as slot_of};
@@ -162,41 +162,6 @@ pub fn path_of(
     let mut steps = steps_back(alloc, instances, at)?;
     steps.reverse();
     Ok(steps)
-}
-
-/// Returns true if this is the path of an instance, given outermost step first.
-///
-/// # Errors
-///
-/// Returns `AllocError` if the text of a key has too many owners to count.
-pub fn has_path(
-    instances: &Slab<Instance>,
-    at: usize,
-    path: &[Step],
-) -> Result<bool, AllocError>
-    ensures { IfOk result (λ is. (is ≡ true) ↔ (path_of (frames_view instances.now.slots) at ≡ reverse (map step_view path.now))) }
-{
-    let mut left = path.len();
-    let mut next = Some(at);
-    for _ in 0..level_of(instances, at).saturating_add(1) {
-        let Some(key) = next else {
-            break;
-        };
-        let Some(instance) = instances.get(key) else {
-            return Ok(false);
-        };
-        if let Some(step) = instance.way.step()? {
-            let Some(place) = left.checked_sub(1) else {
-                return Ok(false);
-            };
-            match path.get(place) {
-                Some(wanted) if step.is_same(wanted) => left = place,
-                _ => return Ok(false),
-            }
-        }
-        next = instance.parent.key();
-    }
-    Ok(left == 0)
 }
 
 /// The live count of an instance whose last child is about to leave.

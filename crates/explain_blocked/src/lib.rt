@@ -23,3 +23,7 @@ pub mod value_text;
 pub mod wait_graph;
 pub mod wait_groups;
 pub mod writers;
+
+pub use explain_inputs::blocked_statement::{BlockedStatement, instance_at};
+pub use explain_inputs::input::{StatementInput, add_form, inputs_of};
+pub use meaning_outcomes::knowledge::{BlockedId, Knowledge};

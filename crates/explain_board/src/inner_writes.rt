@@ -263,11 +263,10 @@ impl<'b> WriteSearch<'b> {
             let Act::Cell(expr) = &cell.act else {
                 return Ok(None);
             };
-            return if self.add_names(block, cell.needs.as_slice(), names)? {
-                Ok(Some(IndexForm::Computed(expr)))
-            } else {
-                Ok(None)
-            };
+            if self.add_names(block, cell.needs.as_slice(), names)? {
+                return Ok(Some(IndexForm::Computed(expr)));
+            }
+            return Ok(None);
         }
         match self.outer(block, name)? {
             Some(outer) => {

@@ -139,15 +139,16 @@ fn in_order(
         let Some(own) = items.get(statement.own) else {
             continue;
         };
-        let number = own.number;
+        let instance = StatementInstance {
+            at: statement.at,
+            path: board.path_to(own.number)?,
+        };
         let is_next = match blocked.get(next) {
-            Some(wanted) => {
-                wanted.at == statement.at && board.is_at(number, wanted.path.as_slice())?
-            }
+            Some(wanted) => wanted.is_same(&instance),
             None => false,
         };
         if !is_next {
-            next = place_in(board, number, statement.at, blocked)?;
+            next = place_in(&instance, blocked);
         }
         if let Some(place) = order.get_mut(next) {
             if *place == NONE {
@@ -166,16 +167,7 @@ fn in_order(
 }
 
 /// Returns the place of a statement in the report, by binary search, or a place past the end.
-fn place_in(
-    board: &Board,
-    number: u64,
-    at: usize,
-    blocked: &[StatementInstance],
-) -> Result<usize, AllocError> {
-    let wanted = StatementInstance {
-        at,
-        path: board.path_to(number)?,
-    };
+fn place_in(wanted: &StatementInstance, blocked: &[StatementInstance]) -> usize {
     let mut low: usize = 0;
     let mut high = blocked.len();
     for _ in 0..usize::BITS {
@@ -184,12 +176,12 @@ fn place_in(
         }
         let middle = low.saturating_add(high.saturating_sub(low) / 2);
         match blocked.get(middle) {
-            Some(found) if found.is_below(&wanted) => low = middle.saturating_add(1),
+            Some(found) if found.is_below(wanted) => low = middle.saturating_add(1),
             _ => high = middle,
         }
     }
     match blocked.get(low) {
-        Some(found) if found.is_same(&wanted) => Ok(low),
-        _ => Ok(NONE),
+        Some(found) if found.is_same(wanted) => low,
+        _ => NONE,
     }
 }

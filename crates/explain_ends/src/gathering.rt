@@ -2,6 +2,7 @@
 
 use board::Board;
 use explain_blocked::index::ScriptIndex;
+use explain_blocked::{BlockedId, Knowledge};
 use explain_board::left_statements::NumberedItem;
 use explain_board::replay::Replay;
 use explain_board::turns::turn_values;
@@ -10,7 +11,6 @@ use flow_index::site::StatementForm;
 use meaning_facts::fact_base::FactBase;
 use meaning_facts::facts::{Fact, Place};
 use meaning_facts::instances::{InstanceBindings, LoopVariable};
-use meaning_outcomes::knowledge::{BlockedId, Knowledge};
 use paths::Step;
 use std::alloc::{AllocError, Global};
 use values::key::Key;

@@ -14,3 +14,7 @@ pub mod limits;
 pub mod meaning;
 pub mod script;
 pub mod trace_refusals;
+
+pub use explain_blocked::Knowledge;
+pub use explain_blocked::index::ScriptIndex;
+pub use explain_faults::limits::add_bad_count;

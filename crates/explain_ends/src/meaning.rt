@@ -1,5 +1,6 @@
 //! Explanation of the meaning of a script: its blocked statements, its faults, and the limit of rounds.
 
+use explain_blocked::Knowledge;
 use explain_blocked::blocked::add_all_blocked;
 use explain_blocked::context::ExplainContext;
 use explain_blocked::index::ScriptIndex;
@@ -7,7 +8,6 @@ use explain_blocked::writers::WriterIndex;
 use explain_faults::faults::add_all_faults;
 use explain_faults::limits::add_limit_of_rounds;
 use explain_text::line_index::LineIndex;
-use meaning_outcomes::knowledge::Knowledge;
 use std::alloc::{AllocError, Global};
 
 /// Appends the explanation of the known facts of a script: its blocked statements, its faults, and the limit of rounds

@@ -4,25 +4,22 @@ use crate::failures::{
     explain_count, explain_same_file, explain_unread, explain_unwritten,
 };
 use crate::verdicts::VerdictReporter;
-use board_runs::report::End;
-use board_runs::stopped::StoppedRun;
 use compile::compile::read;
 use compile::fault::CompileFault;
-use explain_blocked::index::ScriptIndex;
 use explain_ends::blocked::add_blocked_end;
 use explain_ends::faults::add_fault_end;
 use explain_ends::limits::{add_limit_of_replay, add_limit_of_run};
 use explain_ends::meaning::add_meaning_end;
 use explain_ends::script::StoppedScript;
 use explain_ends::trace_refusals::{TracedScript, add_refused_trace};
+use explain_ends::{Knowledge, ScriptIndex};
 use explain_text::line_index::LineIndex;
 use explain_text::words::write_str;
 use flow::script::Flow;
-use meaning_outcomes::knowledge::Knowledge;
 use std::alloc::{AllocError, Global};
 use std::io::{Error, Write};
 use swt_arguments::line::Line;
-use swt_command::end::CommandEnd;
+use swt_command::end::{CommandEnd, End, StoppedRun};
 use swt_status::failure::CommandFailure;
 use swt_status::stop::CommandStop;
 use swt_status::trace::RefusedTrace;

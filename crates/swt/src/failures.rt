@@ -1,6 +1,6 @@
 //! Explanation of unreadable and unwritable files, and of too many threads.
 
-use explain_faults::limits::add_bad_count;
+use explain_ends::add_bad_count;
 use explain_text::words::write_str;
 use std::alloc::{AllocError, Global};
 use std::io::Error;
