@@ -26,7 +26,7 @@ use crate::remains::LeftItem;
 use crate::state::BoardState;
 use board_data::inputs::Environment;
 use board_instances::instance::path_of;
-use board_instances::item::{ItemRecord, ItemStatus, ItemTask, item_of};
+use board_instances::item::{ItemStatus, ItemTask, item_of};
 use board_items::items::order_of;
 use board_program::program::Program;
 use board_work::answer::Answer;
@@ -580,21 +580,7 @@ impl Board {
         ensures some { IfSome result (λ left. IsLeft self.now number left.entry × HasStatus self.now number left.status) }
         ensures none { IfNone result (IsNoneLeft self.now number) }
     {
-        match item_of(self.core.items.rows.as_slice(), number) {
-            Some(
-                ItemRecord::Does {
-                    status,
-                    entry,
-                    instance,
-                    chunk: _,
-                },
-            ) if status != ItemStatus::Over => Some(LeftItem {
-                entry,
-                instance,
-                status,
-            }),
-            _ => None,
-        }
+        self.core.live_item(number)
     }
 
     /// Returns the entry of the item with this number, whether it has ended or not. Returns `None` if there is no such
@@ -604,8 +590,11 @@ impl Board {
         ensures none { self.now.state.next ≤ number → result ≡ None }
     {
         match item_of(self.core.items.rows.as_slice(), number) {
-            Some(ItemRecord::Does { entry, .. }) => Some(entry),
-            _ => None,
+            Some(found) => match found.job() {
+                ItemTask::Does { entry, .. } => Some(entry),
+                ItemTask::Script => None,
+            },
+            None => None,
         }
     }
 
@@ -617,8 +606,10 @@ impl Board {
         ensures some { IfSome result (λ environment. Sees self.now number environment) }
         ensures none { IfNone result (IsNoneLeft self.now number) }
     {
-        let left = self.left_item(number)?;
-        Some(self.core.view(&self.program, left.instance))
+        match self.core.live_item(number) {
+            Some(left) => Some(self.core.view(&self.program, left.instance)),
+            None => None,
+        }
     }
 
     /// Returns the path of the instance of the item with this number, outermost step first. The path is empty if there
@@ -631,7 +622,7 @@ impl Board {
         ensures { IfOk result (λ steps. IsPathOf self.now number steps.items) }
     {
         let state = &self.core;
-        match self.left_item(number) {
+        match state.live_item(number) {
             Some(left) => path_of(
                 state.alloc,
                 &state.data_state.instances,
