@@ -211,8 +211,7 @@ impl Replay {
             self.board.code().entry(left.entry),
             self.board.program().entry(left.entry),
             self.board.environment(item),
-        )
-        else {
+        ) else {
             return false;
         };
         if table.target.is_none() || environment.datum(table.target) != Some(sought.datum) {
@@ -227,8 +226,7 @@ impl Replay {
                 environment.store,
                 sought.datum,
                 sought.key.as_ref(),
-            )
-            .is_none(),
+            ).is_none(),
             _ => false,
         }
     }

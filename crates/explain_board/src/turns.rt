@@ -149,8 +149,7 @@ fn literal_value(turn: &Turn<'_>) -> Option<Scalar> {
         Expr::Constant(Scalar::Number(low)),
         Expr::Constant(Scalar::Number(step)),
         Key::Number(number),
-    ) = (low, step, &turn.key)
-    else {
+    ) = (low, step, &turn.key) else {
         return None;
     };
     Some(Scalar::Number(low.checked_add(step.checked_mul(*number)?)?))

@@ -237,8 +237,7 @@ impl<'b, 'a> Waits<'b, 'a> {
         let (Some(environment), Some(entry)) = (
             board.environment(own.number),
             board.code().entry(own.item.entry),
-        )
-        else {
+        ) else {
             return Ok(Vec::new(self.alloc));
         };
         match environment.instances.get(environment.at) {
@@ -260,8 +259,7 @@ impl<'b, 'a> Waits<'b, 'a> {
         let (Some(environment), Some(table)) = (
             board.environment(own.number),
             board.program().entry(own.item.entry),
-        )
-        else {
+        ) else {
             return Ok(());
         };
         let mark = written_mark(environment, own.item.entry);
@@ -302,8 +300,7 @@ impl<'b, 'a> Waits<'b, 'a> {
             let (Some(entry), Some(table)) = (
                 board.code().entry(one.item.entry),
                 board.program().entry(one.item.entry),
-            )
-            else {
+            ) else {
                 continue;
             };
             if !self.missing.is_cell(Owned::Local(Variable {
@@ -381,11 +378,7 @@ impl<'b, 'a> Waits<'b, 'a> {
     }
 
     /// Appends what an argument waits for: the inputs of its cell, or the variable that it names.
-    fn add_of_argument(
-        &self,
-        datum: usize,
-        targets: &mut Vec<Target>,
-    ) -> Result<(), AllocError> {
+    fn add_of_argument(&self, datum: usize, targets: &mut Vec<Target>) -> Result<(), AllocError> {
         let Some(maker) = self.maker(datum) else {
             targets.push(whole(datum, false))?;
             return Ok(());
@@ -569,11 +562,7 @@ fn add_inner(
 }
 
 /// Returns the number of inputs of the function around the cell that an item computes.
-pub fn inputs_around(
-    index: &ScriptIndex<'_, Global>,
-    board: &Board,
-    maker: NumberedItem,
-) -> usize {
+pub fn inputs_around(index: &ScriptIndex<'_, Global>, board: &Board, maker: NumberedItem) -> usize {
     let Some(entry) = board.code().entry(maker.item.entry) else {
         return 0;
     };
