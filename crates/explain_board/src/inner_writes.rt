@@ -26,7 +26,7 @@ pub struct OuterName {
 #[derive(Clone, Copy, Drop)]
 enum IndexForm<'b> {
     Constant(&'b Scalar),
-    Name,
+    Outer,
     Computed(&'b Expr),
 }
 
@@ -69,7 +69,7 @@ impl InnerWrite<'_> {
     ) -> Result<Option<u64>, AllocError> {
         match self.index {
             Some(IndexForm::Constant(scalar)) => Ok(Some(mark_of(scalar))),
-            Some(IndexForm::Name) => match self.names.first() {
+            Some(IndexForm::Outer) => match self.names.first() {
                 Some(name) => match environment.scalar(Some(name.spot)) {
                     Some(scalar) => Ok(Some(mark_of(scalar))),
                     None => Ok(None),
@@ -271,7 +271,7 @@ impl<'b> WriteSearch<'b> {
         match self.outer(block, name)? {
             Some(outer) => {
                 names.push(outer)?;
-                Ok(Some(IndexForm::Name))
+                Ok(Some(IndexForm::Outer))
             }
             None => Ok(None),
         }

@@ -8,20 +8,27 @@ use crate::inner_writes::{InnerWrite, inner_writes};
 use crate::inputs::{MissingNeed, UnknownNeeds, written_mark};
 use crate::left_statements::{LeftStatement, LeftStatements, NumberedItem};
 use crate::names::inputs_of;
+use crate::plain_arguments::{UnassignedScalars, plain_names};
 use board::Board;
 use board_data::inputs::Environment;
 use board_program::lexical_address::LexicalAddress;
+use board_program::program::ResolvedNeed;
+use emit_cells::names::named;
 use explain_blocked::graph::Graph;
 use explain_blocked::index::ScriptIndex;
 use explain_blocked::numbers::{NONE, NodeNumbers};
 use explain_blocked::selection::Blocked;
 use explain_blocked::wait_groups::WaitGroups;
+use flow::name::Name;
 use std::alloc::{AllocError, Global};
 use std::collections::HashMap;
 use task_code::entry::{Need, Owned, Variable};
 
 /// The numbers of the needs of one entry are less than this.
 const CODES: u64 = 4_294_967_296;
+
+/// The first number of the arguments of a statement that are variables. Those of needs are less.
+const PLAIN: u64 = 2_147_483_648;
 
 /// A target of the wait graph.
 #[derive(Clone, Copy, PartialEq, Eq, Debug)]
@@ -58,6 +65,13 @@ struct StatementWrite {
     mark: Option<u64>,
 }
 
+/// A scalar without a value that a statement passes as an argument: its name, and its target.
+#[derive(Clone, Copy)]
+pub struct PlainArgument {
+    pub name: Name,
+    pub target: Target,
+}
+
 /// The wait graph of the blocked statements of a board.
 #[derive(Drop)]
 pub struct Waits<'b, 'a> {
@@ -71,6 +85,8 @@ pub struct Waits<'b, 'a> {
     writers: Writers,
     /// The writes in the blocks that a statement opens, by its entry.
     inner: HashMap<u32, Vec<InnerWrite<'b>>>,
+    /// The arguments of a statement that are variables without a value, by its number.
+    plain: HashMap<usize, Vec<PlainArgument>>,
     /// For each statement, the needs that it waits for, as numbers: those from its start up to that of the next.
     codes: Vec<u64>,
     starts: Vec<usize>,
@@ -108,12 +124,14 @@ impl<'b, 'a> Waits<'b, 'a> {
                 maker: NodeNumbers::new(alloc, bound)?,
             },
             inner: HashMap::new(alloc),
+            plain: HashMap::new(alloc),
             codes: Vec::new(alloc),
             starts: Vec::new(alloc),
         };
         waits.note_inner()?;
         waits.note_writers()?;
         waits.note_makers();
+        waits.note_plain()?;
         waits.note_statements()?;
         waits.note_arguments()?;
         waits.add_writers()?;
@@ -317,6 +335,96 @@ impl<'b, 'a> Waits<'b, 'a> {
         }
     }
 
+    /// Returns the arguments of a statement that are variables without a value.
+    pub fn plain_arguments(&self, number: usize) -> &[PlainArgument] {
+        match self.plain.get(&number) {
+            Some(plain) => plain.as_slice(),
+            None => &[],
+        }
+    }
+
+    /// Records the arguments of the statements that are variables without a value.
+    fn note_plain(&mut self) -> Result<(), AllocError> {
+        let mut names: HashMap<usize, Vec<Name>> = HashMap::new(self.alloc);
+        let mut unassigned: Option<UnassignedScalars> = None;
+        for number in 0..self.left.statements.len() {
+            let Some(statement) = self.statement(number) else {
+                continue;
+            };
+            if !names.contains_key(&statement.at) {
+                let found = self.plain_at(statement.at)?;
+                names.insert(statement.at, found)?;
+            }
+            let Some(wanted) = names.get(&statement.at) else {
+                continue;
+            };
+            if wanted.is_empty() {
+                continue;
+            }
+            if unassigned.is_none() {
+                unassigned = Some(UnassignedScalars::of(
+                    self.alloc,
+                    self.board,
+                    &self.missing,
+                    self.left.items.as_slice(),
+                )?);
+            }
+            if let Some(unassigned) = &unassigned {
+                let plain = self.plain_of(unassigned, statement, wanted.as_slice())?;
+                if !plain.is_empty() {
+                    self.plain.insert(number, plain)?;
+                }
+            }
+        }
+        Ok(())
+    }
+
+    fn plain_at(&self, at: usize) -> Result<Vec<Name>, AllocError> {
+        match self.index.site(at) {
+            Some(site) => plain_names(self.alloc, &self.missing, site),
+            None => Ok(Vec::new(self.alloc)),
+        }
+    }
+
+    /// Returns those of the names of a statement that have no value.
+    fn plain_of(
+        &self,
+        unassigned: &UnassignedScalars,
+        statement: LeftStatement,
+        names: &[Name],
+    ) -> Result<Vec<PlainArgument>, AllocError> {
+        let mut plain = Vec::new(self.alloc);
+        let Some(own) = self.own_item(statement) else {
+            return Ok(plain);
+        };
+        let board: &'b Board = self.board;
+        let Some(environment) = board.environment(own.number) else {
+            return Ok(plain);
+        };
+        let Some(instance) = environment.instances.get(environment.at) else {
+            return Ok(plain);
+        };
+        let inputs = self.inputs_at(statement.at);
+        for name in names {
+            let wanted = named(inputs, *name, false);
+            if !unassigned.has(environment, wanted)? {
+                continue;
+            }
+            let resolved = environment
+                .program
+                .wanted(instance.body, &Need::Stored(wanted))?;
+            if let ResolvedNeed::Stored(spot) = resolved {
+                if let Some(datum) = environment.datum(spot) {
+                    plain.push(PlainArgument {
+                        name: *name,
+                        target: whole(datum, is_input(inputs, wanted.owned)),
+                    })?;
+                }
+            }
+        }
+        Ok(plain)
+    }
+
     /// Adds the statements with their edges.
     fn note_statements(&mut self) -> Result<(), AllocError> {
         for _ in 0..self.left.statements.len() {
@@ -340,9 +448,25 @@ impl<'b, 'a> Waits<'b, 'a> {
                     self.add_targets(need, inputs, &mut targets)?;
                 }
             }
+            self.add_plain(number, &mut targets)?;
             for target in &targets {
                 let node = self.nodes.node_of(&mut self.graph, *target)?;
                 self.graph.add_edge(number, node)?;
+            }
+        }
+        Ok(())
+    }
+
+    /// Appends the targets of the arguments that are variables, and their numbers to those that the statement waits for.
+    fn add_plain(&mut self, number: usize, targets: &mut Vec<Target>) -> Result<(), AllocError> {
+        let entry = match self.own_at(number) {
+            Some(own) => own.item.entry,
+            None => 0,
+        };
+        if let Some(plain) = self.plain.get(&number) {
+            for (i, argument) in plain.iter().enumerate() {
+                self.codes.push(code_at(entry, PLAIN.saturating_add(i as u64)))?;
+                targets.push(argument.target)?;
             }
         }
         Ok(())
@@ -597,8 +721,12 @@ fn number_in(numbers: &NodeNumbers, place: usize) -> Option<usize> {
 /// Returns a number for a missing need of an entry, which no other need of the same statement has.
 fn code_of(entry: u32, missing: &MissingNeed<'_>) -> u64 {
     let known = if missing.index.is_some() { 1 } else { 0 };
-    (entry as u64)
-        .saturating_mul(CODES)
-        .saturating_add((missing.place as u64).saturating_mul(2))
-        .saturating_add(known)
+    code_at(
+        entry,
+        (missing.place as u64).saturating_mul(2).saturating_add(known),
+    )
+}
+
+fn code_at(entry: u32, number: u64) -> u64 {
+    (entry as u64).saturating_mul(CODES).saturating_add(number)
 }

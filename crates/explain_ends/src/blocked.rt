@@ -5,7 +5,7 @@
 
 use crate::facts::{
     GatheredItem, add_inputs, gather_inner_keys, gather_known, gather_statement,
-    gather_written_key, inputs_at,
+    gather_written_key, in_text_order, inputs_at,
 };
 use crate::gathering::Gathering;
 use crate::script::StoppedScript;
@@ -20,7 +20,7 @@ use explain_blocked::remedies::write_remedy;
 use explain_blocked::selection::{Selected, Selection, select};
 use explain_blocked::wait_graph::WaitGraph;
 use explain_blocked::writers::WriterIndex;
-use explain_blocked::{BlockedId, BlockedStatement};
+use explain_blocked::{BlockedId, BlockedStatement, StatementInput};
 use explain_board::left_statements::{LeftStatement, LeftStatements, NumberedItem};
 use explain_board::waits::{Target, Waits, inputs_around};
 use paths::StatementInstance;
@@ -214,7 +214,7 @@ fn listed_of<'b, 'a>(
     let mut listed = Vec::with_capacity(gathering.alloc, numbers.len())?;
     for number in numbers {
         if let Some(statement) = waits.statement(*number) {
-            if let Some(told) = blocked_of(gathering, waits, statement)? {
+            if let Some(told) = blocked_of(gathering, waits, *number, statement)? {
                 listed.push(told)?;
             }
         }
@@ -225,6 +225,7 @@ fn listed_of<'b, 'a>(
 fn blocked_of<'b, 'a>(
     gathering: &mut Gathering<'b, 'a>,
     waits: &Waits<'b, 'a>,
+    number: usize,
     statement: LeftStatement,
 ) -> Result<Option<BlockedStatement<'b, 'a, Global>>, AllocError> {
     let index: &'b ScriptIndex<'a, Global> = gathering.index;
@@ -246,6 +247,10 @@ fn blocked_of<'b, 'a>(
         };
         add_inputs(gathering, &waits.missing, item, statement.at, &mut missing)?;
     }
+    for argument in waits.plain_arguments(number) {
+        missing.push(StatementInput::Scalar(argument.name))?;
+    }
+    let missing = in_text_order(gathering.alloc, site, missing)?;
     gather_statement(
         gathering,
         GatheredItem {
@@ -256,7 +261,7 @@ fn blocked_of<'b, 'a>(
         items,
         site,
     )?;
-    gather_arguments(gathering, waits, statement, inputs)?;
+    gather_arguments(gathering, waits, number, statement, inputs)?;
     Ok(Some(BlockedStatement {
         site,
         instance,
@@ -268,10 +273,12 @@ fn blocked_of<'b, 'a>(
 fn gather_arguments(
     gathering: &mut Gathering<'_, '_>,
     waits: &Waits<'_, '_>,
+    number: usize,
     statement: LeftStatement,
     inputs: usize,
 ) -> Result<(), AllocError> {
     let mut targets = Vec::new(gathering.alloc);
+    add_plain_targets(waits, number, &mut targets)?;
     for one in waits.items(statement) {
         add_targets(waits, *one, statement.at, inputs, &mut targets)?;
     }
@@ -309,6 +316,18 @@ fn gather_argument(
     add_targets(waits, maker, 0, inputs, targets)
 }
 
+/// Appends the targets of the arguments of a statement that are variables without a value.
+fn add_plain_targets(
+    waits: &Waits<'_, '_>,
+    number: usize,
+    targets: &mut Vec<Target>,
+) -> Result<(), AllocError> {
+    for argument in waits.plain_arguments(number) {
+        targets.push(argument.target)?;
+    }
+    Ok(())
+}
+
 /// Appends the targets that an item waits for, unless they are there.
 fn add_targets(
     waits: &Waits<'_, '_>,
@@ -341,7 +360,7 @@ fn stuck_of(
     for number in &told.numbers {
         numbers.push(*number)?;
         if let Some(statement) = waits.statement(*number) {
-            add_writers_of(waits, statement, &mut seen, &mut numbers)?;
+            add_writers_of(waits, *number, statement, &mut seen, &mut numbers)?;
         }
     }
     let mut found = Vec::with_capacity(gathering.alloc, numbers.len())?;
@@ -390,11 +409,13 @@ fn stuck_statement(
 /// whether the keys of all writers are known. Targets that were seen are left out.
 fn add_writers_of(
     waits: &Waits<'_, '_>,
+    number: usize,
     statement: LeftStatement,
     seen: &mut HashSet<(usize, Option<u64>)>,
     numbers: &mut Vec<usize>,
 ) -> Result<(), AllocError> {
     let mut targets = Vec::new(*numbers.allocator());
+    add_plain_targets(waits, number, &mut targets)?;
     for one in waits.items(statement) {
         add_targets(waits, *one, statement.at, usize::MAX, &mut targets)?;
     }

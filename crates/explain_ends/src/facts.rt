@@ -133,6 +133,63 @@ pub fn gather_index(
     Ok(())
 }
 
+/// Returns the missing inputs of a statement in the order of its text. Inputs that do not stand there come last.
+///
+/// # Errors
+///
+/// Returns `AllocError` if an allocation fails.
+pub fn in_text_order(
+    alloc: Global,
+    site: &Site<'_, Global>,
+    missing: Vec<StatementInput>,
+) -> Result<Vec<StatementInput>, AllocError> {
+    let StatementForm::Whole(statement) = &site.form else {
+        return Ok(missing);
+    };
+    let inputs = inputs_of(alloc, &statement.action)?;
+    let mut ordered = Vec::with_capacity(alloc, missing.len())?;
+    for input in &inputs {
+        if has_input(missing.as_slice(), *input) {
+            ordered.push(*input)?;
+        }
+    }
+    for input in &missing {
+        if !has_input(inputs.as_slice(), *input) {
+            ordered.push(*input)?;
+        }
+    }
+    Ok(ordered)
+}
+
+fn has_input(inputs: &[StatementInput], wanted: StatementInput) -> bool {
+    for input in inputs {
+        if is_same_input(*input, wanted) {
+            return true;
+        }
+    }
+    false
+}
+
+/// Returns true if two inputs are the same. The shapes of names are not compared.
+fn is_same_input(one: StatementInput, other: StatementInput) -> bool {
+    match (one, other) {
+        (StatementInput::Scalar(one), StatementInput::Scalar(other)) => is_same_name(one, other),
+        (StatementInput::Array(one), StatementInput::Array(other)) => is_same_name(one, other),
+        (
+            StatementInput::Element { array, index },
+            StatementInput::Element {
+                array: other,
+                index: at,
+            },
+        ) => is_same_name(array, other) && index == at,
+        _ => false,
+    }
+}
+
+fn is_same_name(one: flow::name::Name, other: flow::name::Name) -> bool {
+    one.up == other.up && one.what == other.what
+}
+
 /// Gathers the key of the element that the statement of an item would write, if it is known.
 ///
 /// # Errors

@@ -6,6 +6,7 @@
 use crate::facts::inputs_at;
 use crate::gathering::Gathering;
 use crate::held_names::{GatheredBlock, HeldNames, add_write, unknown_writer};
+use crate::replay::{ElementWriter, Replay, SoughtElement};
 use crate::script::StoppedScript;
 use board::Board;
 use board_data::data;
@@ -17,7 +18,6 @@ use explain_blocked::index::ScriptIndex;
 use explain_blocked::writers::WriterIndex;
 use explain_board::inputs::UnknownNeeds;
 use explain_board::left_statements::{NumberedItem, left_items};
-use explain_board::replay::{ElementWriter, Replay, SoughtElement};
 use explain_faults::faults::add_fault;
 use flow::cell::{Cell, CellForm, CellPart};
 use flow::expression::Expr;

@@ -1,10 +1,10 @@
 //! The facts about the statements that are told, gathered from a board.
 
+use crate::replay::Replay;
 use board::Board;
 use explain_blocked::index::ScriptIndex;
 use explain_blocked::{BlockedId, Knowledge};
 use explain_board::left_statements::NumberedItem;
-use explain_board::replay::Replay;
 use explain_board::turns::turn_values;
 use flow::statement::{Action, Variable};
 use flow_index::site::StatementForm;

@@ -2,7 +2,8 @@
 //! meaning.
 //!
 //! What is told of a run is read from its board: the inputs of blocked statements that are not known there, the values
-//! and elements that the faulty statement has read, the counts at a limit.
+//! and elements that the faulty statement has read, the counts at a limit. What the board no longer has, the value of a
+//! turn that nothing reads any more and the first writer of an element, comes from one replay of the history.
 #![tactic(auto)]
 
 pub mod blocked;
@@ -12,6 +13,7 @@ mod gathering;
 mod held_names;
 pub mod limits;
 pub mod meaning;
+mod replay;
 pub mod script;
 pub mod trace_refusals;
 

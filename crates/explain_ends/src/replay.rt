@@ -5,13 +5,13 @@
 //! noted which item opened which others.
 ghost use Rattle.board.specs.Board.{IsWorker};
 
-use crate::inputs::written_key;
 use board::Board;
 use board::refusal::BoardRefusal;
 use board_data::data::element;
 use board_program::program::Program;
 use board_work::outcome::{ControlResult, Outcome};
 use board_work::work::Work;
+use explain_board::inputs::written_key;
 use paths::Step;
 use std::alloc::{AllocError, Global};
 use task_code::entry::Act;
