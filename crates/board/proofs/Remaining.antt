@@ -287,6 +287,9 @@ module _ (a : Inside) (s : IsSound a) where
           let stands = subst (λ z. IsBlockedAt C (IsKnown (code_system C) x.state) (path_of fs k) (entry C z).act (entry C z).at at) (sym same.0) (subst (λ z. IsBlockedAt C (IsKnown (code_system C) x.state) z (entry C b.0).act (entry C b.0).at at) (sym same.1) (subst (λ (t : CodeState). IsBlockedAt C (IsKnown (code_system C) t) b.1 (entry C b.0).act (entry C b.0).at at) here b.4)) in
           none_some (sym h ∙ ap (λ z. if z then None else blocked_job C fs cs r.job) o ∙ ap (blocked_job C fs cs) q ∙ blocked_here C s.whole es a.core s.stand n k e c r there q live at counted stands)
 
+  pub nothing_blocked : (n : ℕ) → row_of rows n ≡ None → (at : ℕ) → IsBlockedItem (seen_of a) n at → ⊥
+  nothing_blocked n there at b = nothing_told n there b.0 b.1 b.2
+
   -- what its environment answers
   needed : (n k e c b : ℕ) → ((r : Name) → In r (entry C e).reads → Resolved C x.names (led C s.whole fs cs k b r) (place_at C (path_of fs k) r)) → (m : Need) → In m (entry C e).needs
       → (wanted_missed C cs (led_slot fs k) (wanted_in C b m) ≡ []) ↔ IsNeedKnown (seen_of a) (path_of fs k) m
