@@ -1,5 +1,5 @@
 -- The items that have not ended, as a board shows them.
-use Rattle.std.proofs.Common.{◌≡◌, ◌⊎◌, ◌↔◌, inl, inr, ℕ, zero, suc, ◌+◌, ◌≤◌, Bool, true, false, List, [], ◌∷◌, length, map, refl, sym, ap, ◌∙◌, subst, Option, None, Some, Ok, Err, arith}
+use Rattle.std.proofs.Common.{◌≡◌, ◌⊎◌, ◌↔◌, inl, inr, ℕ, zero, suc, ◌+◌, ◌<◌, ◌≤◌, Bool, true, false, List, [], ◌∷◌, length, map, refl, sym, ap, ◌∙◌, subst, Option, None, Some, Ok, Err, arith}
 use Rattle.std.specs.Prelude.{IfNone, IfOk, IfSome, Result, Vec, if◌then◌else◌, reverse}
 use Rattle.std.proofs.lemmas.List.{length-map, reverse-reverse}
 use Rattle.dataflow.specs.System.{In, Input}
@@ -181,6 +181,16 @@ module _ (a : Inside) (s : IsSound a) where
 
   pub count_told : (n : ℕ) → n ≡ length a.core.items.rows.items → (state_of C es).next ≡ n + 1
   count_told n h = (let q = next_is in let l = length-map row_view a.core.items.rows.items in omega arith)
+
+  pub left_within : (n : ℕ) → n ≡ length a.core.items.rows.items → (number i : ℕ) → IsLeft (seen_of a) number i → (0 < number) × (number ≤ n)
+  left_within n h number i left =
+      let st = left.1 in
+      let f = row_there C s.whole (layout_of C) es (fields_view s.stand.told a.core) x st.item (seen_item st.item st.there) in
+      let p = f.number_is in
+      let q = st.number_is in
+      let w = within rows (suc f.at) f.row f.there in
+      let l = length-map row_view a.core.items.rows.items in
+      (omega arith, omega arith)
 
   -- the items that run
   is_run : (m : Status) → (is_running m ≡ true) ⊎ (is_running m ≡ false)

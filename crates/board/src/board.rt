@@ -558,7 +558,8 @@ impl Board {
 
     /// Returns the number of items that were created. They are numbered from 1.
     pub fn item_count(&self) -> usize
-        ensures { self.now.state.next ≡ result + 1 }
+        ensures next { self.now.state.next ≡ result + 1 }
+        ensures within { (number i : ℕ) → IsLeft self.now number i → (0 < number) × (number ≤ result) }
     {
         self.core.items.rows.len()
     }

@@ -143,7 +143,10 @@ fn owner_of(
     let Some(instance) = environment.instances.get(at) else {
         return Ok(None);
     };
-    match environment.program.wanted(instance.body, &Need::Stored(name))? {
+    match environment
+        .program
+        .wanted(instance.body, &Need::Stored(name))?
+    {
         ResolvedNeed::Stored(Some(spot)) => Ok(ancestor_of(environment, at, spot.levels)),
         _ => Ok(None),
     }
@@ -190,7 +193,9 @@ fn argument_at(
     for number in &code.body(outside.body)?.entries {
         let entry = code.entry(*number)?;
         if let Act::Call {
-            inputs, outputs, ..
+            inputs,
+            outputs,
+            ..
         } = &entry.act
         {
             if entry.offset == offset {

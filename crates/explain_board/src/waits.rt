@@ -465,7 +465,8 @@ impl<'b, 'a> Waits<'b, 'a> {
         };
         if let Some(plain) = self.plain.get(&number) {
             for (i, argument) in plain.iter().enumerate() {
-                self.codes.push(code_at(entry, PLAIN.saturating_add(i as u64)))?;
+                self.codes
+                    .push(code_at(entry, PLAIN.saturating_add(i as u64)))?;
                 targets.push(argument.target)?;
             }
         }
@@ -723,7 +724,9 @@ fn code_of(entry: u32, missing: &MissingNeed<'_>) -> u64 {
     let known = if missing.index.is_some() { 1 } else { 0 };
     code_at(
         entry,
-        (missing.place as u64).saturating_mul(2).saturating_add(known),
+        (missing.place as u64)
+            .saturating_mul(2)
+            .saturating_add(known),
     )
 }
 

@@ -50,7 +50,13 @@ pub fn add_blocked_end(
     let selection = if all {
         every_statement(script.alloc, waits.len())?
     } else {
-        select(script.alloc, &waits, &waits.graph, &parts, causes.as_slice())?
+        select(
+            script.alloc,
+            &waits,
+            &waits.graph,
+            &parts,
+            causes.as_slice(),
+        )?
     };
     let told = ToldStatements::of(script.alloc, &waits, &selection, causes)?;
     tell(script, &waits, &told, &selection, out)

@@ -116,8 +116,7 @@ pub fn gather_index(
     let (Some(environment), Some(table)) = (
         board.environment(item.one.number),
         board.program().entry(item.one.item.entry),
-    )
-    else {
+    ) else {
         return Ok(());
     };
     for wanted in &table.needs {
@@ -285,8 +284,7 @@ pub fn gather_known(
         board.environment(item.one.number),
         board.code().entry(item.one.item.entry),
         board.program().entry(item.one.item.entry),
-    )
-    else {
+    ) else {
         return Ok(());
     };
     for (i, need) in entry.needs.iter().enumerate() {

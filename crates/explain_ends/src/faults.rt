@@ -104,7 +104,11 @@ fn gather_arguments(gathering: &mut Gathering<'_, '_>, path: &[Step]) -> Result<
                 gather_argument(gathering, instance, *name)?;
             }
         }
-        match gathering.fact_base.instances.child(instance, step.offset, &step.key) {
+        match gathering
+            .fact_base
+            .instances
+            .child(instance, step.offset, &step.key)
+        {
             Some(child) => instance = child,
             None => break,
         }
@@ -126,7 +130,10 @@ fn gather_argument(
         return Ok(());
     };
     let alloc = gathering.alloc;
-    match gathering.fact_base.outcome(alloc, instance, &spot.cell.form)? {
+    match gathering
+        .fact_base
+        .outcome(alloc, instance, &spot.cell.form)?
+    {
         Some(Ok(value)) => {
             let place = gathering.fact_base.instances.place(instance, name);
             gathering
@@ -182,8 +189,7 @@ fn elements_for(
     let (Some(environment), Some(table)) = (
         script.board.environment(one.number),
         script.board.program().entry(one.item.entry),
-    )
-    else {
+    ) else {
         return Ok(None);
     };
     for wanted in &table.needs {
@@ -287,11 +293,7 @@ impl<'b, 'a> FaultFacts<'b, 'a> {
 
     /// Gathers the inputs and the value of a cell. If it has a fault of the kind and is the first such cell, it is
     /// recorded.
-    fn gather_cell(
-        &mut self,
-        block: GatheredBlock,
-        cell: &Cell<Global>,
-    ) -> Result<(), AllocError> {
+    fn gather_cell(&mut self, block: GatheredBlock, cell: &Cell<Global>) -> Result<(), AllocError> {
         if !self.is_over(cell.node) {
             let mut inputs = Vec::new(self.gathering.alloc);
             add_form(&mut inputs, &cell.form)?;
@@ -306,16 +308,16 @@ impl<'b, 'a> FaultFacts<'b, 'a> {
     }
 
     /// Returns true if a cell has a fault, which is recorded if it is the first of the kind.
-    fn has_fault(
-        &mut self,
-        block: GatheredBlock,
-        cell: &Cell<Global>,
-    ) -> Result<bool, AllocError> {
+    fn has_fault(&mut self, block: GatheredBlock, cell: &Cell<Global>) -> Result<bool, AllocError> {
         let met = if self.lacks_element(cell) {
             FaultKind::NoElement
         } else {
             let alloc = self.gathering.alloc;
-            match self.gathering.fact_base.outcome(alloc, block.instance, &cell.form)? {
+            match self
+                .gathering
+                .fact_base
+                .outcome(alloc, block.instance, &cell.form)?
+            {
                 Some(Err(met)) => met,
                 _ => return Ok(false),
             }
@@ -365,7 +367,11 @@ impl<'b, 'a> FaultFacts<'b, 'a> {
             }
             (None, form) => {
                 let alloc = self.gathering.alloc;
-                match self.gathering.fact_base.outcome(alloc, block.instance, form)? {
+                match self
+                    .gathering
+                    .fact_base
+                    .outcome(alloc, block.instance, form)?
+                {
                     Some(Ok(value)) => Some(value),
                     _ => None,
                 }
@@ -395,7 +401,11 @@ impl<'b, 'a> FaultFacts<'b, 'a> {
         let Some(datum) = self.names.array(block.inputs, array)? else {
             return Ok(());
         };
-        let target = self.gathering.fact_base.instances.place(block.instance, array);
+        let target = self
+            .gathering
+            .fact_base
+            .instances
+            .place(block.instance, array);
         for (key, value) in &self.written_by(block, action)? {
             let store = self.names.environment.store;
             if let Some(there) = data::element(store, datum, key.as_ref()) {
@@ -433,7 +443,10 @@ impl<'b, 'a> FaultFacts<'b, 'a> {
             Action::Fill { right, .. } => {
                 let alloc = self.gathering.alloc;
                 let form = &right.cell.form;
-                let found = self.gathering.fact_base.outcome(alloc, block.instance, form)?;
+                let found = self
+                    .gathering
+                    .fact_base
+                    .outcome(alloc, block.instance, form)?;
                 if let Some(Ok(Value::Many(map))) = found {
                     for element in map.elements() {
                         elements.push((element.key.share()?, element.value.share()?))?;
@@ -462,7 +475,9 @@ impl<'b, 'a> FaultFacts<'b, 'a> {
         if let Some(ElementWriter { number, node, path }) = &replay.writer {
             let values = replay.turn_values(*number, path.as_slice())?;
             place = Place {
-                instance: self.gathering.open_path(path.as_slice(), values.as_slice())?,
+                instance: self
+                    .gathering
+                    .open_path(path.as_slice(), values.as_slice())?,
                 node: *node,
             };
         }

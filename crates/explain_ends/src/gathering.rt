@@ -136,7 +136,11 @@ impl<'b, 'a> Gathering<'b, 'a> {
         step: &Step,
         value: Option<&Scalar>,
     ) -> Result<usize, AllocError> {
-        if let Some(child) = self.fact_base.instances.child(parent, step.offset, &step.key) {
+        if let Some(child) = self
+            .fact_base
+            .instances
+            .child(parent, step.offset, &step.key)
+        {
             self.add_variables(child, step, value)?;
             return Ok(child);
         }

@@ -76,7 +76,11 @@ impl<'b> HeldNames<'b> {
     ///
     /// Returns `AllocError` if an allocation fails.
     pub fn spot(&self, name: entry::Name) -> Result<Option<LexicalAddress>, AllocError> {
-        match self.environment.program.wanted(self.body, &Need::Stored(name))? {
+        match self
+            .environment
+            .program
+            .wanted(self.body, &Need::Stored(name))?
+        {
             ResolvedNeed::Stored(Some(spot)) if self.holds(name, spot) => Ok(Some(spot)),
             _ => Ok(None),
         }
@@ -165,12 +169,22 @@ pub fn gather_elements(
     datum: usize,
     place: Place,
 ) -> Result<(), AllocError> {
-    if !gathering.fact_base.closed.insert((place.instance, place.node))? {
+    if !gathering
+        .fact_base
+        .closed
+        .insert((place.instance, place.node))?
+    {
         return Ok(());
     }
     if let Some(map) = data::listed(store, datum)? {
         for element in map.elements() {
-            add_write(gathering, place, unknown_writer(), &element.key, &element.value)?;
+            add_write(
+                gathering,
+                place,
+                unknown_writer(),
+                &element.key,
+                &element.value,
+            )?;
         }
     }
     Ok(())

@@ -5,7 +5,7 @@ use board_instances::item::ItemStatus;
 use explain_blocked::index::ScriptIndex;
 use explain_blocked::names::write_owned;
 use explain_blocked::value_text::{write_scalar, write_text};
-use explain_board::inputs::{UnknownNeeds, MissingNeed, index_of};
+use explain_board::inputs::{MissingNeed, UnknownNeeds, index_of};
 use explain_board::left_statements::{NumberedItem, left_items};
 use explain_board::names::{binding_of, inputs_of};
 use explain_faults::traces::{
@@ -89,7 +89,10 @@ fn add_invalid_event(
     };
     let mut statement = Vec::new(script.alloc);
     let mut waits = Vec::new(script.alloc);
-    if !matches!(step.why, InvalidReason::UnknownItem | InvalidReason::AfterFault) {
+    if !matches!(
+        step.why,
+        InvalidReason::UnknownItem | InvalidReason::AfterFault
+    ) {
         write_statement(script, board, step.item, &mut statement)?;
     }
     if step.why == InvalidReason::ItemWaiting {
