@@ -122,8 +122,7 @@ module _ (C : Code) (I : IsCode C) (L : Layout) (es : List Event) (F : Fields.Fi
     index_told d q v i ar g z u j na None c = (λ w. cons_nil w, λ n. absurd (value_by g z u j na None c n.0 n.1))
     index_told d q v i ar g z u j na (Some y) c =
         let stored = value_by g z u j na (Some y) c in
-        let told = element_by d q v (key_of y) i ar in
-        (
+        let told = element_by d q v (key_of y) i ar in (
           λ w. (y, stored, told.0 w),
           λ n. told.1 (subst (λ (t : Scalar). IsElementKnown (code_system C) x.state (Datum q v) (key_of t)) (one (Datum z u) only n.0 y n.1 stored) n.2),
         )

@@ -271,8 +271,7 @@ module _ (a : Inside) (s : IsSound a) where
       by_job : (j : Job) → r.job ≡ j → (r.status ≡ Over → ⊥) → blocked_job C fs cs j ≡ Some p → IsBlockedItem (seen_of a) n p.at
       by_job Script q live g = none_some g
       by_job (Does k e c) q live g =
-          let told = job_offset C s.whole es a.core s.stand n k e c r there q live p g in
-          (
+          let told = job_offset C s.whole es a.core s.stand n k e c r there q live p g in (
             e,
             path_of fs k,
             stands_row n k e c r there q live,

@@ -70,4 +70,4 @@ pub record Sees (b : Seen) (number : ℕ) (environment : Environment) : Type 0 w
   pub program : environment.program.now ≡ b.code
   pub missing : (n : Need) → In n (entry b.code i).needs
       → (wanted_missed b.code (cells_view environment.store.now.cells) (led_slot (frames_view environment.instances.now.slots) environment.at) (wanted_in b.code body n) ≡ [])
-        ↔ IsNeedKnown b path n
+      ↔ IsNeedKnown b path n

@@ -624,11 +624,7 @@ impl Board {
     {
         let state = &self.core;
         match state.live_item(number) {
-            Some(left) => path_of(
-                state.alloc,
-                &state.data_state.instances,
-                left.instance,
-            ),
+            Some(left) => path_of(state.alloc, &state.data_state.instances, left.instance),
             None => Ok(Vec::new(state.alloc)),
         }
     }

@@ -1,8 +1,6 @@
 //! Explanation of how a command ended.
 
-use crate::failures::{
-    explain_count, explain_same_file, explain_unread, explain_unwritten,
-};
+use crate::failures::{explain_count, explain_same_file, explain_unread, explain_unwritten};
 use crate::verdicts::VerdictReporter;
 use compile::compile::read;
 use compile::fault::CompileFault;
@@ -128,11 +126,7 @@ fn add_unchecked(line: &Line, stopped: usize, out: &mut Vec<u8>) -> Result<(), A
 }
 
 /// Appends the explanation of a command whose script is not refused.
-fn add_end(
-    alloc: Global,
-    ended: EndedProcess<'_>,
-    out: &mut Vec<u8>,
-) -> Result<(), AllocError> {
+fn add_end(alloc: Global, ended: EndedProcess<'_>, out: &mut Vec<u8>) -> Result<(), AllocError> {
     match ended.end {
         CommandEnd::Checked(_) | CommandEnd::Listing(_) => Ok(()),
         CommandEnd::Meaning(told) => match &told.known {
@@ -190,12 +184,7 @@ fn add_failure(
 ) -> Result<(), AllocError> {
     match stop.trouble {
         CommandFailure::Unread => {
-            explain_unread(
-                alloc,
-                name_at(ended.line, stop.place),
-                ended.reason,
-                out,
-            )?;
+            explain_unread(alloc, name_at(ended.line, stop.place), ended.reason, out)?;
             add_unchecked(ended.line, stop.place, out)
         }
         CommandFailure::Unprinted => match ended.unprinted {

@@ -4,12 +4,11 @@ ghost use Rattle.swt_command.specs.EndOf.{status_of_end, stop_of};
 
 use crate::mean;
 use crate::meaning_summary::MeaningEnd;
+pub use board_runs::report::End;
+pub use board_runs::stopped::StoppedRun;
 use swt_status::status::{Status, status_of};
 use swt_status::stop::CommandStop;
 use swt_status::trace::RefusedTrace;
-
-pub use board_runs::report::End;
-pub use board_runs::stopped::StoppedRun;
 
 /// What a command came to: what it printed, and what explains it.
 #[derive(Drop)]

@@ -63,7 +63,9 @@ pub fn run<R: Threads + Wait + Sync, G: Gate, O: Sink, S: Sink>(
         (held (S.taken trace.old) (S.failures trace.old)) (held (S.taken trace.new) (S.failures trace.new)) }
     ensures ran { IfOk result (λ run. Ran (contents files.now) engines workers steps run.report × IsStopped keeps run) }
 {
-    let run = stopped_run(rt, alloc, arena, files, engines, workers, steps, keeps, gate)?;
+    let run = stopped_run(
+        rt, alloc, arena, files, engines, workers, steps, keeps, gate,
+    )?;
     match write_report(&run.report, out) {
         Ok(()) => {
             traced(&run.report, wanted, trace)?;

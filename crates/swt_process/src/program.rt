@@ -116,14 +116,7 @@ pub fn program<
     let mut host = host;
     match line {
         Line::Check { files } => {
-            let (status, end) = check_files(
-                &mut host,
-                alloc,
-                files.as_slice(),
-                observer,
-                out,
-                err,
-            );
+            let (status, end) = check_files(&mut host, alloc, files.as_slice(), observer, out, err);
             ProcessEnd {
                 status,
                 end,

@@ -77,7 +77,9 @@ pub fn with_trace<
     ensures status { result.0 ≡ number_of (status_of_end result.1) }
 {
     let mut trace = TraceFile::<H, K>::new(host, known, place, beside);
-    let (status, end) = command(rt, alloc, arena, line, files, keeps, gate, out, err, &mut trace);
+    let (status, end) = command(
+        rt, alloc, arena, line, files, keeps, gate, out, err, &mut trace,
+    );
     let (is_kept, host) = trace.finish();
     if is_kept {
         return (status, end, host);
@@ -88,7 +90,11 @@ pub fn with_trace<
             place: 0,
             trouble: CommandFailure::Untraced,
         };
-        return (stop.trouble.status().number(), CommandEnd::Failed(stop), host);
+        return (
+            stop.trouble.status().number(),
+            CommandEnd::Failed(stop),
+            host,
+        );
     }
     // A command that failed has no trace to keep.
     (status, end, host)
