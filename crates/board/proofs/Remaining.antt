@@ -138,6 +138,10 @@ module _ (a : Inside) (s : IsSound a) where
     has_status n l.instance l.entry l.chunk l.status r live,
   )
 
+  pub only_told : (n : ℕ) (o : Option LeftItem) → IfSome o (λ l. row_of rows n ≡ Some (row_as l.instance l.entry l.chunk (status_view l.status))) → IfSome o (λ l. (i : ℕ) → IsLeft (seen_of a) n i → i ≡ l.entry)
+  only_told n None r = tt
+  only_told n (Some l) r = λ i left. sym (stands_here n l.instance l.entry l.chunk (status_view l.status) r i left.0 left.1).0
+
   pub none_told : (n : ℕ) (o : Option LeftItem) → IfNone o ((k e c : ℕ) (m : Status) → row_of rows n ≡ Some (row_as k e c m) → m ≡ Over) → IfNone o (IsNoneLeft (seen_of a) n)
   none_told n (Some l) h = tt
   none_told n None h = none_here n h

@@ -579,6 +579,7 @@ impl Board {
     /// Returns the item with this number, or `None` if there is none, it has ended, or it opens the script.
     pub fn left_item(&self, number: u64) -> Option<LeftItem>
         ensures some { IfSome result (λ left. IsLeft self.now number left.entry × HasStatus self.now number left.status) }
+        ensures only { IfSome result (λ left. (i : ℕ) → IsLeft self.now number i → i ≡ left.entry) }
         ensures none { IfNone result (IsNoneLeft self.now number) }
     {
         self.core.live_item(number)
