@@ -12,10 +12,10 @@ use board::Board;
 use board_data::data;
 use board_program::program::ResolvedNeed;
 use emit_cells::names::own;
-use explain_blocked::add_form;
 use explain_blocked::context::ExplainContext;
 use explain_blocked::index::ScriptIndex;
 use explain_blocked::writers::WriterIndex;
+use explain_blocked::{StatementInput, add_form};
 use explain_board::inputs::UnknownNeeds;
 use explain_board::left_statements::{NumberedItem, left_items};
 use explain_faults::faults::add_fault;
@@ -129,21 +129,59 @@ fn gather_argument(
     let Some(spot) = index.cell(node) else {
         return Ok(());
     };
-    let alloc = gathering.alloc;
-    match gathering
-        .fact_base
-        .outcome(alloc, instance, &spot.cell.form)?
-    {
-        Some(Ok(value)) => {
-            let place = gathering.fact_base.instances.place(instance, name);
-            gathering
-                .fact_base
-                .facts
-                .add(alloc, Fact::Value(place, value))?;
-            Ok(())
+    let mut inputs = Vec::new(gathering.alloc);
+    add_form(&mut inputs, &spot.cell.form)?;
+    for input in &inputs {
+        if let StatementInput::Scalar(input) = input {
+            gather_assigned(gathering, instance, *input)?;
         }
-        _ => Ok(()),
     }
+    let place = gathering.fact_base.instances.place(instance, name);
+    gather_outcome(gathering, instance, &spot.cell.form, place)
+}
+
+/// Gathers the value of a variable, if it follows from what is known in the block that declares and assigns it.
+fn gather_assigned(
+    gathering: &mut Gathering<'_, '_>,
+    instance: usize,
+    name: Name,
+) -> Result<(), AllocError> {
+    let NameBinding::Local(_) = name.what else {
+        return Ok(());
+    };
+    if gathering.fact_base.scalar(instance, name).is_some() {
+        return Ok(());
+    }
+    let place = gathering.fact_base.instances.place(instance, name);
+    let index = gathering.index;
+    for site in &index.sites.all {
+        let StatementForm::Whole(statement) = &site.form else {
+            continue;
+        };
+        if let Action::Assign { target, right } = &statement.action {
+            if target.up == 0 && target.what == name.what {
+                return gather_outcome(gathering, place.instance, &right.cell.form, place);
+            }
+        }
+    }
+    Ok(())
+}
+
+/// Gathers the value of a cell as that of a place, if it follows from what is known in an instance.
+fn gather_outcome(
+    gathering: &mut Gathering<'_, '_>,
+    instance: usize,
+    form: &CellForm<Global>,
+    place: Place,
+) -> Result<(), AllocError> {
+    let alloc = gathering.alloc;
+    if let Some(Ok(value)) = gathering.fact_base.outcome(alloc, instance, form)? {
+        gathering
+            .fact_base
+            .facts
+            .add(alloc, Fact::Value(place, value))?;
+    }
+    Ok(())
 }
 
 /// Returns the item that met the fault: that of the last event.
