@@ -1,5 +1,6 @@
 //! Conversion of a refusal or of warnings to JSON objects, one a line.
 
+use crate::escapes::visible_json;
 use explain_refusals::diagnostic::{Diagnostic, refusal_of};
 use explain_refusals::explanation::{Hint, Note};
 use explain_text::line_index::LineIndex;
@@ -12,6 +13,8 @@ use serde_json::{Value, json};
 use std::alloc::{AllocError, Global};
 
 /// Returns the refusal of a text as a JSON object without a line end, or `None` if the text is accepted.
+///
+/// Characters that a terminal would not show as letters or signs are escaped.
 ///
 /// The object has the file, the span, the code and name of the rule, the message, a hint or `null`, and the related
 /// spans.
@@ -36,7 +39,8 @@ fn line_of(
     refusal: &Diagnostic,
 ) -> Result<String, AllocError> {
     let described = described(alloc, file, text, refusal)?;
-    described.to_string(alloc)
+    let line = described.to_string(alloc)?;
+    visible_json(alloc, line.as_str())
 }
 
 /// Converts a refusal to a JSON object.
@@ -180,7 +184,8 @@ fn warning_line(
     let message = sentence(alloc, lines.text(), warning)?;
     let message = string_of(alloc, message.as_slice())?;
     let described = warning_value(alloc, file, lines, warning, message)?;
-    described.to_string(alloc)
+    let line = described.to_string(alloc)?;
+    visible_json(alloc, line.as_str())
 }
 
 /// Converts a warning to a JSON object.

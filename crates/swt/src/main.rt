@@ -16,11 +16,13 @@ mod ending;
 mod failures;
 mod non_utf8;
 mod progress;
+mod standard_error;
 mod verdicts;
 
 use crate::ending::{EndedProcess, explain_end};
 use crate::non_utf8::write_foreign;
 use crate::progress::ProgressReporter;
+use crate::standard_error::write_line;
 use crate::verdicts::VerdictReporter;
 use host::Stream;
 use host_system::stream::Standard;
@@ -128,6 +130,7 @@ fn perform<'r, R: Threads + Wait + Sync>(
             files: files.as_slice(),
             unprinted: out.reason(),
             reason: host.reason(),
+            uncreated: host.uncreated(),
         };
         explain_end(rt, &verdicts, ended);
     }
@@ -174,14 +177,11 @@ fn write_usage(rt: &HostRuntime, words: &[Word]) -> Result<(), AllocError> {
         let _ = eprintln!(rt; "{}", LineFault::Usage);
         return Ok(());
     };
-    match meant(rt.alloc(), &wrong)? {
-        Some(name) => {
-            let _ = eprintln!(rt; "{wrong}: did you mean {name}?");
-        }
-        None => {
-            let _ = eprintln!(rt; "{wrong}");
-        }
-    }
+    let text = match meant(rt.alloc(), &wrong)? {
+        Some(name) => format!(in rt.alloc(); "{wrong}: did you mean {name}?")?,
+        None => format!(in rt.alloc(); "{wrong}")?,
+    };
+    write_line(rt, text.as_str())?;
     if wrong.wants_usage() {
         let _ = eprintln!(rt; "{}", LineFault::Usage);
     }

@@ -1,11 +1,13 @@
 //! Refusals and warnings of texts on standard error.
 
+use crate::standard_error::write_lines;
 use explain_json::json::{json_line, warning_lines};
 use explain_refusals::diagnostic::explained;
 use explain_warnings::render;
 use std::alloc::AllocError;
 use std::io::Write;
 use swt_arguments::request::Request;
+use swt_arguments::word::Word;
 use swt_process::each::VerdictObserver;
 use swt_status::refusal::Refusal;
 
@@ -49,17 +51,17 @@ impl<'r> VerdictReporter<'r> {
     /// # Errors
     ///
     /// Returns `AllocError` if an allocation fails.
-    pub fn report(&self, name: &str, text: &[u8]) -> Result<(), AllocError> {
+    pub fn report(&self, name: &Word, text: &[u8]) -> Result<(), AllocError> {
         if self.json {
-            write_json(self.rt, name, text)
+            write_json(self.rt, name.as_str(), text)
         } else {
-            write_words(self.rt, name, text)
+            write_words(self.rt, name.shown(), text)
         }
     }
 }
 
 impl VerdictObserver for VerdictReporter<'_> {
-    fn judge(&mut self, name: &str, text: &[u8], refusal: Option<Refusal>) {
+    fn judge(&mut self, name: &Word, text: &[u8], refusal: Option<Refusal>) {
         if refusal.is_none() {
             self.accepted = self.accepted.saturating_add(1);
         }
@@ -75,9 +77,7 @@ fn write_words(rt: &HostRuntime, name: &str, text: &[u8]) -> Result<(), AllocErr
         Some(refusal) => refusal,
         None => render::explained(alloc, name, text)?,
     };
-    // If this cannot be written, the status is enough.
-    let _ = rt.stderr().write_all(words.as_slice());
-    Ok(())
+    write_lines(rt, words.as_slice())
 }
 
 /// Reports the refusal of a text on standard error, or its warnings if it is accepted, as lines of JSON.

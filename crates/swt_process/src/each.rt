@@ -4,7 +4,7 @@ ghost use Rattle.host.specs.Events.{asked, changes, inputs, links, reads};
 ghost use Rattle.swt_arguments.specs.declared.line.Line.TheVariants.{Check};
 ghost use Rattle.swt_command.specs.EndOf.{status_of_end};
 ghost use Rattle.swt_status.specs.Statuses.{number_of};
-ghost use Rattle.swt_command.specs.Files.{name_at};
+ghost use Rattle.swt_command.specs.Files.{shown_at};
 ghost use Rattle.swt_command.specs.Sinks.{held};
 ghost use Rattle.swt_process.specs.Each.{ChecksEach, IsChecked};
 ghost use Rattle.swt_process.specs.Ends.{Ran};
@@ -28,7 +28,7 @@ use values::sink::Sink;
 /// Receives the verdict of each file of `check`, after its line is written and before the next file is read.
 pub trait VerdictObserver {
     /// Receives a file with its verdict: its refusal, or `None` if it is accepted.
-    fn judge(&mut self, _name: &str, _text: &[u8], _refusal: Option<Refusal>) {}
+    fn judge(&mut self, _name: &Word, _text: &[u8], _refusal: Option<Refusal>) {}
 }
 
 /// An observer that ignores all verdicts.
@@ -65,18 +65,18 @@ pub fn check_files<H: Host, V: VerdictObserver, O: Sink, E: Sink>(
     match check_each(host, alloc, names, observer, out) {
         Ok(status) => (status.number(), CommandEnd::Checked(status)),
         Err(stop) => {
-            let _ = write_failure(stop.trouble, name_at(names, stop.place), err);
+            let _ = write_failure(stop.trouble, shown_at(names, stop.place), err);
             (stop.trouble.status().number(), CommandEnd::Failed(stop))
         }
     }
 }
 
-/// Returns the file name at this index, or the empty string if there is none.
-fn name_at(names: &[Word], place: usize) -> &str
-    ensures { result.now ≡ name_at names.now place }
+/// Returns the file name at this index as it is shown, or the empty string if there is none.
+fn shown_at(names: &[Word], place: usize) -> &str
+    ensures { result.now ≡ shown_at names.now place }
 {
     match names.get(place) {
-        Some(name) => name.as_str(),
+        Some(name) => name.shown(),
         None => "",
     }
 }
@@ -110,7 +110,7 @@ fn check_each<H: Host, V: VerdictObserver, O: Sink>(
             host,
             alloc,
             &mut known,
-            names[place].as_str(),
+            &names[place],
             observer,
             out,
         ) {
@@ -133,7 +133,7 @@ fn check_next<H: Host, V: VerdictObserver, O: Sink>(
     host: &mut H,
     alloc: Global,
     known: &mut Vec<Identity>,
-    name: &str,
+    name: &Word,
     observer: &mut V,
     out: &mut O,
 ) -> Result<Option<Refusal>, CommandFailure>
@@ -146,7 +146,7 @@ fn check_next<H: Host, V: VerdictObserver, O: Sink>(
     ensures links { links (H.history host.new) ≡ links (H.history host.old) }
     ensures changes { changes (H.history host.new) ≡ changes (H.history host.old) }
 {
-    let file = match read_file(host, alloc, known, name, MAX_SOURCE) {
+    let file = match read_file(host, alloc, known, name.as_str(), MAX_SOURCE) {
         Ok(file) => file,
         Err(AllocError) => return Err(CommandFailure::Memory),
     };

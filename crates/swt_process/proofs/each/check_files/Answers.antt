@@ -21,7 +21,7 @@ returns-in-Err-clause-ran g c =
     let new : Held = held (g.E.Sink.taken c.write_failure.new.err) (g.E.Sink.failures c.write_failure.new.err) in
     let stop = c.in-Err.stop in
     let says : Says (Check c.args.names.now) (Err stop) old new =
-    subst (λ (name : List ℕ). Given old (trouble_line stop.trouble name) new) c.name_at.ensures (given c.write_failure.result old new (trouble_line stop.trouble c.name_at.result.now) c.write_failure.ensures) in
+    subst (λ (name : List ℕ). Given old (trouble_line stop.trouble name) new) c.shown_at.ensures (given c.write_failure.result old new (trouble_line stop.trouble c.shown_at.result.now) c.write_failure.ensures) in
     check_ran c.args.names.now (g.H.Host.history c.check_each.new.host) (Err stop) (held (g.O.Sink.taken c.args.out.now) (g.O.Sink.failures c.args.out.now))
     (held (g.O.Sink.taken c.check_each.new.out) (g.O.Sink.failures c.check_each.new.out)) old new c.number-in-Err.result c.in-Err.ensures.each says (c.number-in-Err.ensures ∙ ap number_of c.status.ensures)
     (c.check_each.ensures.links ∙ c.requires.links) (c.check_each.ensures.changes ∙ c.requires.changes)
