@@ -108,7 +108,7 @@ fn prints_and_traces(rt: HostRuntime) -> Result<(), LineFault> {
     assert_eq!(rt; came.out.bytes(), b"3\n".as_slice());
     assert_eq!(rt; came.err.bytes(), b"".as_slice());
     assert!(rt; came.fake.begins("t", b"swt-trace "));
-    assert!(rt; came.fake.bytes("t.7.part").is_none());
+    assert!(rt; came.fake.bytes("swt.7.part").is_none());
     Ok(())
 }
 
