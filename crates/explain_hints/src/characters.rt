@@ -93,6 +93,8 @@ fn past_ascii(alloc: Global, byte: u8, rest: &[u8]) -> Result<Option<Vec<u8>>, A
 /// Returns the first character of a text, or `None` if the bytes at its beginning are not valid UTF-8.
 fn first_character(text: &[u8]) -> Option<char> {
     let (front, _) = text.split_at(text.len().min(LONGEST_CHARACTER));
-    let chunk = front.utf8_chunks().next()?;
-    chunk.valid().chars().next()
+    let mut chunks = front.utf8_chunks();
+    let chunk = chunks.next()?;
+    let mut characters = chunk.valid().chars();
+    characters.next()
 }

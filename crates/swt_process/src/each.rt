@@ -106,14 +106,7 @@ fn check_each<H: Host, V: VerdictObserver, O: Sink>(
     let mut known = Vec::new(alloc);
     let mut status = Status::Done;
     for place in 0..names.len() {
-        match check_next(
-            host,
-            alloc,
-            &mut known,
-            &names[place],
-            observer,
-            out,
-        ) {
+        match check_next(host, alloc, &mut known, &names[place], observer, out) {
             Ok(refusal) => status = after(refusal, status),
             Err(trouble) => return Err(CommandStop { place, trouble }),
         }
