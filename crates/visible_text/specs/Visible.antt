@@ -45,9 +45,13 @@ code_escape c = codes "U+" ++ (upper_digits c ++ last_digits c)
 abbrev pub unit_escape : ℕ → List ℕ
 unit_escape u = codes "\\u" ++ last_digits u
 
+-- the code of a character that is not shown as it is
+abbrev pub escape_of : ℕ → List ℕ
+escape_of c = if nat_lt c 128 then byte_escape c else code_escape c
+
 -- the bytes that show a character
 unfoldable pub visible_char : ℕ → List ℕ
-visible_char c = if is_visible c then encode_utf8 c else (if nat_lt c 128 then byte_escape c else code_escape c)
+visible_char c = if is_visible c then encode_utf8 c else escape_of c
 
 -- the bytes that show a text
 abbrev pub visible : List ℕ → List ℕ

@@ -1,6 +1,6 @@
 //! Texts and bytes as they are shown.
-ghost use Rattle.std.specs.Prelude.{◌≡◌, ◌++◌, IfOk, OnOk, string_bytes};
-ghost use Rattle.visible_text.specs.Visible.{visible, visible_char};
+ghost use Rattle.std.specs.Prelude.{◌≡◌, ◌++◌, IfOk, OnOk, encode_utf8, string_bytes};
+ghost use Rattle.visible_text.specs.Visible.{escape_of, visible, visible_char};
 
 use crate::category::is_visible;
 use crate::escape::{push_byte, push_code};
@@ -30,8 +30,21 @@ pub fn push_visible(out: &mut String, c: char) -> Result<(), AllocError>
     ensures { OnOk result (string_bytes out.new ≡ string_bytes out.old ++ visible_char c) }
 {
     if is_visible(c) {
-        return out.push(c);
+        return push_char(out, c);
     }
+    push_escape(out, c)
+}
+
+fn push_char(out: &mut String, c: char) -> Result<(), AllocError>
+    ensures { OnOk result (string_bytes out.new ≡ string_bytes out.old ++ encode_utf8 c) }
+{
+    out.push(c)
+}
+
+/// Appends the code of a character: as that of a byte if it is ASCII.
+fn push_escape(out: &mut String, c: char) -> Result<(), AllocError>
+    ensures { OnOk result (string_bytes out.new ≡ string_bytes out.old ++ escape_of c) }
+{
     let code = c as u32;
     if code < 128 {
         push_byte(out, code as u8)
