@@ -14,4 +14,6 @@ mod pool_tests;
 #[cfg(test)]
 mod rules_tests;
 #[cfg(test)]
+mod visible_text_tests;
+#[cfg(test)]
 mod work_queue_tests;
