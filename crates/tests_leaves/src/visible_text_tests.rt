@@ -22,13 +22,23 @@ fn are_shown(rt: &impl Abort, alloc: Global, bytes: &[u8], wanted: &str) {
 #[test]
 fn letters_and_signs_stay(rt: HostRuntime) {
     is_shown(&rt, rt.alloc(), "a b/c.swift", "a b/c.swift");
-    is_shown(&rt, rt.alloc(), "caf\u{e9} \u{4e2d} \u{20ac}", "caf\u{e9} \u{4e2d} \u{20ac}");
+    is_shown(
+        &rt,
+        rt.alloc(),
+        "caf\u{e9} \u{4e2d} \u{20ac}",
+        "caf\u{e9} \u{4e2d} \u{20ac}",
+    );
 }
 
 #[test]
 fn other_characters_are_codes(rt: HostRuntime) {
     is_shown(&rt, rt.alloc(), "a\n\u{1b}[1m\u{7f}", "a\\x0a\\x1b[1m\\x7f");
-    is_shown(&rt, rt.alloc(), "\u{9b}\u{202e}\u{a0}", "U+009BU+202EU+00A0");
+    is_shown(
+        &rt,
+        rt.alloc(),
+        "\u{9b}\u{202e}\u{a0}",
+        "U+009BU+202EU+00A0",
+    );
     is_shown(&rt, rt.alloc(), "\u{e0041}\u{10ffff}", "U+E0041U+10FFFF");
 }
 

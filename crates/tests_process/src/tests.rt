@@ -179,7 +179,10 @@ fn shows_names(rt: HostRuntime) -> Result<(), LineFault> {
     let came = came_of(&rt, alloc, fake)?;
     assert_eq!(rt; came.status, 7);
     assert_eq!(rt; came.out.bytes(), b"s\\x0at: accepted\n".as_slice());
-    assert_eq!(rt; came.err.bytes(), b"swt: cannot read lost\\x1bU+009B\n".as_slice());
+    assert_eq!(rt;
+        came.err.bytes(),
+        b"swt: cannot read lost\\x1bU+009B\n".as_slice()
+    );
     Ok(())
 }
 
