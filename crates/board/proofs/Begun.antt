@@ -101,6 +101,9 @@ module _ {old : Seen} {b : Inside} {w n : ℕ} {j : Job} (begun : Begun old b w 
     pub unended_sound : IsSound (with_fields b new b.history known b.answers)
     unended_sound = same_on b begun.sound new known b.answers unchanged
 
+    pub unended_newly : new.items.newly.items ≡ b.core.items.newly.items
+    unended_newly = unchanged.newly
+
     pub unended_accepts : Accepts old (event_view (Events.Begin w n)) (seen_of (with_fields b new b.history known b.answers))
     unended_accepts = subst (λ (v : Seen). Accepts old (event_view (Events.Begin w n)) v) (sym (same_seen b new known b.answers unchanged.newly)) begun.accepts
 

@@ -1,6 +1,7 @@
 -- The data of the state, one for each slot that has one.
 use Rattle.std.proofs.Common.{◌≡◌, ◌↔◌, ◌⊎◌, inl, inr, ℕ, zero, suc, ◌+◌, List, [], ◌∷◌, map, length, Option, None, Some, refl, sym, ap, ◌∙◌, subst, arith}
 use Rattle.std.specs.Prelude.{cond, count_by, is_some}
+use Rattle.std.proofs.lemmas.List.{length-map}
 use Rattle.std.proofs.lemmas.List.Sums.{sum_by-cons}
 use Rattle.dataflow.specs.Machine.{Event}
 use Rattle.dataflow.specs.System.{Distinct, In}
@@ -18,6 +19,7 @@ use Rattle.task_code.specs.Places.{Place}
 use Rattle.task_code.specs.System.{code_system}
 use Rattle.task_code.specs.Whole.{IsCode}
 use Rattle.board_program.specs.Spots.{layout_of}
+use Rattle.board_instances.specs.View.{row_view}
 use Rattle.board_data.specs.View.{cell_view, cells_view}
 use Rattle.board.specs.History.{state_of}
 use Rattle.board.specs.Inside.{Stand}
@@ -120,3 +122,10 @@ module _ (C : Code) (I : IsCode C) (es : List Event) (core : BoardState) (s : St
 
   pub exact_here : (run : Run C es (state_of C es)) → DataAreExact C (state_of C es) (run_log C es (state_of C es) run)
   exact_here = subst (λ (t : CodeState). (run : Run C es t) → DataAreExact C t (run_log C es t run)) (sym (state_here C I es core s)) (λ run. replayed_exact (code_system C) code_tests (code_told C) (code_laws C I) es s.stands.state s.stands.reached run)
+
+-- the next item has the number of the last one, and one more
+pub next_is : (C : Code) (I : IsCode C) (es : List Event) (core : BoardState) (s : Stand C es core) → (state_of C es).next ≡ length core.items.rows.items + 1
+next_is C I es core s =
+    let here = ap (λ (t : CodeState). t.next) (state_here C I es core s) in
+    let next = s.stands.items.next in
+    omega (arith, here, next, length-map core.items.rows.items row_view)

@@ -17,6 +17,7 @@ use std::alloc::AllocError;
 use values::value::Scalar;
 
 /// Appends the line, if there is one.
+#[inline(always)]
 fn put_line(lines: &mut Vec<Scalar>, line: Option<Scalar>) -> Result<(), AllocError>
     ensures put { OnOk result (lines.new.items ≡ lines.old.items ++ line_list line) }
     ensures succeeds { vec_len lines.old + 1 ≤ vec_capacity lines.old → IsOk result }
@@ -34,6 +35,7 @@ impl BoardState {
     /// Applies the change of an item that ends, prints its line, and notifies waiting items of the inputs that become
     /// known. Returns the spare input lists for the new items that may wait for more than two inputs. It succeeds if
     /// memory was reserved by `make_room`.
+    #[inline(always)]
     pub(crate) fn apply(
         &mut self,
         program: &Program,

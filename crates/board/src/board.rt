@@ -2,7 +2,7 @@
 //!
 //! Each accepted event is appended to the history. A refused call changes nothing, apart from `perform` when it fails
 //! after its Begin.
-ghost use Rattle.std.specs.Prelude.{ℕ, ℤ, ◌≡◌, ◌⊎◌, ◌<◌, ◌≤◌, ◌^◌, ◌∷◌, [], map, length, vec_len, MatchBool, IfOk, IfErr, IfSome, IfNone, OnOk, OnErr, IsTrue, ◌↔◌, None, Some, slice_get};
+ghost use Rattle.std.specs.Prelude.{ℕ, ℤ, ◌≡◌, ◌⊎◌, ◌<◌, ◌≤◌, ◌+◌, ◌^◌, ◌∷◌, [], map, length, vec_len, MatchBool, MatchResult, IfOk, IfErr, IfSome, IfNone, OnOk, OnErr, IsTrue, ◌↔◌, None, Some, slice_get};
 ghost use Rattle.dataflow.specs.Machine.{start};
 ghost use Rattle.dataflow.specs.Machine as Machine;
 ghost use Rattle.task_code.specs.Machine.{CodeItem, DataAreExact, Quiet, Run, run_log};
@@ -31,7 +31,6 @@ use paths::{Fault, StatementInstance};
 use rules::input::Input;
 use std::alloc::{AllocError, Global};
 use std::marker::Model;
-use std::mem::replace;
 use task_code::code::Code;
 use task_code::entry::Kind;
 use task_code::event::Event;
@@ -144,8 +143,7 @@ impl Board {
         let Ok(()) = self.core.sort_arrays(&self.program, job) else {
             return Err(BoardRefusal::Memory);
         };
-        let list = replace(&mut self.answers, Vec::new(self.core.alloc));
-        let Ok(work) = self.core.work(&self.program, item, job, list) else {
+        let Ok(work) = self.core.work(&self.program, item, job, &mut self.answers) else {
             return Err(BoardRefusal::Memory);
         };
         // Room for this event, and for the next event of each running item.
@@ -245,12 +243,13 @@ impl Board {
         };
         self.history
             .push_reserved(PackedEvent::new(Event::End { worker, item }));
-        self.answers = done.into_list();
+        done.return_list(&mut self.answers);
         Ok(())
     }
 
     /// Begins the item on the worker, computes it and ends it, without creating a `Work` for other threads. Returns
-    /// true if it has ended. Returns false if the limit was reached after its Begin, so that it has only begun.
+    /// true if it has ended. Returns false if the limit was reached after its Begin, so that it has only begun. Its Begin
+    /// enables no item.
     ///
     /// # Errors
     ///
@@ -263,6 +262,11 @@ impl Board {
             (Accepts self.old (Machine.Begin worker item) self.new × ¬ IsGoing self.new)) }
         ensures refused { IfErr result (λ e. ((self.new ≡ self.old) × RefusesBegin self.old item e)
             ⊎ (Accepts self.old (Machine.Begin worker item) self.new × (e ≡ Memory))) }
+        ensures still { MatchResult result
+            (λ ended. MatchBool ended
+            ((mid : Seen) × Accepts self.old (Machine.Begin worker item) mid × (mid.newly ≡ []) × Accepts mid (Machine.End worker item) self.new)
+            (self.new.newly ≡ []))
+            (λ e. (self.new ≡ self.old) ⊎ (self.new.newly ≡ [])) }
     {
         if !self.is_going() {
             return Err(BoardRefusal::Ended);
@@ -344,8 +348,8 @@ impl Board {
         let Some(job) = self.core.running_job(worker, item) else {
             return Err(BoardRefusal::NotYours);
         };
-        let list = Vec::new(self.core.alloc);
-        let Ok(work) = self.core.work(&self.program, item, job, list) else {
+        let mut list = Vec::new(self.core.alloc);
+        let Ok(work) = self.core.work(&self.program, item, job, &mut list) else {
             return Err(BoardRefusal::Memory);
         };
         Ok(work)
@@ -459,6 +463,13 @@ impl Board {
                 Some(kind)
             }
         }
+    }
+
+    /// Returns the number of items created so far, which is the number of the last one: items are numbered from 1 on.
+    pub fn item_count(&self) -> u64
+        ensures { self.now.state.next ≡ result + 1 }
+    {
+        self.core.items.rows.len() as u64
     }
 
     /// Returns the first ready item of the kind: of the greatest priority, and among those of the smallest number.

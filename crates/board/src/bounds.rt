@@ -17,6 +17,7 @@ use board_program::program::Program;
 impl BoardState {
     /// Returns true if opening these instances overflows no count: neither the children of the instance around the
     /// item, nor the bound on the names of all items.
+    #[inline(never)]
     fn can_open(
         &self,
         program: &Program,
@@ -42,6 +43,7 @@ impl BoardState {
 
     /// Returns true if the change overflows no count; memory is not considered. `most` is an upper bound on the names
     /// that any entry reads or writes.
+    #[inline(always)]
     pub(crate) fn can_change(
         &self,
         program: &Program,

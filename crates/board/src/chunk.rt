@@ -8,6 +8,7 @@ use board_changes::data_state::Change;
 use board_instances::item::ItemTask;
 
 /// Returns true if the change creates an item for the rest of a loop.
+#[inline(always)]
 fn has_next_item(change: &Change) -> bool
     ensures { result ≡ goes_on change.now }
 {
@@ -19,6 +20,7 @@ fn has_next_item(change: &Change) -> bool
 
 /// Returns false only if the change creates an item for the rest of a loop and the chunk number of this task cannot be
 /// incremented.
+#[inline(always)]
 pub fn has_next_chunk(job: ItemTask, change: &Change) -> bool
     ensures { IsTrue result → CanGoOn (job_view job) (goes_on change.now) }
 {

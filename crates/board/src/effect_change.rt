@@ -8,6 +8,7 @@ use board_effects::effect::Effect;
 use values::value::Scalar;
 
 /// Returns the change that an effect makes to instances and data, and the line that it prints. A fault changes neither.
+#[inline(always)]
 pub fn change_of(effect: Effect) -> (Change, Option<Scalar>)
     ensures change { result.0 ≡ change_of effect }
     ensures line { result.1 ≡ line_of effect }

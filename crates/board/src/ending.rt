@@ -7,6 +7,7 @@ ghost use Rattle.board_instances.specs.View.{job_view};
 ghost use Rattle.board_work.specs.Assigned.{Assigned, job_control, job_result};
 ghost use Rattle.board_work.specs.Outcome.{control_in, result_in};
 ghost use Rattle.board_work.specs.View.{answers_view};
+ghost use Rattle.board_effects.specs.declared.effect.Effect.TheVariants.{Opens, Puts, Stores};
 ghost use Rattle.board_program.specs.Program.{AreAtMost};
 ghost use Rattle.board.specs.Ending.{HasEnded, HasFailed, HasPassed, IsEffectOf, StaysBy, StaysIf};
 ghost use Rattle.board.specs.Working.{IsThere, work_of};
@@ -17,6 +18,7 @@ use board_data::inputs::Environment;
 use board_effects::effect::{Effect, EndingItem};
 use board_effects::script_effect;
 use board_instances::item::ItemTask;
+use board_instances::pending::PendingInstances;
 use board_items::readiness::BoardView;
 use board_program::program::Program;
 use board_work::answer::Answer;
@@ -25,6 +27,8 @@ use board_work::work::Done;
 use paths::Fault;
 use rules::input::Input;
 use std::alloc::{AllocError, Global};
+use values::key::Key;
+use values::value::Scalar;
 
 /// Computes the outcome of an item with this task from the answers to its needs.
 fn outcome_for(
@@ -52,6 +56,7 @@ fn outcome_for(
 
 impl BoardState {
     /// Returns the effect of an item with this task and outcome.
+    #[inline(never)]
     fn effect_of(
         &self,
         program: &Program,
@@ -92,6 +97,7 @@ impl BoardState {
 
     /// Records a fault and clears the list of newly enabled items. The item that met the fault stays running. Allocates
     /// no memory.
+    #[inline(never)]
     fn fail(&mut self, fault: Fault)
         ensures { HasFailed fault self.old self.new }
     {
@@ -101,6 +107,9 @@ impl BoardState {
 
     /// Ends a running item with an effect that is not a fault. `most` is an upper bound on the names that any entry
     /// reads or writes. `known` is a buffer: it is emptied, and then receives the inputs that become known.
+    ///
+    /// It is compiled into each of the four functions below, so that each has the code of its own effects alone.
+    #[inline(always)]
     fn apply_effect(
         &mut self,
         program: &Program,
@@ -131,6 +140,84 @@ impl BoardState {
         self.items.finish(board_view, number, job, first, spare)
     }
 
+    /// Ends a running item that stores a scalar, as `apply_effect` does.
+    #[inline(never)]
+    fn apply_value(
+        &mut self,
+        program: &Program,
+        most: usize,
+        number: u64,
+        job: ItemTask,
+        target: Option<usize>,
+        value: Scalar,
+        known: &mut Vec<Input>,
+    ) -> Result<(), AllocError>
+        requires { AreAtMost program.now most }
+        ensures passed { OnOk result (HasPassed program.now number (job_view job) (Stores target value) self.old self.new) }
+        ensures same { OnErr result (StaysBy program.now number (job_view job) (Stores target value) self.old self.new) }
+    {
+        let effect = Effect::Stores(target, value);
+        self.apply_effect(program, most, number, job, effect, known)
+    }
+
+    /// Ends a running item that writes an element, as `apply_effect` does.
+    #[inline(never)]
+    fn apply_element(
+        &mut self,
+        program: &Program,
+        most: usize,
+        number: u64,
+        job: ItemTask,
+        target: Option<usize>,
+        key: Key,
+        value: Scalar,
+        known: &mut Vec<Input>,
+    ) -> Result<(), AllocError>
+        requires { AreAtMost program.now most }
+        ensures passed { OnOk result (HasPassed program.now number (job_view job) (Puts target key value) self.old self.new) }
+        ensures same { OnErr result (StaysBy program.now number (job_view job) (Puts target key value) self.old self.new) }
+    {
+        let effect = Effect::Puts(target, key, value);
+        self.apply_effect(program, most, number, job, effect, known)
+    }
+
+    /// Ends a running item that opens instances, as `apply_effect` does.
+    #[inline(never)]
+    fn apply_opening(
+        &mut self,
+        program: &Program,
+        most: usize,
+        number: u64,
+        job: ItemTask,
+        openings: PendingInstances,
+        known: &mut Vec<Input>,
+    ) -> Result<(), AllocError>
+        requires { AreAtMost program.now most }
+        ensures passed { OnOk result (HasPassed program.now number (job_view job) (Opens openings) self.old self.new) }
+        ensures same { OnErr result (StaysBy program.now number (job_view job) (Opens openings) self.old self.new) }
+    {
+        let effect = Effect::Opens(openings);
+        self.apply_effect(program, most, number, job, effect, known)
+    }
+
+    /// Ends a running item with any effect that is not a fault, as `apply_effect` does.
+    #[inline(never)]
+    fn apply_other(
+        &mut self,
+        program: &Program,
+        most: usize,
+        number: u64,
+        job: ItemTask,
+        effect: Effect,
+        known: &mut Vec<Input>,
+    ) -> Result<(), AllocError>
+        requires { AreAtMost program.now most }
+        ensures passed { OnOk result (HasPassed program.now number (job_view job) effect self.old self.new) }
+        ensures same { OnErr result (StaysBy program.now number (job_view job) effect self.old self.new) }
+    {
+        self.apply_effect(program, most, number, job, effect, known)
+    }
+
     /// Ends a running item with this effect, which may be a fault. `most` and `known` are as in `apply_effect`.
     fn end_with_buffer(
         &mut self,
@@ -152,7 +239,16 @@ impl BoardState {
                 self.fail(fault);
                 Ok(())
             }
-            passed => match self.apply_effect(program, most, number, job, passed, known) {
+            Effect::Stores(target, value) => {
+                self.apply_value(program, most, number, job, target, value, known)
+            }
+            Effect::Puts(target, key, value) => {
+                self.apply_element(program, most, number, job, target, key, value, known)
+            }
+            Effect::Opens(openings) => {
+                self.apply_opening(program, most, number, job, openings, known)
+            }
+            passed => match self.apply_other(program, most, number, job, passed, known) {
                 Ok(()) => Ok(()),
                 Err(refused) => Err(refused),
             },

@@ -1,24 +1,53 @@
 //! Creation and validation of the work of an item.
 //!
 //! The work of an item is its entry together with the answers to the needs of that entry.
-ghost use Rattle.std.specs.Prelude.{◌≡◌, ◌<◌, ◌↔◌, IfOk, OnOk, IsTrue, length};
+ghost use Rattle.std.specs.Prelude.{◌≡◌, ◌<◌, ◌↔◌, IfOk, OnOk, IsTrue, length, map};
 ghost use Rattle.board_history.specs.Fields.{Job as PureJob};
 ghost use Rattle.task_code.specs.Code.{Code};
 ghost use Rattle.board_data.specs.View.{cells_view};
 ghost use Rattle.board_instances.specs.View.{frames_view, job_view};
 ghost use Rattle.board_data.specs.Data.{AreRising};
+ghost use Rattle.board_data.specs.Answered.{wanted_answer};
+ghost use Rattle.board_instances.specs.Names.{led_slot};
+ghost use Rattle.board_work.specs.Assigned.{job_view as task_view};
 ghost use Rattle.board_work.specs.View.{answers_view};
 ghost use Rattle.board.specs.Working.{IsThere, IsWorkAt, answers_at};
 
 use crate::state::BoardState;
-use board_data::answers::{answers, are_answers};
+use board_data::answers::{answers, are_given, stored_numbers};
 use board_data::data;
+use board_data::inputs::Environment;
 use board_instances::instance::datum_at;
 use board_instances::item::ItemTask;
 use board_program::program::{Program, ResolvedNeed};
 use board_work::answer::Answer;
 use board_work::work::{Done, Work, WorkTask};
-use std::alloc::AllocError;
+use std::alloc::{AllocError, Global};
+use std::mem::replace;
+
+/// Returns the work of an item with this number and task, with the answers to these needs. The buffer `list` is taken
+/// for them, unless they are one or two numbers.
+fn work_for(
+    view: Environment<'_>,
+    alloc: Global,
+    number: u64,
+    task: WorkTask,
+    needs: &[ResolvedNeed],
+    list: &mut Vec<Answer>,
+) -> Result<Work, AllocError>
+    ensures number { IfOk result (λ work. work.item ≡ number) }
+    ensures job { IfOk result (λ work. work.job ≡ task_view task) }
+    ensures answers { IfOk result (λ work. work.answers
+        ≡ map (wanted_answer view.entry.program.now (cells_view view.entry.store.now.cells)
+        (led_slot (frames_view view.entry.instances.now.slots) view.entry.at)) needs.now) }
+{
+    if let Some(given) = stored_numbers(view, needs) {
+        return Ok(Work::given(alloc, number, task, given));
+    }
+    let mut found = replace(list, Vec::new(alloc));
+    answers(&mut found, view, needs)?;
+    Ok(Work::new(number, task, found))
+}
 
 impl BoardState {
     /// Sorts by key the elements of each array that the needs require to be closed. Names are resolved in the
@@ -88,13 +117,14 @@ impl BoardState {
         Ok(())
     }
 
-    /// Returns the work of the item with this number and task. The buffer `list` is emptied and reused for the answers.
+    /// Returns the work of the item with this number and task. The buffer `list` is taken for the answers, unless they
+    /// are one or two numbers.
     pub fn work(
         &self,
         program: &Program,
         number: u64,
         job: ItemTask,
-        list: Vec<Answer>,
+        list: &mut Vec<Answer>,
     ) -> Result<Work, AllocError>
         requires { IsThere program.now (job_view job) }
         ensures number { IfOk result (λ work. work.item ≡ number) }
@@ -112,9 +142,10 @@ impl BoardState {
                 program.entry(entry),
             ) {
                 let view = self.view(program, instance);
-                let mut found = list;
-                answers(&mut found, view, table.needs.as_slice())?;
-                return Ok(Work::new(number, WorkTask::Entry(shared), found));
+                let task = WorkTask::Entry(shared);
+                let needs = table.needs.as_slice();
+                let work = work_for(view, self.alloc, number, task, needs, list)?;
+                return Ok(work);
             }
         }
         Ok(Work::new(number, WorkTask::Script, Vec::new(self.alloc)))
@@ -139,8 +170,7 @@ impl BoardState {
         match (program.code().entry(entry), program.entry(entry)) {
             (Some(found), Some(table)) => {
                 let view = self.view(program, instance);
-                done.is_of(found)
-                    && are_answers(view, table.needs.as_slice(), done.answers().as_slice())
+                done.is_of(found) && are_given(view, table.needs.as_slice(), done.answers())
             }
             _ => false,
         }

@@ -23,6 +23,7 @@ use std::alloc::AllocError;
 
 /// Returns the number of items that a change creates, by kind. The item for the rest of a loop counts as a control
 /// item. `None` if the count overflows, or if the body does not exist.
+#[inline(always)]
 fn new_items(program: &Program, change: &Change) -> Option<Counts>
     ensures controls { IfSome result (λ c. c.controls ≡ new_controls program.now change.now) }
     ensures leaves { IfSome result (λ c. c.leaves ≡ new_leaves program.now change.now) }
@@ -43,6 +44,7 @@ fn new_items(program: &Program, change: &Change) -> Option<Counts>
 
 /// Reserves memory for new items; does nothing if both counts are zero. Nothing but capacity changes.
 #[tactic(auto, using(crate::proofs::NoMore::none_more))]
+#[inline(always)]
 fn reserve_items(items: &mut Items, added: Counts) -> Result<(), AllocError>
     ensures stays { StaysButRoom items.old items.new }
     ensures roomy { OnOk result ((code : Code) → IsRoomy code items.old → IsRoomyFor code added.controls added.leaves items.new) }
@@ -57,6 +59,7 @@ fn reserve_items(items: &mut Items, added: Counts) -> Result<(), AllocError>
 
 /// Reserves the index memory for those new items of the change that may wait for more than two inputs. Nothing else
 /// changes.
+#[inline(always)]
 fn reserve_to_wait(items: &mut Items, change: &Change) -> Result<(), AllocError>
     ensures { items.new ≡ items.old }
 {
@@ -68,6 +71,7 @@ fn reserve_to_wait(items: &mut Items, change: &Change) -> Result<(), AllocError>
 
 impl BoardState {
     /// Reserves memory for waking all waiting items, for `added` new items and for one printed line.
+    #[inline(never)]
     fn make_room_for_items(&mut self, program: &Program, added: Counts) -> Result<(), AllocError>
         ensures same { StaysSo program.now self.old self.new }
         ensures data_state { self.new.data_state ≡ self.old.data_state }
@@ -90,6 +94,7 @@ impl BoardState {
 
     /// Reserves memory for all that the end of an item with this task and change creates. Inputs that become known will
     /// be appended to `known`. Nothing but capacity changes.
+    #[inline(always)]
     pub fn make_room(
         &mut self,
         program: &Program,

@@ -148,6 +148,7 @@ impl DataState {
     }
 
     /// Stores a scalar, and appends it to the known inputs.
+    #[inline(always)]
     fn store_value(
         &mut self,
         known: &mut Vec<Input>,
@@ -169,6 +170,7 @@ impl DataState {
     }
 
     /// Stores an element, and appends it to the known inputs.
+    #[inline(always)]
     fn store_element(
         &mut self,
         known: &mut Vec<Input>,
@@ -194,6 +196,7 @@ impl DataState {
     }
 
     /// Stores elements, and appends them to the known inputs.
+    #[inline(never)]
     fn store_all(
         &mut self,
         known: &mut Vec<Input>,
@@ -217,6 +220,7 @@ impl DataState {
 
     /// Opens instances, and creates the item for the rest of a loop if there is one. Returns the spare lists for the
     /// missing inputs of the new items.
+    #[inline(never)]
     fn open(
         &mut self,
         alloc: Global,
@@ -284,6 +288,7 @@ impl DataState {
     }
 
     /// Removes the holds of the item, and removes the item from the live count of its instance.
+    #[inline(never)]
     fn release_item(
         &mut self,
         known: &mut Vec<Input>,
@@ -312,6 +317,7 @@ impl DataState {
     }
 
     /// Makes the change of an item that ends. Returns the spare lists for the missing inputs of the new items.
+    #[inline(always)]
     fn make(
         &mut self,
         alloc: Global,
@@ -352,6 +358,7 @@ impl DataState {
     ///
     /// Returns `AllocError` if an allocation fails. A part of the change may have been made then. With room for all of
     /// it, no allocation is made.
+    #[inline(always)]
     pub fn end(
         &mut self,
         alloc: Global,

@@ -25,6 +25,7 @@ const NUMBERS_OF_32_BITS: usize = 4_294_967_296;
 
 impl Change {
     /// Returns the number of stored values that become known.
+    #[inline(always)]
     fn told(&self) -> usize
         ensures { result ≡ told_by self.now }
     {
@@ -67,6 +68,7 @@ fn is_short(job: ItemTask, goes_on: bool) -> bool
 }
 
 /// Returns the maximum number of arrays that an item with this change closes.
+#[inline(always)]
 fn closed_count(program: &Program, job: ItemTask, change: &Change) -> usize
     ensures { result ≡ closes_of program.now (job_view job) (goes_on change.now) }
 {
@@ -78,6 +80,7 @@ fn closed_count(program: &Program, job: ItemTask, change: &Change) -> usize
 }
 
 /// Reserves memory for elements in an array, under keys of their kinds.
+#[inline(never)]
 fn reserve_elements(
     store: &mut Store,
     d: Option<usize>,
@@ -95,6 +98,7 @@ fn reserve_elements(
 
 impl DataState {
     /// Reserves memory for opened instances, with their data and items.
+    #[inline(never)]
     fn reserve_to_open(
         &mut self,
         rows: &mut Vec<PackedItem>,
@@ -130,6 +134,7 @@ impl DataState {
     }
 
     /// Reserves memory for elements in an array, or for opened instances.
+    #[inline(always)]
     fn reserve_to_change(
         &mut self,
         rows: &mut Vec<PackedItem>,
@@ -156,6 +161,7 @@ impl DataState {
     }
 
     /// Reserves memory for the arrays that are closed and for the inputs that become known.
+    #[inline(always)]
     fn reserve_to_notify(
         &mut self,
         known: &mut Vec<Input>,
@@ -182,6 +188,7 @@ impl DataState {
     /// # Errors
     ///
     /// Returns `AllocError` if an allocation fails.
+    #[inline(always)]
     pub fn make_room(
         &mut self,
         rows: &mut Vec<PackedItem>,

@@ -1,13 +1,15 @@
 //! The answers to the needs of an item, and comparison of given answers with them.
 
-ghost use Rattle.std.specs.Prelude.{◌≡◌, ◌↔◌, ℕ, map, option_copied, IfOk, OnOk, IsTrue, Some};
+ghost use Rattle.std.specs.Prelude.{◌≡◌, ◌↔◌, ℕ, map, option_copied, IfOk, IfSome, OnOk, IsTrue, Some};
 ghost use Rattle.std.specs.List.{list_all};
 ghost use Rattle.data_store.specs.Stores.{array_at, at};
+ghost use Rattle.dataflow.specs.System.{Found};
+ghost use Rattle.values.specs.declared.value.Scalar.TheVariants.{Number};
 ghost use Rattle.values.specs.Maps.{found, rising};
 ghost use Rattle.values.specs.declared.map.Element.{Element as AnElement};
 ghost use Rattle.board_history.specs.Fields.{slot_at};
 ghost use Rattle.board_work.specs.Same.{option_eq, scalar_eq};
-ghost use Rattle.board_work.specs.View.{answer_view, answers_view};
+ghost use Rattle.board_work.specs.View.{answer_view, answers_view, given_view};
 ghost use Rattle.board_instances.specs.Names.{led_slot};
 ghost use Rattle.board_instances.specs.View.{frames_view};
 ghost use Rattle.board_data.specs.Answered.{cell_answer, scalar_answer, wanted_answer};
@@ -17,7 +19,7 @@ ghost use Rattle.board_data.specs.View.{cells_view};
 use crate::data::{element, listed, size};
 use crate::inputs::Environment;
 use board_program::program::ResolvedNeed;
-use board_work::answer::Answer;
+use board_work::answer::{Answer, GivenAnswers};
 use data_store::store::Store;
 use std::alloc::AllocError;
 use values::datum_kind::DatumKind;
@@ -66,7 +68,7 @@ fn answer(view: Environment<'_>, wanted: &ResolvedNeed) -> Result<Answer, AllocE
 /// # Errors
 ///
 /// Returns `AllocError` if an allocation fails. The list itself is not reallocated if it has room.
-#[inline(always)]
+#[inline(never)]
 pub fn answers(
     list: &mut Vec<Answer>,
     view: Environment<'_>,
@@ -82,6 +84,40 @@ pub fn answers(
         list.push(answer(view, wanted)?)?;
     }
     Ok(())
+}
+
+/// Returns the number that answers the need for a stored scalar, or `None` for any other need or answer.
+fn stored_number(view: Environment<'_>, wanted: &ResolvedNeed) -> Option<i64>
+    ensures { IfSome result (λ n. Found (Number n)
+        ≡ wanted_answer view.entry.program.now (cells_view view.entry.store.now.cells)
+        (led_slot (frames_view view.entry.instances.now.slots) view.entry.at) wanted.now) }
+{
+    match wanted {
+        ResolvedNeed::Stored(_) => match view.found(wanted) {
+            Some(Scalar::Number(number)) => Some(*number),
+            _ => None,
+        },
+        _ => None,
+    }
+}
+
+/// Returns the answers to these needs as numbers without a list. Returns `None` unless there are one or two needs, each
+/// for a stored scalar that is a number. Allocates no memory.
+#[inline(always)]
+pub fn stored_numbers(view: Environment<'_>, needs: &[ResolvedNeed]) -> Option<GivenAnswers>
+    ensures { IfSome result (λ given. given_view given
+        ≡ map (wanted_answer view.entry.program.now (cells_view view.entry.store.now.cells)
+        (led_slot (frames_view view.entry.instances.now.slots) view.entry.at)) needs.now) }
+{
+    match needs {
+        [one] => Some(GivenAnswers::Number(stored_number(view, one)?)),
+        [one, other] => {
+            let first = stored_number(view, one)?;
+            let second = stored_number(view, other)?;
+            Some(GivenAnswers::Numbers(first, second))
+        }
+        _ => None,
+    }
 }
 
 /// Returns true if both are the same scalar.
@@ -181,4 +217,27 @@ pub fn are_answers(view: Environment<'_>, needs: &[ResolvedNeed], answers: &[Ans
         }
     }
     rest.is_empty()
+}
+
+/// Returns true if these are the answers to the needs, in order, as `are_answers` does.
+pub fn are_given(view: Environment<'_>, needs: &[ResolvedNeed], answers: &GivenAnswers) -> bool
+    ensures { ((d : ℕ) → IsTrue (rising (array_at view.entry.store.now d).elements))
+        → IsTrue result ↔ (given_view answers.now ≡ map
+        (wanted_answer view.entry.program.now (cells_view view.entry.store.now.cells)
+        (led_slot (frames_view view.entry.instances.now.slots) view.entry.at)) needs.now) }
+{
+    match answers {
+        GivenAnswers::Number(one) => {
+            let answers = [Answer::Found(Scalar::Number(*one))];
+            are_answers(view, needs, &answers)
+        }
+        GivenAnswers::Numbers(one, other) => {
+            let answers = [
+                Answer::Found(Scalar::Number(*one)),
+                Answer::Found(Scalar::Number(*other)),
+            ];
+            are_answers(view, needs, &answers)
+        }
+        GivenAnswers::Listed(list) => are_answers(view, needs, list.as_slice()),
+    }
 }

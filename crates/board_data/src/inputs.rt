@@ -214,7 +214,7 @@ impl<'a> Environment<'a> {
     }
 
     /// Returns the missing input of a need, or `None`. For an element whose index is not known, that is the index.
-    #[inline(always)]
+    #[inline(never)]
     pub fn missing(self, wanted: &ResolvedNeed) -> Option<Input>
         ensures { wants_in result ≡ wanted_missed self.entry.program.now (cells_view self.entry.store.now.cells)
             (led_slot (frames_view self.entry.instances.now.slots) self.entry.at) wanted.now }

@@ -54,7 +54,7 @@ impl<'a> EndingItem<'a> {
     }
 
     /// Returns the effect that opens these instances of a body.
-    #[inline(always)]
+    #[inline(never)]
     fn opens_list(
         self,
         body: u32,
@@ -75,7 +75,7 @@ impl<'a> EndingItem<'a> {
     }
 
     /// Returns the effect that opens one block. An item for the rest of a loop, whose chunk is above 0, opens none.
-    #[inline(always)]
+    #[inline(never)]
     fn opens(self, body: u32, way: LastStep) -> Result<Effect, AllocError>
         ensures { IsEnded self.entry → (x : Computed) → OpensBlock self.entry x body (option_map step_view way) → IfOk result (Ends self.entry x) }
     {
@@ -168,6 +168,7 @@ impl<'a> EndingItem<'a> {
     }
 
     /// Returns the effect that opens the next chunk of turns of a range.
+    #[inline(never)]
     pub(crate) fn counts(self, body: u32, range: &IntRange) -> Result<Effect, AllocError>
         ensures { IsEnded self.entry → IsLoop self.entry body
             → IfOk result (Ends self.entry (Turns (range_turns range.now.low range.now.step 0 range.now.count))) }
@@ -192,6 +193,7 @@ impl<'a> EndingItem<'a> {
     }
 
     /// Returns the effect that opens the turns for the next chunk of elements.
+    #[inline(never)]
     pub(crate) fn goes_over(self, body: u32, map: &Map) -> Result<Effect, AllocError>
         ensures { IsEnded self.entry → IsLoop self.entry body → IfOk result (Ends self.entry (Turns (pairs map.now))) }
     {
@@ -238,6 +240,7 @@ fn script_list(alloc: Global, program: &Program) -> Result<Vec<PendingInstance>,
 /// # Errors
 ///
 /// Returns `AllocError` if an allocation fails.
+#[inline(never)]
 pub fn script_effect(alloc: Global, program: &Program) -> Result<Effect, AllocError>
     ensures { (fs : List (Option Frame)) (cs : List (Option Counted)) (x : Computed) → IfOk result (IsEffect program.now fs cs Script x) }
 {

@@ -230,6 +230,7 @@ impl Items {
     /// # Errors
     ///
     /// Returns `AllocError` if an allocation fails. Some of the memory may have been reserved.
+    #[inline(never)]
     pub fn reserve_new(&mut self, added: Counts) -> Result<(), AllocError>
         ensures stays { StaysButRoom self.old self.new }
         ensures roomy { OnOk result ((code : Code) → IsRoomy code self.old → IsRoomyFor code added.controls added.leaves self.new) }
@@ -261,6 +262,7 @@ impl Items {
     /// # Errors
     ///
     /// Returns `AllocError` if an allocation fails.
+    #[inline(never)]
     pub fn reserve_to_wait(&mut self, spare: &[MissingInputs]) -> Result<(), AllocError>
         ensures { self.new ≡ self.old }
     {

@@ -535,6 +535,7 @@ impl Items {
     /// # Errors
     ///
     /// Returns `AllocError` if there is no room.
+    #[inline(never)]
     pub fn finish(
         &mut self,
         board_view: BoardView<'_>,

@@ -3,9 +3,12 @@ use Rattle.std.specs.Prelude.{List, [], ◌∷◌, map}
 use Rattle.dataflow.specs.System as Flow
 use Rattle.values.specs.declared.key.Key.{Key}
 use Rattle.values.specs.declared.value.Scalar.{Scalar}
+use Rattle.values.specs.declared.value.Scalar.TheVariants.{Number}
 use Rattle.task_code.specs.Compute as Pure
 use Rattle.board_work.specs.declared.answer.Answer.{Answer}
 use Rattle.board_work.specs.declared.answer.Answer.TheVariants as Got
+use Rattle.board_work.specs.declared.answer.GivenAnswers.{GivenAnswers}
+use Rattle.board_work.specs.declared.answer.GivenAnswers.TheVariants as All
 use Rattle.board_work.specs.declared.outcome.EntryFault.{EntryFault}
 use Rattle.board_work.specs.declared.outcome.EntryFault.TheVariants as Fault
 use Rattle.board_work.specs.declared.outcome.ControlResult.{ControlResult}
@@ -19,6 +22,12 @@ answer_view (Got.Content m) = Flow.Content (Pure.pairs m)
 
 abbrev pub answers_view : List Answer → List (Flow.Answer Key Scalar)
 answers_view xs = map answer_view xs
+
+-- the answers to all needs
+abbrev pub given_view : GivenAnswers → List (Flow.Answer Key Scalar)
+given_view (All.Number m) = Flow.Found (Number m) ∷ []
+given_view (All.Numbers m n) = Flow.Found (Number m) ∷ Flow.Found (Number n) ∷ []
+given_view (All.Listed xs) = answers_view xs.items
 
 -- the fault of an entry
 abbrev pub fault_view : EntryFault → Pure.EntryFault

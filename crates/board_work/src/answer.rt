@@ -1,9 +1,9 @@
 //! Answers to the needs of an entry.
-ghost use Rattle.std.specs.Prelude.{◌≡◌, IfOk, MatchOption, Some, None};
+ghost use Rattle.std.specs.Prelude.{◌≡◌, ◌⊎◌, ◌==◌, [], IfOk, MatchOption, Some, None, length};
 ghost use Rattle.dataflow.specs.System.{Found, Missing, Content};
 ghost use Rattle.task_code.specs.Compute.{answer_at, answer_value, pairs};
 ghost use Rattle.board_work.specs.Same.{answer_eq};
-ghost use Rattle.board_work.specs.View.{answer_view, answers_view};
+ghost use Rattle.board_work.specs.View.{answer_view, answers_view, given_view};
 
 use crate::view_eq::{ViewEq, all_same};
 use std::alloc::AllocError;
@@ -58,6 +58,50 @@ impl Answer {
         match self {
             Answer::Content(content) => all_same(map.elements(), content.elements()),
             _ => false,
+        }
+    }
+}
+
+/// The answers to all needs of an item, in order. One or two numbers are kept without a list.
+#[derive(Drop)]
+pub enum GivenAnswers {
+    Number(i64),
+    Numbers(i64, i64),
+    Listed(Vec<Answer>),
+}
+
+impl GivenAnswers {
+    /// Returns the number of answers.
+    pub fn len(&self) -> usize
+        ensures { result ≡ length (given_view self.now) }
+    {
+        match self {
+            GivenAnswers::Number(_) => 1,
+            GivenAnswers::Numbers(_, _) => 2,
+            GivenAnswers::Listed(list) => list.len(),
+        }
+    }
+
+    /// Returns true if there are no answers.
+    pub fn is_empty(&self) -> bool
+        ensures { result ≡ (length (given_view self.now) == 0) }
+    {
+        match self {
+            GivenAnswers::Number(_) => false,
+            GivenAnswers::Numbers(_, _) => false,
+            GivenAnswers::Listed(list) => list.is_empty(),
+        }
+    }
+
+    /// Empties the list of the answers and puts it in place of the other, so that its memory is used again. Numbers have
+    /// no list, and leave the other as it is.
+    pub fn return_list(self, list: &mut Vec<Answer>)
+        ensures { (list.new.items ≡ []) ⊎ (list.new ≡ list.old) }
+    {
+        if let GivenAnswers::Listed(own) = self {
+            let mut emptied = own;
+            emptied.clear();
+            *list = emptied;
         }
     }
 }

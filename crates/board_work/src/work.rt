@@ -1,12 +1,12 @@
 //! Running items and their outcomes: `Work` before the computation, `Done` after it.
-ghost use Rattle.std.specs.Prelude.{◌≡◌, ◌↔◌, [], IfOk, IfErr, IsTrue};
+ghost use Rattle.std.specs.Prelude.{◌≡◌, ◌↔◌, ◌⊎◌, [], IfOk, IfErr, IsTrue};
 ghost use Rattle.std.specs.Option.{option_copied};
 ghost use Rattle.task_code.specs.View.{entry_view};
-ghost use Rattle.board_work.specs.View.{answers_view};
+ghost use Rattle.board_work.specs.View.{answers_view, given_view};
 ghost use Rattle.board_work.specs.Outcome.{result_in, control_in};
 ghost use Rattle.board_work.specs.Assigned.{opens_script, runs, job_view, job_kind, job_result, job_control, job_computed, meaning};
 
-use crate::answer::Answer;
+use crate::answer::{Answer, GivenAnswers};
 use crate::outcome::{ControlResult, Outcome, outcome_of};
 use crate::view_eq::is_same_entry;
 use std::alloc::{AllocError, Global};
@@ -14,7 +14,7 @@ use std::marker::Model;
 use std::sync::Arc;
 use task_code::entry::{Entry, Kind};
 use values::fault::OpFault;
-use values::value::Value;
+use values::value::{Scalar, Value};
 
 /// The task of an item: the opening of the script, or an entry.
 #[derive(Drop)]
@@ -28,20 +28,21 @@ pub enum WorkTask {
 pub struct Work {
     item: u64,
     job: WorkTask,
-    answers: Vec<Answer>,
+    answers: GivenAnswers,
+    alloc: Global,
 }
 
 impl Model for Work {
     ghost use Rattle.std.specs.Coded.{codes};
     ghost use Rattle.task_code.specs.Tokens.{expr_code, exprs_code};
-    ghost use Rattle.board_work.specs.View.{answers_view};
+    ghost use Rattle.board_work.specs.View.{given_view};
     ghost use Rattle.board_work.specs.Assigned.{Assigned, job_view};
 
     ghost Value = { Assigned };
 
     ghost coded = { Prim.hlevel (codes, expr_code (Prim.hlevel codes), exprs_code (Prim.hlevel codes)) };
 
-    ghost view = { λ w. record { item = w.item; job = job_view w.job; answers = answers_view w.answers.items } };
+    ghost view = { λ w. record { item = w.item; job = job_view w.job; answers = given_view w.answers } };
 }
 
 /// A computed item: its work together with the outcome. Only `Work::compute` creates one.
@@ -49,7 +50,8 @@ impl Model for Work {
 pub struct Done {
     item: u64,
     job: WorkTask,
-    answers: Vec<Answer>,
+    answers: GivenAnswers,
+    alloc: Global,
     outcome: Outcome,
 }
 
@@ -57,7 +59,7 @@ impl Model for Done {
     ghost use Rattle.std.specs.Prelude.{◌≡◌};
     ghost use Rattle.std.specs.Coded.{codes};
     ghost use Rattle.task_code.specs.Tokens.{expr_code, exprs_code};
-    ghost use Rattle.board_work.specs.View.{answers_view};
+    ghost use Rattle.board_work.specs.View.{given_view};
     ghost use Rattle.board_work.specs.Outcome.{result_in, control_in};
     ghost use Rattle.board_work.specs.Assigned.{Assigned, job_view, job_result, job_control};
 
@@ -65,9 +67,9 @@ impl Model for Done {
 
     ghost coded = { Prim.hlevel (codes, expr_code (Prim.hlevel codes), exprs_code (Prim.hlevel codes)) };
 
-    ghost view = { λ d. record { item = d.item; job = job_view d.job; answers = answers_view d.answers.items } };
+    ghost view = { λ d. record { item = d.item; job = job_view d.job; answers = given_view d.answers } };
 
-    ghost invariant = { λ d. (result_in d.outcome ≡ job_result (job_view d.job) (answers_view d.answers.items)) × (control_in d.outcome ≡ job_control (job_view d.job) (answers_view d.answers.items)) };
+    ghost invariant = { λ d. (result_in d.outcome ≡ job_result (job_view d.job) (given_view d.answers)) × (control_in d.outcome ≡ job_control (job_view d.job) (given_view d.answers)) };
 }
 
 impl Work {
@@ -75,7 +77,20 @@ impl Work {
     pub fn new(item: u64, job: WorkTask, answers: Vec<Answer>) -> Work
         ensures { result ≡ record { item = item; job = job_view job; answers = answers_view answers.items } }
     {
-        Work { item, job, answers }
+        let alloc = *answers.allocator();
+        Work::given(alloc, item, job, GivenAnswers::Listed(answers))
+    }
+
+    /// Creates the work of an item whose answers may be numbers without a list.
+    pub fn given(alloc: Global, item: u64, job: WorkTask, answers: GivenAnswers) -> Work
+        ensures { result ≡ record { item = item; job = job_view job; answers = given_view answers } }
+    {
+        Work {
+            item,
+            job,
+            answers,
+            alloc,
+        }
     }
 
     /// Returns the number of the item.
@@ -104,21 +119,60 @@ impl Work {
         ensures ok { IfOk result (λ done. done ≡ self) }
         ensures err { IfErr result (λ refused. refused.0 ≡ self) }
     {
-        let Work { item, job, answers } = self;
-        let alloc = *answers.allocator();
-        match job_outcome(alloc, &job, &answers) {
+        let Work {
+            item,
+            job,
+            answers,
+            alloc,
+        } = self;
+        match given_outcome(alloc, &job, &answers) {
             Ok(outcome) => Ok(Done {
                 item,
                 job,
                 answers,
+                alloc,
                 outcome,
             }),
-            Err(refused) => Err((Work { item, job, answers }, refused)),
+            Err(refused) => Err((
+                Work {
+                    item,
+                    job,
+                    answers,
+                    alloc,
+                },
+                refused,
+            )),
         }
     }
 }
 
 /// Computes the outcome of a task from its answers.
+fn given_outcome(
+    alloc: Global,
+    job: &WorkTask,
+    answers: &GivenAnswers,
+) -> Result<Outcome, AllocError>
+    ensures leaf { IfOk result (λ o. result_in o ≡ job_result (job_view job.now) (given_view answers.now)) }
+    ensures control { IfOk result (λ o. control_in o ≡ job_control (job_view job.now) (given_view answers.now)) }
+{
+    match answers {
+        GivenAnswers::Number(one) => {
+            let answers = [Answer::Found(Scalar::Number(*one))];
+            job_outcome(alloc, job, &answers)
+        }
+        GivenAnswers::Numbers(one, other) => {
+            let answers = [
+                Answer::Found(Scalar::Number(*one)),
+                Answer::Found(Scalar::Number(*other)),
+            ];
+            job_outcome(alloc, job, &answers)
+        }
+        GivenAnswers::Listed(list) => job_outcome(alloc, job, list),
+    }
+}
+
+/// Computes the outcome of a task from a list of its answers.
+#[inline(never)]
 fn job_outcome(alloc: Global, job: &WorkTask, answers: &[Answer]) -> Result<Outcome, AllocError>
     ensures leaf { IfOk result (λ o. result_in o ≡ job_result (job_view job.now) (answers_view answers.now)) }
     ensures control { IfOk result (λ o. control_in o ≡ job_control (job_view job.now) (answers_view answers.now)) }
@@ -169,19 +223,19 @@ impl Done {
     }
 
     /// Returns the answers from which the outcome was computed.
-    pub fn answers(&self) -> &Vec<Answer>
-        ensures { answers_view result.now.items ≡ self.now.answers }
+    pub fn answers(&self) -> &GivenAnswers
+        ensures { given_view result.now ≡ self.now.answers }
     {
         &self.answers
     }
 
-    /// Returns the list that held the answers, empty but with its capacity.
-    pub fn into_list(self) -> Vec<Answer>
-        ensures { result.items ≡ [] }
+    /// Empties the list that held the answers, if there is one, and puts it in place of the other. The next work then
+    /// needs no memory for its own.
+    pub fn return_list(self, list: &mut Vec<Answer>)
+        ensures { (list.new.items ≡ []) ⊎ (list.new ≡ list.old) }
     {
-        let mut list = self.answers;
-        list.clear();
-        list
+        let answers = self.answers;
+        answers.return_list(list);
     }
 
     /// Returns the outcome of the item.

@@ -90,6 +90,10 @@ impl Gate for ProgressReporter<'_> {
         work.compute()
     }
 
+    fn passes_controls(&self) -> bool {
+        false
+    }
+
     fn note(&self, progress: Progress) {
         let events = progress.events as u64;
         // The count is stored only when it doubles, since all threads read it.

@@ -13,6 +13,10 @@ impl Gate for Unobserved {
     fn pass(&self, _worker: u8, work: Work) -> Result<Done, (Work, AllocError)> {
         work.compute()
     }
+
+    fn passes_controls(&self) -> bool {
+        false
+    }
 }
 
 impl RoundObserver for Unobserved {}

@@ -382,7 +382,9 @@ fn what_is_done_has_a_result(rt: HostRuntime) {
     let done = stored(&rt, rt.alloc(), b"1x+");
     assert!(rt; matches!(done.result(), Some(Ok(Value::One(Scalar::Number(6))))));
     is_equal(&rt, done.answers().len(), 1);
-    assert!(rt; done.into_list().is_empty());
+    let mut list = Vec::new(rt.alloc());
+    done.return_list(&mut list);
+    assert!(rt; list.is_empty());
 }
 
 /// Returns true if an answer is the array that has these numbers under 4 and 5.

@@ -1,6 +1,6 @@
 //! Leaf items that run side by side, offers and draws, and what a gate learns of a run.
 use crate::asserts::{holds, is_equal};
-use crate::gates::{BarrierGate, ProgressGate};
+use crate::gates::{BarrierGate, LeafGate, ProgressGate};
 use crate::threaded::{MANY, is_whole, run_of};
 use std::alloc::Global;
 use std::process::Abort;
@@ -49,6 +49,16 @@ fn what_a_loop_makes_ready_is_offered_and_drawn(rt: HostRuntime) {
     let ran = run_of(&rt, rt.alloc(), script, (1, 1), MANY, &gate);
     is_equal(&rt, (gate.ran_out(), ran.0.history.len()), (false, 2034));
     were_offered(&rt, &ran.1);
+    is_whole(&rt, rt.alloc(), &ran.0, 1000);
+}
+
+#[test]
+fn each_leaf_passes_a_gate_that_leaves_control_items_to_the_run(rt: HostRuntime) {
+    let script = b"foreach i in [1:1000] { printf(\"%i\", i); }";
+    let gate = LeafGate::new(2);
+    let ran = run_of(&rt, rt.alloc(), script, (2, 6), MANY, &gate);
+    is_equal(&rt, gate.passed(), (1000, 0));
+    is_equal(&rt, ran.0.history.len(), 2034);
     is_whole(&rt, rt.alloc(), &ran.0, 1000);
 }
 

@@ -1,4 +1,4 @@
-//! Gates: one that holds what workers run until other items have begun, and one that keeps what it learns.
+//! Gates: one that holds what workers run until other items have begun, one that only leaf items pass, and one that keeps what it learns.
 use board_work::work::{Done, Work};
 use std::alloc::AllocError;
 use std::sync::atomic::{AtomicBool, AtomicU64, Ordering};
@@ -69,6 +69,47 @@ impl Gate for BarrierGate<'_> {
             self.hold();
         }
         work.compute()
+    }
+}
+
+/// Leaves control items to the run, and counts what passes all the same, by engines and by workers.
+#[derive(Drop)]
+pub(crate) struct LeafGate {
+    engines: u8,
+    leaves: AtomicU64,
+    controls: AtomicU64,
+}
+
+impl LeafGate {
+    pub(crate) fn new(engines: u8) -> LeafGate {
+        LeafGate {
+            engines,
+            leaves: AtomicU64::new(0),
+            controls: AtomicU64::new(0),
+        }
+    }
+
+    /// How many items passed on workers, and how many on engines.
+    pub(crate) fn passed(&self) -> (u64, u64) {
+        (
+            self.leaves.load(Ordering::SeqCst),
+            self.controls.load(Ordering::SeqCst),
+        )
+    }
+}
+
+impl Gate for LeafGate {
+    fn pass(&self, worker: u8, work: Work) -> Result<Done, (Work, AllocError)> {
+        if worker < self.engines {
+            self.controls.fetch_add(1, Ordering::SeqCst);
+        } else {
+            self.leaves.fetch_add(1, Ordering::SeqCst);
+        }
+        work.compute()
+    }
+
+    fn passes_controls(&self) -> bool {
+        false
     }
 }
 

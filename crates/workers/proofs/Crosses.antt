@@ -28,6 +28,7 @@ use Rattle.board_work.specs.contracts.work.WorkTask as job
 use Rattle.board_work.specs.contracts.work.Work as work
 use Rattle.board_work.specs.contracts.work.Done as done
 use Rattle.board_work.proofs.answer.Answer.TheSendSync as answer
+use Rattle.board_work.proofs.answer.GivenAnswers.TheSendSync as given
 use Rattle.board_work.proofs.outcome.Outcome.TheSendSync as outcome
 use Rattle.board_program.specs.contracts.program.ProgramTables as laid
 use Rattle.board_program.specs.contracts.program.Program as program
@@ -59,10 +60,10 @@ pub job_send : IsSend (job.the_field).row
 job_send = search (entry_send, entry_sync, crosses, sendable) depth 60 fits 4000
 
 pub work_send : IsSend (work.the_field).row
-work_send = search (job_send, answer.the_send, crosses, sendable) depth 60 fits 4000
+work_send = search (job_send, answer.the_send, given.the_send, crosses, sendable) depth 60 fits 4000
 
 pub done_send : IsSend (done.the_field).row
-done_send = search (job_send, answer.the_send, outcome.the_field_send, crosses, sendable) depth 60 fits 4000
+done_send = search (job_send, answer.the_send, given.the_send, outcome.the_field_send, crosses, sendable) depth 60 fits 4000
 
 -- what a program shares may be looked at on another thread too
 laid_send : IsSend (laid.the_field).row

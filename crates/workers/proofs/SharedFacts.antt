@@ -1,7 +1,10 @@
 -- Runs by engines and workers, one event after the other.
-use Rattle.std.proofs.Common.{◌≡◌, ℕ, ◌+◌, ◌∷◌, [], ◌++◌, List, length, subst, sym, ap, arith, ◌∙◌, refl}
+use Rattle.std.proofs.Common.{◌≡◌, ◌⊎◌, inl, inr, ℕ, ◌+◌, ◌<◌, Bool, true, false, ◌∷◌, [], ◌++◌, List, length, subst, sym, ap, arith, ◌∙◌, refl}
+use Rattle.std.specs.Prelude.{MatchBool}
 use Rattle.std.proofs.lemmas.List.{length_push}
 use Rattle.board.specs.Board.{Accepts, Seen}
+use Rattle.board.proofs.Staying.{work_later}
+use Rattle.board_work.specs.Assigned.{Assigned}
 use Rattle.board_runs.specs.Report.{Reports}
 use Rattle.board_runs.specs.declared.report.Report.{Report}
 use Rattle.dataflow.specs.Events.{NewlyAlong, NewlyAt, backs}
@@ -10,6 +13,8 @@ use Rattle.dataflow.specs.System.{In}
 use Rattle.task_code.specs.Code.{Code}
 use Rattle.task_code.specs.Machine.{CodeItem, CodeState, CodeStep, Newly, Run}
 use Rattle.task_code.specs.System.{code_system, task_kind}
+use Rattle.task_code.specs.Whole.{IsCode}
+use Rattle.workers.specs.StartLog.{AreItems}
 use Rattle.workers.specs.Reports.{IsReport}
 use Rattle.workers.specs.Threads.{MayRun, IsRunWorker, RunsTo, begins, ends, gives_back, nothing}
 use Rattle.workers.specs.declared.run.PoolCount.{PoolCount}
@@ -109,3 +114,33 @@ newly_told C e k events n s runs = newly_along C events n (start (code_system C)
 -- a report of a run on threads is one of a run
 pub reports : (C : Code) (limit e k : ℕ) (r : Report) (p : PoolCount) → IsReport C limit e k r p → Reports C limit r
 reports C limit e k r p t = record { board = t.board; code = t.code; limit_is = t.limit_is; run = t.steps; within = t.within; tells = t.tells }
+
+-- an item begins and ends in one call
+pub performed : (C : Code) (e k w i n m : ℕ) (old mid new : Seen) → old.code ≡ C → RunsTo C e k old.history n old.state → Accepts old (Begin w i) mid → mid.newly ≡ [] → Accepts mid (End w i) new
+    → (item : CodeItem) → In item old.state.items → item.number ≡ i → MayRun e k w (task_kind C item.task) → IsRunWorker e k w → m ≡ n + length new.newly → RunsTo C e k new.history m new.state
+performed C e k w i n m old mid new code runs a still b item there number place theirs count =
+    ended C e k w i n m mid new (a.code ∙ code) (begun C e k w i n old mid code runs a still item there number place) b theirs count
+
+-- and logged work still belongs to its items
+pub items_kept : (C : Code) (e k w i n : ℕ) (old mid new : Seen) → old.code ≡ C → IsCode old.code → Run old.code old.history old.state → RunsTo C e k mid.history n mid.state → Accepts old (Begin w i) mid → Accepts mid (End w i) new
+    → (log : List Assigned) → AreItems old log → AreItems new log
+items_kept C e k w i n old mid new code whole run runs a b log all work h =
+    let here : Run mid.code mid.history mid.state = subst (λ (x : Code). Run x mid.history mid.state) (sym (a.code ∙ code)) (is_run C e k mid.history n mid.state runs) in
+    work_later mid new (subst (λ (x : Code). IsCode x) (sym a.code) whole) here (End w i) b work (work_later old mid whole run (Begin w i) a work (all work h))
+
+-- what a board performed, with what is so where the item has only begun
+pub ended_or_begun : {A B X Y Z : Type 0} (b : Bool) → MatchBool b A (X × Z) → MatchBool b B Y → MatchBool b B (X × Y)
+ended_or_begun true p q = q
+ended_or_begun false p q = (p.0, q)
+
+-- where a refused call has made the history longer, the item has begun
+pub only_begun : (old new : Seen) (w i : ℕ) {R M : Type 0} → length old.history < length new.history → ((new ≡ old) × R) ⊎ (Accepts old (Begin w i) new × M) → (new ≡ old) ⊎ (new.newly ≡ [])
+    → Accepts old (Begin w i) new × (new.newly ≡ [])
+only_begun old new w i longer (inl same) still = absurd (omega (arith, longer, ap (λ (b : Seen). length b.history) same.0))
+only_begun old new w i longer (inr a) (inl same) = absurd (omega (arith, longer, ap (λ (b : Seen). length b.history) same))
+only_begun old new w i longer (inr a) (inr none) = (a.0, none)
+
+-- and else nothing has changed
+pub none_changed : (old new : Seen) (w i : ℕ) {R M : Type 0} → (length old.history < length new.history → ⊥) → ((new ≡ old) × R) ⊎ (Accepts old (Begin w i) new × M) → new ≡ old
+none_changed old new w i not (inl same) = same.0
+none_changed old new w i not (inr a) = absurd (not (omega (arith, counted_more old new (Begin w i) a.0)))

@@ -2,11 +2,12 @@
 //!
 //! The scheduler's mutex guards it. Each event is booked in a share of the worker that caused it. Once all shares are
 //! merged, the ledgers prove that the shares count the whole history of the board.
-ghost use Rattle.std.specs.Prelude.{◌≡◌, ◌≢◌, ◌⊎◌, ◌+◌, ◌<◌, ◌≤◌, ◌^◌, [], None, IfOk, IfErr, OnOk, OnErr, length, vec_len};
+ghost use Rattle.std.specs.Prelude.{◌≡◌, ◌≢◌, ◌⊎◌, ◌+◌, ◌<◌, ◌≤◌, ◌^◌, [], None, MatchBool, MatchOption, IfOk, IfErr, IfSome, OnOk, OnErr, length, vec_len};
 ghost use Rattle.dataflow.specs.Events.{backs};
 ghost use Rattle.dataflow.specs.Machine.{start};
+ghost use Rattle.task_code.specs.Code.{Control};
 ghost use Rattle.task_code.specs.System.{code_system};
-ghost use Rattle.board.specs.Board.{Accepts, IsItems, IsWorker};
+ghost use Rattle.board.specs.Board.{Accepts, IsItems, IsWorker, Seen};
 ghost use Rattle.dataflow.specs.Machine as Machine;
 ghost use Rattle.workers.specs.StartLog.{AreItems};
 ghost use Rattle.workers.specs.Offering.{AreListed};
@@ -112,6 +113,11 @@ impl<J: RunParams, E: Ledger, N: Ledger> AuditedBoard<J, E, N> {
         self.stop.is_some() || !self.board.is_going() || self.board.is_quiet()
     }
 
+    /// Returns the first ready item of this kind, or `None` if there is none.
+    pub fn next(&self, kind: Kind) -> Option<u64> {
+        self.board.next(kind)
+    }
+
     /// Returns true if an item of this kind is ready.
     pub fn has_item(&self, kind: Kind) -> bool {
         self.board.next(kind).is_some()
@@ -119,7 +125,7 @@ impl<J: RunParams, E: Ledger, N: Ledger> AuditedBoard<J, E, N> {
 
     /// Returns the number of events.
     pub fn events(&self) -> usize {
-        self.board.history().len()
+        event_count(&self.board)
     }
 
     /// Returns the number of printed lines.
@@ -260,6 +266,68 @@ impl<J: RunParams, E: Ledger, N: Ledger> AuditedBoard<J, E, N> {
         Ok(count)
     }
 
+    /// Performs a control item that is ready: begins it, computes it and ends it. Returns the number of newly ready items,
+    /// which are appended to the list if an allocation for all of them succeeds. Returns `None` if the item has only
+    /// begun, since the limit was reached or an allocation failed.
+    ///
+    /// # Errors
+    ///
+    /// Returns `NotReady` if the item is a leaf item or not ready. Returns `Stranger` if too many items became ready, or
+    /// else the refusal of the board.
+    pub fn perform(
+        &mut self,
+        worker: u8,
+        item: u64,
+        mine: &mut Share<E>,
+        enabled: &mut Share<N>,
+        list: &mut Vec<ReadyItem>,
+        counters: &mut RunCounters,
+    ) -> Result<Option<u64>, BoardRefusal>
+        requires parts { (0 < mine.old.parts) × (0 < enabled.old.parts) }
+        requires place { MayRun J.engines J.workers worker Control }
+        ensures events { IfOk result (λ found. MatchOption found (mine.new.amount ≡ mine.old.amount + 1) (λ _. mine.new.amount ≡ mine.old.amount + 2)) }
+        ensures few { OnOk result (mine.new.amount < 2 ^ 64) }
+        ensures enabled_total { IfOk result (λ found. MatchOption found ((enabled.new.amount ≡ enabled.old.amount) × (list.new ≡ list.old))
+            (λ n. (enabled.new.amount ≡ enabled.old.amount + n) × (enabled.new.amount < 2 ^ 64) × (vec_len list.new ≤ vec_len list.old + n))) }
+        ensures listed { IfOk result (λ found. IfSome found (λ n. AreListed self.new.board list.old.items list.new.items ⊎ (list.new.items ≡ list.old.items))) }
+        ensures err { OnErr result ((mine.new.amount ≡ mine.old.amount) × (enabled.new.amount ≡ enabled.old.amount) × (list.new ≡ list.old)) }
+        ensures parts { (mine.new.parts ≡ mine.old.parts) × (enabled.new.parts ≡ enabled.old.parts) }
+    {
+        if self.enabled_total >= MAX_ENABLED {
+            return Err(BoardRefusal::Stranger);
+        }
+        let _before = self.board.history();
+        let Some(found) = self.board.kind(item) else {
+            return Err(BoardRefusal::NotReady);
+        };
+        if found != Kind::Control {
+            return Err(BoardRefusal::NotReady);
+        }
+        let ended = perform_on_board(&mut self.board, worker, item)?;
+        let AuditedBoard {
+            board,
+            enabled_total,
+            events,
+            enabled: all_enabled,
+            ..
+        } = self;
+        let _within = board.history();
+        counters.record_begin(Kind::Control);
+        if !ended {
+            events.add(mine, 1);
+            events.audit(mine);
+            return Ok(None);
+        }
+        let _listed = list_ready_items(board, list, counters);
+        let count = newly_ready_count(board);
+        events.add(mine, 2);
+        events.audit(mine);
+        all_enabled.add(enabled, count);
+        all_enabled.audit(enabled);
+        *enabled_total += count;
+        Ok(Some(count))
+    }
+
     /// Returns a running item to the board after an allocation failure, and stops the run. Returns the number of newly
     /// ready items.
     ///
@@ -370,4 +438,38 @@ fn end_on_board<J: RunParams>(
         return board.end(worker, done);
     }
     board.end_begun(worker, done)
+}
+
+/// Begins a control item on the board, computes it and ends it. Returns true if it has ended, and false if it has only
+/// begun, since the limit was reached or an allocation failed.
+///
+/// # Errors
+///
+/// Returns the refusal of the board, which is then unchanged.
+fn perform_on_board(board: &mut Board, worker: u8, item: u64) -> Result<bool, BoardRefusal>
+    requires { IsWorker worker }
+    ensures performed { IfOk result (λ ended. MatchBool ended
+        ((mid : Seen) × Accepts board.old (Machine.Begin worker item) mid × (mid.newly ≡ []) × Accepts mid (Machine.End worker item) board.new)
+        (Accepts board.old (Machine.Begin worker item) board.new × (board.new.newly ≡ []))) }
+    ensures unchanged { OnErr result (board.new ≡ board.old) }
+{
+    let before = event_count(board);
+    match board.perform(worker, item) {
+        Ok(ended) => Ok(ended),
+        Err(refusal) => {
+            let after = event_count(board);
+            if before < after {
+                Ok(false)
+            } else {
+                Err(refusal)
+            }
+        }
+    }
+}
+
+/// Returns the number of events of a board.
+fn event_count(board: &Board) -> usize
+    ensures { result ≡ length board.now.history }
+{
+    board.history().len()
 }

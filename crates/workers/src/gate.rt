@@ -71,17 +71,27 @@ pub trait Gate: Sync {
         ensures done { IfOk result (λ done. done ≡ work) }
         ensures back { IfErr result (λ refused. refused.0 ≡ work) };
 
+    /// Returns true if control items pass the gate too. If it returns false, a run may perform control items on the
+    /// board, under the lock, and the gate computes leaf items alone. It is called once by each thread.
+    fn passes_controls(&self) -> bool {
+        true
+    }
+
     /// Receives a snapshot of the progress. It is called outside the lock, after each critical section in which a
     /// thread may end or begin items.
     fn note(&self, _progress: Progress) {}
 }
 
-/// A gate that computes each item at once, in the calling thread.
+/// A gate that computes each item at once, in the calling thread. Only leaf items need to pass it.
 #[derive(Clone, Copy, Debug, Drop)]
 pub struct DirectGate;
 
 impl Gate for DirectGate {
     fn pass(&self, _worker: u8, work: Work) -> Result<Done, (Work, AllocError)> {
         work.compute()
+    }
+
+    fn passes_controls(&self) -> bool {
+        false
     }
 }

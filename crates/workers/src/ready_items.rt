@@ -35,20 +35,6 @@ fn class_of(priority: i32) -> u8
     }
 }
 
-/// Returns the number of items that the board has made, of which `made` are known. New items have the next consecutive
-/// numbers.
-fn count_made(board: &Board, made: u64) -> u64 {
-    let mut last = made;
-    for _ in 0..u32::MAX {
-        let next = last.saturating_add(1);
-        if board.kind(next).is_none() {
-            break;
-        }
-        last = next;
-    }
-    last
-}
-
 /// Returns the newly ready item at an index of the board's list: its kind, and its offer.
 fn ready_item_at(board: &Board, place: usize) -> (Kind, ReadyItem)
     requires { place < length board.now.newly }
@@ -103,7 +89,7 @@ pub fn list_ready_items(
     ensures refused { OnErr result (list.new.items ≡ list.old.items) }
     ensures len { vec_len list.new ≤ vec_len list.old + length board.now.newly }
 {
-    counters.record_end(count_made(board, counters.made()));
+    counters.record_end(board.item_count());
     match list.reserve(board.newly_len()) {
         Ok(()) => {
             append_ready_items(board, list, counters);

@@ -47,6 +47,21 @@ impl<J: RunParams, E: Ledger, N: Ledger> Scheduler<J, E, N> {
             && !self.hints.has_unblocked_control()
     }
 
+    /// Returns true if a thread is to perform control items that open more of the script. `had`: whether it is counted as
+    /// active. `napped`: whether it has just napped. `opened`: whether it has opened some in this critical section.
+    ///
+    /// It opens some if no leaf item is ready that it could begin, and then goes on until enough are ready. If enough
+    /// items are pending, it opens none before a nap, and one after it.
+    pub fn wants_to_open(&self, had: bool, napped: bool, opened: bool) -> bool {
+        if self.is_saturated(had) {
+            return napped && !opened;
+        }
+        if opened {
+            return self.counters.wants_leaves();
+        }
+        self.counters.lacks_leaves() || self.idle.has_none(Kind::Leaf)
+    }
+
     /// Returns a snapshot of the progress of the run.
     pub fn progress(&self) -> Progress {
         Progress {

@@ -1,12 +1,14 @@
 //! The main loop of a thread, and the team of threads of a run.
 //!
-//! In one critical section a thread ends its completed items, releases its worker state, takes an idle one and begins a
-//! batch of items. It then computes the batch outside the lock.
+//! In one critical section a thread ends its completed items, releases its worker state, performs control items in place
+//! unless the gate wants to pass them, takes an idle worker state and begins a batch of items. It then computes the batch
+//! outside the lock.
 ghost use Rattle.std.specs.Prelude.{◌≡◌, IfSome, Some};
 ghost use Rattle.pool.specs.Seats.{pool_id};
 
 use crate::audited_board::StopReason;
 use crate::gate::{Gate, Progress, RunParams};
+use crate::in_place::{InPlace, give_back_locked, perform_controls};
 use crate::items::CompletedItem;
 use crate::scheduler::Scheduler;
 use crate::worker_state::WorkerState;
@@ -46,17 +48,20 @@ struct ThreadState<J: RunParams, E: Ledger, N: Ledger> {
     batches: u32,
     /// Whether its last critical section resulted in a nap.
     has_napped: bool,
+    /// Whether control items are performed in place.
+    in_place: bool,
 }
 
 impl<J: RunParams, E: Ledger, N: Ledger> ThreadState<J, E, N> {
     /// Creates the state of a thread that holds no worker state.
-    fn new(contention: u32) -> ThreadState<J, E, N> {
+    fn new(contention: u32, in_place: bool) -> ThreadState<J, E, N> {
         ThreadState {
             worker_state: None,
             busy: false,
             contention,
             batches: 0,
             has_napped: false,
+            in_place,
         }
     }
 }
@@ -161,14 +166,30 @@ fn begin_next<J: RunParams, E: Ledger, N: Ledger>(
     }
 }
 
-/// Returns an item to the board under the lock after an allocation failure, and stops the run.
-fn give_back_locked<J: RunParams, E: Ledger, N: Ledger>(
+/// Performs control items in place, and begins a batch of ready leaf items. Returns `NextStep::Nap` if control items
+/// would open more of the script although enough items are pending.
+fn perform_and_begin<J: RunParams, E: Ledger, N: Ledger>(
     scheduler: &mut Scheduler<J, E, N>,
-    worker_state: &mut WorkerState<J, E, N>,
-    item: u64,
-) {
-    if worker_state.give_back(scheduler, item).is_err() {
-        scheduler.audited_board.halt(StopReason::Memory);
+    state: &mut ThreadState<J, E, N>,
+    pool: &Pool,
+    drawn: Option<(Kind, u64)>,
+) -> NextStep
+    requires { pool_id pool.now ≡ J.pool }
+{
+    let performed = perform_controls(scheduler, pool, state.busy, state.has_napped);
+    if performed == InPlace::Stopped || scheduler.audited_board.is_over() {
+        return NextStep::Stop;
+    }
+    let then = begin_with_idle(scheduler, state, Kind::Leaf, of_kind(drawn, Kind::Leaf));
+    if then != NextStep::Park {
+        return then;
+    }
+    if performed == InPlace::Performed {
+        NextStep::Compute
+    } else if !state.has_napped && scheduler.is_saturated(state.busy) {
+        NextStep::Nap
+    } else {
+        NextStep::Park
     }
 }
 
@@ -228,8 +249,11 @@ fn release_worker<J: RunParams, E: Ledger, N: Ledger>(
 fn locked_step<J: RunParams, E: Ledger, N: Ledger>(
     scheduler: &mut Scheduler<J, E, N>,
     state: &mut ThreadState<J, E, N>,
+    pool: &Pool,
     drawn: Option<(Kind, u64)>,
-) -> NextStep {
+) -> NextStep
+    requires { pool_id pool.now ≡ J.pool }
+{
     if !release_worker(scheduler, state) || scheduler.audited_board.is_over() {
         return NextStep::Stop;
     }
@@ -240,7 +264,11 @@ fn locked_step<J: RunParams, E: Ledger, N: Ledger>(
         state.contention = Tuning::MEASURED.contention_after_park;
         return NextStep::Park;
     }
-    begin_next(scheduler, state, drawn)
+    if state.in_place {
+        perform_and_begin(scheduler, state, pool, drawn)
+    } else {
+        begin_next(scheduler, state, drawn)
+    }
 }
 
 /// Acquires the lock, and updates the contention by whether the lock was free.
@@ -267,10 +295,13 @@ fn locked_step_published<J: RunParams, E: Ledger, N: Ledger>(
     scheduler: &mut Scheduler<J, E, N>,
     signal: &WakeSignal,
     state: &mut ThreadState<J, E, N>,
+    pool: &Pool,
     drawn: Option<(Kind, u64)>,
-) -> (NextStep, Progress) {
+) -> (NextStep, Progress)
+    requires { pool_id pool.now ≡ J.pool }
+{
     scheduler.active.publish_locked(signal);
-    let then = locked_step(scheduler, state, drawn);
+    let then = locked_step(scheduler, state, pool, drawn);
     let busy = then == NextStep::Compute;
     state.has_napped = then == NextStep::Nap;
     scheduler.active.update_busy(state.busy, busy);
@@ -286,14 +317,17 @@ fn end_and_begin<J: RunParams, E: Ledger, N: Ledger, R: Wait, G: Gate>(
     rt: &R,
     shared: &Mutex<Scheduler<J, E, N>>,
     signal: &WakeSignal,
+    pool: &Pool,
     gate: &G,
     state: &mut ThreadState<J, E, N>,
     drawn: Option<(Kind, u64)>,
-) -> NextStep {
+) -> NextStep
+    requires { pool_id pool.now ≡ J.pool }
+{
     let (then, progress) = {
         let mut guard = lock_tracked(rt, shared, state);
         let scheduler = &mut *guard;
-        locked_step_published(scheduler, signal, state, drawn)
+        locked_step_published(scheduler, signal, state, pool, drawn)
     };
     if then == NextStep::Stop {
         signal.stop_all();
@@ -366,7 +400,7 @@ fn step<J: RunParams, E: Ledger, N: Ledger, R: Wait, G: Gate>(
     requires { pool_id pool.now ≡ J.pool }
 {
     match compute(pool, gate, state) {
-        Ok(drawn) => end_and_begin(rt, shared, signal, gate, state, drawn),
+        Ok(drawn) => end_and_begin(rt, shared, signal, pool, gate, state, drawn),
         Err(item) => {
             give_back(rt, shared, signal, state, item);
             NextStep::Stop
@@ -385,11 +419,12 @@ fn thread_main<J: RunParams, E: Ledger, N: Ledger, R: Wait, G: Gate>(
 )
     requires { pool_id pool.now ≡ J.pool }
 {
-    let mut state = ThreadState::new(if started {
+    let contention = if started {
         Tuning::MEASURED.contention_after_park
     } else {
         0
-    });
+    };
+    let mut state = ThreadState::new(contention, !gate.passes_controls());
     if started {
         signal.park(rt);
     }

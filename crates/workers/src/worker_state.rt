@@ -1,5 +1,5 @@
 //! Worker states: what belongs to one engine or worker, whichever thread runs it.
-ghost use Rattle.std.specs.Prelude.{◌≡◌, ◌⊎◌, ◌+◌, ◌<◌, length, reverse, OnOk};
+ghost use Rattle.std.specs.Prelude.{◌≡◌, ◌⊎◌, ◌+◌, ◌<◌, length, reverse, MatchBool, IfOk, OnOk};
 ghost use Rattle.pool.specs.Seats.{TakeDid, kind_order, view, seat_pool, pool_id};
 ghost use Rattle.pool.specs.Offering.{OfferedEach};
 ghost use Rattle.workers.specs.Offering.{AreListed, pool_kind};
@@ -210,6 +210,53 @@ impl<J: RunParams, E: Ledger, N: Ledger> WorkerState<J, E, N> {
                 Ok(())
             }
             Err((_, refusal)) => Err(refusal),
+        }
+    }
+
+    /// Performs a control item that is ready: begins it, computes it and ends it, under the lock. The newly ready items
+    /// are added to the pending offers, and are listed and recorded as hints if the list has memory. Returns true if the
+    /// item has ended, and false if it has only begun.
+    ///
+    /// # Errors
+    ///
+    /// Returns `NotReady` if this is no engine, or else the refusal of the audited board.
+    pub fn perform(
+        &mut self,
+        scheduler: &mut Scheduler<J, E, N>,
+        item: u64,
+    ) -> Result<bool, BoardRefusal>
+        ensures { IfOk result (λ ended. MatchBool ended (self.new.tally ≡ self.old.tally + 2) (self.new.tally ≡ self.old.tally + 1)) }
+    {
+        if self.kind != Kind::Control {
+            return Err(BoardRefusal::NotReady);
+        }
+        let worker = self.worker;
+        let Scheduler {
+            audited_board,
+            counters,
+            hints,
+            ..
+        } = scheduler;
+        let WorkerState {
+            events,
+            enabled,
+            tally,
+            offers,
+            ..
+        } = self;
+        let Offers { pending, list, .. } = offers;
+        let (made, listed) = (counters.made(), list.len());
+        match audited_board.perform(worker, item, events, enabled, list, counters)? {
+            Some(count) => {
+                *tally += 2;
+                *pending += count;
+                hints.add_from(list.as_slice(), listed, made);
+                Ok(true)
+            }
+            None => {
+                *tally += 1;
+                Ok(false)
+            }
         }
     }
 

@@ -95,6 +95,17 @@ impl RunCounters {
         self.waiting().saturating_add(self.workers.ready as u64) > Tuning::MEASURED.saturation
     }
 
+    /// Returns true if no leaf item is ready.
+    pub fn lacks_leaves(&self) -> bool {
+        self.workers.ready == 0
+    }
+
+    /// Returns true if fewer leaf items are ready than one batch for each worker, and than 1,024.
+    pub fn wants_leaves(&self) -> bool {
+        let wanted = Tuning::MEASURED.batch.saturating_mul(self.workers.threads);
+        self.workers.ready < cmp::min(wanted, Tuning::MEASURED.saturation as usize)
+    }
+
     /// Returns the number of control items expected to create one batch of items, from the average number of items per
     /// control item so far.
     fn control_batch_size(&self) -> usize {

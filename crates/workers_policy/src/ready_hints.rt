@@ -97,9 +97,24 @@ impl ReadyHints {
         }
     }
 
+    /// Records the items of the list from an index on, as `add_all` does.
+    pub fn add_from(&mut self, list: &[ReadyItem], first: usize, made: u64) {
+        if first < list.len() {
+            self.add_all(&list[first..], made);
+        }
+    }
+
     /// Returns true if there is a hint to a control item that had waited for inputs.
     pub fn has_unblocked_control(&self) -> bool {
         !self.controls.unblocked.is_empty()
+    }
+
+    /// Removes and returns the number of the control item that was unblocked last, or `None` if there is no hint to one.
+    pub fn take_unblocked_control(&mut self) -> Option<u64> {
+        if self.has_priorities {
+            return None;
+        }
+        self.controls.unblocked.pop_back()
     }
 
     /// Removes and returns the number of the item of this kind to try first, or `None` if there is no hint.

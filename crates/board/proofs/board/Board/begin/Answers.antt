@@ -47,7 +47,7 @@ invariant_of-self-2 c =
     let stand = subst (λ (k : BoardState). Stand c.self.inside.program (map event_view c.self.inside.history.items) k) (sym sorted) c.self.invariant.stand in
     let room = subst (λ (k : BoardState). vec_len c.self.inside.history + k.items.running ≤ vec_capacity c.self.inside.history) (sym sorted) (c.self.invariant.room none) in
     let fits : c.sort_arrays.new.self.items.running + 1 < 2 ^ 64 = grind (arith, common_steps, room) in
-    sound_on c.self.inside c.self.invariant (record { program = c.self.inside.program; most_names = c.self.inside.most_names; limit = c.self.inside.limit; core = c.begin.new.self; history = c.push_reserved.new.self; known = c.self.inside.known; answers = c.replace-list.new.dest }) (Events.Begin c.args.worker c.args.item) refl refl refl (search rules)
+    sound_on c.self.inside c.self.invariant (record { program = c.self.inside.program; most_names = c.self.inside.most_names; limit = c.self.inside.limit; core = c.begin.new.self; history = c.push_reserved.new.self; known = c.self.inside.known; answers = c.work.new.list }) (Events.Begin c.args.worker c.args.item) refl refl refl (search rules)
     (c.begin.ensures.stand (map event_view c.self.inside.history.items) c.self.invariant.whole stand free ready fits)
     (λ h. grind (arith, common_steps, room, c.begin.ensures.running fits))
     (grind (arith, common_steps, here.1))
@@ -65,7 +65,7 @@ returns-clause-accepted c =
     let stand = subst (λ (k : BoardState). Stand c.self.inside.program (map event_view c.self.inside.history.items) k) (sym sorted) c.self.invariant.stand in
     let room = subst (λ (k : BoardState). vec_len c.self.inside.history + k.items.running ≤ vec_capacity c.self.inside.history) (sym sorted) (c.self.invariant.room none) in
     let fits : c.sort_arrays.new.self.items.running + 1 < 2 ^ 64 = grind (arith, common_steps, room) in
-    rw (← c.self.view_is) (accepts_on c.self.inside c.self.invariant (record { program = c.self.inside.program; most_names = c.self.inside.most_names; limit = c.self.inside.limit; core = c.begin.new.self; history = c.push_reserved.new.self; known = c.self.inside.known; answers = c.replace-list.new.dest }) (Events.Begin c.args.worker c.args.item) refl refl (search rules)
+    rw (← c.self.view_is) (accepts_on c.self.inside c.self.invariant (record { program = c.self.inside.program; most_names = c.self.inside.most_names; limit = c.self.inside.limit; core = c.begin.new.self; history = c.push_reserved.new.self; known = c.self.inside.known; answers = c.work.new.list }) (Events.Begin c.args.worker c.args.item) refl refl (search rules)
     (c.begin.ensures.stand (map event_view c.self.inside.history.items) c.self.invariant.whole stand free ready fits) here)
 
 pub returns-clause-work : goal.returns-clause-work
@@ -79,8 +79,8 @@ returns-clause-work c =
     let stand = subst (λ (k : BoardState). Stand c.self.inside.program (map event_view c.self.inside.history.items) k) (sym sorted) c.self.invariant.stand in
     let room = subst (λ (k : BoardState). vec_len c.self.inside.history + k.items.running ≤ vec_capacity c.self.inside.history) (sym sorted) (c.self.invariant.room none) in
     let fits : c.sort_arrays.new.self.items.running + 1 < 2 ^ 64 = grind (arith, common_steps, room) in
-    let sound : IsSound (record { program = c.self.inside.program; most_names = c.self.inside.most_names; limit = c.self.inside.limit; core = c.begin.new.self; history = c.push_reserved.new.self; known = c.self.inside.known; answers = c.replace-list.new.dest }) =
-    sound_on c.self.inside c.self.invariant (record { program = c.self.inside.program; most_names = c.self.inside.most_names; limit = c.self.inside.limit; core = c.begin.new.self; history = c.push_reserved.new.self; known = c.self.inside.known; answers = c.replace-list.new.dest }) (Events.Begin c.args.worker c.args.item) refl refl refl (search rules)
+    let sound : IsSound (record { program = c.self.inside.program; most_names = c.self.inside.most_names; limit = c.self.inside.limit; core = c.begin.new.self; history = c.push_reserved.new.self; known = c.self.inside.known; answers = c.work.new.list }) =
+    sound_on c.self.inside c.self.invariant (record { program = c.self.inside.program; most_names = c.self.inside.most_names; limit = c.self.inside.limit; core = c.begin.new.self; history = c.push_reserved.new.self; known = c.self.inside.known; answers = c.work.new.list }) (Events.Begin c.args.worker c.args.item) refl refl refl (search rules)
     (c.begin.ensures.stand (map event_view c.self.inside.history.items) c.self.invariant.whole stand free ready fits)
     (λ h. grind (arith, common_steps, room, c.begin.ensures.running fits))
     (grind (arith, common_steps, here.1))
@@ -89,13 +89,13 @@ returns-clause-work c =
     let plain = c.in-Ok-work.ensures.own in
     let at : IsWorkAt c.self.inside.program (frames_view c.begin.new.self.data_state.instances.slots) (cells_view c.begin.new.self.data_state.store.cells) (job_view c.in-Some.job) c.in-Ok-work.work =
     subst (λ (v : DataState). IsWorkAt c.self.inside.program (frames_view v.instances.slots) (cells_view v.store.cells) (job_view c.in-Some.job) c.in-Ok-work.work) (sym c.begin.ensures.data_state) plain in
-    own_seen (record { program = c.self.inside.program; most_names = c.self.inside.most_names; limit = c.self.inside.limit; core = c.begin.new.self; history = c.push_reserved.new.self; known = c.self.inside.known; answers = c.replace-list.new.dest }) sound (c.begin.ensures.fault ∙ free) c.args.worker c.args.item (job_view c.in-Some.job) (c.begin.ensures.runs ready) c.in-Ok-work.work c.in-Ok-work.ensures.number at
+    own_seen (record { program = c.self.inside.program; most_names = c.self.inside.most_names; limit = c.self.inside.limit; core = c.begin.new.self; history = c.push_reserved.new.self; known = c.self.inside.known; answers = c.work.new.list }) sound (c.begin.ensures.fault ∙ free) c.args.worker c.args.item (job_view c.in-Some.job) (c.begin.ensures.runs ready) c.in-Ok-work.work c.in-Ok-work.ensures.number at
 
 pub invariant_of-self : goal.invariant_of-self
 invariant_of-self c = sorted_sound c.self.inside c.self.invariant c.sort_arrays.new.self c.self.inside.answers c.sort_arrays.ensures c.self.inside.history refl refl (search rules)
 
 pub invariant_of-self-in_default-work : goal.invariant_of-self-in_default-work
-invariant_of-self-in_default-work c = sorted_sound c.self.inside c.self.invariant c.sort_arrays.new.self c.replace-list.new.dest c.sort_arrays.ensures c.self.inside.history refl refl (search rules)
+invariant_of-self-in_default-work c = sorted_sound c.self.inside c.self.invariant c.sort_arrays.new.self c.work.new.list c.sort_arrays.ensures c.self.inside.history refl refl (search rules)
 
 pub invariant_of-self-in_default-reserve : goal.invariant_of-self-in_default-reserve
-invariant_of-self-in_default-reserve c = sorted_sound c.self.inside c.self.invariant c.sort_arrays.new.self c.replace-list.new.dest c.sort_arrays.ensures c.reserve.new.self (search rules) (search rules) (search rules)
+invariant_of-self-in_default-reserve c = sorted_sound c.self.inside c.self.invariant c.sort_arrays.new.self c.work.new.list c.sort_arrays.ensures c.reserve.new.self (search rules) (search rules) (search rules)

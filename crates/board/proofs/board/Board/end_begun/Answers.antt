@@ -32,7 +32,7 @@ invariant_of-self-2 c =
     let none = free_core c.self.inside.program c.self.invariant.whole (map event_view c.self.inside.history.items) c.self.inside.core c.self.invariant.stand here.0 in
     let own : IsOwn (seen_of c.self.inside) c.args.worker c.args.done = own_here c.self.inside c.self.invariant c.args.worker c.item-item.result (job_view c.in-Some.job) c.in-Some.ensures.some c.args.done (sym c.item-item.ensures) (subst (λ (b : Seen). IsItems b c.args.done) (sym c.self.view_is) c.requires.items) in
     let at : IsWorkAt c.self.inside.program (frames_view c.self.inside.core.data_state.instances.slots) (cells_view c.self.inside.core.data_state.store.cells) (job_view c.in-Some.job) c.args.done = seen_own c.self.inside c.self.invariant none c.args.worker c.item-item.result (job_view c.in-Some.job) c.in-Some.ensures.some c.args.done (sym c.item-item.ensures) own in
-    sound_on c.self.inside c.self.invariant (record { program = c.self.inside.program; most_names = c.self.inside.most_names; limit = c.self.inside.limit; core = c.end.new.self; history = c.push_reserved.new.self; known = c.end.new.known; answers = c.into_list.result }) (Events.End c.args.worker c.item-item.result) refl refl refl (search rules)
+    sound_on c.self.inside c.self.invariant (record { program = c.self.inside.program; most_names = c.self.inside.most_names; limit = c.self.inside.limit; core = c.end.new.self; history = c.push_reserved.new.self; known = c.end.new.known; answers = c.return_list.new.list }) (Events.End c.args.worker c.item-item.result) refl refl refl (search rules)
     (c.in-Ok.ensures.ended.stand (map event_view c.self.inside.history.items) c.args.worker c.self.invariant.whole c.self.invariant.stand none c.in-Some.ensures.some
     (work_own c.self.inside.program c.self.invariant.whole (map event_view c.self.inside.history.items) c.self.inside.core c.self.invariant.stand none c.args.worker c.item-item.result (job_view c.in-Some.job) c.in-Some.ensures.some c.args.done at))
     (λ h. grind (arith, common_steps, c.self.invariant.room none, c.in-Ok.ensures.ended.running (map event_view c.self.inside.history.items) c.args.worker c.self.invariant.whole c.self.invariant.stand c.in-Some.ensures.some h))
@@ -47,7 +47,7 @@ returns-clause-accepted c =
     let none = free_core c.self.inside.program c.self.invariant.whole (map event_view c.self.inside.history.items) c.self.inside.core c.self.invariant.stand here.0 in
     let own : IsOwn (seen_of c.self.inside) c.args.worker c.args.done = own_here c.self.inside c.self.invariant c.args.worker c.item-item.result (job_view c.in-Some.job) c.in-Some.ensures.some c.args.done (sym c.item-item.ensures) (subst (λ (b : Seen). IsItems b c.args.done) (sym c.self.view_is) c.requires.items) in
     let at : IsWorkAt c.self.inside.program (frames_view c.self.inside.core.data_state.instances.slots) (cells_view c.self.inside.core.data_state.store.cells) (job_view c.in-Some.job) c.args.done = seen_own c.self.inside c.self.invariant none c.args.worker c.item-item.result (job_view c.in-Some.job) c.in-Some.ensures.some c.args.done (sym c.item-item.ensures) own in
-    rw (← c.self.view_is, ← c.item-item.ensures) (accepts_on c.self.inside c.self.invariant (record { program = c.self.inside.program; most_names = c.self.inside.most_names; limit = c.self.inside.limit; core = c.end.new.self; history = c.push_reserved.new.self; known = c.end.new.known; answers = c.into_list.result }) (Events.End c.args.worker c.item-item.result) refl refl (search rules)
+    rw (← c.self.view_is, ← c.item-item.ensures) (accepts_on c.self.inside c.self.invariant (record { program = c.self.inside.program; most_names = c.self.inside.most_names; limit = c.self.inside.limit; core = c.end.new.self; history = c.push_reserved.new.self; known = c.end.new.known; answers = c.return_list.new.list }) (Events.End c.args.worker c.item-item.result) refl refl (search rules)
     (c.in-Ok.ensures.ended.stand (map event_view c.self.inside.history.items) c.args.worker c.self.invariant.whole c.self.invariant.stand none c.in-Some.ensures.some
     (work_own c.self.inside.program c.self.invariant.whole (map event_view c.self.inside.history.items) c.self.inside.core c.self.invariant.stand none c.args.worker c.item-item.result (job_view c.in-Some.job) c.in-Some.ensures.some c.args.done at)) here)
 

@@ -1,11 +1,11 @@
-use Rattle.std.proofs.Common.{rules, arith, inl, inr, refl, map}
+use Rattle.std.proofs.Common.{rules, arith, inl, inr, refl, map, ◌∙◌}
 use Rattle.board_history.specs.Fields.{Ready}
 use Rattle.task_code.specs.View.{event_view}
 use Rattle.board_instances.specs.View.{job_view}
 use Rattle.board.specs.Board.{RefusesBegin}
 use Rattle.board.specs.Working.{IsThere}
 use Rattle.board.specs.declared.refusal.BoardRefusal.TheVariants.{Memory}
-use Rattle.board.proofs.Begun.{Begun, ended_accepts, ended_sound, has_begun, unended_accepts, unended_sound, with_fields}
+use Rattle.board.proofs.Begun.{Begun, ended_accepts, ended_sound, has_begun, unended_accepts, unended_newly, unended_sound, with_fields}
 use Rattle.board.proofs.Own.{may_begin, may_not_begin, sorted_sound}
 use Rattle.board.proofs.OwnWork.{job_there, ready_live}
 use Rattle.board.proofs.board.Board.perform.Goals as goal
@@ -31,6 +31,9 @@ pub returns-in_default-clause-refused : goal.returns-in_default-clause-refused
 returns-in_default-clause-refused c =
     inl (search rules, (search rules, rw (← c.self.view_is) (may_not_begin c.self.inside.program c.self.invariant.whole (map event_view c.self.inside.history.items) c.self.inside.core c.self.invariant.stand c.args.item c.in_default.ensures.none)))
 
+pub returns-in_default-clause-still : goal.returns-in_default-clause-still
+returns-in_default-clause-still c = inl (search rules)
+
 pub answer-requires : goal.answer-requires
 answer-requires c = there (goal.at.answer-requires c).In-Some
 
@@ -40,11 +43,17 @@ invariant_of-self c = sorted_sound c.self.inside c.self.invariant c.answer.new.s
 pub returns-in_default-answer-clause-refused : goal.returns-in_default-answer-clause-refused
 returns-in_default-answer-clause-refused c = inl (search rules, refused (goal.at.returns-in_default-answer-clause-refused c).In-Some)
 
+pub returns-in_default-answer-clause-still : goal.returns-in_default-answer-clause-still
+returns-in_default-answer-clause-still c = inl (search rules)
+
 pub invariant_of-self-in_default-reserve : goal.invariant_of-self-in_default-reserve
 invariant_of-self-in_default-reserve c = sorted_sound c.self.inside c.self.invariant c.answer.new.self c.answer.new.list c.answer.ensures.same c.reserve.new.self (search rules) (search rules) (search rules)
 
 pub returns-in_default-reserve-clause-refused : goal.returns-in_default-reserve-clause-refused
 returns-in_default-reserve-clause-refused c = inl (search rules, refused (goal.at.returns-in_default-reserve-clause-refused c).In-Some)
+
+pub returns-in_default-reserve-clause-still : goal.returns-in_default-reserve-clause-still
+returns-in_default-reserve-clause-still c = inl (search rules)
 
 pub invariant_of-self-2 : goal.invariant_of-self-2
 invariant_of-self-2 c = (begun c).sound
@@ -55,6 +64,9 @@ invariant_of-self-then-not-is_going-2 c = (begun (goal.at.invariant_of-self-then
 pub returns-then-not-is_going-2-clause-performed : goal.returns-then-not-is_going-2-clause-performed
 returns-then-not-is_going-2-clause-performed c = ((begun (goal.at.returns-then-not-is_going-2-clause-performed c).After-push_reserved).accepts, search rules)
 
+pub returns-then-not-is_going-2-clause-still : goal.returns-then-not-is_going-2-clause-still
+returns-then-not-is_going-2-clause-still c = c.begin.ensures.newly
+
 pub end_computed-requires-clause-there : goal.end_computed-requires-clause-there
 end_computed-requires-clause-there c = there (goal.at.end_computed-requires-clause-there c).In-Some
 
@@ -64,8 +76,14 @@ invariant_of-self-in_default-end_computed c = unended_sound (begun (goal.at.inva
 pub returns-in_default-end_computed-clause-refused : goal.returns-in_default-end_computed-clause-refused
 returns-in_default-end_computed-clause-refused c = inr (unended_accepts (begun (goal.at.returns-in_default-end_computed-clause-refused c).After-push_reserved) c.as_slice.ensures.value c.end_computed.new.known c.in_default-end_computed.ensures.same, refl)
 
+pub returns-in_default-end_computed-clause-still : goal.returns-in_default-end_computed-clause-still
+returns-in_default-end_computed-clause-still c = inr (unended_newly (begun (goal.at.returns-in_default-end_computed-clause-still c).After-push_reserved) c.as_slice.ensures.value c.end_computed.new.known c.in_default-end_computed.ensures.same ∙ c.begin.ensures.newly)
+
 pub invariant_of-self-3 : goal.invariant_of-self-3
 invariant_of-self-3 c = ended_sound (begun (goal.at.invariant_of-self-3 c).After-push_reserved) c.as_slice.ensures.value c.end_computed.new.known c.in-Ok-end_computed.ensures.ended (search rules) c.push_reserved-2.new.self (search rules) c.push_reserved-2.ensures.capacity c.requires (search rules)
 
 pub returns-clause-performed : goal.returns-clause-performed
 returns-clause-performed c = (_, (begun (goal.at.returns-clause-performed c).After-push_reserved).accepts, ended_accepts (begun (goal.at.returns-clause-performed c).After-push_reserved) c.as_slice.ensures.value c.end_computed.new.known c.in-Ok-end_computed.ensures.ended (search rules) c.push_reserved-2.new.self (search rules))
+
+pub returns-clause-still : goal.returns-clause-still
+returns-clause-still c = (_, (begun (goal.at.returns-clause-still c).After-push_reserved).accepts, c.begin.ensures.newly, ended_accepts (begun (goal.at.returns-clause-still c).After-push_reserved) c.as_slice.ensures.value c.end_computed.new.known c.in-Ok-end_computed.ensures.ended (search rules) c.push_reserved-2.new.self (search rules))

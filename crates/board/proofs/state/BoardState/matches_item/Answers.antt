@@ -10,4 +10,4 @@ use Rattle.board.proofs.state.BoardState.matches_item.Goals as goal
 pub returns-then-is_of : goal.returns-then-is_of
 returns-then-is_of c =
     work_told c.args.program.now (frames_view c.args.self.now.data_state.instances.slots) (cells_view c.args.self.now.data_state.store.cells) c.in-Does.instance c.in-Does.entry c.in-Does.chunk (job_view c.args.job) c.args.done.now c.in-Some-Some.table.now (search rules) (search rules)
-    (entry_view c.in-Some-Some.found.now) (search rules) (search rules) c.are_answers.result _ _ (c.are_answers.ensures (subst (λ (s : Store). AreRising s) (sym c.view-view.ensures.store) c.requires.rising)) (search rules) (search rules)
+    (entry_view c.in-Some-Some.found.now) (search rules) (search rules) c.are_given.result _ _ (c.are_given.ensures (subst (λ (s : Store). AreRising s) (sym c.view-view.ensures.store) c.requires.rising)) (search rules) (search rules)
