@@ -7,7 +7,7 @@ ghost use Rattle.board_instances.specs.View.{job_view};
 ghost use Rattle.board_work.specs.Assigned.{Assigned, job_control, job_result};
 ghost use Rattle.board_work.specs.Outcome.{control_in, result_in};
 ghost use Rattle.board_work.specs.View.{answers_view};
-ghost use Rattle.board_effects.specs.declared.effect.Effect.TheVariants.{Opens, Puts, Stores};
+ghost use Rattle.board_effects.specs.declared.effect.Effect.TheVariants.{Opens, InsertsElement, Stores};
 ghost use Rattle.board_program.specs.Program.{AreAtMost};
 ghost use Rattle.board.specs.Ending.{HasEnded, HasFailed, HasPassed, IsEffectOf, StaysBy, StaysIf};
 ghost use Rattle.board.specs.Working.{IsThere, work_of};
@@ -174,10 +174,10 @@ impl BoardState {
         known: &mut Vec<Input>,
     ) -> Result<(), AllocError>
         requires { AreAtMost program.now most }
-        ensures passed { OnOk result (HasPassed program.now number (job_view job) (Puts target key value) self.old self.new) }
-        ensures same { OnErr result (StaysBy program.now number (job_view job) (Puts target key value) self.old self.new) }
+        ensures passed { OnOk result (HasPassed program.now number (job_view job) (InsertsElement target key value) self.old self.new) }
+        ensures same { OnErr result (StaysBy program.now number (job_view job) (InsertsElement target key value) self.old self.new) }
     {
-        let effect = Effect::Puts(target, key, value);
+        let effect = Effect::InsertsElement(target, key, value);
         self.apply_effect(program, most, number, job, effect, known)
     }
 
@@ -242,7 +242,7 @@ impl BoardState {
             Effect::Stores(target, value) => {
                 self.apply_value(program, most, number, job, target, value, known)
             }
-            Effect::Puts(target, key, value) => {
+            Effect::InsertsElement(target, key, value) => {
                 self.apply_element(program, most, number, job, target, key, value, known)
             }
             Effect::Opens(openings) => {

@@ -4,7 +4,7 @@ use Rattle.board.proofs.Ends.{on_err, on_ok}
 use Rattle.board.proofs.Failed.{failed_ended, not_fault, passed_ended, stays_if}
 use Rattle.board.specs.Ending.{IsEffectOf}
 use Rattle.board_effects.specs.declared.effect.Effect.{Effect}
-use Rattle.board_effects.specs.declared.effect.Effect.TheVariants.{Opens, Puts, Stores}
+use Rattle.board_effects.specs.declared.effect.Effect.TheVariants.{Opens, InsertsElement, Stores}
 use Rattle.board.proofs.state.BoardState.end_with_buffer.Goals as goal
 
 pub returns-in-Fails-clause-ended : goal.returns-in-Fails-clause-ended
@@ -24,17 +24,17 @@ returns-in-Stores-clause-same c =
     stays_if c.args.program.now c.args.number (job_view c.args.job) done c.args.self.now c.apply_value.new.self (Stores c.in-Stores.target c.in-Stores.value) refl stays
     (subst (λ (e : Effect). IsEffectOf c.args.program.now c.args.self.now (job_view c.args.job) done e) c.in-Stores.is effect)) c.apply_value.ensures.same
 
-pub returns-in-Puts-clause-ended : goal.returns-in-Puts-clause-ended
-returns-in-Puts-clause-ended c =
+pub returns-in-InsertsElement-clause-ended : goal.returns-in-InsertsElement-clause-ended
+returns-in-InsertsElement-clause-ended c =
     on_ok c.apply_element.result (λ passed done effect.
-    passed_ended c.args.program.now c.args.number (job_view c.args.job) done c.args.self.now c.apply_element.new.self (Puts c.in-Puts.target c.in-Puts.key c.in-Puts.value) refl passed
-    (subst (λ (e : Effect). IsEffectOf c.args.program.now c.args.self.now (job_view c.args.job) done e) c.in-Puts.is effect)) c.apply_element.ensures.passed
+    passed_ended c.args.program.now c.args.number (job_view c.args.job) done c.args.self.now c.apply_element.new.self (InsertsElement c.in-InsertsElement.target c.in-InsertsElement.key c.in-InsertsElement.value) refl passed
+    (subst (λ (e : Effect). IsEffectOf c.args.program.now c.args.self.now (job_view c.args.job) done e) c.in-InsertsElement.is effect)) c.apply_element.ensures.passed
 
-pub returns-in-Puts-clause-same : goal.returns-in-Puts-clause-same
-returns-in-Puts-clause-same c =
+pub returns-in-InsertsElement-clause-same : goal.returns-in-InsertsElement-clause-same
+returns-in-InsertsElement-clause-same c =
     on_err c.apply_element.result (λ stays done effect.
-    stays_if c.args.program.now c.args.number (job_view c.args.job) done c.args.self.now c.apply_element.new.self (Puts c.in-Puts.target c.in-Puts.key c.in-Puts.value) refl stays
-    (subst (λ (e : Effect). IsEffectOf c.args.program.now c.args.self.now (job_view c.args.job) done e) c.in-Puts.is effect)) c.apply_element.ensures.same
+    stays_if c.args.program.now c.args.number (job_view c.args.job) done c.args.self.now c.apply_element.new.self (InsertsElement c.in-InsertsElement.target c.in-InsertsElement.key c.in-InsertsElement.value) refl stays
+    (subst (λ (e : Effect). IsEffectOf c.args.program.now c.args.self.now (job_view c.args.job) done e) c.in-InsertsElement.is effect)) c.apply_element.ensures.same
 
 pub returns-in-Opens-clause-ended : goal.returns-in-Opens-clause-ended
 returns-in-Opens-clause-ended c =
