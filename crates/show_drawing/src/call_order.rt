@@ -3,8 +3,8 @@
 //! A depth-first search from the script follows the calls. In the order in which it leaves the functions, each function
 //! comes before those that call it, except for calls that close a cycle.
 
+use crate::lists::{empty_lists, list_at, push_at};
 use crate::scene::{CallUse, Scene};
-use crate::traffic::{empty_lists, list_at};
 use std::alloc::{AllocError, Allocator, Global};
 
 /// The state of a node in the search.
@@ -134,9 +134,8 @@ fn callees_of<'a, A: Allocator>(
     let mut callees = empty_lists(alloc, count)?;
     for call in &scene.calls {
         if let Some(caller) = scene.boxes.get(call.statement) {
-            if let Some(list) = callees.get_mut(node_of(caller.place.function)) {
-                list.push(node_of(Some(call.function)))?;
-            }
+            let node = node_of(caller.place.function);
+            push_at(&mut callees, node, node_of(Some(call.function)))?;
         }
     }
     Ok(callees)

@@ -2,9 +2,10 @@
 
 use crate::dot_text::DotText;
 use crate::excerpt::{LONGEST, excerpt, item_starts};
+use crate::lists::{empty_lists, list_at, push_at};
 use crate::scene::Scene;
 use crate::style::DIM;
-use crate::traffic::{Shown, Traffic, empty_lists, list_at};
+use crate::traffic::{Shown, Traffic};
 use explain_text::line_index::LineIndex;
 use std::alloc::{AllocError, Allocator, Global};
 
@@ -211,12 +212,18 @@ fn own_boxes<'a, A: Allocator>(
     let mut lists = empty_lists(alloc, scene.blocks.len())?;
     for variable in 0..scene.variables.len() {
         if traffic.shown(variable) == Shown::OwnBox {
-            if let Some(list) = lists.get_mut(scene.variables[variable].block) {
-                list.push(variable)?;
-            }
+            push_at(&mut lists, block_of(scene, variable), variable)?;
         }
     }
     Ok(lists)
+}
+
+/// Returns the block of a variable.
+fn block_of<'a, A: Allocator>(scene: &Scene<'a, A>, variable: usize) -> usize {
+    match scene.variables.get(variable) {
+        Some(info) => info.block,
+        None => 0,
+    }
 }
 
 /// Returns the variable of each statement whose readers its box lists.

@@ -46,12 +46,7 @@ pub fn add_edges<A: Allocator>(
 /// Appends the edges from the head of each block to its boxes.
 fn add_block_edges<A: Allocator>(context: &DrawingContext<'_, '_, A>, text: &mut DotText) {
     for statement in 0..context.scene.boxes.len() {
-        add_block_edge(
-            context,
-            text,
-            statement,
-            context.scene.boxes[statement].place.block,
-        );
+        add_block_edge(context, text, statement);
     }
     for step in &context.scene.steps {
         if let DrawingStep::Empty(block) = step {
@@ -61,12 +56,8 @@ fn add_block_edges<A: Allocator>(context: &DrawingContext<'_, '_, A>, text: &mut
         }
     }
     for block in 0..context.scene.blocks.len() {
-        if let BlockHead::Statement(head) = context.scene.blocks[block].head {
-            for variable in context.own_boxes(block) {
-                context.add_statement(text, head);
-                text.add_counted(" -> v", *variable);
-                text.add(" [style=invis];\n");
-            }
+        if let Some(BlockHead::Statement(head)) = head_of(context, block) {
+            add_variable_edges(context, text, head, block);
         }
     }
 }
@@ -79,14 +70,32 @@ fn head_of<A: Allocator>(context: &DrawingContext<'_, '_, A>, block: usize) -> O
     }
 }
 
-/// Appends the edge from the head of a block to a statement in it: a dashed arrow to the first of a branch, otherwise
-/// an invisible one.
+/// Appends the invisible edges from the head of a block to the variables of the block that have boxes of their own.
+fn add_variable_edges<A: Allocator>(
+    context: &DrawingContext<'_, '_, A>,
+    text: &mut DotText,
+    head: usize,
+    block: usize,
+) {
+    for variable in context.own_boxes(block) {
+        text.add("  ");
+        context.add_statement(text, head);
+        text.add_counted(" -> v", *variable);
+        text.add(" [style=invis];\n");
+    }
+}
+
+/// Appends the edge to a statement from the head of its block: a dashed arrow to the first of a branch, otherwise an
+/// invisible one.
 fn add_block_edge<A: Allocator>(
     context: &DrawingContext<'_, '_, A>,
     text: &mut DotText,
     statement: usize,
-    block: usize,
 ) {
+    let Some(here) = context.scene.boxes.get(statement) else {
+        return;
+    };
+    let block = here.place.block;
     let Some(found) = context.scene.blocks.get(block) else {
         return;
     };

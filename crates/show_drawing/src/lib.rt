@@ -9,6 +9,7 @@ pub mod drawing;
 mod edges;
 mod excerpt;
 mod frames;
+mod lists;
 mod scene;
 mod style;
 mod traffic;

@@ -1,5 +1,6 @@
 //! Traffic: for each variable, which statements write and read it, and how the drawing shows it.
 
+use crate::lists::{empty_lists, list_at};
 use crate::scene::{Scene, VariableUse};
 use std::alloc::{AllocError, Allocator, Global};
 
@@ -73,27 +74,6 @@ impl Traffic {
             None => Shown::Nowhere,
         }
     }
-}
-
-/// Returns the list at an index, or an empty list if there is none.
-pub fn list_at(lists: &Vec<Vec<usize>>, at: usize) -> &[usize] {
-    match lists.get(at) {
-        Some(list) => list.as_slice(),
-        None => &[],
-    }
-}
-
-/// Returns as many empty lists as are wanted.
-///
-/// # Errors
-///
-/// Returns `AllocError` if an allocation fails.
-pub fn empty_lists(alloc: Global, count: usize) -> Result<Vec<Vec<usize>>, AllocError> {
-    let mut lists = Vec::new(alloc);
-    for _ in 0..count {
-        lists.push(Vec::new(alloc))?;
-    }
-    Ok(lists)
 }
 
 /// Returns the statements that use each variable, each once. The uses of a statement follow one another.

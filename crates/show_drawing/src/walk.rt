@@ -26,8 +26,9 @@ pub fn scene_of<'a, A: Allocator>(
     };
     walk_block(&mut scene, place, &flow.body);
     scene.add_step(DrawingStep::Close);
-    for number in 0..flow.functions.len() {
-        walk_function(&mut scene, number, &flow.functions[number]);
+    let functions = flow.functions.as_slice();
+    for number in 0..functions.len() {
+        walk_function(&mut scene, number, &functions[number]);
     }
     if scene.is_incomplete() {
         return Err(AllocError);
