@@ -16,7 +16,6 @@ const WIDTH: usize = 54;
 const FEW_LINES: usize = 12;
 
 /// The inputs of a drawing: a scene, its traffic, and the lines of its text.
-#[derive(Drop)]
 pub struct DrawingContext<'p, 'a, A: Allocator> {
     pub alloc: Global,
     pub scene: &'p Scene<'a, A>,
@@ -28,6 +27,21 @@ pub struct DrawingContext<'p, 'a, A: Allocator> {
     own_boxes: Vec<Vec<usize>>,
     /// The variable of each statement whose readers its box lists.
     listed: Vec<Option<usize>>,
+}
+
+// Written out, so that the owner drops it by one call.
+impl<'p, 'a, A: Allocator> Drop for DrawingContext<'p, 'a, A> {
+    fn drop(self) {
+        let DrawingContext {
+            alloc: _,
+            scene: _,
+            traffic: _,
+            lines: _,
+            starts: _,
+            own_boxes: _,
+            listed: _,
+        } = self;
+    }
 }
 
 impl<'p, 'a, A: Allocator> DrawingContext<'p, 'a, A> {

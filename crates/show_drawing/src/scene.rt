@@ -106,7 +106,6 @@ pub struct CallUse {
 }
 
 /// What is drawn of a script.
-#[derive(Drop)]
 pub struct Scene<'a, A: Allocator> {
     pub functions: &'a Vec<Function<A>, A>,
     pub boxes: Vec<StatementBox>,
@@ -120,6 +119,24 @@ pub struct Scene<'a, A: Allocator> {
     numbers: Vec<Option<usize>>,
     /// Whether an allocation failed.
     lacks: bool,
+}
+
+// Written out, so that the owner drops it by one call.
+impl<'a, A: Allocator> Drop for Scene<'a, A> {
+    fn drop(self) {
+        let Scene {
+            functions: _,
+            boxes: _,
+            blocks: _,
+            steps: _,
+            variables: _,
+            reads: _,
+            writes: _,
+            calls: _,
+            numbers: _,
+            lacks: _,
+        } = self;
+    }
 }
 
 impl<'a, A: Allocator> Scene<'a, A> {
