@@ -1,0 +1,4 @@
+pub mod Moments
+pub mod Waits
+pub mod Chains
+pub mod Rounds
