@@ -3,10 +3,11 @@ ghost use Rattle.std.specs.Bool.{OnTrue};
 ghost use Rattle.data_store.specs.Stores.{IsArrayAt};
 
 use crate::watch::tell;
-use data_store::store::{DatumKind, DatumNo, Store};
+use data_store::store::{DatumNo, Store};
 use std::alloc::{AllocError, Global};
 use std::io;
 use std::time::{Clock, Instant};
+use values::datum_kind::DatumKind;
 use values::key::{Key, KeyRef};
 use values::value::Scalar;
 

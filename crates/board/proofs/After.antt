@@ -7,7 +7,7 @@ use Rattle.std.proofs.lemmas.List.Sorted.{IsPermutation-refl}
 use Rattle.dataflow.specs.System.{Answer, In}
 use Rattle.dataflow.specs.Machine.{End, Event, SeesAll}
 use Rattle.board_history.specs.CodeReplay.{replayed}
-use Rattle.board_history.specs.Ending.{AreMade, BecomesKnown, CellsAfter, EndsTo, FramesOpen, Instance, NamesLead, TakenOff, TurnsAfter, home, is_one, job_stores, jobs_after, leaving, mark_after, marked_by, new_row, printed, turns_of_new}
+use Rattle.board_history.specs.Ending.{AreMade, BecomesKnown, CellsAfter, EndsTo, FramesOpen, Instance, NamesLead, TakenOff, TurnsAfter, home, is_one, job_stores, jobs_after, leaving, status_after, with_statuses, new_row, printed, turns_of_new}
 use Rattle.board_history.specs.Fields.{Counted, Does, Fields, Frame, Job, Layout, Over, Ready, Row, Script, Waiting, Want, row_of, task_of}
 use Rattle.board_history.specs.Needs.{job_missed}
 use Rattle.board_history.specs.Stands.{Stands}
@@ -127,7 +127,7 @@ module _ (C : Code) (F : Fields) (n : ℕ) (j : Job) (x : Computed) (gs : List (
   after =
       record {
         frames = gs;
-        rows = marked_by (mark_after n (filter begins done)) 1 rows;
+        rows = with_statuses (status_after n (filter begins done)) 1 rows;
         cells = ds;
         waiting = waiters_view left ++ map (waiter_at C gs ds rows first) (filter (λ m. not (begins m)) done);
         turns = λ m. if nat_lt first m then turns_of_row (row_of rows m) else F.turns m;
@@ -187,24 +187,24 @@ module _ (C : Code) (I : IsCode C) (es : List Event) (F : Fields) (s : Stands C 
       ]
 
   -- the instance of an item that waits is there
-  module _ (idle : row.mark ≡ Waiting → ⊥) where
-    stays_live : (m : ℕ) → (m ≡ n → ⊥) → mark_after n G.newly m Waiting ≡ Over → ⊥
+  module _ (idle : row.status ≡ Waiting → ⊥) where
+    stays_live : (m : ℕ) → (m ≡ n → ⊥) → status_after n G.newly m Waiting ≡ Over → ⊥
     stays_live m d =
         choose (λ y. y ≡ Over → ⊥) (nat_eq m n) Over (if is_one m G.newly then Ready else Waiting)
         (λ e h. d (nat_sound m n e))
         (λ e. choose (λ y. y ≡ Over → ⊥) (is_one m G.newly) Ready Waiting (λ f h. ready_over h) (λ f h. waiting_over h))
 
-    waits_seen : (m : ℕ) (r : Row) → row_of (all_rows C F row.job x gs ds a) m ≡ Some r → r.mark ≡ Waiting → IsSeen C gs r.job
+    waits_seen : (m : ℕ) (r : Row) → row_of (all_rows C F row.job x gs ds a) m ≡ Some r → r.status ≡ Waiting → IsSeen C gs r.job
     waits_seen zero r h k = no_row (all_rows C F row.job x gs ds a) r h
     waits_seen (suc i) r h k = by r.job refl
       where
         other : suc i ≡ n → ⊥
-        other e = idle (ap (λ (y : Row). y.mark) (some_same (sym (row_kept F.rows _ n row row_is) ∙ ap (row_of (all_rows C F row.job x gs ds a)) (sym e) ∙ h)) ∙ k)
+        other e = idle (ap (λ (y : Row). y.status) (some_same (sym (row_kept F.rows _ n row row_is) ∙ ap (row_of (all_rows C F row.job x gs ds a)) (sym e) ∙ h)) ∙ k)
 
         by : (b : Job) → r.job ≡ b → IsSeen C gs r.job
         by Script q = subst (IsSeen C gs) (sym q) tt
         by (Does k1 e c) q =
-            let f = row_frame C I L es F w n t G ending (suc i) k1 e c (record { job = r.job; mark = mark_after n G.newly (suc i) r.mark }) (row_to (mark_after n G.newly) 1 (all_rows C F row.job x gs ds a) i (suc i) r h (omega arith)) q (λ o. stays_live (suc i) other (ap (mark_after n G.newly (suc i)) (sym k) ∙ o)) in
+            let f = row_frame C I L es F w n t G ending (suc i) k1 e c (record { job = r.job; status = status_after n G.newly (suc i) r.status }) (row_to (status_after n G.newly) 1 (all_rows C F row.job x gs ds a) i (suc i) r h (omega arith)) q (λ o. stays_live (suc i) other (ap (status_after n G.newly (suc i)) (sym k) ∙ o)) in
             subst (IsSeen C gs) (sym q) (seen_there C I gs k1 e c f.0 f.1 f.2)
 
     -- all that were woken, and all new ones, can be settled

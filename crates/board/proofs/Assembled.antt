@@ -117,7 +117,7 @@ module _ (C : Code) (I : IsCode C) (es : List Event) (old room : BoardState) (sa
       by : (e : Effect) → GoesWell C fs ds j x e → goes_on (change_of e) ≡ true → job_kind C j ≡ Control
       by (To.Fails f) g h = no_opening h
       by (To.Stores d v) g h = no_opening h
-      by (To.Puts d k v) g h = no_opening h
+      by (To.InsertsElement d k v) g h = no_opening h
       by (To.Inserts d ys) g h = no_opening h
       by (To.Prints v) g h = no_opening h
       by To.Passes g h = no_opening h
@@ -129,7 +129,7 @@ module _ (C : Code) (I : IsCode C) (es : List Event) (old room : BoardState) (sa
       by : (e : Effect) → GoesWell C fs ds j x e → CanChange C fs (length room.items.rows.items) j (change_of e) → OpensWell C j (change_of e)
       by (To.Fails f) g c = tt
       by (To.Stores d v) g c = tt
-      by (To.Puts d k v) g c = tt
+      by (To.InsertsElement d k v) g c = tt
       by (To.Inserts d ys) g c = tt
       by (To.Prints v) g c = tt
       by To.Passes g c = tt
@@ -141,7 +141,7 @@ module _ (C : Code) (I : IsCode C) (es : List Event) (old room : BoardState) (sa
       by : (e : Effect) → GoesWell C fs ds j x e → (o : PendingInstances) → change_of e ≡ Changes.Opens o → HasSpare C o
       by (To.Fails f) g o q = absurd (cc)
       by (To.Stores d v) g o q = absurd (cc)
-      by (To.Puts d k v) g o q = absurd (cc)
+      by (To.InsertsElement d k v) g o q = absurd (cc)
       by (To.Inserts d ys) g o q = absurd (cc)
       by (To.Prints v) g o q = absurd (cc)
       by To.Passes g o q = absurd (cc)

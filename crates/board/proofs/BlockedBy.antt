@@ -19,10 +19,10 @@ use Rattle.board_history.specs.Fields as Fields
 use Rattle.board_history.specs.Fields.{Counted, Does, Frame, Job, Over, Row, Script, Slot, is_over, row_of, slot_at, slot_for, task_of}
 use Rattle.board_history.specs.Needs.{missed}
 use Rattle.board_history.proofs.EndedNames.{Resolved}
-use Rattle.board_history.proofs.Marking.{RowIs, mark_is}
+use Rattle.board_history.proofs.Marking.{RowIs, status_is}
 use Rattle.board_history.proofs.Tests.{none_some, some_same}
 use Rattle.task_code.proofs.Equal.{every_in, name_sound}
-use Rattle.task_code.specs.Code.{Act, Assert, At, AtKey, Call, Cell, Closed, Code, Copy, Each, Fill, Header, If, Name, Need, Print, Put, Range, Read, Set, Stored, Wait, body, entry}
+use Rattle.task_code.specs.Code.{Act, Assert, At, AtKey, Call, Cell, Closed, Code, Copy, Each, Fill, Header, If, Name, Need, Print, InsertElement, Range, Read, Set, Stored, Wait, body, entry}
 use Rattle.task_code.specs.Effects.{Item, Main}
 use Rattle.task_code.specs.Machine.{CodeItem, CodeState}
 use Rattle.task_code.specs.Places.{Step, place_at}
@@ -140,12 +140,12 @@ module _ (C : Code) (I : IsCode C) (es : List Event) (core : BoardState) (t : St
       ∙ ap (λ o. if list_all (λ n. misses_none (missed C cs (led C I fs cs k b) n)) h.needs then o else Some h.at) (same_first k b hs e p res)
 
   -- the statement of a live row
-  module _ (n k e c : ℕ) (r : Row) (there : row_of rows n ≡ Some r) (job : r.job ≡ Does k e c) (live : r.mark ≡ Over → ⊥) where
+  module _ (n k e c : ℕ) (r : Row) (there : row_of rows n ≡ Some r) (job : r.job ≡ Does k e c) (live : r.status ≡ Over → ⊥) where
     home : (f : Frame) × (slot_at fs k ≡ Some f) × In e (body C f.body).entries
     home = t.stands.frames.there n k e c r there job live
 
     own : (i : CodeItem) × In i s.items × (i.task ≡ Item e (Fields.path_of fs k) c)
-    own = elim (mark_is r.mark) [
+    own = elim (status_is r.status) [
       | inl over ↦ absurd (live over)
       | inr y ↦ (record { number = n; task = task_of fs r.job; runs = y.runs }, item_there C I (layout_of C) es F t.stands n r there y, ap (task_of fs) job)
     ]
@@ -164,7 +164,7 @@ module _ (C : Code) (I : IsCode C) (es : List Event) (core : BoardState) (t : St
     offset_told (Set y x) q o at = plain_told o at
     offset_told (Fill y xs) q o at = plain_told o at
     offset_told (Copy y) q o at = plain_told o at
-    offset_told (Put y i x) q o at = plain_told o at
+    offset_told (InsertElement y i x) q o at = plain_told o at
     offset_told (Print x) q o at = plain_told o at
     offset_told (Assert x) q o at = plain_told o at
     offset_told (If x b d) q o at = plain_told o at
@@ -185,25 +185,25 @@ module _ (C : Code) (I : IsCode C) (es : List Event) (core : BoardState) (t : St
         ap (λ b. if b then option_map (λ z. at_place z (Fields.path_of fs k)) (blocked_offset C fs cs k (entry C e).at (entry C e).act) else None) (lt_complete e (length C.entries) (I.there home.0.body e home.2))
         ∙ ap (option_map (λ z. at_place z (Fields.path_of fs k))) ((offset_told (entry C e).act refl (entry C e).at at).1 (h, g))
 
-  live_mark : (r : Row) → is_over r.mark ≡ false → r.mark ≡ Over → ⊥
-  live_mark r h e = (let x : true ≡ false = sym (ap is_over e) ∙ h in absurd (cc (x)))
+  live_status : (r : Row) → is_over r.status ≡ false → r.status ≡ Over → ⊥
+  live_status r h e = (let x : true ≡ false = sym (ap is_over e) ∙ h in absurd (cc (x)))
 
   row_blocked : (p : Place) → Among (blocked_row C fs cs) rows p → Blocked C s p.at p.path
-  row_blocked p x = by_mark (is_over x.1.mark) refl x.3
+  row_blocked p x = by_status (is_over x.1.status) refl x.3
     where
-      by_job : (j : Job) → x.1.job ≡ j → (x.1.mark ≡ Over → ⊥) → blocked_job C fs cs j ≡ Some p → Blocked C s p.at p.path
+      by_job : (j : Job) → x.1.job ≡ j → (x.1.status ≡ Over → ⊥) → blocked_job C fs cs j ≡ Some p → Blocked C s p.at p.path
       by_job Script q live g = none_some g
       by_job (Does k e c) q live g = job_blocked (suc x.0) k e c x.1 x.2 q live p g
 
-      by_mark : (b : Bool) → is_over x.1.mark ≡ b → (if b then None else blocked_job C fs cs x.1.job) ≡ Some p → Blocked C s p.at p.path
-      by_mark true q g = none_some g
-      by_mark false q g = by_job x.1.job refl (live_mark x.1 q) g
+      by_status : (b : Bool) → is_over x.1.status ≡ b → (if b then None else blocked_job C fs cs x.1.job) ≡ Some p → Blocked C s p.at p.path
+      by_status true q g = none_some g
+      by_status false q g = by_job x.1.job refl (live_status x.1 q) g
 
-  mark_off : (m : Fields.Mark) → (m ≡ Over → ⊥) → is_over m ≡ false
-  mark_off Fields.Waiting h = refl
-  mark_off Fields.Ready h = refl
-  mark_off (Fields.Running w) h = refl
-  mark_off Over h = absurd (h refl)
+  status_off : (m : Fields.Status) → (m ≡ Over → ⊥) → is_over m ≡ false
+  status_off Fields.Waiting h = refl
+  status_off Fields.Ready h = refl
+  status_off (Fields.Running w) h = refl
+  status_off Over h = absurd (h refl)
 
   blocked_in : (at : ℕ) (path : List Step) → Blocked C s at path → In (at_place at path) (filter_map (blocked_row C fs cs) rows)
   blocked_in at path b = (let f = row_there C I (layout_of C) es F t.stands b.item b.there in by f f.row.job refl)
@@ -222,7 +222,7 @@ module _ (C : Code) (I : IsCode C) (es : List Event) (core : BoardState) (t : St
           let stands = subst (λ z. IsBlockedAt C (IsKnown (code_system C) s) (Fields.path_of fs k) (entry C z).act (entry C z).at at) (sym same.0) (subst (λ z. IsBlockedAt C (IsKnown (code_system C) s) z (entry C b.number).act (entry C b.number).at at) (sym same.1) b.stands) in
           let told = blocked_here (suc f.at) k e c f.row f.there q f.not_over at counted stands in
           let row : blocked_row C fs cs f.row ≡ Some (at_place at path) =
-          ap (λ z. if z then None else blocked_job C fs cs f.row.job) (mark_off f.row.mark f.not_over) ∙ ap (blocked_job C fs cs) q ∙ told ∙ ap (λ z. Some (at_place at z)) same.1 in
+          ap (λ z. if z then None else blocked_job C fs cs f.row.job) (status_off f.row.status f.not_over) ∙ ap (blocked_job C fs cs) q ∙ told ∙ ap (λ z. Some (at_place at z)) same.1 in
           row_at (blocked_row C fs cs) rows f.at f.row (at_place at path) f.there row
 
   -- all blocked statements

@@ -5,7 +5,7 @@ use Rattle.dataflow.specs.System.{In}
 use Rattle.dataflow.specs.Machine.{Back, Begin, Event, Fault}
 use Rattle.board_history.specs.Ending.{job_kind, job_priority}
 use Rattle.board_history.specs.Fields.{Fields, Job, Layout, Ready, Row, Running, row_of, task_of}
-use Rattle.board_history.specs.Marking.{begun_fields, mark_at, returned_fields}
+use Rattle.board_history.specs.Marking.{begun_fields, with_status, returned_fields}
 use Rattle.board_history.specs.Stands.{Stands}
 use Rattle.board_history.proofs.Marking.{item}
 use Rattle.board_history.proofs.Tests.{none_some, some_same}
@@ -50,7 +50,7 @@ unmet C (Some m) f n e = none_some (sym e)
 
 module _ (C : Code) (I : IsCode C) (L : Layout) (es : List Event) (F : Fields) (x : Stands C L es F) where
   -- where a number stands in the queue, there its item's job belongs
-  queued_job : (n : ℕ) (r : Row) → row_of F.rows n ≡ Some r → (k : Kind) (z : ℤ) → In n (F.queue k z) → (r.mark ≡ Ready) × (k ≡ job_kind C r.job) × (z ≡ job_priority C r.job)
+  queued_job : (n : ℕ) (r : Row) → row_of F.rows n ≡ Some r → (k : Kind) (z : ℤ) → In n (F.queue k z) → (r.status ≡ Ready) × (k ≡ job_kind C r.job) × (z ≡ job_priority C r.job)
   queued_job n r h k z m =
       let q = x.queue.only k z n m in
       let f = row_there C I L es F x q.item q.there in
@@ -59,7 +59,7 @@ module _ (C : Code) (I : IsCode C) (L : Layout) (es : List Event) (F : Fields) (
       let place : suc f.at ≡ n = omega arith in
       let same : f.row ≡ r = some_same (sym f.there ∙ ap (λ (i : ℕ). row_of F.rows i) place ∙ h) in
       let job = ap (λ (y : Row). y.job) same in (
-        sym (ap (λ (y : Row). y.mark) same) ∙ idle_ready C I L es F x q.item q.there q.idle q.enabled f f.row.mark refl,
+        sym (ap (λ (y : Row). y.status) same) ∙ idle_ready C I L es F x q.item q.there q.idle q.enabled f f.row.status refl,
         sym q.kind_is ∙ ap (task_kind C) f.task_is ∙ kind_of_job C F.frames f.row.job ∙ ap (job_kind C) job,
         sym q.priority_is ∙ ap (task_priority C) f.task_is ∙ priority_of_job C F.frames f.row.job ∙ ap (job_priority C) job,
       )
@@ -68,17 +68,17 @@ module _ (C : Code) (I : IsCode C) (L : Layout) (es : List Event) (F : Fields) (
   ready_queued n j h =
       x.queue.all (job_kind C j) (job_priority C j) n (record {
         item = item n (task_of F.frames j) None;
-        there = item_there C I L es F x n (record { job = j; mark = Ready }) h ready_item;
+        there = item_there C I L es F x n (record { job = j; status = Ready }) h ready_item;
         number_is = refl;
         idle = refl;
-        enabled = x.items.ready n (record { job = j; mark = Ready }) h refl;
+        enabled = x.items.ready n (record { job = j; status = Ready }) h refl;
         kind_is = kind_of_job C F.frames j;
         priority_is = priority_of_job C F.frames j;
       })
 
   -- one that runs is not in the queue
   runs_unqueued : (w n : ℕ) (j : Job) → RunsOn F.rows w n j → (k : Kind) (z : ℤ) → In n (F.queue k z) → ⊥
-  runs_unqueued w n j h k z m = clash (queued_job n (record { job = j; mark = Running w }) h k z m).0
+  runs_unqueued w n j h k z m = clash (queued_job n (record { job = j; status = Running w }) h k z m).0
     where
       clash : Running w ≡ Ready → ⊥
       clash e = absurd (cc)
@@ -102,7 +102,7 @@ module _ (C : Code) (I : IsCode C) (es : List Event) (old new : BoardState) (s :
       by Leaf m = (holds_exactly (record { priority = job_priority C j; no = n }) old.items.queue.leaf.entries).0 (number_held (job_priority C j) n old.items.queue.leaf.entries m)
 
   -- fields that have become the begun ones stand for the state of the history with that event
-  pub begun_core : (w n : ℕ) (j : Job) → IsReady (rows_view old.items.rows.items) n j → rows_view new.items.rows.items ≡ mark_at (rows_view old.items.rows.items) n (Running w)
+  pub begun_core : (w n : ℕ) (j : Job) → IsReady (rows_view old.items.rows.items) n j → rows_view new.items.rows.items ≡ with_status (rows_view old.items.rows.items) n (Running w)
       → new.items.queue ≡ with_changed (job_kind C j) (Waits.without (record { priority = job_priority C j; no = n })) old.items.queue
       → new.items.running ≡ old.items.running + 1 → new.items.newly.items ≡ [] → new.items.apart ≡ one_more (job_kind C j) old.items.apart → vec_capacity new.items.newly ≡ vec_capacity old.items.newly
       → length (rows_view old.items.rows.items) + 1 ≤ 2 ^ 64 - 1 → Stand C (es ++ Begin w n ∷ []) new
@@ -123,8 +123,8 @@ module _ (C : Code) (I : IsCode C) (es : List Event) (old new : BoardState) (s :
       alone =
           record {
             there = ready_queued C I (layout_of C) es (fields_view s.told old) x n j ready;
-            same_kind = λ l y h. (queued_job C I (layout_of C) es (fields_view s.told old) x n (record { job = j; mark = Ready }) ready l y h).1;
-            same_priority = λ l y h. (queued_job C I (layout_of C) es (fields_view s.told old) x n (record { job = j; mark = Ready }) ready l y h).2;
+            same_kind = λ l y h. (queued_job C I (layout_of C) es (fields_view s.told old) x n (record { job = j; status = Ready }) ready l y h).1;
+            same_priority = λ l y h. (queued_job C I (layout_of C) es (fields_view s.told old) x n (record { job = j; status = Ready }) ready l y h).2;
           }
 
       same : SameNumbers (begun_fields (fields_view s.told old) w n).queue (queue_view new.items.queue)
@@ -137,7 +137,7 @@ module _ (C : Code) (I : IsCode C) (es : List Event) (old new : BoardState) (s :
           cc
 
   -- fields that have become the returned ones do so too
-  pub back_core : (w n : ℕ) (j : Job) → RunsOn (rows_view old.items.rows.items) w n j → rows_view new.items.rows.items ≡ mark_at (rows_view old.items.rows.items) n Ready
+  pub back_core : (w n : ℕ) (j : Job) → RunsOn (rows_view old.items.rows.items) w n j → rows_view new.items.rows.items ≡ with_status (rows_view old.items.rows.items) n Ready
       → new.items.queue ≡ with_changed (job_kind C j) (Waits.with_put (record { priority = job_priority C j; no = n })) old.items.queue
       → new.items.running ≡ old.items.running - 1 → new.items.newly.items ≡ n ∷ [] → new.items.apart ≡ one_less (job_kind C j) old.items.apart → 0 < vec_capacity new.items.newly
       → Stand C (es ++ Back w n ∷ []) new

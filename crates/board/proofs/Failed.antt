@@ -72,7 +72,7 @@ module _ (C : Code) (I : IsCode C) (es : List Event) (old new : BoardState) (t :
     where
       by : (u : CodeState) × (replayed C (es ++ End w n ∷ []) ≡ Some u) → Stand C (es ++ End w n ∷ []) new
       by p =
-          let told : p.0.fault ≡ Some (task_of (frames_view old.data_state.instances.slots) j, kind_of_fault f.kind) = tells C I es (fields_view t.told old) t.stands w n p.0 p.1 (record { job = j; mark = Running w }) runs xs known (Fails f) effect in
+          let told : p.0.fault ≡ Some (task_of (frames_view old.data_state.instances.slots) j, kind_of_fault f.kind) = tells C I es (fields_view t.told old) t.stands w n p.0 p.1 (record { job = j; status = Running w }) runs xs known (Fails f) effect in
           let bad : p.0.fault ≡ None → ⊥ = λ e. none_some (sym e ∙ told) in
           at p.0 told (fault_stands C I (layout_of C) es (fields_view t.told old) t.stands w n p.0 p.1 bad)
         where
@@ -148,7 +148,7 @@ passed_ended C n j done old new e good passed effect =
 pub not_fault : (e : Effect) → ((f : Noted) → e ≡ Fails f → ⊥) → is_fault e ≡ false
 not_fault (Fails f) n = absurd (n f refl)
 not_fault (Effects.Stores d v) n = refl
-not_fault (Effects.Puts d k v) n = refl
+not_fault (Effects.InsertsElement d k v) n = refl
 not_fault (Effects.Inserts d es) n = refl
 not_fault (Effects.Prints v) n = refl
 not_fault Effects.Passes n = refl
@@ -164,7 +164,7 @@ entry_effect C core k e c j is done x same table tabled r told es w n I s runs o
     at : (o : IsWorkOf C (state_of C es) (task_of (frames_view core.data_state.instances.slots) (Does k e c)) done) → IsEffect C (frames_view core.data_state.instances.slots) (cells_view core.data_state.store.cells) (Does k e c) (computed_by C (task_of (frames_view core.data_state.instances.slots) (Does k e c)) o.inputs) r
     at o =
         let row = subst (λ (i : Job). RunsOn (rows_view core.items.rows.items) w n i) is runs in
-        let work = at_work C I es (fields_view s.told core) s.stands s.kept.few n k e c (record { job = Does k e c; mark = Running w }) row refl (λ h. absurd (running_live w h)) x same table tabled in
+        let work = at_work C I es (fields_view s.told core) s.stands s.kept.few n k e c (record { job = Does k e c; status = Running w }) row refl (λ h. absurd (running_live w h)) x same table tabled in
         subst (λ (y : PureEntry). IsEffect C (frames_view core.data_state.instances.slots) (cells_view core.data_state.store.cells) (Does k e c) (compute y.act (answers_to C (task_of (frames_view core.data_state.instances.slots) (Does k e c)) o.inputs)) r) same
         (told work (answers_to C (task_of (frames_view core.data_state.instances.slots) (Does k e c)) o.inputs) (o.job ∙ ap Work.runs (sym same)) o.answers)
 

@@ -69,7 +69,7 @@ module _ (C : Code) (I : IsCode C) (es : List Event) (old mid : BoardState) (s :
   x = computed_by C (task_of F.frames j) xs
 
   abbrev row : Row
-  row = record { job = j; mark = Running w }
+  row = record { job = j; status = Running w }
 
   abbrev gs : List (Option Frame)
   gs = frames_view mid.data_state.instances.slots
@@ -90,7 +90,7 @@ module _ (C : Code) (I : IsCode C) (es : List Event) (old mid : BoardState) (s :
   fits : (e : Effect) → GoesWell C F.frames F.cells j x e → CanChange C F.frames (length old.items.rows.items) j (change_of e) → ChangeFits C F j old.data_state.store (change_of e)
   fits (To.Fails f) g c = tt
   fits (To.Stores d v) g c = tt
-  fits (To.Puts d k v) g c = tt
+  fits (To.InsertsElement d k v) g c = tt
   fits (To.Inserts d ys) g c = tt
   fits (To.Prints v) g c = tt
   fits To.Passes g c = tt

@@ -50,7 +50,7 @@ first_same items a =
       once = λ k z. subst (λ (ns : List ℕ). Distinct ns) (sym (first_numbers items a k z)) (first_once k z);
     }
 
-none_apart : (C : Code) (k : Kind) (n : ℕ) (rows : List Row) → rows ≡ record { job = Script; mark = Ready } ∷ [] → apart_in C k rows ≤ n
+none_apart : (C : Code) (k : Kind) (n : ℕ) (rows : List Row) → rows ≡ record { job = Script; status = Ready } ∷ [] → apart_in C k rows ≤ n
 none_apart C k n rows e = subst (λ (rs : List Row). apart_in C k rs ≤ n) (sym e) (omega arith)
 
 first_roomy : (C : Code) (items : Items) → AreFirst items → IsRoomy C items

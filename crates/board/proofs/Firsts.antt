@@ -5,7 +5,7 @@ use Rattle.std.specs.Ordering.{int_eq}
 use Rattle.std.proofs.lemmas.Int.{ints}
 use Rattle.std.proofs.lemmas.List.Elements.{All-contains}
 use Rattle.dataflow.specs.System.{Distinct, In}
-use Rattle.board_history.specs.Fields.{Job, Mark, Over, Ready, Row, Running, Waiting, is_running, row_of, running_in, task_of}
+use Rattle.board_history.specs.Fields.{Job, Status, Over, Ready, Row, Running, Waiting, is_running, row_of, running_in, task_of}
 use Rattle.board_history.specs.Stands.{Stands}
 use Rattle.board_history.proofs.Marking.{RowIs}
 use Rattle.board_history.proofs.Tests.{choose, none_some, some_same, yes_no}
@@ -112,22 +112,22 @@ record RunsSomewhere (rows : List Row) : Type 0 where
   at : ℕ
   worker : ℕ
   job : Job
-  there : row_of rows (suc at) ≡ Some (record { job = job; mark = Running worker })
+  there : row_of rows (suc at) ≡ Some (record { job = job; status = Running worker })
 
 some_running : (rows : List Row) → 0 < running_in rows → RunsSomewhere rows
 some_running [] h = absurd (omega arith)
-some_running (r ∷ rs) h = by r.mark refl (λ g. some_running rs g)
+some_running (r ∷ rs) h = by r.status refl (λ g. some_running rs g)
   where
     later : RunsSomewhere rs → RunsSomewhere (r ∷ rs)
     later x = record { at = suc x.at; worker = x.worker; job = x.job; there = x.there }
 
-    on : (m : Mark) → r.mark ≡ m → is_running m ≡ false → 0 < running_in rs
+    on : (m : Status) → r.status ≡ m → is_running m ≡ false → 0 < running_in rs
     on m e f =
-        let g : is_running r.mark ≡ false = ap is_running e ∙ f in
+        let g : is_running r.status ≡ false = ap is_running e ∙ f in
         grind (arith, h, g)
 
-    by : (m : Mark) → r.mark ≡ m → (0 < running_in rs → RunsSomewhere rs) → RunsSomewhere (r ∷ rs)
-    by (Running w) e f = record { at = 0; worker = w; job = r.job; there = ap (λ (m : Mark). Some (record { job = r.job; mark = m })) e }
+    by : (m : Status) → r.status ≡ m → (0 < running_in rs → RunsSomewhere rs) → RunsSomewhere (r ∷ rs)
+    by (Running w) e f = record { at = 0; worker = w; job = r.job; there = ap (λ (m : Status). Some (record { job = r.job; status = m })) e }
     by Ready e f = later (f (on Ready e refl))
     by Waiting e f = later (f (on Waiting e refl))
     by Over e f = later (f (on Over e refl))
@@ -236,16 +236,16 @@ module _ (a : Inside) (s : IsSound a) where
       by i r Control e = next_none Control control i r e
       by i r Leaf e = next_none Leaf leaf i r e
 
-      mark : (i : CodeItem) (f : RowIs (frames_view a.core.data_state.instances.slots) (rows_view a.core.items.rows.items) 1 i) (m : Mark) → f.row.mark ≡ m → i.runs ≡ None
-      mark i f Ready q = runs_as (fields_view s.stand.told a.core) i f Ready ready_item q
-      mark i f Waiting q = runs_as (fields_view s.stand.told a.core) i f Waiting waiting_item q
-      mark i f Over q = absurd (f.not_over q)
-      mark i f (Running w) q =
-          let l = some_run a.program s.whole (map event_view a.history.items) a.core s.stand w (suc f.at) f.row.job (f.there ∙ ap (λ (m : Mark). Some (record { job = f.row.job; mark = m })) q) in
+      status : (i : CodeItem) (f : RowIs (frames_view a.core.data_state.instances.slots) (rows_view a.core.items.rows.items) 1 i) (m : Status) → f.row.status ≡ m → i.runs ≡ None
+      status i f Ready q = runs_as (fields_view s.stand.told a.core) i f Ready ready_item q
+      status i f Waiting q = runs_as (fields_view s.stand.told a.core) i f Waiting waiting_item q
+      status i f Over q = absurd (f.not_over q)
+      status i f (Running w) q =
+          let l = some_run a.program s.whole (map event_view a.history.items) a.core s.stand w (suc f.at) f.row.job (f.there ∙ ap (λ (m : Status). Some (record { job = f.row.job; status = m })) q) in
           absurd (omega arith)
 
       idle : (i : CodeItem) → In i (state_of a.program (map event_view a.history.items)).items → i.runs ≡ None
-      idle i h = let f = there i h in mark i f f.row.mark refl
+      idle i h = let f = there i h in status i f f.row.status refl
 
   pub quiet_still : Quiet a.program (state_of a.program (map event_view a.history.items)) → (a.core.items.running ≡ 0) × (first_number a.core.items.queue.control.entries ≡ None) × (first_number a.core.items.queue.leaf.entries ≡ None)
   quiet_still q = (zero_is a.core.items.running refl, none_is Control, none_is Leaf)

@@ -3,7 +3,7 @@ use Rattle.std.proofs.Common.{◌≡◌, refl, true, false, List, Option}
 use Rattle.board_history.specs.Ending.{job_kind}
 use Rattle.board_history.specs.Fields.{Does, Frame, Job, Script, path_of, task_of}
 use Rattle.board_history.specs.Static.{rests}
-use Rattle.task_code.specs.Code.{Act, Assert, Call, Cell, Code, Control, Copy, Each, Fill, If, Print, Put, Range, Read, Set, Wait, entry, kind_of, loop_of}
+use Rattle.task_code.specs.Code.{Act, Assert, Call, Cell, Code, Control, Copy, Each, Fill, If, Print, InsertElement, Range, Read, Set, Wait, entry, kind_of, loop_of}
 use Rattle.task_code.specs.Compute.{Computed}
 use Rattle.task_code.specs.Effects.{is_some_list, rest}
 
@@ -21,7 +21,7 @@ going_kind C fs (Does k e c) x h = by (entry C e).act h
     by (Set r g) h = false_true h
     by (Fill r es) h = false_true h
     by (Copy r) h = refl
-    by (Put r i g) h = refl
+    by (InsertElement r i g) h = refl
     by (Print g) h = false_true h
     by (Assert g) h = false_true h
     by (If g b d) h = refl

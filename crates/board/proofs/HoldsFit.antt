@@ -11,7 +11,7 @@ use Rattle.data_store.specs.declared.datum.Datum.{Datum as Cell}
 use Rattle.board_history.specs.Counts.{holds, readers, times, writers}
 use Rattle.board_history.specs.Elements.{code_tests}
 use Rattle.board_history.specs.Ending.{Instance, IsOwn, added_times, held_times, home, slot_is}
-use Rattle.board_history.specs.Fields.{Counted, DatumOf, Fields, Frame, Job, Mark, Over, Ready, Row, Running, Slot, Waiting, item_before, items_from, slot_at, slot_for, task_of}
+use Rattle.board_history.specs.Fields.{Counted, DatumOf, Fields, Frame, Job, Status, Over, Ready, Row, Running, Slot, Waiting, item_before, items_from, slot_at, slot_for, task_of}
 use Rattle.board_history.specs.Stands.{Stands}
 use Rattle.board_history.specs.Static.{Hold, add_hold, counted_names, name_times, names_in, outer_holds, own_count}
 use Rattle.board_history.proofs.Tests.{choose, none_some, some_same}
@@ -133,12 +133,12 @@ module _ (C : Code) (most : ℕ) where
 
     rows_below : (fs : List (Option Frame)) (k : ℕ) (rows : List Row) → held_by (items_from fs k rows) ≤ length rows * most
     rows_below fs k [] = omega arith
-    rows_below fs k (r ∷ rs) = by (rows_below fs (suc k) rs) r.mark
+    rows_below fs k (r ∷ rs) = by (rows_below fs (suc k) rs) r.status
       where
         one : held_by (items_from fs (suc k) rs) ≤ length rs * most → times (code_system C) code_tests a (rights (task_of fs r.job)) + held_by (items_from fs (suc k) rs) ≤ suc (length rs) * most
         one rest = one_more (length rs) most _ _ (below_both _ (length (rights (task_of fs r.job))) _ (times_below (rights (task_of fs r.job))) (each (task_of fs r.job))) rest
 
-        by : held_by (items_from fs (suc k) rs) ≤ length rs * most → (m : Mark) → held_by (item_before k (task_of fs r.job) m (items_from fs (suc k) rs)) ≤ suc (length rs) * most
+        by : held_by (items_from fs (suc k) rs) ≤ length rs * most → (m : Status) → held_by (item_before k (task_of fs r.job) m (items_from fs (suc k) rs)) ≤ suc (length rs) * most
         by rest Waiting = one rest
         by rest Ready = one rest
         by rest (Running w) = one rest

@@ -3,8 +3,8 @@ use Rattle.std.proofs.Common.{◌≡◌, ℕ, zero, suc, List, Some, ◌+◌, �
 use Rattle.std.specs.Prelude.{ℤ, ◌^◌, vec_capacity}
 use Rattle.std.proofs.lemmas.List.{length-map}
 use Rattle.board_history.specs.Ending.{job_kind, job_priority}
-use Rattle.board_history.specs.Fields.{Job, Mark, Ready, Row, Running, row_of}
-use Rattle.board_history.specs.Marking.{mark_at}
+use Rattle.board_history.specs.Fields.{Job, Status, Ready, Row, Running, row_of}
+use Rattle.board_history.specs.Marking.{with_status}
 use Rattle.board_history.proofs.Tests.{none_some, some_same}
 use Rattle.task_code.specs.Code.{Code}
 use Rattle.work_queue.specs.Both.{of, with_changed}
@@ -20,15 +20,15 @@ use Rattle.board.proofs.Changes.{back_core, back_room, begun_core, begun_there}
 abbrev entry : ℤ → ℕ → QueueEntry
 entry z n = record { priority = z; no = n }
 
-marked_here : (rows : List Row) (n : ℕ) (r : Row) (m : Mark) → row_of rows n ≡ Some r → row_of (mark_at rows n m) n ≡ Some (record { job = r.job; mark = m })
+marked_here : (rows : List Row) (n : ℕ) (r : Row) (m : Status) → row_of rows n ≡ Some r → row_of (with_status rows n m) n ≡ Some (record { job = r.job; status = m })
 marked_here [] n r m h = none_some h
 marked_here (q ∷ rows) zero r m h = none_some h
-marked_here (q ∷ rows) (suc zero) r m h = ap (λ (y : Row). Some (record { job = y.job; mark = m })) (some_same h)
+marked_here (q ∷ rows) (suc zero) r m h = ap (λ (y : Row). Some (record { job = y.job; status = m })) (some_same h)
 marked_here (q ∷ rows) (suc (suc n)) r m h = marked_here rows (suc n) r m h
 
 module _ (C : Code) (old new : BoardState) (n : ℕ) (j : Job) (data_state : new.data_state ≡ old.data_state) (lines : new.lines ≡ old.lines) (fault : new.fault ≡ old.fault) (order : StaysButOrder old.items new.items) where
   pub has_begun : (w : ℕ) (k : Kind) (z : ℤ) → k ≡ job_kind C j → z ≡ job_priority C j
-      → rows_view new.items.rows.items ≡ mark_at (rows_view old.items.rows.items) n (Running w)
+      → rows_view new.items.rows.items ≡ with_status (rows_view old.items.rows.items) n (Running w)
       → (Contains (of k old.items.queue).entries (entry z n) → new.items.queue ≡ with_changed k (without (entry z n)) old.items.queue)
       → (old.items.running + 1 < 2 ^ 64 → new.items.running ≡ old.items.running + 1) → new.items.newly.items ≡ [] → vec_capacity new.items.newly ≡ vec_capacity old.items.newly
       → new.items.apart ≡ one_more k old.items.apart → length old.items.rows.items + 1 ≤ 2 ^ 64 - 1 → HasBegun C w n j old new
@@ -41,7 +41,7 @@ module _ (C : Code) (old new : BoardState) (n : ℕ) (j : Job) (data_state : new
         newly = newly;
         fault = fault;
         data_state = data_state;
-        runs = λ ready. ap (λ (rs : List Row). row_of rs n) rows ∙ marked_here (rows_view old.items.rows.items) n (record { job = j; mark = Ready }) (Running w) ready;
+        runs = λ ready. ap (λ (rs : List Row). row_of rs n) rows ∙ marked_here (rows_view old.items.rows.items) n (record { job = j; status = Ready }) (Running w) ready;
       }
     where
       taken : Contains (of (job_kind C j) old.items.queue).entries (entry (job_priority C j) n) → new.items.queue ≡ with_changed (job_kind C j) (without (entry (job_priority C j) n)) old.items.queue
@@ -50,7 +50,7 @@ module _ (C : Code) (old new : BoardState) (n : ℕ) (j : Job) (data_state : new
           (subst (λ (y : ℤ). Contains (of k old.items.queue).entries (entry y n) → new.items.queue ≡ with_changed k (without (entry y n)) old.items.queue) priority queue)
 
   pub has_returned : (k : Kind) (z : ℤ) → k ≡ job_kind C j → z ≡ job_priority C j
-      → rows_view new.items.rows.items ≡ mark_at (rows_view old.items.rows.items) n Ready
+      → rows_view new.items.rows.items ≡ with_status (rows_view old.items.rows.items) n Ready
       → (0 < (of k old.items.queue).room → new.items.queue ≡ with_changed k (with_put (entry z n)) old.items.queue)
       → new.items.running ≡ old.items.running - 1 → (0 < vec_capacity old.items.newly → new.items.newly.items ≡ n ∷ []) → vec_capacity old.items.newly ≤ vec_capacity new.items.newly
       → new.items.apart ≡ one_less k old.items.apart → HasReturned C n j old new

@@ -11,7 +11,7 @@ use Rattle.dataflow.proofs.Possible.{has_steps}
 use Rattle.dataflow.proofs.Steps.{run_follows}
 use Rattle.board_history.specs.CodeReplay.{and_then, next_state, replayed}
 use Rattle.board_history.specs.Elements.{code_tests}
-use Rattle.board_history.specs.Fields.{Does, Fields, Frame, Job, Layout, Mark, Over, Ready, Row, Running, Script, Waiting, row_of, item_before, task_of}
+use Rattle.board_history.specs.Fields.{Does, Fields, Frame, Job, Layout, Status, Over, Ready, Row, Running, Script, Waiting, row_of, item_before, task_of}
 use Rattle.board_history.specs.Stands.{Stands}
 use Rattle.board_history.proofs.Elements.{code_told}
 use Rattle.board_history.specs.Marking.{begun_fields, returned_fields}
@@ -40,14 +40,14 @@ running_item w = record { runs = Some w; is = λ n t is. refl }
 abbrev pub waiting_item : IsItem Waiting
 waiting_item = record { runs = None; is = λ n t is. refl }
 
--- what a mark says of its item
-marked_runs : (m : Mark) (y : IsItem m) (k : Mark) (z : IsItem k) → m ≡ k → y.runs ≡ z.runs
-marked_runs m y k z q = ap (λ (i : CodeItem). i.runs) (first_of (sym (y.is 0 Main []) ∙ ap (λ (a : Mark). item_before 0 Main a []) q ∙ z.is 0 Main []))
+-- what a status says of its item
+marked_runs : (m : Status) (y : IsItem m) (k : Status) (z : IsItem k) → m ≡ k → y.runs ≡ z.runs
+marked_runs m y k z q = ap (λ (i : CodeItem). i.runs) (first_of (sym (y.is 0 Main []) ∙ ap (λ (a : Status). item_before 0 Main a []) q ∙ z.is 0 Main []))
 
-pub runs_as : (F : Fields) (i : CodeItem) (f : RowIs F.frames F.rows 1 i) (k : Mark) (z : IsItem k) → f.row.mark ≡ k → i.runs ≡ z.runs
+pub runs_as : (F : Fields) (i : CodeItem) (f : RowIs F.frames F.rows 1 i) (k : Status) (z : IsItem k) → f.row.status ≡ k → i.runs ≡ z.runs
 runs_as F i f k z q =
-    let y : IsItem f.row.mark = subst (λ (m : Mark). IsItem m) (sym q) z in
-    f.runs_is y ∙ marked_runs f.row.mark y k z q
+    let y : IsItem f.row.status = subst (λ (m : Status). IsItem m) (sym q) z in
+    f.runs_is y ∙ marked_runs f.row.status y k z q
 
 -- who runs a job, and its priority
 pub kind_of_job : (C : Code) (fs : List (Option Frame)) (j : Job) → task_kind C (task_of fs j) ≡ job_kind C j
@@ -85,7 +85,7 @@ module _ (C : Code) (I : IsCode C) (L : Layout) (es : List Event) (F : Fields) (
       (run_next (code_system C) code_tests (code_told C) (code_laws C I) es x.state run e t next).0)
 
   -- the item of a row
-  pub item_there : (n : ℕ) (r : Row) → row_of F.rows n ≡ Some r → (y : IsItem r.mark) → In (item n (task_of F.frames r.job) y.runs) x.state.items
+  pub item_there : (n : ℕ) (r : Row) → row_of F.rows n ≡ Some r → (y : IsItem r.status) → In (item n (task_of F.frames r.job) y.runs) x.state.items
   item_there zero r h y = no_row F.rows r h
   item_there (suc j) r h y = subst (λ (is : List CodeItem). In (item (suc j) (task_of F.frames r.job) y.runs) is) x.items.items (row_item F.frames 1 F.rows j (suc j) r h y (omega arith))
 
@@ -98,13 +98,13 @@ module _ (C : Code) (I : IsCode C) (L : Layout) (es : List Event) (F : Fields) (
   ready_begins n j h =
       record {
         item = item n (task_of F.frames j) None;
-        there = item_there n (record { job = j; mark = Ready }) h ready_item;
+        there = item_there n (record { job = j; status = Ready }) h ready_item;
         number_is = refl;
         idle = refl;
-        enabled = x.items.ready n (record { job = j; mark = Ready }) h refl;
+        enabled = x.items.ready n (record { job = j; status = Ready }) h refl;
       }
 
-  pub idle_ready : (i : CodeItem) → In i x.state.items → i.runs ≡ None → Enabled C x.state i.task → (f : RowIs F.frames F.rows 1 i) (m : Mark) → f.row.mark ≡ m → f.row.mark ≡ Ready
+  pub idle_ready : (i : CodeItem) → In i x.state.items → i.runs ≡ None → Enabled C x.state i.task → (f : RowIs F.frames F.rows 1 i) (m : Status) → f.row.status ≡ m → f.row.status ≡ Ready
   idle_ready i h idle enabled f Ready q = q
   idle_ready i h idle enabled f Over q = absurd (f.not_over q)
   idle_ready i h idle enabled f (Running w) q = none_some (sym idle ∙ runs_as F i f (Running w) (running_item w) q)
@@ -116,14 +116,14 @@ module _ (C : Code) (I : IsCode C) (L : Layout) (es : List Event) (F : Fields) (
       let e = f.number_is in
       let k = c.number_is in
       let place : suc f.at ≡ n = omega arith in
-      (f.row.job, subst (λ (m : ℕ). row_of F.rows m ≡ Some (record { job = f.row.job; mark = Ready })) place (f.there ∙ ap (λ (m : Mark). Some (record { job = f.row.job; mark = m })) (idle_ready c.item c.there c.idle c.enabled f f.row.mark refl)))
+      (f.row.job, subst (λ (m : ℕ). row_of F.rows m ≡ Some (record { job = f.row.job; status = Ready })) place (f.there ∙ ap (λ (m : Status). Some (record { job = f.row.job; status = m })) (idle_ready c.item c.there c.idle c.enabled f f.row.status refl)))
 
   -- one whose row runs on a worker runs there, and no other
   pub row_runs : (w n : ℕ) (j : Job) → Rows.RunsOn F.rows w n j → RunsOn C x.state w n
   row_runs w n j h =
       record {
         item = item n (task_of F.frames j) (Some w);
-        there = item_there n (record { job = j; mark = Running w }) h (running_item w);
+        there = item_there n (record { job = j; status = Running w }) h (running_item w);
         number_is = refl;
         runs = refl;
       }
@@ -134,9 +134,9 @@ module _ (C : Code) (I : IsCode C) (L : Layout) (es : List Event) (F : Fields) (
       let e = f.number_is in
       let k = c.number_is in
       let place : suc f.at ≡ n = omega arith in
-      (f.row.job, subst (λ (m : ℕ). row_of F.rows m ≡ Some (record { job = f.row.job; mark = Running w })) place (f.there ∙ ap (λ (m : Mark). Some (record { job = f.row.job; mark = m })) (runs_running f f.row.mark refl)))
+      (f.row.job, subst (λ (m : ℕ). row_of F.rows m ≡ Some (record { job = f.row.job; status = Running w })) place (f.there ∙ ap (λ (m : Status). Some (record { job = f.row.job; status = m })) (runs_running f f.row.status refl)))
     where
-      runs_running : (f : RowIs F.frames F.rows 1 c.item) (m : Mark) → f.row.mark ≡ m → f.row.mark ≡ Running w
+      runs_running : (f : RowIs F.frames F.rows 1 c.item) (m : Status) → f.row.status ≡ m → f.row.status ≡ Running w
       runs_running f Ready q = none_some (sym (runs_as F c.item f Ready ready_item q) ∙ c.runs)
       runs_running f Waiting q = none_some (sym (runs_as F c.item f Waiting waiting_item q) ∙ c.runs)
       runs_running f Over q = absurd (f.not_over q)
@@ -173,7 +173,7 @@ module _ (C : Code) (I : IsCode C) (L : Layout) (es : List Event) (F : Fields) (
             let e = f.number_is in
             let k = r.2 in
             let place : suc f.at ≡ n = omega arith in
-            let same : f.row ≡ record { job = j; mark = Running w } = some_same (sym f.there ∙ ap (λ (m : ℕ). row_of F.rows m) place ∙ h) in
+            let same : f.row ≡ record { job = j; status = Running w } = some_same (sym f.there ∙ ap (λ (m : ℕ). row_of F.rows m) place ∙ h) in
             let task : r.0.task ≡ task_of F.frames j = f.task_is ∙ ap (λ (q : Row). task_of F.frames q.job) same in
             subst (λ (z : ℤ). Stands C L (es ++ Back w n ∷ []) (returned_fields F n (job_kind C j) z)) (priority_of_job C F.frames j)
             (subst (λ (k : Kind). Stands C L (es ++ Back w n ∷ []) (returned_fields F n k (task_priority C (task_of F.frames j)))) (kind_of_job C F.frames j)

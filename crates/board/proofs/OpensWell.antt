@@ -31,7 +31,7 @@ long_slots n zs one e = omega (arith, views one.instance.slots.items, ap (λ (ys
 pub opens_well : (C : Code) (fs : List (Option Frame)) (j : Job) (x : Computed) (e : Effect) → ((o : PendingInstances) → e ≡ To.Opens o → AreBlocks C fs j x o) → CanGoOn j (goes_on (change_of e)) → OpensWell C j (change_of e)
 opens_well C fs j x (To.Fails f) b g = tt
 opens_well C fs j x (To.Stores d v) b g = tt
-opens_well C fs j x (To.Puts d k v) b g = tt
+opens_well C fs j x (To.InsertsElement d k v) b g = tt
 opens_well C fs j x (To.Inserts d es) b g = tt
 opens_well C fs j x (To.Prints v) b g = tt
 opens_well C fs j x To.Passes b g = tt

@@ -158,9 +158,9 @@ module _ (C : Code) (I : IsCode C) (es : List Event) (core : BoardState) (s : St
 
   -- where one runs, some run
   pub some_run : (w n : ℕ) (j : Pure.Job) → Rows.RunsOn (rows_view core.items.rows.items) w n j → 0 < core.items.running
-  some_run w zero j h = no_row (rows_view core.items.rows.items) (record { job = j; mark = Pure.Running w }) h
+  some_run w zero j h = no_row (rows_view core.items.rows.items) (record { job = j; status = Pure.Running w }) h
   some_run w (suc n) j h =
-      let e = running_marked (rows_view core.items.rows.items) n (record { job = j; mark = Pure.Running w }) Pure.Ready h in
+      let e = running_marked (rows_view core.items.rows.items) n (record { job = j; status = Pure.Running w }) Pure.Ready h in
       let f = x.items.running in
       omega arith
 

@@ -109,7 +109,7 @@ module _ (C : Code) (I : IsCode C) (es : List Event) (core : BoardState) (t : St
   own = item n (task_of F.frames j) (Some w)
 
   own_there : In own x.state.items
-  own_there = item_there C I (layout_of C) es F x n (record { job = j; mark = Running w }) runs (running_item w)
+  own_there = item_there C I (layout_of C) es F x n (record { job = j; status = Running w }) runs (running_item w)
 
   not_over : Running w ≡ Over → ⊥
   not_over e = absurd (cc)
@@ -122,7 +122,7 @@ module _ (C : Code) (I : IsCode C) (es : List Event) (core : BoardState) (t : St
       let a = f.number_is in
       let b = e.1.1.at.number_is in
       let place : suc f.at ≡ n = omega arith in
-      let same : f.row ≡ record { job = j; mark = Running w } = some_same (sym f.there ∙ ap (λ (m : ℕ). row_of F.rows m) place ∙ runs) in
+      let same : f.row ≡ record { job = j; status = Running w } = some_same (sym f.there ∙ ap (λ (m : ℕ). row_of F.rows m) place ∙ runs) in
       let task : e.1.1.item.task ≡ task_of F.frames j = f.task_is ∙ ap (λ (r : Row). task_of F.frames r.job) same in
       (e.1.1.answers, subst (λ (u : Task). SeesAll (code_system C) x.state (task_inputs C u) e.1.1.answers) task e.1.1.known)
 
@@ -146,7 +146,7 @@ module _ (C : Code) (I : IsCode C) (es : List Event) (core : BoardState) (t : St
   pub seen_by : (j : Job) → RunsOn (rows_view core.items.rows.items) w n j → Seen C t.stands.state (frames_view core.data_state.instances.slots) (cells_view core.data_state.store.cells) j
   seen_by Script runs = record { inputs = []; known = tt; answers = refl }
   seen_by (Does k e c) runs =
-      let f = t.stands.frames.there n k e c (record { job = Does k e c; mark = Running w }) runs refl (not_over C I es core t w n (Does k e c) runs) in
+      let f = t.stands.frames.there n k e c (record { job = Does k e c; status = Running w }) runs refl (not_over C I es core t w n (Does k e c) runs) in
       let fs = frames_view core.data_state.instances.slots in
       let cs = cells_view core.data_state.store.cells in
       let p = path_of fs k in
@@ -154,7 +154,7 @@ module _ (C : Code) (I : IsCode C) (es : List Event) (core : BoardState) (t : St
       let xs = known C I es core t w n (Does k e c) runs none in
       let each = all_known (code_system C) code_tests (code_told C) t.stands.state (flat_map (inputs_at C p) (entry C e).needs) xs.0 xs.1 in
       let order = in_order core.data_state.store t.kept.rising in
-      let res = resolved C I (layout_of C) es (fields_view t.told core) t.stands (own C I es core t w n (Does k e c) runs) (own_there C I es core t w n (Does k e c) runs) n k e c (record { job = Does k e c; mark = Running w }) f.0 refl runs refl (not_over C I es core t w n (Does k e c) runs) f.1 in
+      let res = resolved C I (layout_of C) es (fields_view t.told core) t.stands (own C I es core t w n (Does k e c) runs) (own_there C I es core t w n (Does k e c) runs) n k e c (record { job = Does k e c; status = Running w }) f.0 refl runs refl (not_over C I es core t w n (Does k e c) runs) f.1 in
       let r = all_seen C p t.stands.state (need_answer C I (layout_of C) es (fields_view t.told core) t.stands order e p slot res) (entry C e).needs (need_seen C I (layout_of C) es (fields_view t.told core) t.stands order e p slot res) each in
       record {
         inputs = r.0;
@@ -186,9 +186,9 @@ module _ (C : Code) (I : IsCode C) (es : List Event) (core : BoardState) (t : St
       }
 
 -- the entry of a live row is there
-pub job_there : (C : Code) (I : IsCode C) (es : List Event) (core : BoardState) (t : Stand C es core) (n : ℕ) (j : Job) (m : Fields.Mark) → row_of (rows_view core.items.rows.items) n ≡ Some (record { job = j; mark = m }) → (m ≡ Over → ⊥) → IsThere C j
+pub job_there : (C : Code) (I : IsCode C) (es : List Event) (core : BoardState) (t : Stand C es core) (n : ℕ) (j : Job) (m : Fields.Status) → row_of (rows_view core.items.rows.items) n ≡ Some (record { job = j; status = m }) → (m ≡ Over → ⊥) → IsThere C j
 job_there C I es core t n Script m h live = tt
-job_there C I es core t n (Does k e c) m h live = let f = t.stands.frames.there n k e c (record { job = Does k e c; mark = m }) h refl live in I.there f.0.body e f.2
+job_there C I es core t n (Does k e c) m h live = let f = t.stands.frames.there n k e c (record { job = Does k e c; status = m }) h refl live in I.there f.0.body e f.2
 
 pub ready_live : Fields.Ready ≡ Over → ⊥
 ready_live h = absurd (cc)

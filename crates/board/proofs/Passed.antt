@@ -36,7 +36,7 @@ use Rattle.board_history.proofs.Tests.{none_some, yes_no}
 faultless : (u : Task) (e : Effect) → is_fault e ≡ false → fault_of u e ≡ None
 faultless u (Effects.Fails f) h = yes_no refl h
 faultless u (Effects.Stores d v) h = refl
-faultless u (Effects.Puts d k v) h = refl
+faultless u (Effects.InsertsElement d k v) h = refl
 faultless u (Effects.Inserts d es) h = refl
 faultless u (Effects.Prints v) h = refl
 faultless u Effects.Passes h = refl
@@ -57,7 +57,7 @@ module _ (C : Code) (I : IsCode C) (es : List Event) (old new : BoardState) (s :
       → (t : CodeState) × (replayed C (es ++ End w n ∷ []) ≡ Some t) × (t.fault ≡ None)
   good_end xs known e effect good =
       let p = ends C I (layout_of C) es (fields_view s.told old) s.stands none w n j runs in
-      (p.0, p.1, tells C I es (fields_view s.told old) s.stands w n p.0 p.1 (record { job = j; mark = Running w }) runs xs known e effect ∙ faultless (task_of (frames_view old.data_state.instances.slots) j) e good)
+      (p.0, p.1, tells C I es (fields_view s.told old) s.stands w n p.0 p.1 (record { job = j; status = Running w }) runs xs known e effect ∙ faultless (task_of (frames_view old.data_state.instances.slots) j) e good)
 
   pub passed_core : (xs : List (Answer Key Scalar)) → SeesAll (code_system C) s.stands.state (task_inputs C (task_of (frames_view old.data_state.instances.slots) j)) xs → (e : Effect)
       → IsEffect C (frames_view old.data_state.instances.slots) (cells_view old.data_state.store.cells) j (computed_by C (task_of (frames_view old.data_state.instances.slots) j) xs) e → is_fault e ≡ false
@@ -67,7 +67,7 @@ module _ (C : Code) (I : IsCode C) (es : List Event) (old new : BoardState) (s :
       let p = good_end xs known e effect good in
       record {
         told = told;
-        stands = end_stands C I (layout_of C) es (fields_view s.told old) s.stands w n p.0 p.1 p.2 (record { job = j; mark = Running w }) runs xs known (fields_view told new) to;
+        stands = end_stands C I (layout_of C) es (fields_view s.told old) s.stands w n p.0 p.1 p.2 (record { job = j; status = Running w }) runs xs known (fields_view told new) to;
         fault = none_noted C told.fault new.fault to.fault unfaulted;
         kept = kept;
       }

@@ -66,7 +66,7 @@ behind_count rows js = let a = length-append rows (map new_row js) in let b = ma
 runs_waits : {B : Type 0} (w : ℕ) → Running w ≡ Waiting → B
 runs_waits w h = absurd (cc)
 
-module _ (C : Code) (I : IsCode C) (es : List Event) (F : Fields) (st : Stands C (layout_of C) es F) (w n : ℕ) (j : Job) (there : row_of F.rows n ≡ Some (record { job = j; mark = Running w }))
+module _ (C : Code) (I : IsCode C) (es : List Event) (F : Fields) (st : Stands C (layout_of C) es F) (w n : ℕ) (j : Job) (there : row_of F.rows n ≡ Some (record { job = j; status = Running w }))
     (t : CodeState) (reached : replayed C (es ++ End w n ∷ []) ≡ Some t) (good : t.fault ≡ None) (answers : List (Answer Key Scalar)) (sees : SeesAll (code_system C) st.state (task_inputs C (task_of F.frames j)) answers)
     (gs : List (Option Frame)) (ds : List (Option Counted)) (rows : List Row) (news : List (Want ℕ)) (p : WorldPasses C F j (computed_by C (task_of F.frames j) answers) gs ds rows news)
     (left : List Rules.Waiting) (woken : List ℕ) (learnt : HaveLearnt news F.waiting left woken) where
@@ -74,7 +74,7 @@ module _ (C : Code) (I : IsCode C) (es : List Event) (F : Fields) (st : Stands C
   x = computed_by C (task_of F.frames j) answers
 
   abbrev row : Row
-  row = record { job = j; mark = Running w }
+  row = record { job = j; status = Running w }
 
   abbrev jobs : List Job
   jobs = new_jobs C F j x gs ds p.after

@@ -102,7 +102,7 @@ module _ (C : Code) (I : IsCode C) (L : Layout) (es : List Event) (F : Fields.Fi
       datum_made C I m.task c.answers m.effect c.is m.opening a m.opens m.makes
 
   -- a name that an item may read stands for a datum or a literal
-  pub resolved : (i : CodeItem) → In i x.state.items → (n k e c : ℕ) (r : Row) (f : Frame) → i.task ≡ Item e (path_of F.frames k) c → row_of F.rows n ≡ Some r → r.job ≡ Does k e c → (r.mark ≡ Over → ⊥) → slot_at F.frames k ≡ Some f → (y : Name) → In y (entry C e).reads → Resolved C x.names (slot_for L F.frames k f.body y) (place_at C (path_of F.frames k) y)
+  pub resolved : (i : CodeItem) → In i x.state.items → (n k e c : ℕ) (r : Row) (f : Frame) → i.task ≡ Item e (path_of F.frames k) c → row_of F.rows n ≡ Some r → r.job ≡ Does k e c → (r.status ≡ Over → ⊥) → slot_at F.frames k ≡ Some f → (y : Name) → In y (entry C e).reads → Resolved C x.names (slot_for L F.frames k f.body y) (place_at C (path_of F.frames k) y)
   resolved i there n k e c r f task h q live fr y iy = by (place_at C (path_of F.frames k) y) refl (x.frames.reads n k e c r f h q live fr y iy)
     where
       right : (a : Place) → In a (task_reads C (Item e (path_of F.frames k) c)) → In a x.state.places

@@ -3,7 +3,7 @@ use Rattle.std.proofs.Common.{◌≡◌, ℕ, ◌+◌, ◌-◌, ◌<◌, ◌≤�
 use Rattle.std.specs.Prelude.{◌^◌, vec_capacity}
 use Rattle.board_history.specs.Ending.{job_kind}
 use Rattle.board_history.specs.Fields.{Job, Ready, Row, Running}
-use Rattle.board_history.specs.Marking.{kind_eq, mark_at}
+use Rattle.board_history.specs.Marking.{kind_eq, with_status}
 use Rattle.task_code.specs.Code.{Code, Control, Kind, Leaf}
 use Rattle.work_queue.specs.Both.{Both, of, with_changed}
 use Rattle.work_queue.specs.Waiting.{with_put, without}
@@ -24,7 +24,7 @@ one_most false = omega arith
 pub apart_few : (C : Code) (k : Kind) (rows : List Row) → apart_in C k rows ≤ length rows
 apart_few C k [] = omega arith
 apart_few C k (r ∷ rows) =
-    let a = one_most (is_apart r.mark && kind_eq k (job_kind C r.job)) in
+    let a = one_most (is_apart r.status && kind_eq k (job_kind C r.job)) in
     let b = apart_few C k rows in
     omega arith
 
@@ -42,12 +42,12 @@ taken_of Leaf Control x q = omega arith
 taken_of Leaf Leaf x q = refl
 
 -- an item that begins keeps room for itself
-pub roomy_begun : (C : Code) (old new : Items) (n w : ℕ) (j : Job) (x : Queued) → IsRoomy C old → IsReady (rows_view old.rows.items) n j → rows_view new.rows.items ≡ mark_at (rows_view old.rows.items) n (Running w) → new.queue ≡ with_changed (job_kind C j) (without x) old.queue → new.apart ≡ one_more (job_kind C j) old.apart → 0 < vec_capacity new.newly → length (rows_view old.rows.items) + 1 ≤ 2 ^ 64 - 1 → IsRoomy C new
+pub roomy_begun : (C : Code) (old new : Items) (n w : ℕ) (j : Job) (x : Queued) → IsRoomy C old → IsReady (rows_view old.rows.items) n j → rows_view new.rows.items ≡ with_status (rows_view old.rows.items) n (Running w) → new.queue ≡ with_changed (job_kind C j) (without x) old.queue → new.apart ≡ one_more (job_kind C j) old.apart → 0 < vec_capacity new.newly → length (rows_view old.rows.items) + 1 ≤ 2 ^ 64 - 1 → IsRoomy C new
 roomy_begun C old new n w j x room ready rows queue apart noted few = roomy_of C new fits noted
   where
     fits : (k : Kind) → Fits C k new
     fits k =
-        let a = marked_at C k (rows_view old.rows.items) n (record { job = j; mark = Ready }) (Running w) ready in
+        let a = marked_at C k (rows_view old.rows.items) n (record { job = j; status = Ready }) (Running w) ready in
         let d = ap (apart_in C k) rows in
         let f = fits_of C old room k in
         let fc = f.counted in
@@ -60,8 +60,8 @@ roomy_begun C old new n w j x room ready rows queue apart noted few = roomy_of C
 
 -- one that is given back has room
 pub back_fits : (C : Code) (old : Items) (n w : ℕ) (j : Job) → IsRoomy C old → RunsOn (rows_view old.rows.items) w n j → 0 < (of (job_kind C j) old.queue).room
-back_fits C old n w j room runs = one_counted C old n (record { job = j; mark = Running w }) runs refl room
+back_fits C old n w j room runs = one_counted C old n (record { job = j; status = Running w }) runs refl room
 
-pub roomy_back : (C : Code) (old new : Items) (n w : ℕ) (j : Job) (x : Queued) → IsRoomy C old → RunsOn (rows_view old.rows.items) w n j → rows_view new.rows.items ≡ mark_at (rows_view old.rows.items) n Ready → new.queue ≡ with_changed (job_kind C j) (with_put x) old.queue → new.apart ≡ one_less (job_kind C j) old.apart → 0 < vec_capacity new.newly → IsRoomy C new
+pub roomy_back : (C : Code) (old new : Items) (n w : ℕ) (j : Job) (x : Queued) → IsRoomy C old → RunsOn (rows_view old.rows.items) w n j → rows_view new.rows.items ≡ with_status (rows_view old.rows.items) n Ready → new.queue ≡ with_changed (job_kind C j) (with_put x) old.queue → new.apart ≡ one_less (job_kind C j) old.apart → 0 < vec_capacity new.newly → IsRoomy C new
 roomy_back C old new n w j x room runs rows queue apart noted =
-    less_roomy C old new n (record { job = j; mark = Running w }) Ready runs refl refl rows room apart (λ k. let e = ap (room_of k) queue ∙ put_of k (job_kind C j) x old.queue in omega arith) noted
+    less_roomy C old new n (record { job = j; status = Running w }) Ready runs refl refl rows room apart (λ k. let e = ap (room_of k) queue ∙ put_of k (job_kind C j) x old.queue in omega arith) noted

@@ -5,7 +5,7 @@ use Rattle.dataflow.specs.System.{In}
 use Rattle.dataflow.specs.Machine.{Event}
 use Rattle.board_history.specs.Ending.{job_kind, job_priority}
 use Rattle.board_history.specs.Fields.{Over, Ready, Row, row_of, task_of}
-use Rattle.board_history.proofs.Marking.{RowIs, item, mark_is}
+use Rattle.board_history.proofs.Marking.{RowIs, item, status_is}
 use Rattle.board_history.proofs.Tests.{none_some, some_same}
 use Rattle.task_code.specs.Code.{Code, Control, Kind, Leaf}
 use Rattle.task_code.specs.Machine.{CanBegin, CodeItem, CodeState}
@@ -13,7 +13,7 @@ use Rattle.task_code.specs.View.{event_view}
 use Rattle.task_code.specs.System.{task_kind, task_priority}
 use Rattle.task_code.specs.Whole.{IsCode}
 use Rattle.board_program.specs.Spots.{layout_of}
-use Rattle.board_instances.specs.View.{frames_view, mark_view, rows_view}
+use Rattle.board_instances.specs.View.{frames_view, status_view, rows_view}
 use Rattle.board_instances.specs.declared.item.ItemStatus.{ItemStatus}
 use Rattle.board_instances.specs.declared.item.ItemStatus.TheVariants as Marks
 use Rattle.board.specs.History.{state_of}
@@ -45,17 +45,17 @@ module _ (C : Code) (I : IsCode C) (es : List Event) (core : BoardState) (s : St
       let place : suc f.at ≡ n = omega arith in
       none_some (sym h ∙ ap (λ (k : ℕ). row_of (rows_view core.items.rows.items) k) (sym place) ∙ f.there)
 
-  pub over_item : (n : ℕ) (r : Row) → row_of (rows_view core.items.rows.items) n ≡ Some r → r.mark ≡ Over → (i : CodeItem) → In i (state_of C es).items → i.number ≡ n → ⊥
+  pub over_item : (n : ℕ) (r : Row) → row_of (rows_view core.items.rows.items) n ≡ Some r → r.status ≡ Over → (i : CodeItem) → In i (state_of C es).items → i.number ≡ n → ⊥
   over_item n r h over i m e =
       let f = there i m in
       let a = f.number_is in
       let place : suc f.at ≡ n = omega arith in
-      f.not_over (ap (λ (q : Row). q.mark) (some_same (sym f.there ∙ ap (λ (k : ℕ). row_of (rows_view core.items.rows.items) k) place ∙ h)) ∙ over)
+      f.not_over (ap (λ (q : Row). q.status) (some_same (sym f.there ∙ ap (λ (k : ℕ). row_of (rows_view core.items.rows.items) k) place ∙ h)) ∙ over)
 
   -- the same with its priority
-  pub some_ranked : (n : ℕ) (r : Row) → row_of (rows_view core.items.rows.items) n ≡ Some r → (r.mark ≡ Over → ⊥) → (k : Kind) → k ≡ job_kind C r.job → (z : ℤ) → z ≡ job_priority C r.job → (i : CodeItem) × In i (state_of C es).items × (i.number ≡ n) × (k ≡ task_kind C i.task) × (z ≡ task_priority C i.task)
+  pub some_ranked : (n : ℕ) (r : Row) → row_of (rows_view core.items.rows.items) n ≡ Some r → (r.status ≡ Over → ⊥) → (k : Kind) → k ≡ job_kind C r.job → (z : ℤ) → z ≡ job_priority C r.job → (i : CodeItem) × In i (state_of C es).items × (i.number ≡ n) × (k ≡ task_kind C i.task) × (z ≡ task_priority C i.task)
   some_ranked n r h live k e z p =
-      elim (mark_is r.mark) [
+      elim (status_is r.status) [
         | inl over ↦ absurd (live over)
         | inr y ↦ (
           item n (task_of (frames_view core.data_state.instances.slots) r.job) y.runs,
@@ -67,9 +67,9 @@ module _ (C : Code) (I : IsCode C) (es : List Event) (core : BoardState) (s : St
       ]
 
   -- a live row is an item
-  pub some_item : (n : ℕ) (r : Row) → row_of (rows_view core.items.rows.items) n ≡ Some r → (r.mark ≡ Over → ⊥) → (k : Kind) → k ≡ job_kind C r.job → (i : CodeItem) × In i (state_of C es).items × (i.number ≡ n) × (k ≡ task_kind C i.task)
+  pub some_item : (n : ℕ) (r : Row) → row_of (rows_view core.items.rows.items) n ≡ Some r → (r.status ≡ Over → ⊥) → (k : Kind) → k ≡ job_kind C r.job → (i : CodeItem) × In i (state_of C es).items × (i.number ≡ n) × (k ≡ task_kind C i.task)
   some_item n r h live k e =
-      elim (mark_is r.mark) [
+      elim (status_is r.status) [
         | inl over ↦ absurd (live over)
         | inr y ↦ (
           item n (task_of (frames_view core.data_state.instances.slots) r.job) y.runs,
@@ -80,21 +80,21 @@ module _ (C : Code) (I : IsCode C) (es : List Event) (core : BoardState) (s : St
       ]
 
 -- one that could not begin before has a row that can now
-pub newly_row : (a : Inside) (s : IsSound a) (k n : ℕ) → slice_get a.core.items.newly.items k ≡ Some n → (r : Row) × (row_of (rows_view a.core.items.rows.items) n ≡ Some r) × (r.mark ≡ Over → ⊥)
+pub newly_row : (a : Inside) (s : IsSound a) (k n : ℕ) → slice_get a.core.items.newly.items k ≡ Some n → (r : Row) × (row_of (rows_view a.core.items.rows.items) n ≡ Some r) × (r.status ≡ Over → ⊥)
 newly_row a s k n h =
     let c = s.newly n (in_place a.core.items.newly.items k n h) in
     let b = subst (λ (t : CodeState). CanBegin a.program t n) (state_here a.program s.whole (map event_view a.history.items) a.core s.stand) c in
     let r = begins_ready a.program s.whole (layout_of a.program) (map event_view a.history.items) (fields_view s.stand.told a.core) s.stand.stands n b in
-    (record { job = r.0; mark = Ready }, r.1, ready_live)
+    (record { job = r.0; status = Ready }, r.1, ready_live)
 
 pub no_row_there : (a : Inside) (s : IsSound a) (k n : ℕ) → slice_get a.core.items.newly.items k ≡ Some n → row_of (rows_view a.core.items.rows.items) n ≡ None → ⊥
 no_row_there a s k n h e = let r = newly_row a s k n h in none_some (sym e ∙ r.1)
 
-pub row_live : (a : Inside) (s : IsSound a) (k n : ℕ) → slice_get a.core.items.newly.items k ≡ Some n → (q : Row) → row_of (rows_view a.core.items.rows.items) n ≡ Some q → q.mark ≡ Over → ⊥
-row_live a s k n h q e o = let r = newly_row a s k n h in r.2 (ap (λ (y : Row). y.mark) (some_same (sym r.1 ∙ e)) ∙ o)
+pub row_live : (a : Inside) (s : IsSound a) (k n : ℕ) → slice_get a.core.items.newly.items k ≡ Some n → (q : Row) → row_of (rows_view a.core.items.rows.items) n ≡ Some q → q.status ≡ Over → ⊥
+row_live a s k n h q e o = let r = newly_row a s k n h in r.2 (ap (λ (y : Row). y.status) (some_same (sym r.1 ∙ e)) ∙ o)
 
-pub live_mark : (m : ItemStatus) → (m ≡ Marks.Over → ⊥) → mark_view m ≡ Over → ⊥
-live_mark Marks.Waiting n h = absurd (cc)
-live_mark Marks.Ready n h = absurd (cc)
-live_mark (Marks.Running w) n h = absurd (cc)
-live_mark Marks.Over n h = n refl
+pub live_status : (m : ItemStatus) → (m ≡ Marks.Over → ⊥) → status_view m ≡ Over → ⊥
+live_status Marks.Waiting n h = absurd (cc)
+live_status Marks.Ready n h = absurd (cc)
+live_status (Marks.Running w) n h = absurd (cc)
+live_status Marks.Over n h = n refl

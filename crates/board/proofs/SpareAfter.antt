@@ -11,7 +11,7 @@ use Rattle.board_history.specs.Fields.{Does, Frame, Job, Row, Script, Want}
 use Rattle.rules.specs.declared.input.Input.{Input}
 use Rattle.smallvec.specs.SmallVec.{SmallVec}
 use Rattle.task_code.specs.Code.{Code, body, entry}
-use Rattle.board_effects.specs.Openings.{IsSpare, long_needs}
+use Rattle.board_data.specs.Openings.{IsSpare, long_needs}
 use Rattle.board_instances.specs.Openings.{Put, put_jobs}
 use Rattle.board_instances.specs.View.{opening_frame}
 use Rattle.board_instances.specs.declared.pending.PendingInstance.{PendingInstance}

@@ -50,7 +50,7 @@ module _ (C : Code) (I : IsCode C) (es : List Event) (F : Fields) (x : Stands C 
   pub change_takes : (e : Effect) → IsEffect C F.frames F.cells row.job (computed_by C (task_of F.frames row.job) xs) e → TakesMore (change_of e) store → CanStore (change_of e) store
   change_takes (To.Fails f) g r = tt
   change_takes (To.Stores d v) g r = can_store C I es F x w n t reached row row_is xs known store cells (To.Stores d v) g
-  change_takes (To.Puts d k v) g r = λ m h. can_store C I es F x w n t reached row row_is xs known store cells (To.Puts d k v) g m h (r m h (target_keyed row.job refl (To.Puts d k v) g ((k, v) ∷ []) g.computed m h))
+  change_takes (To.InsertsElement d k v) g r = λ m h. can_store C I es F x w n t reached row row_is xs known store cells (To.InsertsElement d k v) g m h (r m h (target_keyed row.job refl (To.InsertsElement d k v) g ((k, v) ∷ []) g.computed m h))
   change_takes (To.Inserts d ys) g r = λ m h. can_store C I es F x w n t reached row row_is xs known store cells (To.Inserts d ys) g m h (r m h (target_keyed row.job refl (To.Inserts d ys) g (pairs ys.items) g.computed m h))
   change_takes (To.Prints v) g r = tt
   change_takes To.Passes g r = tt

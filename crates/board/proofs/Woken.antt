@@ -18,7 +18,7 @@ use Rattle.board_history.proofs.EndedSlots.{old_slot}
 use Rattle.board_history.proofs.EndedStill.{AllPlain, OneElement, at_name, at_key, plain_still, shapes}
 use Rattle.board_history.proofs.EndedWaits as Waits
 use Rattle.board_history.proofs.EndedWants.{needs_stand, left_none, none_left}
-use Rattle.board_history.proofs.Marking.{RowIs, live_mark}
+use Rattle.board_history.proofs.Marking.{RowIs, live_status}
 use Rattle.board_history.proofs.Tests.{some_same}
 use Rattle.task_code.specs.Code.{Code, Name, Need, Variable, body, entry}
 use Rattle.task_code.specs.Effects.{Item, Task}
@@ -87,7 +87,7 @@ module _ (C : Code) (I : IsCode C) (L : Layout) (es : List Event) (F : Fields) (
       frame = P.x.frames.there (suc r.at) k e c r.row r.there q r.not_over
 
       frame_later : (g : Frame) × (slot_at gs k ≡ Some g)
-      frame_later = frame_stays C I L es F w n t G P (suc r.at) k e c r.row r.there (live_mark r.row.mark r.not_over) not_n q
+      frame_later = frame_stays C I L es F w n t G P (suc r.at) k e c r.row r.there (live_status r.row.status r.not_over) not_n q
 
       old_task : i.task ≡ Item e (path_of fs k) c
       old_task = r.task_is ∙ ap (task_of fs) q

@@ -23,7 +23,7 @@ use Rattle.board_data.specs.Stored.{StoresIn}
 use Rattle.board_data.specs.View.{cells_view}
 use Rattle.board_data.specs.Wanted.{FewSlots}
 use Rattle.board_effects.specs.Effects.{OpensNothing}
-use Rattle.board_effects.specs.Openings.{AreOpenings}
+use Rattle.board_data.specs.Openings.{AreOpenings}
 use Rattle.board_instances.proofs.Opened.{stands_nested}
 use Rattle.board_instances.specs.Made.{FitsAround, made_as}
 use Rattle.board_instances.specs.declared.pending.PendingInstance.{PendingInstance as OneOpening}
@@ -105,7 +105,7 @@ goes_script : (b : Bool) → going Script b ≡ []
 goes_script true = refl
 goes_script false = refl
 
-module _ (C : Code) (I : IsCode C) (es : List Event) (F : Fields) (st : Stands C (layout_of C) es F) (n : ℕ) (row : Row) (there : row_of F.rows n ≡ Some row) (live : row.mark ≡ Over → ⊥) (x : Computed) (s : Store) (cells : F.cells ≡ cells_view s.cells) (few : FewSlots F.frames) where
+module _ (C : Code) (I : IsCode C) (es : List Event) (F : Fields) (st : Stands C (layout_of C) es F) (n : ℕ) (row : Row) (there : row_of F.rows n ≡ Some row) (live : row.status ≡ Over → ⊥) (x : Computed) (s : Store) (cells : F.cells ≡ cells_view s.cells) (few : FewSlots F.frames) where
   abbrev fs : List (Option Frame)
   fs = F.frames
 

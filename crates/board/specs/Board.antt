@@ -15,6 +15,7 @@ use Rattle.board_work.specs.Assigned as Work
 use Rattle.board_work.specs.Assigned.{Assigned}
 use Rattle.board.specs.declared.refusal.BoardRefusal.{BoardRefusal}
 use Rattle.board.specs.declared.refusal.BoardRefusal.TheVariants.{Ended, Memory, NotReady, NotYours, Stranger}
+use Rattle.values.specs.Limits.{max_threads}
 
 -- a board: the code, the limit, the state, the events so far, and the items that the last event enabled
 pub record Seen : Type 0 where
@@ -24,9 +25,9 @@ pub record Seen : Type 0 where
   pub history : List Machine.Event
   pub newly : List ℕ
 
--- the workers are 0 to 63
+-- the workers are numbered from 0
 abbrev pub IsWorker : ℕ → Type 0
-IsWorker w = w < 64
+IsWorker w = w < max_threads
 
 -- each event is by one of the workers
 abbrev pub AreByWorkers : List Machine.Event → Type 0

@@ -10,7 +10,7 @@ use Rattle.board_changes.specs.declared.data_state.Change.TheVariants as Changes
 abbrev pub change_of : Effect → Change
 change_of (Effects.Fails f) = Changes.Nothing
 change_of (Effects.Stores d v) = Changes.Value d v
-change_of (Effects.Puts d k v) = Changes.Element d k v
+change_of (Effects.InsertsElement d k v) = Changes.Element d k v
 change_of (Effects.Inserts d es) = Changes.Elements d es
 change_of (Effects.Prints v) = Changes.Nothing
 change_of Effects.Passes = Changes.Nothing
@@ -20,7 +20,7 @@ change_of (Effects.Opens o) = Changes.Opens o
 abbrev pub line_of : Effect → Option Scalar
 line_of (Effects.Fails f) = None
 line_of (Effects.Stores d v) = None
-line_of (Effects.Puts d k v) = None
+line_of (Effects.InsertsElement d k v) = None
 line_of (Effects.Inserts d es) = None
 line_of (Effects.Prints v) = Some v
 line_of Effects.Passes = None

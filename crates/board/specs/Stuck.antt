@@ -47,4 +47,4 @@ module _ (C : Code) (fs : List (Option Frame)) (cs : List (Option Counted)) wher
   blocked_job (Does k e c) = if nat_lt e (length C.entries) then option_map (λ n. at_place n (path_in fs k)) (blocked_offset k (entry C e).at (entry C e).act) else None
 
   abbrev pub blocked_row : Row → Option Place
-  blocked_row r = if is_over r.mark then None else blocked_job r.job
+  blocked_row r = if is_over r.status then None else blocked_job r.job

@@ -200,7 +200,7 @@ impl BoardState {
         ensures { IfOk result (λ found. option_map (λ (p : ℕ × ℕ). at_place p.1 (path_in (frames_view self.now.data_state.instances.slots) p.0)) found
             ≡ blocked_row program.now (frames_view self.now.data_state.instances.slots) (cells_view self.now.data_state.store.cells) (row_view item)) }
     {
-        if item.mark() == ItemStatus::Over {
+        if item.status() == ItemStatus::Over {
             return Ok(None);
         }
         match item.job() {

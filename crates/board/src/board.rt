@@ -452,7 +452,7 @@ impl Board {
         let Some(found) = item_of(self.core.items.rows.as_slice(), item) else {
             return None;
         };
-        match found.mark() {
+        match found.status() {
             ItemStatus::Over => None,
             _ => {
                 let (kind, _) = order_of(&self.program, found.job());

@@ -15,7 +15,7 @@ pub fn change_of(effect: Effect) -> (Change, Option<Scalar>)
     match effect {
         Effect::Fails(_) | Effect::Passes => (Change::Nothing, None),
         Effect::Stores(target, value) => (Change::Value(target, value), None),
-        Effect::Puts(target, key, value) => (Change::Element(target, key, value), None),
+        Effect::InsertsElement(target, key, value) => (Change::Element(target, key, value), None),
         Effect::Inserts(target, elements) => (Change::Elements(target, elements), None),
         Effect::Prints(value) => (Change::Nothing, Some(value)),
         Effect::Opens(openings) => (Change::Opens(openings), None),

@@ -92,7 +92,7 @@ impl BoardState {
         ensures none { IfNone result ((j : PureJob) → ¬ IsReady (rows_view self.now.items.rows.items) number j) }
     {
         match item_of(self.items.rows.as_slice(), number) {
-            Some(found) if found.mark() == ItemStatus::Ready => Some(found.job()),
+            Some(found) if found.status() == ItemStatus::Ready => Some(found.job()),
             _ => None,
         }
     }
@@ -103,7 +103,7 @@ impl BoardState {
         ensures none { IfNone result ((j : PureJob) → ¬ RunsOn (rows_view self.now.items.rows.items) worker number j) }
     {
         match item_of(self.items.rows.as_slice(), number) {
-            Some(found) if found.mark() == ItemStatus::Running(worker) => Some(found.job()),
+            Some(found) if found.status() == ItemStatus::Running(worker) => Some(found.job()),
             _ => None,
         }
     }

@@ -7,14 +7,14 @@ use Rattle.board_history.proofs.Tests.{in_kept}
 use Rattle.board_history.specs.Ending.{has_entries, home}
 use Rattle.board_history.specs.Fields.{Absent, Does, Frame, Job, Script, Slot, path_of, slot_at, step_before, task_of}
 use Rattle.board_history.specs.Static.{opened}
-use Rattle.task_code.specs.Code.{Act, Argument, Assert, Call, Cell, Code, Copy, Each, Fill, If, Loop, Print, Put, Range, Read, Set, Wait, arguments, body, entry, loop_of}
+use Rattle.task_code.specs.Code.{Act, Argument, Assert, Call, Cell, Code, Copy, Each, Fill, If, Loop, Print, InsertElement, Range, Read, Set, Wait, arguments, body, entry, loop_of}
 use Rattle.task_code.specs.Compute.{Computed}
 use Rattle.task_code.specs.Effects.{chunk, instances, is_some_list, step_at, turns_of}
 use Rattle.task_code.specs.Places.{Step}
 use Rattle.values.specs.declared.key.Key.{Key}
 use Rattle.values.specs.declared.value.Scalar.{Scalar}
 use Rattle.board_program.specs.Tables.{passed_in}
-use Rattle.board_effects.specs.Openings.{AreOpenings, IsOpenedBy, handed_over}
+use Rattle.board_data.specs.Openings.{AreOpenings, IsOpenedBy, handed_over}
 use Rattle.board_instances.proofs.Opened.{inner_opened, outermost_opened}
 use Rattle.board_instances.specs.Made.{IsOpened, block_of}
 use Rattle.board_instances.specs.Openings.{IsInner, passed_from, unfilled}
@@ -33,33 +33,33 @@ loop_arguments (Call b rs os) w e = absurd (cc)
 loop_arguments (Set r x) w e = refl
 loop_arguments (Fill r es) w e = refl
 loop_arguments (Copy r) w e = refl
-loop_arguments (Put r i x) w e = refl
+loop_arguments (InsertElement r i x) w e = refl
 loop_arguments (Print x) w e = refl
 loop_arguments (Assert x) w e = refl
 loop_arguments (If x b d) w e = refl
 loop_arguments (Wait hs b) w e = refl
 
 -- the blocks of a loop are of its body
-loop_instances : (a : Act) (w : Loop) → loop_of a ≡ Some w → (mark : ℕ) (p : List Step) (c : ℕ) (x : Computed) (s : ℕ × List Step) → In s (instances a mark p c x) → s.0 ≡ w.body
-loop_instances (Range l h k v) w e mark p c x s i =
-    let r = in_unmap (λ (t : Key × Scalar). (v.body, step_at mark t.0 p)) s (chunk c (turns_of x)) i in
+loop_instances : (a : Act) (w : Loop) → loop_of a ≡ Some w → (offset : ℕ) (p : List Step) (c : ℕ) (x : Computed) (s : ℕ × List Step) → In s (instances a offset p c x) → s.0 ≡ w.body
+loop_instances (Range l h k v) w e offset p c x s i =
+    let r = in_unmap (λ (t : Key × Scalar). (v.body, step_at offset t.0 p)) s (chunk c (turns_of x)) i in
     let q : v ≡ w = cc in
     sym (ap (λ (z : ℕ × List Step). z.0) r.2) ∙ ap (λ (z : Loop). z.body) q
-loop_instances (Each v) w e mark p c x s i =
-    let r = in_unmap (λ (t : Key × Scalar). (v.body, step_at mark t.0 p)) s (chunk c (turns_of x)) i in
+loop_instances (Each v) w e offset p c x s i =
+    let r = in_unmap (λ (t : Key × Scalar). (v.body, step_at offset t.0 p)) s (chunk c (turns_of x)) i in
     let q : v ≡ w = cc in
     sym (ap (λ (z : ℕ × List Step). z.0) r.2) ∙ ap (λ (z : Loop). z.body) q
-loop_instances (Cell y) w e mark p c x s i = absurd i
-loop_instances Read w e mark p c x s i = absurd i
-loop_instances (Call b rs os) w e mark p c x s i = absurd (cc)
-loop_instances (Set r y) w e mark p c x s i = absurd i
-loop_instances (Fill r es) w e mark p c x s i = absurd i
-loop_instances (Copy r) w e mark p c x s i = absurd i
-loop_instances (Put r k y) w e mark p c x s i = absurd i
-loop_instances (Print y) w e mark p c x s i = absurd i
-loop_instances (Assert y) w e mark p c x s i = absurd i
-loop_instances (If y b d) w e mark p c x s i = absurd (cc)
-loop_instances (Wait hs b) w e mark p c x s i = absurd (cc)
+loop_instances (Cell y) w e offset p c x s i = absurd i
+loop_instances Read w e offset p c x s i = absurd i
+loop_instances (Call b rs os) w e offset p c x s i = absurd (cc)
+loop_instances (Set r y) w e offset p c x s i = absurd i
+loop_instances (Fill r es) w e offset p c x s i = absurd i
+loop_instances (Copy r) w e offset p c x s i = absurd i
+loop_instances (InsertElement r k y) w e offset p c x s i = absurd i
+loop_instances (Print y) w e offset p c x s i = absurd i
+loop_instances (Assert y) w e offset p c x s i = absurd i
+loop_instances (If y b d) w e offset p c x s i = absurd (cc)
+loop_instances (Wait hs b) w e offset p c x s i = absurd (cc)
 
 some_length : {X : Type 0} (xs : List X) → is_some_list xs ≡ true → 0 < length xs
 some_length [] e = absurd (cc)
@@ -72,7 +72,7 @@ module _ (C : Code) (fs : List (Option Frame)) (deep : (k : ℕ) (g : Frame) →
 
   one_inner : (l : Option Loop) → IsOpenedBy C fs k e c x number l one → (way : Option Step) × (passed : List Slot) × IsInner C fs k number way passed (opening_frame one)
   one_inner None h = (h.0, handed_over C fs k e, h.1.inner)
-  one_inner (Some w) h = (Some (record { offset = (entry C e).mark; key = h.0.0 }), [], h.2.inner)
+  one_inner (Some w) h = (Some (record { offset = (entry C e).offset; key = h.0.0 }), [], h.2.inner)
 
   one_opened : (l : Option Loop) → IsOpenedBy C fs k e c x number l one → 0 < length (body C number).entries → IsOpened C fs (Some k) (opening_frame one)
   one_opened l h some = let i = one_inner l h in inner_opened C fs k number i.0 i.1 (opening_frame one).slots (opening_frame one) (λ g q. deep k g q) some i.2
@@ -85,7 +85,7 @@ module _ (C : Code) (fs : List (Option Frame)) (deep : (k : ℕ) (g : Frame) →
       nothing None = refl
       nothing (Some f) = sym (ap (λ (gs : List Argument). passed_from fs k e 0 (map (passed_in C f.body) gs)) (loop_arguments (entry C e).act w q))
 
-  one_starts : (l : Option Loop) → IsOpenedBy C fs k e c x number l one → TurnStarts C fs (path_of fs k) (entry C e).mark c x l one
+  one_starts : (l : Option Loop) → IsOpenedBy C fs k e c x number l one → TurnStarts C fs (path_of fs k) (entry C e).offset c x l one
   one_starts None h = (h.1.value_is, h.1.turn_is)
   one_starts (Some w) h = (h.0, h.1, ap (λ (f : Frame). step_before f.way (path_of fs k)) h.2.inner.is, h.2.value_is, h.2.turn_is)
 
@@ -119,7 +119,7 @@ module _ (C : Code) (fs : List (Option Frame)) (deep : (k : ℕ) (g : Frame) →
     starts = λ one i. one_starts C fs deep k e c x o.body one (loop_of (entry C e).act) (a.each one i);
     value_is = a.value_is;
     turn_is = a.turn_is;
-    loop_body = λ one w i q. let s = a_block (Does k e c) a one i in sym (loop_instances (entry C e).act w q (entry C e).mark (path_of fs k) c x (block_of fs (Some k) (opening_frame one)) s.0) ∙ number one i;
+    loop_body = λ one w i q. let s = a_block (Does k e c) a one i in sym (loop_instances (entry C e).act w q (entry C e).offset (path_of fs k) c x (block_of fs (Some k) (opening_frame one)) s.0) ∙ number one i;
   }
     where
       number : (one : PendingInstance) → In one o.list.items → (opening_frame one).body ≡ o.body

@@ -51,7 +51,7 @@ some_or_none : {X : Type 0} (xs : List X) → (xs ≡ []) ⊎ ((x : X) × In x x
 some_or_none [] = inl refl
 some_or_none (x ∷ xs) = inr (x, inl refl)
 
-module _ (C : Code) (I : IsCode C) (es : List Event) (F : Fields) (x : Stands C (layout_of C) es F) (n k e c : ℕ) (row : Row) (there : row_of F.rows n ≡ Some row) (job : row.job ≡ Does k e c) (live : row.mark ≡ Over → ⊥)
+module _ (C : Code) (I : IsCode C) (es : List Event) (F : Fields) (x : Stands C (layout_of C) es F) (n k e c : ℕ) (row : Row) (there : row_of F.rows n ≡ Some row) (job : row.job ≡ Does k e c) (live : row.status ≡ Over → ⊥)
     (computed : Computed) (o : PendingInstances) (hs : List (Option Frame)) (rows : List Row) (s stored more : Store) (B : AreBlocks C F.frames (Does k e c) computed o) (W : AreOpened C (Does k e c) o F.frames hs F.rows rows stored more)
     (fits : FitsAround F.frames (Some k) (length o.list.items)) (few : (q : Put) → In q W.placed.puts → length q.frame.slots < 2 ^ 64) where
   abbrev ms : List Instance
@@ -86,7 +86,7 @@ module _ (C : Code) (I : IsCode C) (es : List Event) (F : Fields) (x : Stands C 
       let im = in_map (made_as F.frames (Some k)) q W.placed.puts iq in
       let made = are_made C (Does k e c) computed o F.frames hs F.rows rows stored more B W in
       let block : In (m.body, m.path) (filter (has_entries C) (opened C (task_of F.frames (Does k e c)) computed)) = subst (λ (l : List (ℕ × List Step)). In (m.body, m.path) l) made (in_map (λ (z : Instance). (z.body, z.path)) m ms im) in
-      let w = ways_of (entry C e).act (entry C e).mark (path_of F.frames k) c computed (m.body, m.path) (in_kept (has_entries C) (m.body, m.path) (opened C (task_of F.frames (Does k e c)) computed) block).0 in
+      let w = ways_of (entry C e).act (entry C e).offset (path_of F.frames k) c computed (m.body, m.path) (in_kept (has_entries C) (m.body, m.path) (opened C (task_of F.frames (Does k e c)) computed) block).0 in
       (w.0, subst (λ (z : ℕ). In (w.0, z) (ways (entry C e).act)) (one_body m im) w.1)
 
   count_is : length o.list.items ≡ length ms

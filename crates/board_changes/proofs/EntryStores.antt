@@ -49,7 +49,7 @@ frames_same C fs around = record {
     same n true = omega arith
     same n false = omega arith
 
-module _ (C : Code) (I : IsCode C) (es : List Event) (F : Fields) (x : Stands C (layout_of C) es F) (n k e c : ℕ) (row : Row) (there : row_of F.rows n ≡ Some row) (job : row.job ≡ Does k e c) (live : row.mark ≡ Over → ⊥) where
+module _ (C : Code) (I : IsCode C) (es : List Event) (F : Fields) (x : Stands C (layout_of C) es F) (n k e c : ℕ) (row : Row) (there : row_of F.rows n ≡ Some row) (job : row.job ≡ Does k e c) (live : row.status ≡ Over → ⊥) where
   around : (f : Frame) × (slot_at F.frames k ≡ Some f) × In e (body C f.body).entries
   around = x.frames.there n k e c row there job live
 

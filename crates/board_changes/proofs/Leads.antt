@@ -57,7 +57,7 @@ taken zero xs h = refl
 taken (suc n) [] h = absurd (omega (arith, h))
 taken (suc n) (x ∷ xs) h = ap suc (taken n xs (omega (arith, h)))
 
-module _ (C : Code) (I : IsCode C) (es : List Event) (F : Fields) (x : Stands C (layout_of C) es F) (n k e c : ℕ) (row : Row) (there : row_of F.rows n ≡ Some row) (job : row.job ≡ Does k e c) (live : row.mark ≡ Over → ⊥) (computed : Computed) (o : PendingInstances) (gs : List (Option Frame)) (old new : List Row) (s t : Store) (B : AreBlocks C F.frames (Does k e c) computed o) (W : AreOpened C (Does k e c) o F.frames gs old new s t) where
+module _ (C : Code) (I : IsCode C) (es : List Event) (F : Fields) (x : Stands C (layout_of C) es F) (n k e c : ℕ) (row : Row) (there : row_of F.rows n ≡ Some row) (job : row.job ≡ Does k e c) (live : row.status ≡ Over → ⊥) (computed : Computed) (o : PendingInstances) (gs : List (Option Frame)) (old new : List Row) (s t : Store) (B : AreBlocks C F.frames (Does k e c) computed o) (W : AreOpened C (Does k e c) o F.frames gs old new s t) where
   around : (f : Frame) × (slot_at F.frames k ≡ Some f) × In e (body C f.body).entries
   around = x.frames.there n k e c row there job live
 

@@ -5,7 +5,7 @@ use Rattle.dataflow.specs.System.{In}
 use Rattle.dataflow.proofs.Lists.{in_map, in_unmap}
 use Rattle.data_store.specs.Stores.{Store, at}
 use Rattle.data_store.specs.declared.datum.Datum.{Datum}
-use Rattle.data_store.specs.declared.datum.DatumKind.{DatumKind}
+use Rattle.values.specs.declared.datum_kind.DatumKind.{DatumKind}
 use Rattle.board_history.specs.Ending.{Instance, IsOwn, NewCell, StartsAs, StartsBy, home, path_around}
 use Rattle.board_history.specs.Fields.{Absent, Content, DatumOf, Does, Frame, Job, Row, Script, frame_up, path_of, slot_for, step_before}
 use Rattle.board_history.specs.Fields.{Slot as PureSlot}
@@ -22,7 +22,7 @@ use Rattle.board_program.specs.declared.lexical_address.LexicalAddress.{LexicalA
 use Rattle.board_data.proofs.Cells.{cell_there}
 use Rattle.board_data.specs.Made.{start_at, started}
 use Rattle.board_data.specs.View.{cell_view, cells_view, content_view}
-use Rattle.board_effects.specs.Openings.{job_loop}
+use Rattle.board_data.specs.Openings.{job_loop}
 use Rattle.board_instances.specs.Made.{made_as}
 use Rattle.board_instances.specs.Openings.{Put}
 use Rattle.board_instances.specs.View.{opening_frame}
@@ -55,7 +55,7 @@ starts_as C fs (Does i e c) x one slots m v k st value turn loop path place = by
     content : Content
     content = content_view (started (shape_of v.array) (start_at (starts_of slots one) k))
 
-    by : (l : Option Loop) → loop_of (entry C e).act ≡ l → TurnStarts C fs (path_of fs i) (entry C e).mark c x l one → slots.value ≡ value_slot C l → slots.turn ≡ turn_slot C l → StartsBy (path_of fs i) (entry C e).mark c x m v (content_view (started (shape_of v.array) (start_at (starts_of slots one) k))) l
+    by : (l : Option Loop) → loop_of (entry C e).act ≡ l → TurnStarts C fs (path_of fs i) (entry C e).offset c x l one → slots.value ≡ value_slot C l → slots.turn ≡ turn_slot C l → StartsBy (path_of fs i) (entry C e).offset c x m v (content_view (started (shape_of v.array) (start_at (starts_of slots one) k))) l
     by None q s a b = starts_none v k (starts_of slots one) s.0 s.1
     by (Some w) q s a b = (s.0, s.1, path ∙ s.2, starts_turn w s.0 v k (starts_of slots one) s.3 s.4 (test (scalar w.value) ∙ ap (is_place k) (sym (a ∙ moved (scalar w.value)))) none some)
       where

@@ -15,7 +15,7 @@ use Rattle.board_history.specs.Stands.{Stands}
 use Rattle.board_history.specs.Static.{Hold, names_in, outer_holds}
 use Rattle.task_code.proofs.Decided.{declared_is}
 use Rattle.task_code.specs.Check.{is_declared}
-use Rattle.task_code.specs.Code.{Act, Assert, Call, Calling, Cell, Code, Copy, Each, Entry, Fill, If, InPlace, Name, Parameter, Print, Put, Range, Read, Set, Through, Wait, Way, body, entry, ways}
+use Rattle.task_code.specs.Code.{Act, Assert, Call, Calling, Cell, Code, Copy, Each, Entry, Fill, If, InPlace, Name, Parameter, Print, InsertElement, Range, Read, Set, Through, Wait, Way, body, entry, ways}
 use Rattle.task_code.specs.Compute.{Computed, Fails, Gives, Inserts, Opens, Takes, Turns}
 use Rattle.task_code.specs.Effects.{chunk, instances, step_at, turns_of}
 use Rattle.task_code.specs.Places.{Step}
@@ -26,35 +26,35 @@ use Rattle.board_program.specs.Spots.{layout_of}
 use Rattle.board_changes.proofs.Rights.{not_led, reads_stand, writes_stand}
 
 -- the way to a body that an entry opens
-pub ways_of : (a : Act) (mark : ℕ) (p : List Step) (c : ℕ) (x : Computed) (s : ℕ × List Step) → In s (instances a mark p c x) → (w : Way) × In (w, s.0) (ways a)
-ways_of (Cell e) mark p c x s h = absurd h
-ways_of Read mark p c x s h = absurd h
-ways_of (Call b rs os) mark p zero x s h = elim h [ inl e ↦ (Calling, subst (λ (z : ℕ × List Step). In (Calling, z.0) (ways (Call b rs os))) (sym e) (inl refl)) | inr n ↦ absurd n ]
-ways_of (Call b rs os) mark p (suc c) x s h = absurd h
-ways_of (Set r e) mark p c x s h = absurd h
-ways_of (Fill r es) mark p c x s h = absurd h
-ways_of (Copy r) mark p c x s h = absurd h
-ways_of (Put r i e) mark p c x s h = absurd h
-ways_of (Print e) mark p c x s h = absurd h
-ways_of (Assert e) mark p c x s h = absurd h
-ways_of (If e b d) mark p (suc c) x s h = absurd h
-ways_of (If e b None) mark p zero (Takes true) s h = elim h [ inl q ↦ (Through, subst (λ (z : ℕ × List Step). In (Through, z.0) (ways (If e b None))) (sym q) (inl refl)) | inr n ↦ absurd n ]
-ways_of (If e b (Some d)) mark p zero (Takes true) s h = elim h [ inl q ↦ (Through, subst (λ (z : ℕ × List Step). In (Through, z.0) (ways (If e b (Some d)))) (sym q) (inl refl)) | inr n ↦ absurd n ]
-ways_of (If e b None) mark p zero (Takes false) s h = absurd h
-ways_of (If e b (Some d)) mark p zero (Takes false) s h = elim h [ inl q ↦ (Through, subst (λ (z : ℕ × List Step). In (Through, z.0) (ways (If e b (Some d)))) (sym q) (inr (inl refl))) | inr n ↦ absurd n ]
-ways_of (If e b d) mark p zero (Fails f) s h = absurd h
-ways_of (If e b d) mark p zero (Gives v) s h = absurd h
-ways_of (If e b d) mark p zero (Inserts xs) s h = absurd h
-ways_of (If e b d) mark p zero (Turns ts) s h = absurd h
-ways_of (If e b d) mark p zero Opens s h = absurd h
-ways_of (Range l g k w) mark p c x s h =
-    let r = in_unmap (λ (t : Key × Scalar). (w.body, step_at mark t.0 p)) s (chunk c (turns_of x)) h in
+pub ways_of : (a : Act) (offset : ℕ) (p : List Step) (c : ℕ) (x : Computed) (s : ℕ × List Step) → In s (instances a offset p c x) → (w : Way) × In (w, s.0) (ways a)
+ways_of (Cell e) offset p c x s h = absurd h
+ways_of Read offset p c x s h = absurd h
+ways_of (Call b rs os) offset p zero x s h = elim h [ inl e ↦ (Calling, subst (λ (z : ℕ × List Step). In (Calling, z.0) (ways (Call b rs os))) (sym e) (inl refl)) | inr n ↦ absurd n ]
+ways_of (Call b rs os) offset p (suc c) x s h = absurd h
+ways_of (Set r e) offset p c x s h = absurd h
+ways_of (Fill r es) offset p c x s h = absurd h
+ways_of (Copy r) offset p c x s h = absurd h
+ways_of (InsertElement r i e) offset p c x s h = absurd h
+ways_of (Print e) offset p c x s h = absurd h
+ways_of (Assert e) offset p c x s h = absurd h
+ways_of (If e b d) offset p (suc c) x s h = absurd h
+ways_of (If e b None) offset p zero (Takes true) s h = elim h [ inl q ↦ (Through, subst (λ (z : ℕ × List Step). In (Through, z.0) (ways (If e b None))) (sym q) (inl refl)) | inr n ↦ absurd n ]
+ways_of (If e b (Some d)) offset p zero (Takes true) s h = elim h [ inl q ↦ (Through, subst (λ (z : ℕ × List Step). In (Through, z.0) (ways (If e b (Some d)))) (sym q) (inl refl)) | inr n ↦ absurd n ]
+ways_of (If e b None) offset p zero (Takes false) s h = absurd h
+ways_of (If e b (Some d)) offset p zero (Takes false) s h = elim h [ inl q ↦ (Through, subst (λ (z : ℕ × List Step). In (Through, z.0) (ways (If e b (Some d)))) (sym q) (inr (inl refl))) | inr n ↦ absurd n ]
+ways_of (If e b d) offset p zero (Fails f) s h = absurd h
+ways_of (If e b d) offset p zero (Gives v) s h = absurd h
+ways_of (If e b d) offset p zero (Inserts xs) s h = absurd h
+ways_of (If e b d) offset p zero (Turns ts) s h = absurd h
+ways_of (If e b d) offset p zero Opens s h = absurd h
+ways_of (Range l g k w) offset p c x s h =
+    let r = in_unmap (λ (t : Key × Scalar). (w.body, step_at offset t.0 p)) s (chunk c (turns_of x)) h in
     (Through, subst (λ (z : ℕ × List Step). In (Through, z.0) (ways (Range l g k w))) r.2 (inl refl))
-ways_of (Each w) mark p c x s h =
-    let r = in_unmap (λ (t : Key × Scalar). (w.body, step_at mark t.0 p)) s (chunk c (turns_of x)) h in
+ways_of (Each w) offset p c x s h =
+    let r = in_unmap (λ (t : Key × Scalar). (w.body, step_at offset t.0 p)) s (chunk c (turns_of x)) h in
     (Through, subst (λ (z : ℕ × List Step). In (Through, z.0) (ways (Each w))) r.2 (inl refl))
-ways_of (Wait hs b) mark p zero x s h = elim h [ inl e ↦ (InPlace, subst (λ (z : ℕ × List Step). In (InPlace, z.0) (ways (Wait hs b))) (sym e) (inl refl)) | inr n ↦ absurd n ]
-ways_of (Wait hs b) mark p (suc c) x s h = absurd h
+ways_of (Wait hs b) offset p zero x s h = elim h [ inl e ↦ (InPlace, subst (λ (z : ℕ × List Step). In (InPlace, z.0) (ways (Wait hs b))) (sym e) (inl refl)) | inr n ↦ absurd n ]
+ways_of (Wait hs b) offset p (suc c) x s h = absurd h
 
 -- what holds come to where no name of theirs is the datum
 pub held_none : (f : Name → Slot) (d : ℕ) (hs : List Hold) → ((h : Hold) → In h hs → slot_is d (f h.name) ≡ false) → held_times f d hs ≡ 0
@@ -71,14 +71,14 @@ outer_named C rights b h i =
     let p = in_kept (λ r. not (is_declared C b r)) h.name (names_in C rights b) (hold_named (filter (λ r. not (is_declared C b r)) (names_in C rights b)) h i) in
     (p.0, λ y. yes_no (declared_is C b h.name y) (not-true (is_declared C b h.name) p.1))
 
-module _ (C : Code) (I : IsCode C) (es : List Event) (F : Fields) (x : Stands C (layout_of C) es F) (n k e c : ℕ) (row : Row) (there : row_of F.rows n ≡ Some row) (job : row.job ≡ Does k e c) (live : row.mark ≡ Over → ⊥) (b : ℕ) (w : Way) (iw : In (w, b) (ways (entry C e).act)) (gs : List (Option Frame)) (made : List Instance) (body_is : (m : Instance) → In m made → m.body ≡ b) (leads : (m : Instance) → In m made → NamesLead C (layout_of C) F.frames gs k e c m) where
+module _ (C : Code) (I : IsCode C) (es : List Event) (F : Fields) (x : Stands C (layout_of C) es F) (n k e c : ℕ) (row : Row) (there : row_of F.rows n ≡ Some row) (job : row.job ≡ Does k e c) (live : row.status ≡ Over → ⊥) (b : ℕ) (w : Way) (iw : In (w, b) (ways (entry C e).act)) (gs : List (Option Frame)) (made : List Instance) (body_is : (m : Instance) → In m made → m.body ≡ b) (leads : (m : Instance) → In m made → NamesLead C (layout_of C) F.frames gs k e c m) where
   -- a name stands for the same in each of the instances, and for no datum that was not there
   pub record Outside (r : Name) : Type 0 where
     pub slot : Slot
     pub same : (m : Instance) → In m made → slot_for (layout_of C) gs m.key b r ≡ slot
     pub older : (d : ℕ) → slot_at F.cells d ≡ None → slot_is d slot ≡ false
 
-  seen_outside : (r s : Name) → In r (names_in C (λ y. y.reads ++ y.writes) b) → (Declared C b r → ⊥) → Seen C (entry C e).mark w r s → In s ((entry C e).reads ++ (entry C e).writes) → ((d : ℕ) → slot_at F.cells d ≡ None → slot_is d (job_slot C (layout_of C) F.frames (Does k e c) s) ≡ false) → Outside r
+  seen_outside : (r s : Name) → In r (names_in C (λ y. y.reads ++ y.writes) b) → (Declared C b r → ⊥) → Seen C (entry C e).offset w r s → In s ((entry C e).reads ++ (entry C e).writes) → ((d : ℕ) → slot_at F.cells d ≡ None → slot_is d (job_slot C (layout_of C) F.frames (Does k e c) s) ≡ false) → Outside r
   seen_outside r s ir nd h is older = record {
     slot = job_slot C (layout_of C) F.frames (Does k e c) s;
     same = λ m im. let q = sym (body_is m im) in
@@ -87,7 +87,7 @@ module _ (C : Code) (I : IsCode C) (es : List Event) (F : Fields) (x : Stands C 
     older = older;
   }
 
-  fixed_outside : (r : Name) → In r (names_in C (λ y. y.reads) b) → (v : Way) → w ≡ v → Fixes C (entry C e).mark v r → Outside r
+  fixed_outside : (r : Name) → In r (names_in C (λ y. y.reads) b) → (v : Way) → w ≡ v → Fixes C (entry C e).offset v r → Outside r
   fixed_outside r ir InPlace q f = absurd f
   fixed_outside r ir Through q f = absurd f
   fixed_outside r ir Calling q f = record {

@@ -27,7 +27,7 @@ use Rattle.board_history.proofs.Elements.{code_told}
 use Rattle.board_history.proofs.Ended.{opens_is}
 use Rattle.board_history.proofs.EndedBase.{rests_none}
 use Rattle.board_history.proofs.EndedNames.{Resolved, in_data, named_told, resolved_at, to_datum, to_literal}
-use Rattle.board_history.proofs.Marking.{item, mark_is}
+use Rattle.board_history.proofs.Marking.{item, status_is}
 use Rattle.board_history.proofs.Next.{nat_sound}
 use Rattle.board_history.proofs.Replays.{run_replayed}
 use Rattle.board_history.proofs.Rows.{no_row, row_item}
@@ -108,7 +108,7 @@ module _ (C : Code) (I : IsCode C) (L : Layout) (es : List Event) (F : Fields) (
   no_place : {B : Type 0} (a : Place) → ((q : List Step) (v : Variable) → a ≡ Datum q v → ⊥) → In a x.state.places → B
   no_place a ne h = let p = datum_only a h in absurd (ne p.0 p.1 p.2)
 
-  module _ (n k e c : ℕ) (row : Row) (there : row_of F.rows n ≡ Some row) (job : row.job ≡ Does k e c) (live : row.mark ≡ Over → ⊥) where
+  module _ (n k e c : ℕ) (row : Row) (there : row_of F.rows n ≡ Some row) (job : row.job ≡ Does k e c) (live : row.status ≡ Over → ⊥) where
     home : (f : Frame) × (slot_at F.frames k ≡ Some f) × In e (body C f.body).entries
     home = x.frames.there n k e c row there job live
 
@@ -117,7 +117,7 @@ module _ (C : Code) (I : IsCode C) (L : Layout) (es : List Event) (F : Fields) (
       where
         by : (n : ℕ) → row_of F.rows n ≡ Some row → (i : CodeItem) × In i x.state.items × (i.task ≡ Item e (path_of F.frames k) c)
         by zero h = no_row F.rows row h
-        by (suc b) h = elim (mark_is row.mark) [
+        by (suc b) h = elim (status_is row.status) [
           | inl over ↦ absurd (live over)
           | inr y ↦ (item (suc b) (task_of F.frames row.job) y.runs, subst (λ (is : List CodeItem). In (item (suc b) (task_of F.frames row.job) y.runs) is) x.items.items (row_item F.frames 1 F.rows b (suc b) row h y (omega arith)), ap (task_of F.frames) job)
         ]
@@ -207,7 +207,7 @@ module _ (C : Code) (I : IsCode C) (L : Layout) (es : List Event) (F : Fields) (
       zero_plus n = omega arith
 
   -- an item gives up no more than there is
-  pub covers : (n : ℕ) (row : Row) → row_of F.rows n ≡ Some row → (row.mark ≡ Over → ⊥) → (os : List (Opening Task Place)) (s : Store) → F.cells ≡ cells_view s.cells →
+  pub covers : (n : ℕ) (row : Row) → row_of F.rows n ≡ Some row → (row.status ≡ Over → ⊥) → (os : List (Opening Task Place)) (s : Store) → F.cells ≡ cells_view s.cells →
       Covers (λ d. given_times C L (λ e. e.reads) F.frames d row.job os) (λ d. given_times C L (λ e. e.writes) F.frames d row.job os) s
   covers n row there live os s cells = by row.job refl os
     where

@@ -42,7 +42,7 @@ use Rattle.board_changes.specs.Opened.{AreOpened, outer_of}
 use Rattle.board_changes.proofs.Becomes.{becomes}
 use Rattle.board_changes.specs.declared.data_state.Change.TheVariants as Changes
 
-module _ (C : Code) (I : IsCode C) (es : List Event) (F : Fields) (x : Stands C (layout_of C) es F) (n : ℕ) (row : Row) (there : row_of F.rows n ≡ Some row) (job : row.job ≡ Script) (live : row.mark ≡ Over → ⊥)
+module _ (C : Code) (I : IsCode C) (es : List Event) (F : Fields) (x : Stands C (layout_of C) es F) (n : ℕ) (row : Row) (there : row_of F.rows n ≡ Some row) (job : row.job ≡ Script) (live : row.status ≡ Over → ⊥)
     (computed : Computed) (o : PendingInstances) (hs : List (Option Frame)) (rows : List Row) (s stored more : Store) (B : AreBlocks C F.frames Script computed o) (W : AreOpened C Script o F.frames hs F.rows rows stored more) where
   abbrev ms : List Instance
   ms = map (made_as F.frames None) W.placed.puts

@@ -12,7 +12,7 @@ use Rattle.task_code.specs.Places.{Step}
 use Rattle.values.specs.declared.key.Key.{Key}
 use Rattle.values.specs.declared.value.Scalar.{Scalar}
 use Rattle.board_program.specs.Tables.{turn_slot, value_slot}
-use Rattle.board_effects.specs.Openings.{handed_over, job_loop}
+use Rattle.board_data.specs.Openings.{handed_over, job_loop}
 use Rattle.board_instances.specs.Made.{IsOpened, block_of}
 use Rattle.board_instances.specs.View.{opening_frame}
 use Rattle.board_instances.specs.declared.pending.PendingInstance.{PendingInstance}
@@ -20,13 +20,13 @@ use Rattle.board_instances.specs.declared.pending.PendingInstances.{PendingInsta
 
 module _ (C : Code) (fs : List (Option Frame)) where
   -- an opening has values for a turn's variables, if a loop opens it: those of a turn of its chunk
-  abbrev pub TurnStarts : (path : List Step) → (mark chunk : ℕ) → Computed → Option Loop → PendingInstance → Type 0
-  TurnStarts p mark c x None o = (o.value ≡ None) × (o.turn ≡ None)
-  TurnStarts p mark c x (Some w) o = (t : Key × Scalar) × In t (chunk c (turns_of x)) × (step_before (opening_frame o).way p ≡ step_at mark t.0 p) × (o.value ≡ Some t.1) × (o.turn ≡ Some (key_scalar t.0))
+  abbrev pub TurnStarts : (path : List Step) → (offset chunk : ℕ) → Computed → Option Loop → PendingInstance → Type 0
+  TurnStarts p offset c x None o = (o.value ≡ None) × (o.turn ≡ None)
+  TurnStarts p offset c x (Some w) o = (t : Key × Scalar) × In t (chunk c (turns_of x)) × (step_before (opening_frame o).way p ≡ step_at offset t.0 p) × (o.value ≡ Some t.1) × (o.turn ≡ Some (key_scalar t.0))
 
   abbrev pub Starts : Job → Computed → PendingInstance → Type 0
   Starts Script x o = (o.value ≡ None) × (o.turn ≡ None)
-  Starts (Does k e c) x o = TurnStarts (path_of fs k) (entry C e).mark c x (loop_of (entry C e).act) o
+  Starts (Does k e c) x o = TurnStarts (path_of fs k) (entry C e).offset c x (loop_of (entry C e).act) o
 
   -- the arguments of the item of a job, if it is a call
   abbrev pub handed : Job → List Slot

@@ -15,7 +15,7 @@ use Rattle.board_history.specs.Fields.{AnElement, Does, Frame, Job, Row, Script,
 use Rattle.task_code.specs.Code.{Code, body, entry}
 use Rattle.task_code.specs.Compute.{Elements, pairs}
 use Rattle.task_code.specs.Effects.{only}
-use Rattle.values.specs.Keys.{mark_of}
+use Rattle.values.specs.Keys.{hash_of}
 use Rattle.values.specs.Maps.{element}
 use Rattle.values.specs.declared.map.Element.{Element}
 use Rattle.board_program.specs.Tables.{body_of, led_times, spots_in}
@@ -59,7 +59,7 @@ whole_of (Some d) = Whole d ∷ []
 
 abbrev pub elements_of : Option ℕ → List Element → List (Want ℕ)
 elements_of None es = []
-elements_of (Some d) es = map (λ (e : Element). AnElement d (mark_of e.key)) es
+elements_of (Some d) es = map (λ (e : Element). AnElement d (hash_of e.key)) es
 
 abbrev pub told_of : Change → List (Want ℕ)
 told_of Changes.Nothing = []

@@ -97,7 +97,7 @@ fn notify_elements(
 {
     if let Some(d) = target {
         for one in elements {
-            known.push(Input::Element(d as u64, one.key.mark()))?;
+            known.push(Input::Element(d as u64, one.key.hash_code()))?;
         }
     }
     Ok(())
@@ -187,7 +187,7 @@ impl DataState {
         ensures succeeds { vec_len known.old + 1 ≤ vec_capacity known.old → IsOk result }
     {
         if let Some(d) = target {
-            known.push(Input::Element(d as u64, key.mark()))?;
+            known.push(Input::Element(d as u64, key.hash_code()))?;
         }
         storing::store_element(&mut self.store, target, key, value);
         Ok(())

@@ -14,7 +14,7 @@ ghost use Rattle.task_code.specs.Places.{Place};
 ghost use Rattle.task_code.specs.Whole.{IsCode};
 ghost use Rattle.board_program.specs.Spots.{layout_of};
 ghost use Rattle.board_program.specs.Tables.{is_place};
-ghost use Rattle.board_effects.specs.Openings.{AreOpenings};
+ghost use Rattle.board_data.specs.Openings.{AreOpenings};
 ghost use Rattle.board_instances.specs.Made.{FitsAround, made_as};
 ghost use Rattle.board_data.specs.Ended.{Covers};
 ghost use Rattle.board_data.specs.Holds.{Fit};
@@ -57,13 +57,13 @@ pub fn opened_blocks()
 /// instance, unless another item continues its loop.
 pub fn entry_opens()
     ensures leads { (C : Code) → IsCode C → (es : List Event) (F : Fields) → Stands C (layout_of C) es F →
-        (n k e c : ℕ) (row : Row) → row_of F.rows n ≡ Some row → row.job ≡ Does k e c → (row.mark ≡ Over → ⊥) →
+        (n k e c : ℕ) (row : Row) → row_of F.rows n ≡ Some row → row.job ≡ Does k e c → (row.status ≡ Over → ⊥) →
         (x : Computed) (o : TheOpenings) (hs : List (Option Frame)) (rows : List Row) (stored more : Store) → AreBlocks C F.frames (Does k e c) x o →
         (w : AreOpened C (Does k e c) o F.frames hs F.rows rows stored more) → FitsAround F.frames (Some k) (length o.list.items)
         → ((q : Put) → In q w.placed.puts → length q.frame.slots < 2 ^ 64) →
         (m : Instance) → In m (map (made_as F.frames (Some k)) w.placed.puts) → NamesLead C (layout_of C) F.frames hs k e c m }
     ensures cells { (C : Code) → IsCode C → (es : List Event) (F : Fields) → Stands C (layout_of C) es F →
-        (n k e c : ℕ) (row : Row) → row_of F.rows n ≡ Some row → row.job ≡ Does k e c → (row.mark ≡ Over → ⊥) →
+        (n k e c : ℕ) (row : Row) → row_of F.rows n ≡ Some row → row.job ≡ Does k e c → (row.status ≡ Over → ⊥) →
         (x : Computed) (o : TheOpenings) (hs : List (Option Frame)) (rows : List Row) (s stored more : Store) → AreBlocks C F.frames (Does k e c) x o →
         (w : AreOpened C (Does k e c) o F.frames hs F.rows rows stored more) → FitsAround F.frames (Some k) (length o.list.items)
         → ((q : Put) → In q w.placed.puts → length q.frame.slots < 2 ^ 64) →
@@ -81,7 +81,7 @@ pub fn entry_opens()
 /// history.
 pub fn given_up()
     ensures { (C : Code) → IsCode C → (L : Layout) (es : List Event) (F : Fields) → Stands C L es F → (n : ℕ) (row : Row) → row_of F.rows n ≡ Some row
-        → (row.mark ≡ Over → ⊥) →
+        → (row.status ≡ Over → ⊥) →
         (os : List (Opening Task Place)) (s : Store) → F.cells ≡ cells_view s.cells
         → Covers (λ d. given_times C L (λ e. e.reads) F.frames d row.job os) (λ d. given_times C L (λ e. e.writes) F.frames d row.job os) s }
 {}
@@ -91,7 +91,7 @@ pub fn given_up()
 pub fn entry_stores()
     ensures opens { (C : Code) (fs : List (Option Frame)) (around : Option ℕ) → FramesOpen C fs around [] fs }
     ensures cells { (C : Code) → IsCode C → (es : List Event) (F : Fields) → Stands C (layout_of C) es F →
-        (n k e c : ℕ) (row : Row) → row_of F.rows n ≡ Some row → row.job ≡ Does k e c → (row.mark ≡ Over → ⊥) →
+        (n k e c : ℕ) (row : Row) → row_of F.rows n ≡ Some row → row.job ≡ Does k e c → (row.status ≡ Over → ⊥) →
         (x : Computed) (os : List (Opening Task Place)) (target : Option ℕ) (values : Elements) (gs : List (Option Frame)) (s stored t : Store)
         (closed : List ℕ) → os ≡ [] → F.cells ≡ cells_view s.cells →
         StoresIn target values s stored → LetsGo C (Does k e c) F.frames gs stored t closed
@@ -111,14 +111,14 @@ pub fn openings_of_item()
 /// closed arrays.
 pub fn becomes_known()
     ensures stores { (C : Code) → IsCode C → (es : List Event) (F : Fields) → Stands C (layout_of C) es F →
-        (n k e c : ℕ) (row : Row) → row_of F.rows n ≡ Some row → row.job ≡ Does k e c → (row.mark ≡ Over → ⊥) →
+        (n k e c : ℕ) (row : Row) → row_of F.rows n ≡ Some row → row.job ≡ Does k e c → (row.status ≡ Over → ⊥) →
         (x : Computed) (os : List (Opening Task Place)) (change : TheChange) (gs : List (Option Frame)) (s stored t : Store) (closed : List ℕ) → os ≡ []
         → F.cells ≡ cells_view s.cells → CanStore change s →
         StoresIn (target_of change) (values_of change) s stored → LetsGo C (Does k e c) F.frames gs stored t closed
         → ((d : ℕ) → (if is_place d (target_of change) then values_of change else []) ≡ job_stores C (layout_of C) F.frames (Does k e c) x d) →
         BecomesKnown C (layout_of C) (job_stores C (layout_of C) F.frames (Does k e c) x) F.cells (cells_view t.cells) (told_of change ++ map Whole closed) }
     ensures opens { (C : Code) → IsCode C → (es : List Event) (F : Fields) → Stands C (layout_of C) es F →
-        (n k e c : ℕ) (row : Row) → row_of F.rows n ≡ Some row → row.job ≡ Does k e c → (row.mark ≡ Over → ⊥) →
+        (n k e c : ℕ) (row : Row) → row_of F.rows n ≡ Some row → row.job ≡ Does k e c → (row.status ≡ Over → ⊥) →
         (x : Computed) (o : TheOpenings) (hs : List (Option Frame)) (rows : List Row) (s stored more : Store) → AreBlocks C F.frames (Does k e c) x o →
         (w : AreOpened C (Does k e c) o F.frames hs F.rows rows stored more) → FitsAround F.frames (Some k) (length o.list.items)
         → ((q : Put) → In q w.placed.puts → length q.frame.slots < 2 ^ 64) →
@@ -134,7 +134,7 @@ pub fn becomes_known()
 /// instance.
 pub fn script_opens()
     ensures { (C : Code) → IsCode C → (es : List Event) (F : Fields) → Stands C (layout_of C) es F →
-        (n : ℕ) (row : Row) → row_of F.rows n ≡ Some row → row.job ≡ Script → (row.mark ≡ Over → ⊥) →
+        (n : ℕ) (row : Row) → row_of F.rows n ≡ Some row → row.job ≡ Script → (row.status ≡ Over → ⊥) →
         (x : Computed) (o : TheOpenings) (hs : List (Option Frame)) (rows : List Row) (s stored more : Store) → AreBlocks C F.frames Script x o
         → (w : AreOpened C Script o F.frames hs F.rows rows stored more) →
         ((d : ℕ) → Fit (added_times C (layout_of C) (λ y. y.reads) hs d (map (made_as F.frames None) w.placed.puts))

@@ -21,7 +21,7 @@ use std::alloc::AllocError;
 use values::map::Element;
 
 /// Number of data or instances that 32-bit numbers can distinguish. More are reported as an allocation failure.
-const MOST: usize = 4_294_967_296;
+const NUMBERS_OF_32_BITS: usize = 4_294_967_296;
 
 impl Change {
     /// Returns the number of stored values that become known.
@@ -62,7 +62,7 @@ fn is_short(job: ItemTask, goes_on: bool) -> bool
             instance,
             entry: _,
             chunk,
-        } => !goes_on || instance < MOST && chunk < MOST - 1,
+        } => !goes_on || instance < NUMBERS_OF_32_BITS && chunk < NUMBERS_OF_32_BITS - 1,
     }
 }
 
@@ -118,7 +118,9 @@ impl DataState {
         let more = items.checked_add(1).ok_or(AllocError)?;
         self.store.reserve_cells(data)?;
         self.instances.reserve(count)?;
-        if self.store.bound() > MOST || self.instances.capacity() > MOST {
+        if self.store.bound() > NUMBERS_OF_32_BITS
+            || self.instances.capacity() > NUMBERS_OF_32_BITS
+        {
             return Err(AllocError);
         }
         if !is_short(job, openings.goes_on) {

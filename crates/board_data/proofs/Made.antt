@@ -6,8 +6,8 @@ use Rattle.data_store.specs.Data.{nothing, with_value}
 use Rattle.data_store.specs.Stores.{Adds, Store, at, changed, fresh}
 use Rattle.data_store.specs.declared.datum.Content.TheVariants.{OfArray, OfScalar}
 use Rattle.data_store.specs.declared.datum.Datum.{Datum}
-use Rattle.data_store.specs.declared.datum.DatumKind.{DatumKind}
-use Rattle.data_store.specs.declared.datum.DatumKind.TheVariants.{Single, Keyed}
+use Rattle.values.specs.declared.datum_kind.DatumKind.{DatumKind}
+use Rattle.values.specs.declared.datum_kind.DatumKind.TheVariants.{Single, Keyed}
 use Rattle.board_program.specs.declared.program.LocalVariable.{LocalVariable}
 use Rattle.board_instances.specs.declared.instance.Slot.TheVariants as Slots
 use Rattle.board_data.specs.Data.{given, is_unset}

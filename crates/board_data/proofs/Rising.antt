@@ -6,8 +6,8 @@ use Rattle.data_store.specs.Arrays.{with_element}
 use Rattle.data_store.specs.Data.{array_in, is_spent, kept, with_array, with_holds, with_value, without_read, without_write}
 use Rattle.data_store.specs.Stores.{IsArrayAt, Store, array_at, at, changed, datum, given_up, kept_after, or_none}
 use Rattle.data_store.specs.declared.datum.Datum.{Datum}
-use Rattle.data_store.specs.declared.datum.DatumKind.{DatumKind}
-use Rattle.data_store.specs.declared.datum.DatumKind.TheVariants.{Keyed, Single}
+use Rattle.values.specs.declared.datum_kind.DatumKind.{DatumKind}
+use Rattle.values.specs.declared.datum_kind.DatumKind.TheVariants.{Keyed, Single}
 use Rattle.board_program.specs.declared.program.Hold.{Hold}
 use Rattle.board_program.specs.declared.program.LocalVariable.{LocalVariable}
 use Rattle.board_program.specs.declared.lexical_address.LexicalAddress.{LexicalAddress}

@@ -3,6 +3,7 @@ pub mod Data
 pub mod Ended
 pub mod Holds
 pub mod Made
+pub mod Openings
 pub mod Stored
 pub mod View
 pub mod Wanted

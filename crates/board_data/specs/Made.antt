@@ -6,8 +6,8 @@ use Rattle.data_store.specs.Stores.{Store, at}
 use Rattle.data_store.specs.declared.datum.Content.{Content}
 use Rattle.data_store.specs.declared.datum.Content.TheVariants.{OfArray, OfScalar}
 use Rattle.data_store.specs.declared.datum.Datum.{Datum}
-use Rattle.data_store.specs.declared.datum.DatumKind.{DatumKind}
-use Rattle.data_store.specs.declared.datum.DatumKind.TheVariants.{Single, Keyed}
+use Rattle.values.specs.declared.datum_kind.DatumKind.{DatumKind}
+use Rattle.values.specs.declared.datum_kind.DatumKind.TheVariants.{Single, Keyed}
 use Rattle.board_program.specs.Tables.{is_place}
 use Rattle.board_program.specs.declared.program.LocalVariable.{LocalVariable}
 use Rattle.board_instances.specs.declared.instance.Slot.{Slot}

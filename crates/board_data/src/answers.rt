@@ -18,8 +18,9 @@ use crate::data::{element, listed, size};
 use crate::inputs::Environment;
 use board_program::program::ResolvedNeed;
 use board_work::answer::Answer;
-use data_store::store::{DatumKind, Store};
+use data_store::store::Store;
 use std::alloc::AllocError;
+use values::datum_kind::DatumKind;
 use values::map::{Element, Map};
 use values::value::Scalar;
 

@@ -9,8 +9,9 @@ ghost use Rattle.data_store.specs.Stores.{array_at, at, changed, datum, value_at
 ghost use Rattle.values.specs.Maps.{found};
 ghost use Rattle.board_data.specs.Data.{closes, given, held, is_closed_at, listed_at, released, roomy, writer_closed};
 
-use data_store::store::{DatumKind, Store};
+use data_store::store::Store;
 use std::alloc::AllocError;
+use values::datum_kind::DatumKind;
 use values::key::{Key, KeyRef};
 use values::map::Map;
 use values::value::Scalar;

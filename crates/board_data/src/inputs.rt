@@ -125,7 +125,7 @@ fn missing_element(store: &Store, slot: Slot, key: KeyRef<'_>) -> Option<Input>
             if element(store, d, key).is_some() || is_closed(store, d) {
                 None
             } else {
-                Some(Input::Element(d as u64, key.mark()))
+                Some(Input::Element(d as u64, key.hash_code()))
             }
         }
         _ => None,

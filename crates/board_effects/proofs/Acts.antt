@@ -2,11 +2,11 @@
 use Rattle.std.proofs.Common.{◌≡◌, ◌∙◌, refl, ap, ℕ, Bool, true, false, ◌&&◌, ◌||◌, List, [], ◌∷◌, length, Option, Some, None}
 use Rattle.std.specs.Prelude.{nat_le}
 use Rattle.dataflow.specs.System.{Bad, Effect, Good}
-use Rattle.task_code.specs.Code.{Act, Assert, Call, Cell, Control, Copy, Each, Fill, If, Loop, Name, Print, Put, Range, Read, Set, Wait, kind_of, loop_of, stored_of}
+use Rattle.task_code.specs.Code.{Act, Assert, Call, Cell, Control, Copy, Each, Fill, If, Loop, Name, Print, InsertElement, Range, Read, Set, Wait, kind_of, loop_of, stored_of}
 use Rattle.task_code.specs.Compute.{Computed, Fails, Gives, Inserts, Opens, Takes, TooDeep, Turns}
 use Rattle.task_code.specs.Effects.{Task, chunk, instances, is_some_list, is_too_deep, limited, outcome_of, prints, steps_on, turn_instances, turns_of}
 use Rattle.task_code.specs.Places.{Place, Step}
-use Rattle.values.specs.Limits.{most_steps}
+use Rattle.values.specs.Limits.{max_path_steps}
 use Rattle.values.specs.declared.key.Key.{Key}
 use Rattle.values.specs.declared.value.Scalar.{Scalar}
 use Rattle.board_effects.specs.Fits.{fits, gives_elements, gives_scalar, is_fault, keeps_nothing}
@@ -21,15 +21,15 @@ and_false false = refl
 
 -- a path is not too long where no step is taken, or no block is opened
 pub deep_plain : (a : Act) (p : List Step) (ss : List (ℕ × List Step)) → steps_on a ≡ false → is_too_deep a p ss ≡ false
-deep_plain a p ss h = ap (λ s. nat_le most_steps (length p) && (s && is_some_list ss)) h ∙ and_false (nat_le most_steps (length p))
+deep_plain a p ss h = ap (λ s. nat_le max_path_steps (length p) && (s && is_some_list ss)) h ∙ and_false (nat_le max_path_steps (length p))
 
 pub deep_none : (a : Act) (p : List Step) (ss : List (ℕ × List Step)) → is_some_list ss ≡ false → is_too_deep a p ss ≡ false
-deep_none a p ss h = ap (λ s. nat_le most_steps (length p) && (steps_on a && s)) h ∙ ap (λ b. nat_le most_steps (length p) && b) (and_false (steps_on a)) ∙ and_false (nat_le most_steps (length p))
+deep_none a p ss h = ap (λ s. nat_le max_path_steps (length p) && (steps_on a && s)) h ∙ ap (λ b. nat_le max_path_steps (length p) && b) (and_false (steps_on a)) ∙ and_false (nat_le max_path_steps (length p))
 
-pub deep_short : (a : Act) (p : List Step) (ss : List (ℕ × List Step)) → nat_le most_steps (length p) ≡ false → is_too_deep a p ss ≡ false
+pub deep_short : (a : Act) (p : List Step) (ss : List (ℕ × List Step)) → nat_le max_path_steps (length p) ≡ false → is_too_deep a p ss ≡ false
 deep_short a p ss h = ap (λ b. b && (steps_on a && is_some_list ss)) h
 
-pub deep_long : (a : Act) (p : List Step) (ss : List (ℕ × List Step)) → nat_le most_steps (length p) ≡ true → steps_on a ≡ true → is_some_list ss ≡ true → is_too_deep a p ss ≡ true
+pub deep_long : (a : Act) (p : List Step) (ss : List (ℕ × List Step)) → nat_le max_path_steps (length p) ≡ true → steps_on a ≡ true → is_some_list ss ≡ true → is_too_deep a p ss ≡ true
 deep_long a p ss h s m = ap (λ b. b && (steps_on a && is_some_list ss)) h ∙ ap (λ b. b && is_some_list ss) s ∙ m
 
 -- what comes of it
@@ -57,7 +57,7 @@ plain_steps (Call b rs os) h = absurd (cc h)
 plain_steps (Set r e) h = refl
 plain_steps (Fill r es) h = refl
 plain_steps (Copy r) h = refl
-plain_steps (Put r i e) h = refl
+plain_steps (InsertElement r i e) h = refl
 plain_steps (Print e) h = refl
 plain_steps (Assert e) h = refl
 plain_steps (If e b d) h = absurd (cc h)
@@ -65,20 +65,20 @@ plain_steps (Range lo hi s w) h = absurd (cc h)
 plain_steps (Each w) h = absurd (cc h)
 plain_steps (Wait hs b) h = absurd (cc h)
 
-pub plain_instances : (a : Act) (mark : ℕ) (p : List Step) (c : ℕ) (x : Computed) → is_plain a ≡ true → instances a mark p c x ≡ []
-plain_instances (Cell e) mark p c x h = refl
-plain_instances Read mark p c x h = refl
-plain_instances (Call b rs os) mark p c x h = absurd (cc h)
-plain_instances (Set r e) mark p c x h = refl
-plain_instances (Fill r es) mark p c x h = refl
-plain_instances (Copy r) mark p c x h = refl
-plain_instances (Put r i e) mark p c x h = refl
-plain_instances (Print e) mark p c x h = refl
-plain_instances (Assert e) mark p c x h = refl
-plain_instances (If e b d) mark p c x h = absurd (cc h)
-plain_instances (Range lo hi s w) mark p c x h = absurd (cc h)
-plain_instances (Each w) mark p c x h = absurd (cc h)
-plain_instances (Wait hs b) mark p c x h = absurd (cc h)
+pub plain_instances : (a : Act) (offset : ℕ) (p : List Step) (c : ℕ) (x : Computed) → is_plain a ≡ true → instances a offset p c x ≡ []
+plain_instances (Cell e) offset p c x h = refl
+plain_instances Read offset p c x h = refl
+plain_instances (Call b rs os) offset p c x h = absurd (cc h)
+plain_instances (Set r e) offset p c x h = refl
+plain_instances (Fill r es) offset p c x h = refl
+plain_instances (Copy r) offset p c x h = refl
+plain_instances (InsertElement r i e) offset p c x h = refl
+plain_instances (Print e) offset p c x h = refl
+plain_instances (Assert e) offset p c x h = refl
+plain_instances (If e b d) offset p c x h = absurd (cc h)
+plain_instances (Range lo hi s w) offset p c x h = absurd (cc h)
+plain_instances (Each w) offset p c x h = absurd (cc h)
+plain_instances (Wait hs b) offset p c x h = absurd (cc h)
 
 pub plain_loop : (a : Act) → is_plain a ≡ true → loop_of a ≡ None
 plain_loop (Cell e) h = refl
@@ -87,7 +87,7 @@ plain_loop (Call b rs os) h = absurd (cc h)
 plain_loop (Set r e) h = refl
 plain_loop (Fill r es) h = refl
 plain_loop (Copy r) h = refl
-plain_loop (Put r i e) h = refl
+plain_loop (InsertElement r i e) h = refl
 plain_loop (Print e) h = refl
 plain_loop (Assert e) h = refl
 plain_loop (If e b d) h = absurd (cc h)
@@ -103,7 +103,7 @@ scalar_plain (Call b rs os) h = absurd (cc h)
 scalar_plain (Set r e) h = refl
 scalar_plain (Fill r es) h = absurd (cc h)
 scalar_plain (Copy r) h = absurd (cc h)
-scalar_plain (Put r i e) h = absurd (cc h)
+scalar_plain (InsertElement r i e) h = absurd (cc h)
 scalar_plain (Print e) h = absurd (cc h)
 scalar_plain (Assert e) h = absurd (cc h)
 scalar_plain (If e b d) h = absurd (cc h)
@@ -118,7 +118,7 @@ elements_plain (Call b rs os) h = absurd (cc h)
 elements_plain (Set r e) h = absurd (cc h)
 elements_plain (Fill r es) h = refl
 elements_plain (Copy r) h = refl
-elements_plain (Put r i e) h = refl
+elements_plain (InsertElement r i e) h = refl
 elements_plain (Print e) h = absurd (cc h)
 elements_plain (Assert e) h = absurd (cc h)
 elements_plain (If e b d) h = absurd (cc h)
@@ -133,7 +133,7 @@ scalar_silent (Call b rs os) x h = absurd (cc h)
 scalar_silent (Set r e) x h = refl
 scalar_silent (Fill r es) x h = absurd (cc h)
 scalar_silent (Copy r) x h = absurd (cc h)
-scalar_silent (Put r i e) x h = absurd (cc h)
+scalar_silent (InsertElement r i e) x h = absurd (cc h)
 scalar_silent (Print e) x h = absurd (cc h)
 scalar_silent (Assert e) x h = absurd (cc h)
 scalar_silent (If e b d) x h = absurd (cc h)
@@ -148,7 +148,7 @@ elements_silent (Call b rs os) x h = absurd (cc h)
 elements_silent (Set r e) x h = absurd (cc h)
 elements_silent (Fill r es) x h = refl
 elements_silent (Copy r) x h = refl
-elements_silent (Put r i e) x h = refl
+elements_silent (InsertElement r i e) x h = refl
 elements_silent (Print e) x h = absurd (cc h)
 elements_silent (Assert e) x h = absurd (cc h)
 elements_silent (If e b d) x h = absurd (cc h)
@@ -169,7 +169,7 @@ one_stored n (Call b rs os) = refl
 one_stored n (Set r e) = refl
 one_stored n (Fill r es) = refl
 one_stored n (Copy r) = refl
-one_stored n (Put r i e) = refl
+one_stored n (InsertElement r i e) = refl
 one_stored n (Print e) = refl
 one_stored n (Assert e) = refl
 one_stored n (If e b d) = refl
@@ -185,7 +185,7 @@ loop_steps (Call b rs os) u h = absurd (cc h)
 loop_steps (Set r e) u h = absurd (cc h)
 loop_steps (Fill r es) u h = absurd (cc h)
 loop_steps (Copy r) u h = absurd (cc h)
-loop_steps (Put r i e) u h = absurd (cc h)
+loop_steps (InsertElement r i e) u h = absurd (cc h)
 loop_steps (Print e) u h = absurd (cc h)
 loop_steps (Assert e) u h = absurd (cc h)
 loop_steps (If e b d) u h = absurd (cc h)
@@ -193,20 +193,20 @@ loop_steps (Range lo hi s w) u h = refl
 loop_steps (Each w) u h = refl
 loop_steps (Wait hs b) u h = absurd (cc h)
 
-pub loop_instances : (a : Act) (u : Loop) (mark : ℕ) (p : List Step) (c : ℕ) (x : Computed) → loop_of a ≡ Some u → instances a mark p c x ≡ turn_instances u mark p (chunk c (turns_of x))
-loop_instances (Cell e) u mark p c x h = absurd (cc h)
-loop_instances Read u mark p c x h = absurd (cc h)
-loop_instances (Call b rs os) u mark p c x h = absurd (cc h)
-loop_instances (Set r e) u mark p c x h = absurd (cc h)
-loop_instances (Fill r es) u mark p c x h = absurd (cc h)
-loop_instances (Copy r) u mark p c x h = absurd (cc h)
-loop_instances (Put r i e) u mark p c x h = absurd (cc h)
-loop_instances (Print e) u mark p c x h = absurd (cc h)
-loop_instances (Assert e) u mark p c x h = absurd (cc h)
-loop_instances (If e b d) u mark p c x h = absurd (cc h)
-loop_instances (Range lo hi s w) u mark p c x h = ap (λ (o : Option Loop). turn_instances (elim o [ None ↦ w | Some y ↦ y ]) mark p (chunk c (turns_of x))) h
-loop_instances (Each w) u mark p c x h = ap (λ (o : Option Loop). turn_instances (elim o [ None ↦ w | Some y ↦ y ]) mark p (chunk c (turns_of x))) h
-loop_instances (Wait hs b) u mark p c x h = absurd (cc h)
+pub loop_instances : (a : Act) (u : Loop) (offset : ℕ) (p : List Step) (c : ℕ) (x : Computed) → loop_of a ≡ Some u → instances a offset p c x ≡ turn_instances u offset p (chunk c (turns_of x))
+loop_instances (Cell e) u offset p c x h = absurd (cc h)
+loop_instances Read u offset p c x h = absurd (cc h)
+loop_instances (Call b rs os) u offset p c x h = absurd (cc h)
+loop_instances (Set r e) u offset p c x h = absurd (cc h)
+loop_instances (Fill r es) u offset p c x h = absurd (cc h)
+loop_instances (Copy r) u offset p c x h = absurd (cc h)
+loop_instances (InsertElement r i e) u offset p c x h = absurd (cc h)
+loop_instances (Print e) u offset p c x h = absurd (cc h)
+loop_instances (Assert e) u offset p c x h = absurd (cc h)
+loop_instances (If e b d) u offset p c x h = absurd (cc h)
+loop_instances (Range lo hi s w) u offset p c x h = ap (λ (o : Option Loop). turn_instances (elim o [ None ↦ w | Some y ↦ y ]) offset p (chunk c (turns_of x))) h
+loop_instances (Each w) u offset p c x h = ap (λ (o : Option Loop). turn_instances (elim o [ None ↦ w | Some y ↦ y ]) offset p (chunk c (turns_of x))) h
+loop_instances (Wait hs b) u offset p c x h = absurd (cc h)
 
 pub loop_stores : (a : Act) (n : ℕ) (u : Loop) → loop_of a ≡ Some u → stored_of n a ≡ []
 loop_stores (Cell e) n u h = absurd (cc h)
@@ -215,7 +215,7 @@ loop_stores (Call b rs os) n u h = absurd (cc h)
 loop_stores (Set r e) n u h = absurd (cc h)
 loop_stores (Fill r es) n u h = absurd (cc h)
 loop_stores (Copy r) n u h = absurd (cc h)
-loop_stores (Put r i e) n u h = absurd (cc h)
+loop_stores (InsertElement r i e) n u h = absurd (cc h)
 loop_stores (Print e) n u h = absurd (cc h)
 loop_stores (Assert e) n u h = absurd (cc h)
 loop_stores (If e b d) n u h = absurd (cc h)
@@ -230,7 +230,7 @@ loop_silent (Call b rs os) x u h = absurd (cc h)
 loop_silent (Set r e) x u h = absurd (cc h)
 loop_silent (Fill r es) x u h = absurd (cc h)
 loop_silent (Copy r) x u h = absurd (cc h)
-loop_silent (Put r i e) x u h = absurd (cc h)
+loop_silent (InsertElement r i e) x u h = absurd (cc h)
 loop_silent (Print e) x u h = absurd (cc h)
 loop_silent (Assert e) x u h = absurd (cc h)
 loop_silent (If e b d) x u h = absurd (cc h)
@@ -246,7 +246,7 @@ control_scalar (Call b rs os) v k h = absurd (cc h)
 control_scalar (Set r e) v k h = absurd (cc k)
 control_scalar (Fill r es) v k h = absurd (cc k)
 control_scalar (Copy r) v k h = absurd (cc h)
-control_scalar (Put r i e) v k h = absurd (cc h)
+control_scalar (InsertElement r i e) v k h = absurd (cc h)
 control_scalar (Print e) v k h = absurd (cc k)
 control_scalar (Assert e) v k h = absurd (cc k)
 control_scalar (If e b d) v k h = absurd (cc h)

@@ -12,7 +12,7 @@ use Rattle.board_program.specs.declared.program.EntryTable.{EntryTable}
 use Rattle.board_data.specs.Wanted.{FewSlots}
 use Rattle.board_effects.specs.Effects.{IsAtWork}
 
-pub at_work : (C : Code) → IsCode C → (events : List Event) (F : Fields) → Stands C (layout_of C) events F → FewSlots F.frames → (n k i c : ℕ) (row : Row) → row_of F.rows n ≡ Some row → row.job ≡ Does k i c → (row.mark ≡ Over → ⊥) → (e : Entry) → e ≡ entry C i → (table : EntryTable) → IsEntryTable C (body_of C i) i table → IsAtWork C F.frames k i e table
+pub at_work : (C : Code) → IsCode C → (events : List Event) (F : Fields) → Stands C (layout_of C) events F → FewSlots F.frames → (n k i c : ℕ) (row : Row) → row_of F.rows n ≡ Some row → row.job ≡ Does k i c → (row.status ≡ Over → ⊥) → (e : Entry) → e ≡ entry C i → (table : EntryTable) → IsEntryTable C (body_of C i) i table → IsAtWork C F.frames k i e table
 at_work C I events F x few n k i c row row_is is live e e_is table t =
     let f = x.frames.there n k i c row row_is is live in
     record {

@@ -12,7 +12,7 @@ use Rattle.task_code.specs.Code.{Act, Entry, Expr, If, arguments, body, entry, l
 use Rattle.task_code.specs.Compute.{Computed, Elements, Inserts, Takes, TooDeep}
 use Rattle.task_code.specs.Effects.{at_first, effect_at, instances, is_some_list, is_too_deep, prints, rest, steps_on}
 use Rattle.task_code.specs.Places.{Step}
-use Rattle.values.specs.Limits.{most_steps}
+use Rattle.values.specs.Limits.{max_path_steps}
 use Rattle.board_program.specs.Spots.{layout_of}
 use Rattle.board_program.specs.Tables.{is_place, passed_in}
 use Rattle.board_instances.specs.Made.{block_of}
@@ -23,7 +23,7 @@ use Rattle.board_instances.specs.declared.pending.PendingInstance.{PendingInstan
 use Rattle.board_effects.specs.Effects.{GoesWell, GoesWrong}
 use Rattle.board_effects.specs.Ended.{Ends, IsEnded, OpensBlock, OpensList, act_of, cells_of, code_of, frames_of, job_of, needs_of}
 use Rattle.board_effects.specs.Fits.{is_fault}
-use Rattle.board_effects.specs.Openings.{IsOpened, IsOpenedBy, IsSpare, handed_over}
+use Rattle.board_data.specs.Openings.{IsOpened, IsOpenedBy, IsSpare, handed_over}
 use Rattle.board_effects.specs.declared.effect.Effect.{Effect}
 use Rattle.board_effects.specs.declared.effect.Effect.TheVariants as To
 use Rattle.board_effects.specs.declared.effect.EndingItem.{EndingItem}
@@ -31,11 +31,11 @@ use Rattle.board_effects.proofs.Acts.{bad, deep_long, deep_none, deep_plain, dee
 use Rattle.board_effects.proofs.Ends.{nowhere, unstored}
 
 -- a path is not too long where no step is taken, no block is opened, or it is short enough
-pub deep_steps : (a : Act) (p : List Step) (ss : List (ℕ × List Step)) (m : Bool) → steps_on a ≡ m → (m && nat_le most_steps (length p)) ≡ false → is_too_deep a p ss ≡ false
+pub deep_steps : (a : Act) (p : List Step) (ss : List (ℕ × List Step)) (m : Bool) → steps_on a ≡ m → (m && nat_le max_path_steps (length p)) ≡ false → is_too_deep a p ss ≡ false
 deep_steps a p ss true e h = deep_short a p ss h
 deep_steps a p ss false e h = deep_plain a p ss e
 
-pub deep_turns : (a : Act) (p : List Step) (ss : List (ℕ × List Step)) (m : Bool) → is_some_list ss ≡ m → (m && nat_le most_steps (length p)) ≡ false → is_too_deep a p ss ≡ false
+pub deep_turns : (a : Act) (p : List Step) (ss : List (ℕ × List Step)) (m : Bool) → is_some_list ss ≡ m → (m && nat_le max_path_steps (length p)) ≡ false → is_too_deep a p ss ≡ false
 deep_turns a p ss true e h = deep_short a p ss h
 deep_turns a p ss false e h = deep_none a p ss e
 
@@ -50,8 +50,8 @@ module _ (p : EndingItem) (w : IsEnded p) where
   own P x = subst P w.entry_is x
 
   -- the offset of its blocks, as it was worked out
-  pub mark_is : p.table.now.mark ≡ (entry_view p.entry.now).mark
-  mark_is = w.table_is.mark ∙ sym (ap (λ (e : Entry). e.mark) w.entry_is)
+  pub offset_is : p.table.now.offset ≡ (entry_view p.entry.now).offset
+  offset_is = w.table_is.offset ∙ sym (ap (λ (e : Entry). e.offset) w.entry_is)
 
   -- what a call hands over
   handed_is : passed_from (frames_of p) p.view.at p.number 0 p.table.now.arguments.items ≡ handed_over (code_of p) (frames_of p) p.view.at p.number
@@ -63,7 +63,7 @@ module _ (p : EndingItem) (w : IsEnded p) where
   stores_nothing x e d = nowhere (is_place d None) ∙ sym (unstored (code_of p) (frames_of p) p.view.at p.number p.chunk _ _ w x (own (λ e. stored_of e.node e.act ≡ []) e) d)
 
   -- it opens nothing, and does nothing else
-  pub idle_ends : (x : Computed) → instances now.act now.mark path p.chunk x ≡ [] → is_fault x ≡ false → loop_of (act_of p) ≡ None → stored_of (entry_view p.entry.now).node (act_of p) ≡ [] → prints (act_of p) x ≡ [] → ((xs : Elements) → x ≡ Inserts xs → ⊥) → Ends p x To.Passes
+  pub idle_ends : (x : Computed) → instances now.act now.offset path p.chunk x ≡ [] → is_fault x ≡ false → loop_of (act_of p) ≡ None → stored_of (entry_view p.entry.now).node (act_of p) ≡ [] → prints (act_of p) x ≡ [] → ((xs : Elements) → x ≡ Inserts xs → ⊥) → Ends p x To.Passes
   idle_ends x none computes single stores silent no_elements = record {
     good = (effect_at (code_of p) p.number path p.chunk x, good x _ _ computes (deep_none now.act path _ (ap is_some_list none)));
     apart = λ q. no_elements q.elements q.inserts;
@@ -86,22 +86,22 @@ module _ (p : EndingItem) (w : IsEnded p) where
   pub no_else : (e : Expr) (b : ℕ) → act_of p ≡ If e b None → Ends p (Takes false) To.Passes
   no_else e b is =
       idle_ends (Takes false)
-      (own (λ e. instances e.act e.mark path p.chunk (Takes false) ≡ []) (ap (λ a. instances a (entry_view p.entry.now).mark path p.chunk (Takes false)) is ∙ no_block p.chunk))
+      (own (λ e. instances e.act e.offset path p.chunk (Takes false) ≡ []) (ap (λ a. instances a (entry_view p.entry.now).offset path p.chunk (Takes false)) is ∙ no_block p.chunk))
       refl (ap loop_of is) (ap (stored_of (entry_view p.entry.now).node) is) (ap (λ a. prints a (Takes false)) is) (λ xs q. absurd (cc q))
 
   module _ (x : Computed) (b : ℕ) (way : Option Step) (r : OpensBlock p x b way) where
     -- an item that goes on opens no block
     passes : (n : ℕ) → p.chunk ≡ suc n → Ends p x To.Passes
-    passes n e = idle_ends x (own (λ e. instances e.act e.mark path p.chunk x ≡ []) (ap (λ m. instances (act_of p) (entry_view p.entry.now).mark path m x) e ∙ r.later path n)) r.computes r.single r.stores r.silent r.no_elements
+    passes n e = idle_ends x (own (λ e. instances e.act e.offset path p.chunk x ≡ []) (ap (λ m. instances (act_of p) (entry_view p.entry.now).offset path m x) e ∙ r.later path n)) r.computes r.single r.stores r.silent r.no_elements
 
     pub block_passes : (n : ℕ) → p.chunk ≡ n → 0 < n → Ends p x To.Passes
     block_passes zero e h = absurd (omega (arith, h))
     block_passes (suc n) e h = passes n e
 
-    first : p.chunk ≡ 0 → instances now.act now.mark path p.chunk x ≡ (b, step_before way path) ∷ []
-    first e = own (λ e. instances e.act e.mark path p.chunk x ≡ (b, step_before way path) ∷ []) (ap (λ m. instances (act_of p) (entry_view p.entry.now).mark path m x) e ∙ r.first path)
+    first : p.chunk ≡ 0 → instances now.act now.offset path p.chunk x ≡ (b, step_before way path) ∷ []
+    first e = own (λ e. instances e.act e.offset path p.chunk x ≡ (b, step_before way path) ∷ []) (ap (λ m. instances (act_of p) (entry_view p.entry.now).offset path m x) e ∙ r.first path)
 
-    pub block_deep : p.chunk ≡ 0 → is_some way ≡ true → nat_le most_steps (length path) ≡ true → GoesWrong (code_of p) (frames_of p) (cells_of p) (job_of p) x (OfTask TooDeep)
+    pub block_deep : p.chunk ≡ 0 → is_some way ≡ true → nat_le max_path_steps (length path) ≡ true → GoesWrong (code_of p) (frames_of p) (cells_of p) (job_of p) x (OfTask TooDeep)
     block_deep e s h = bad x _ _ r.computes (deep_long now.act path _ h (own (λ e. steps_on e.act ≡ is_some way) r.steps ∙ s) (ap is_some_list (first e)))
 
     module _ (list : List PendingInstance) (added : 0 < length (body (code_of p) b).entries → IsSome (slot_at (frames_of p) p.view.at) → (o : PendingInstance) × (list ≡ o ∷ []) × IsOpening (code_of p) (frames_of p) p.view.at b way (passed_from (frames_of p) p.view.at p.number 0 p.table.now.arguments.items) None None o) (none : length (body (code_of p) b).entries ≡ 0 → list ≡ []) where
@@ -124,7 +124,7 @@ module _ (p : EndingItem) (w : IsEnded p) where
             | inr n ↦ absurd n
           ])
 
-      block_well : p.chunk ≡ 0 → (is_some way && nat_le most_steps (length path)) ≡ false → (e : Effect) (q : OpensList p b list false e) → GoesWell (code_of p) (frames_of p) (cells_of p) (job_of p) x (To.Opens q.openings)
+      block_well : p.chunk ≡ 0 → (is_some way && nat_le max_path_steps (length path)) ≡ false → (e : Effect) (q : OpensList p b list false e) → GoesWell (code_of p) (frames_of p) (cells_of p) (job_of p) x (To.Opens q.openings)
       block_well z h e q = record {
         good = (effect_at (code_of p) p.number path p.chunk x, good x _ _ r.computes (deep_steps now.act path _ (is_some way) (own (λ e. steps_on e.act ≡ is_some way) r.steps) h));
         apart = λ q. r.no_elements q.elements q.inserts;
@@ -143,5 +143,5 @@ module _ (p : EndingItem) (w : IsEnded p) where
         };
       }
 
-      pub block_opens : p.chunk ≡ 0 → (is_some way && nat_le most_steps (length path)) ≡ false → (e : Effect) → OpensList p b list false e → Ends p x e
+      pub block_opens : p.chunk ≡ 0 → (is_some way && nat_le max_path_steps (length path)) ≡ false → (e : Effect) → OpensList p b list false e → Ends p x e
       block_opens z h e q = subst (λ y. Ends p x y) (sym q.is) (block_well z h e q)

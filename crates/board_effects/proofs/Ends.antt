@@ -79,7 +79,7 @@ module _ (C : Code) (fs : List (Option Frame)) (k i c : ℕ) where
 
     pub nothing : (x : Computed) → is_plain (entry C i).act ≡ true → OpensNothing C fs (Does k i c) x
     nothing x h = record {
-      none = ap (filter (has_entries C)) (plain_instances (entry C i).act (entry C i).mark (path_of fs k) c x h);
+      none = ap (filter (has_entries C)) (plain_instances (entry C i).act (entry C i).offset (path_of fs k) c x h);
       ends = ap (λ o. rest o i (path_of fs k) c x) (plain_loop (entry C i).act h);
     }
 

@@ -13,7 +13,7 @@ use Rattle.task_code.specs.Code.{Code, Entry, Loop, body, entry, loop_of}
 use Rattle.task_code.specs.Compute.{Elements, TooDeep, Turns}
 use Rattle.task_code.specs.Effects.{chunk, effect_at, instances, is_some_list, left_at, prints, rest, rest_if, step_at, steps_on}
 use Rattle.task_code.specs.Places.{Step}
-use Rattle.values.specs.Limits.{chunk_size, most_steps}
+use Rattle.values.specs.Limits.{chunk_size, max_path_steps}
 use Rattle.values.specs.declared.key.Key.{Key}
 use Rattle.values.specs.declared.value.Scalar.{Scalar}
 use Rattle.board_instances.specs.Made.{block_of}
@@ -23,7 +23,7 @@ use Rattle.board_instances.specs.declared.pending.PendingInstance.{PendingInstan
 use Rattle.board_instances.proofs.Turned.{turns_blocks}
 use Rattle.board_effects.specs.Effects.{GoesWell, GoesWrong}
 use Rattle.board_effects.specs.Ended.{Ends, FailsWith, IsEnded, IsLoop, OpensList, act_of, cells_of, code_of, frames_of, job_of, needs_of}
-use Rattle.board_effects.specs.Openings.{IsOpened, IsOpenedBy, IsSpare}
+use Rattle.board_data.specs.Openings.{IsOpened, IsOpenedBy, IsSpare}
 use Rattle.board_effects.specs.declared.effect.Effect.{Effect}
 use Rattle.board_effects.specs.declared.effect.Effect.TheVariants as To
 use Rattle.board_effects.specs.declared.effect.EndingItem.{EndingItem}
@@ -33,32 +33,32 @@ use Rattle.board_effects.proofs.Chunks.{some_behind, some_chunk}
 use Rattle.board_effects.proofs.Values.{fails_ends}
 
 -- the blocks of one body all have entries, or none has
-turns_kept : (C : Code) (b mark : ℕ) (p : List Step) (ts : Elements) → is_some_list (body C b).entries ≡ true → filter (has_entries C) (map (λ (t : Key × Scalar). (b, step_at mark t.0 p)) ts) ≡ map (λ (t : Key × Scalar). (b, step_at mark t.0 p)) ts
-turns_kept C b mark p [] h = refl
-turns_kept C b mark p (t ∷ ts) h =
-    ap (λ m. if m then (b, step_at mark t.0 p) ∷ filter (has_entries C) (map (λ (t : Key × Scalar). (b, step_at mark t.0 p)) ts) else filter (has_entries C) (map (λ (t : Key × Scalar). (b, step_at mark t.0 p)) ts)) h
-    ∙ ap (λ l. (b, step_at mark t.0 p) ∷ l) (turns_kept C b mark p ts h)
+turns_kept : (C : Code) (b offset : ℕ) (p : List Step) (ts : Elements) → is_some_list (body C b).entries ≡ true → filter (has_entries C) (map (λ (t : Key × Scalar). (b, step_at offset t.0 p)) ts) ≡ map (λ (t : Key × Scalar). (b, step_at offset t.0 p)) ts
+turns_kept C b offset p [] h = refl
+turns_kept C b offset p (t ∷ ts) h =
+    ap (λ m. if m then (b, step_at offset t.0 p) ∷ filter (has_entries C) (map (λ (t : Key × Scalar). (b, step_at offset t.0 p)) ts) else filter (has_entries C) (map (λ (t : Key × Scalar). (b, step_at offset t.0 p)) ts)) h
+    ∙ ap (λ l. (b, step_at offset t.0 p) ∷ l) (turns_kept C b offset p ts h)
 
-turns_dropped : (C : Code) (b mark : ℕ) (p : List Step) (ts : Elements) → is_some_list (body C b).entries ≡ false → filter (has_entries C) (map (λ (t : Key × Scalar). (b, step_at mark t.0 p)) ts) ≡ []
-turns_dropped C b mark p [] h = refl
-turns_dropped C b mark p (t ∷ ts) h =
-    ap (λ m. if m then (b, step_at mark t.0 p) ∷ filter (has_entries C) (map (λ (t : Key × Scalar). (b, step_at mark t.0 p)) ts) else filter (has_entries C) (map (λ (t : Key × Scalar). (b, step_at mark t.0 p)) ts)) h
-    ∙ turns_dropped C b mark p ts h
+turns_dropped : (C : Code) (b offset : ℕ) (p : List Step) (ts : Elements) → is_some_list (body C b).entries ≡ false → filter (has_entries C) (map (λ (t : Key × Scalar). (b, step_at offset t.0 p)) ts) ≡ []
+turns_dropped C b offset p [] h = refl
+turns_dropped C b offset p (t ∷ ts) h =
+    ap (λ m. if m then (b, step_at offset t.0 p) ∷ filter (has_entries C) (map (λ (t : Key × Scalar). (b, step_at offset t.0 p)) ts) else filter (has_entries C) (map (λ (t : Key × Scalar). (b, step_at offset t.0 p)) ts)) h
+    ∙ turns_dropped C b offset p ts h
 
-some_turns : (b mark : ℕ) (p : List Step) (ts : Elements) → is_some_list {X = ℕ × List Step} (map (λ (t : Key × Scalar). (b, step_at mark t.0 p)) ts) ≡ is_some_list ts
-some_turns b mark p [] = refl
-some_turns b mark p (t ∷ ts) = refl
+some_turns : (b offset : ℕ) (p : List Step) (ts : Elements) → is_some_list {X = ℕ × List Step} (map (λ (t : Key × Scalar). (b, step_at offset t.0 p)) ts) ≡ is_some_list ts
+some_turns b offset p [] = refl
+some_turns b offset p (t ∷ ts) = refl
 
 some_rest : (m : Bool) (i : ℕ) (p : List Step) (c : ℕ) → is_some_list (rest_if m i p c) ≡ m
 some_rest true i p c = refl
 some_rest false i p c = refl
 
-turn_in : (C : Code) (fs : List (Option Frame)) (k b mark : ℕ) (ts : Elements) (os : List PendingInstance) → AllZip (IsTurn C fs k b mark) ts os → (o : PendingInstance) → In o os → (t : Key × Scalar) × In t ts × IsTurn C fs k b mark t o
-turn_in C fs k b mark [] [] x o m = absurd m
-turn_in C fs k b mark [] (o' ∷ os) x o m = absurd x
-turn_in C fs k b mark (t ∷ ts) [] x o m = absurd x
-turn_in C fs k b mark (t ∷ ts) (o' ∷ os) x o (inl e) = (t, inl refl, subst (λ y. IsTurn C fs k b mark t y) (sym e) x.0)
-turn_in C fs k b mark (t ∷ ts) (o' ∷ os) x o (inr m) = (let r = turn_in C fs k b mark ts os x.1 o m in (r.0, inr r.1, r.2))
+turn_in : (C : Code) (fs : List (Option Frame)) (k b offset : ℕ) (ts : Elements) (os : List PendingInstance) → AllZip (IsTurn C fs k b offset) ts os → (o : PendingInstance) → In o os → (t : Key × Scalar) × In t ts × IsTurn C fs k b offset t o
+turn_in C fs k b offset [] [] x o m = absurd m
+turn_in C fs k b offset [] (o' ∷ os) x o m = absurd x
+turn_in C fs k b offset (t ∷ ts) [] x o m = absurd x
+turn_in C fs k b offset (t ∷ ts) (o' ∷ os) x o (inl e) = (t, inl refl, subst (λ y. IsTurn C fs k b offset t y) (sym e) x.0)
+turn_in C fs k b offset (t ∷ ts) (o' ∷ os) x o (inr m) = (let r = turn_in C fs k b offset ts os x.1 o m in (r.0, inr r.1, r.2))
 
 module _ (p : EndingItem) (w : IsEnded p) (u : Loop) (ts : Elements) (is : loop_of (act_of p) ≡ Some u) where
   abbrev path : List Step
@@ -71,36 +71,36 @@ module _ (p : EndingItem) (w : IsEnded p) (u : Loop) (ts : Elements) (is : loop_
   turns = chunk p.chunk ts
 
   -- the blocks are those of the turns of the chunk
-  blocks_are : instances now.act now.mark path p.chunk (Turns ts) ≡ map (λ (t : Key × Scalar). (u.body, step_at now.mark t.0 path)) turns
-  blocks_are = loop_instances now.act u now.mark path p.chunk (Turns ts) (own p w (λ e. loop_of e.act ≡ Some u) is)
+  blocks_are : instances now.act now.offset path p.chunk (Turns ts) ≡ map (λ (t : Key × Scalar). (u.body, step_at now.offset t.0 path)) turns
+  blocks_are = loop_instances now.act u now.offset path p.chunk (Turns ts) (own p w (λ e. loop_of e.act ≡ Some u) is)
 
-  some_blocks : is_some_list (instances now.act now.mark path p.chunk (Turns ts)) ≡ is_some_list turns
-  some_blocks = ap is_some_list blocks_are ∙ some_turns u.body now.mark path turns
+  some_blocks : is_some_list (instances now.act now.offset path p.chunk (Turns ts)) ≡ is_some_list turns
+  some_blocks = ap is_some_list blocks_are ∙ some_turns u.body now.offset path turns
 
-  pub loop_deep : is_some_list turns ≡ true → nat_le most_steps (length path) ≡ true → GoesWrong (code_of p) (frames_of p) (cells_of p) (job_of p) (Turns ts) (OfTask TooDeep)
+  pub loop_deep : is_some_list turns ≡ true → nat_le max_path_steps (length path) ≡ true → GoesWrong (code_of p) (frames_of p) (cells_of p) (job_of p) (Turns ts) (OfTask TooDeep)
   loop_deep s h = bad (Turns ts) _ _ refl (deep_long now.act path _ h (own p w (λ e. steps_on e.act ≡ true) (loop_steps (act_of p) u is)) (some_blocks ∙ s))
 
-  module _ (list : List PendingInstance) (added : 0 < length (body (code_of p) u.body).entries → IsSome (slot_at (frames_of p) p.view.at) → AddsTurns (code_of p) (frames_of p) p.view.at u.body (entry_view p.entry.now).mark turns [] list) (none : length (body (code_of p) u.body).entries ≡ 0 → list ≡ []) where
+  module _ (list : List PendingInstance) (added : 0 < length (body (code_of p) u.body).entries → IsSome (slot_at (frames_of p) p.view.at) → AddsTurns (code_of p) (frames_of p) p.view.at u.body (entry_view p.entry.now).offset turns [] list) (none : length (body (code_of p) u.body).entries ≡ 0 → list ≡ []) where
     is_there : IsSome (slot_at (frames_of p) p.view.at)
     is_there = subst (λ (o : Option Frame). IsSome o) (sym w.there) (search rules)
 
     -- one for each of them
-    each_turn : 0 < length (body (code_of p) u.body).entries → AllZip (IsTurn (code_of p) (frames_of p) p.view.at u.body now.mark) turns list
-    each_turn s = (let a = added s is_there in own p w (λ e. AllZip (IsTurn (code_of p) (frames_of p) p.view.at u.body e.mark) turns list) (subst (λ l. AllZip (IsTurn (code_of p) (frames_of p) p.view.at u.body (entry_view p.entry.now).mark) turns l) (sym a.new_is) a.each))
+    each_turn : 0 < length (body (code_of p) u.body).entries → AllZip (IsTurn (code_of p) (frames_of p) p.view.at u.body now.offset) turns list
+    each_turn s = (let a = added s is_there in own p w (λ e. AllZip (IsTurn (code_of p) (frames_of p) p.view.at u.body e.offset) turns list) (subst (λ l. AllZip (IsTurn (code_of p) (frames_of p) p.view.at u.body (entry_view p.entry.now).offset) turns l) (sym a.new_is) a.each))
 
-    all_blocks : (es : List ℕ) → (body (code_of p) u.body).entries ≡ es → map (block_of (frames_of p) (Some p.view.at)) (map opening_frame list) ≡ filter (has_entries (code_of p)) (map (λ (t : Key × Scalar). (u.body, step_at now.mark t.0 path)) turns)
-    all_blocks [] e = ap (λ l. map (block_of (frames_of p) (Some p.view.at)) (map opening_frame l)) (none (ap length e)) ∙ sym (turns_dropped (code_of p) u.body now.mark path turns (ap is_some_list e))
+    all_blocks : (es : List ℕ) → (body (code_of p) u.body).entries ≡ es → map (block_of (frames_of p) (Some p.view.at)) (map opening_frame list) ≡ filter (has_entries (code_of p)) (map (λ (t : Key × Scalar). (u.body, step_at now.offset t.0 path)) turns)
+    all_blocks [] e = ap (λ l. map (block_of (frames_of p) (Some p.view.at)) (map opening_frame l)) (none (ap length e)) ∙ sym (turns_dropped (code_of p) u.body now.offset path turns (ap is_some_list e))
     all_blocks (j ∷ js) e =
-        turns_blocks (code_of p) (frames_of p) p.view.at u.body now.mark turns list (each_turn (subst (λ (es : List ℕ). 0 < length es) (sym e) (omega arith)))
-        ∙ sym (turns_kept (code_of p) u.body now.mark path turns (ap is_some_list e))
+        turns_blocks (code_of p) (frames_of p) p.view.at u.body now.offset turns list (each_turn (subst (λ (es : List ℕ). 0 < length es) (sym e) (omega arith)))
+        ∙ sym (turns_kept (code_of p) u.body now.offset path turns (ap is_some_list e))
 
     all_each : (es : List ℕ) → (body (code_of p) u.body).entries ≡ es → (o : PendingInstance) → In o list → IsOpened (code_of p) (frames_of p) (job_of p) (Turns ts) u.body o
     all_each [] e o m = absurd (subst (λ l. In o l) (none (ap length e)) m)
     all_each (j ∷ js) e o m =
         subst (λ l. IsOpenedBy (code_of p) (frames_of p) p.view.at p.number p.chunk (Turns ts) u.body l o) (sym (own p w (λ e. loop_of e.act ≡ Some u) is))
-        (turn_in (code_of p) (frames_of p) p.view.at u.body now.mark turns list (each_turn (subst (λ (es : List ℕ). 0 < length es) (sym e) (omega arith))) o m)
+        (turn_in (code_of p) (frames_of p) p.view.at u.body now.offset turns list (each_turn (subst (λ (es : List ℕ). 0 < length es) (sym e) (omega arith))) o m)
 
-    loop_well : (is_some_list turns && nat_le most_steps (length path)) ≡ false → (e : Effect) (q : OpensList p u.body list (is_some_list (left_at (suc p.chunk) ts)) e) → GoesWell (code_of p) (frames_of p) (cells_of p) (job_of p) (Turns ts) (To.Opens q.openings)
+    loop_well : (is_some_list turns && nat_le max_path_steps (length path)) ≡ false → (e : Effect) (q : OpensList p u.body list (is_some_list (left_at (suc p.chunk) ts)) e) → GoesWell (code_of p) (frames_of p) (cells_of p) (job_of p) (Turns ts) (To.Opens q.openings)
     loop_well h e q = record {
       good = (effect_at (code_of p) p.number path p.chunk (Turns ts), good (Turns ts) _ _ refl (deep_turns now.act path _ (is_some_list turns) some_blocks h));
       apart = λ y. absurd (cc y.inserts);
@@ -119,7 +119,7 @@ module _ (p : EndingItem) (w : IsEnded p) (u : Loop) (ts : Elements) (is : loop_
       };
     }
 
-    pub loop_opens : (is_some_list turns && nat_le most_steps (length path)) ≡ false → (e : Effect) → OpensList p u.body list (is_some_list (left_at (suc p.chunk) ts)) e → Ends p (Turns ts) e
+    pub loop_opens : (is_some_list turns && nat_le max_path_steps (length path)) ≡ false → (e : Effect) → OpensList p u.body list (is_some_list (left_at (suc p.chunk) ts)) e → Ends p (Turns ts) e
     loop_opens h e q = subst (λ y. Ends p (Turns ts) y) (sym q.is) (loop_well h e q)
 
 lt_true : (a b : ℕ) → a < b → nat_lt a b ≡ true
@@ -145,13 +145,13 @@ module _ (p : EndingItem) (w : IsEnded p) (b : ℕ) (l : IsLoop p b) (ts : Eleme
         ]
       ]
 
-  pub chunk_deep : first < end → nat_le most_steps (length (path_of (frames_of p) p.view.at)) ≡ true → (e : Effect) → FailsWith p (OfTask TooDeep) e → Ends p (Turns ts) e
+  pub chunk_deep : first < end → nat_le max_path_steps (length (path_of (frames_of p) p.view.at)) ≡ true → (e : Effect) → FailsWith p (OfTask TooDeep) e → Ends p (Turns ts) e
   chunk_deep h d e f = fails_ends p (Turns ts) (OfTask TooDeep) e (loop_deep p w l.0 ts l.1 (has_turns ∙ lt_true (p.chunk * chunk_size) count (here (p.chunk * chunk_size) count first end begins ends h)) d) f
     where
       here : (m n f e : ℕ) → f ≡ min m n → e ≡ min (m + chunk_size) n → f < e → m < n
       here m n f e q r h = omega (arith, q, r, h)
 
-  not_deep : (first < end → nat_le most_steps (length (path_of (frames_of p) p.view.at)) ≡ false) → (is_some_list (chunk p.chunk ts) && nat_le most_steps (length (path_of (frames_of p) p.view.at))) ≡ false
+  not_deep : (first < end → nat_le max_path_steps (length (path_of (frames_of p) p.view.at)) ≡ false) → (is_some_list (chunk p.chunk ts) && nat_le max_path_steps (length (path_of (frames_of p) p.view.at))) ≡ false
   not_deep h = elim (cases_Bool (nat_lt (p.chunk * chunk_size) count)) [
     | inl t ↦ and_right _ _ (h (here (p.chunk * chunk_size) count first end begins ends (lt_from (p.chunk * chunk_size) count t)))
     | inr f ↦ and_left _ _ (has_turns ∙ f)
@@ -160,10 +160,10 @@ module _ (p : EndingItem) (w : IsEnded p) (b : ℕ) (l : IsLoop p b) (ts : Eleme
       here : (m n f e : ℕ) → f ≡ min m n → e ≡ min (m + chunk_size) n → m < n → f < e
       here m n f e q r h = omega (arith, q, r, h)
 
-  pub chunk_opens : (list : List PendingInstance) → (0 < length (body (code_of p) b).entries → IsSome (slot_at (frames_of p) p.view.at) → AddsTurns (code_of p) (frames_of p) p.view.at b (entry_view p.entry.now).mark (chunk p.chunk ts) [] list) → (length (body (code_of p) b).entries ≡ 0 → list ≡ []) → (first < end → nat_le most_steps (length (path_of (frames_of p) p.view.at)) ≡ false) → (e : Effect) → OpensList p b list (nat_lt end count) e → Ends p (Turns ts) e
+  pub chunk_opens : (list : List PendingInstance) → (0 < length (body (code_of p) b).entries → IsSome (slot_at (frames_of p) p.view.at) → AddsTurns (code_of p) (frames_of p) p.view.at b (entry_view p.entry.now).offset (chunk p.chunk ts) [] list) → (length (body (code_of p) b).entries ≡ 0 → list ≡ []) → (first < end → nat_le max_path_steps (length (path_of (frames_of p) p.view.at)) ≡ false) → (e : Effect) → OpensList p b list (nat_lt end count) e → Ends p (Turns ts) e
   chunk_opens list added none h e q =
       loop_opens p w l.0 ts l.1 list
-      (subst (λ n. 0 < length (body (code_of p) n).entries → IsSome (slot_at (frames_of p) p.view.at) → AddsTurns (code_of p) (frames_of p) p.view.at n (entry_view p.entry.now).mark (chunk p.chunk ts) [] list) (sym l.2) added)
+      (subst (λ n. 0 < length (body (code_of p) n).entries → IsSome (slot_at (frames_of p) p.view.at) → AddsTurns (code_of p) (frames_of p) p.view.at n (entry_view p.entry.now).offset (chunk p.chunk ts) [] list) (sym l.2) added)
       (subst (λ n. length (body (code_of p) n).entries ≡ 0 → list ≡ []) (sym l.2) none)
       (not_deep h) e
       (subst (λ n. OpensList p n list (is_some_list (left_at (suc p.chunk) ts)) e) (sym l.2) (subst (λ g. OpensList p b list g e) has_more q))

@@ -10,7 +10,7 @@ use Rattle.task_code.specs.Code.{Body, Code, Entry, blank_body, blank_entry, bod
 use Rattle.board_program.specs.Tables.{waits_long}
 use Rattle.board_instances.specs.declared.pending.PendingInstance.{PendingInstance}
 use Rattle.board_effects.specs.Ended.{long_need, needs_of, spare_list}
-use Rattle.board_effects.specs.Openings.{IsSpare, long_needs}
+use Rattle.board_data.specs.Openings.{IsSpare, long_needs}
 
 entry_past : (es : List Entry) (n : ℕ) → length es ≤ n → nth blank_entry es n ≡ blank_entry
 entry_past [] n h = refl

@@ -38,7 +38,7 @@ only_tests (Acts.Call b rs os) k nc ns nf np = absurd (cc k)
 only_tests (Acts.Set r e) k nc ns nf np = absurd (ns r e refl)
 only_tests (Acts.Fill r es) k nc ns nf np = absurd (nf r es refl)
 only_tests (Acts.Copy r) k nc ns nf np = absurd (cc k)
-only_tests (Acts.Put r i e) k nc ns nf np = absurd (cc k)
+only_tests (Acts.InsertElement r i e) k nc ns nf np = absurd (cc k)
 only_tests (Acts.Print e) k nc ns nf np = absurd (np e refl)
 only_tests (Acts.Assert e) k nc ns nf np = (expr_view e, refl)
 only_tests (Acts.If e b d) k nc ns nf np = absurd (cc k)
@@ -61,8 +61,8 @@ module _ (p : EndingItem) (w : IsEnded p) where
       let q = some_there (cells_of p) d es h in
       fails_ends p (Inserts (pairs es)) ElementTwice e (elements_clash (code_of p) (frames_of p) p.view.at p.number p.chunk _ _ w (cells_of p) (pairs es) g d s q.0 q.1 q.2 q.3) f
 
-  pub puts_ends : (t : Option ℕ) (k l : Key) (v u : Scalar) → t ≡ at → l ≡ k → u ≡ v → gives_elements (act_of p) ≡ true → ((d : ℕ) → t ≡ Some d → has (cell_element k (slot_at (cells_of p) d)) ≡ false) → Ends p (Inserts ((k, v) ∷ [])) (To.Puts t l u)
-  puts_ends t k l v u e ek ev g h = elements_end (code_of p) (frames_of p) p.view.at p.number p.chunk _ _ w (cells_of p) ((k, v) ∷ []) (To.Puts t l u) (λ i. Inserts ((sym ek i, sym ev i) ∷ [])) g e (ap (λ (x : Key). (x, u) ∷ []) ek ∙ ap (λ (x : Scalar). (k, x) ∷ []) ev) refl refl (λ d s. key_none (cells_of p) d k v (h d (e ∙ s))) (λ o. o)
+  pub puts_ends : (t : Option ℕ) (k l : Key) (v u : Scalar) → t ≡ at → l ≡ k → u ≡ v → gives_elements (act_of p) ≡ true → ((d : ℕ) → t ≡ Some d → has (cell_element k (slot_at (cells_of p) d)) ≡ false) → Ends p (Inserts ((k, v) ∷ [])) (To.InsertsElement t l u)
+  puts_ends t k l v u e ek ev g h = elements_end (code_of p) (frames_of p) p.view.at p.number p.chunk _ _ w (cells_of p) ((k, v) ∷ []) (To.InsertsElement t l u) (λ i. Inserts ((sym ek i, sym ev i) ∷ [])) g e (ap (λ (x : Key). (x, u) ∷ []) ek ∙ ap (λ (x : Scalar). (k, x) ∷ []) ev) refl refl (λ d s. key_none (cells_of p) d k v (h d (e ∙ s))) (λ o. o)
 
   pub puts_clash : (d : ℕ) (k : Key) (v : Scalar) → at ≡ Some d → gives_elements (act_of p) ≡ true → has (cell_element k (slot_at (cells_of p) d)) ≡ true → (e : Effect) → FailsWith p ElementTwice e → Ends p (Inserts ((k, v) ∷ [])) e
   puts_clash d k v s g h e f =

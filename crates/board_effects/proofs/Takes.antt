@@ -19,7 +19,7 @@ use Rattle.board_history.proofs.Next.{nat_same}
 use Rattle.board_history.proofs.Standing.{writes_told}
 use Rattle.board_history.proofs.Tests.{none_some, some_same}
 use Rattle.task_code.proofs.Places.{argument_kind, spot_variable}
-use Rattle.task_code.specs.Code.{Act, Argument, Assert, Call, Cell, Code, Copy, Each, Fill, Fixed, If, Local, Name, Named, Need, Owned, Parameter, Print, Put, Range, Read, Set, Variable, Wait, argument, arguments, call_at, entry, is_array_name, is_array_owned, stored_of}
+use Rattle.task_code.specs.Code.{Act, Argument, Assert, Call, Cell, Code, Copy, Each, Fill, Fixed, If, Local, Name, Named, Need, Owned, Parameter, Print, InsertElement, Range, Read, Set, Variable, Wait, argument, arguments, call_at, entry, is_array_name, is_array_owned, stored_of}
 use Rattle.task_code.specs.Compute.{Computed, Elements, Gives, Inserts, answer_at, compute, elements, eval, given, pairs, read}
 use Rattle.task_code.specs.Machine.{CodeState}
 use Rattle.task_code.specs.Places.{Constant, Datum as DatumAt, Nowhere, Place, Step, place_at, resolve}
@@ -75,7 +75,7 @@ array_target (Call b rs os) ns node xs r ys sh i g = absurd i
 array_target (Set q e) ns node xs r ys sh i g = no_given (eval xs e) ys g
 array_target (Fill q es) ns node xs r ys sh i g = elim i [ inl p ↦ ap is_array_name p ∙ (and_parts _ _ sh).0 | inr z ↦ absurd z ]
 array_target (Copy q) ns node xs r ys sh i g = elim i [ inl p ↦ ap is_array_name p ∙ (and_parts _ _ sh).0 | inr z ↦ absurd z ]
-array_target (Put q k e) ns node xs r ys sh i g = elim i [ inl p ↦ ap is_array_name p ∙ (and_parts _ _ sh).0 | inr z ↦ absurd z ]
+array_target (InsertElement q k e) ns node xs r ys sh i g = elim i [ inl p ↦ ap is_array_name p ∙ (and_parts _ _ sh).0 | inr z ↦ absurd z ]
 array_target (Print e) ns node xs r ys sh i g = absurd i
 array_target (Assert e) ns node xs r ys sh i g = absurd i
 array_target (If e b d) ns node xs r ys sh i g = absurd i
@@ -177,7 +177,7 @@ module _ (C : Code) (I : IsCode C) (es : List Event) (F : Fields) (x : Stands C 
   pub can_store : (e : Effect) → IsEffect C F.frames F.cells row.job (of_job row.job) e → CanStore e store
   can_store (To.Fails f) g = tt
   can_store (To.Stores d v) g = unkeyed_target row.job refl d v g
-  can_store (To.Puts d k v) g = λ m h room. takes row.job refl (To.Puts d k v) g (element k v ∷ []) g.computed refl m h room
+  can_store (To.InsertsElement d k v) g = λ m h room. takes row.job refl (To.InsertsElement d k v) g (element k v ∷ []) g.computed refl m h room
   can_store (To.Inserts d ys) g = λ m h room. takes row.job refl (To.Inserts d ys) g ys.items g.computed refl m h room
   can_store (To.Prints v) g = tt
   can_store To.Passes g = tt

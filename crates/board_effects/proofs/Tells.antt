@@ -32,8 +32,8 @@ use Rattle.board_history.proofs.Replays.{replayed_then, run_next, run_replayed}
 use Rattle.board_history.proofs.Tests.{none_some, some_same}
 use Rattle.task_code.proofs.Kept.{code_laws}
 use Rattle.task_code.proofs.Rights.{stored_target}
-use Rattle.task_code.specs.Code.{Act, Argument, Assert, Call, Cell, Code, Copy, Each, Fill, Fixed, If, Local, Need, Print, Put, Range, Read, Set, Wait, Name, Named, Owned, Parameter, argument, arguments, body, call_at, entry, is_array_name, is_array_owned, stored_of}
-use Rattle.task_code.specs.Compute.{Computed, Elements, EntryFault, Fails, Gives, Inserts, Opens, Takes, Turns, compute, eval, evals, filled, put}
+use Rattle.task_code.specs.Code.{Act, Argument, Assert, Call, Cell, Code, Copy, Each, Fill, Fixed, If, Local, Need, Print, InsertElement, Range, Read, Set, Wait, Name, Named, Owned, Parameter, argument, arguments, body, call_at, entry, is_array_name, is_array_owned, stored_of}
+use Rattle.task_code.specs.Compute.{Computed, Elements, EntryFault, Fails, Gives, Inserts, Opens, Takes, Turns, compute, eval, evals, filled, insert_element}
 use Rattle.task_code.specs.Effects.{Item, Main, Task, block, effect_at, instances, is_too_deep}
 use Rattle.task_code.specs.Machine.{CodeItem, CodeState, CodeStep}
 use Rattle.task_code.specs.Places.{Constant, Datum, Nowhere, Place, Step, place_array, place_at, resolve}
@@ -114,7 +114,7 @@ pub no_fill : {B : Type 0} (r : Result Value OpFault) (v : Scalar) → filled r 
 no_fill (Ok u) v h = absurd (cc h)
 no_fill (Err f) v h = absurd (cc h)
 
-no_put : {B : Type 0} (p q : Result Value OpFault) (v : Scalar) → put p q ≡ Gives v → B
+no_put : {B : Type 0} (p q : Result Value OpFault) (v : Scalar) → insert_element p q ≡ Gives v → B
 no_put (Err f) q v h = absurd (cc h)
 no_put (Ok i) (Err f) v h = absurd (cc h)
 no_put (Ok i) (Ok u) v h = absurd (cc h)
@@ -126,7 +126,7 @@ scalar_target (Call b rs os) ns node xs r v sh i g = absurd i
 scalar_target (Set q e) ns node xs r v sh i g = elim i [ inl p ↦ ap is_array_name p ∙ not-true (is_array_name q) (and_parts _ _ sh).0 | inr z ↦ absurd z ]
 scalar_target (Fill q es) ns node xs r v sh i g = no_fill (evaluated literal (evals xs es)) v g
 scalar_target (Copy q) ns node xs r v sh i g = absurd (cc g)
-scalar_target (Put q k e) ns node xs r v sh i g = no_put (eval xs k) (eval xs e) v g
+scalar_target (InsertElement q k e) ns node xs r v sh i g = no_put (eval xs k) (eval xs e) v g
 scalar_target (Print e) ns node xs r v sh i g = absurd i
 scalar_target (Assert e) ns node xs r v sh i g = absurd i
 scalar_target (If e b d) ns node xs r v sh i g = absurd i
@@ -200,8 +200,8 @@ module _ (C : Code) (I : IsCode C) (es : List Event) (F : Fields) (x : Stands C 
   own_task : ends.item.task ≡ task
   own_task = of_row.task_is ∙ ap (λ (r : Row). task_of F.frames r.job) own_row
 
-  live : row.mark ≡ Over → ⊥
-  live h = of_row.not_over (ap (λ (r : Row). r.mark) own_row ∙ h)
+  live : row.status ≡ Over → ⊥
+  live h = of_row.not_over (ap (λ (r : Row). r.status) own_row ∙ h)
 
   same_answers : ends.answers ≡ xs
   same_answers = (answers_are_one (code_system C) (code_laws C I) s log follows).one ends.item here ends.answers xs ends.known (subst (λ (u : Task). SeesAll (code_system C) s (task_inputs C u) xs) (sym own_task) known)
@@ -284,7 +284,7 @@ module _ (C : Code) (I : IsCode C) (es : List Event) (F : Fields) (x : Stands C 
           y.element.1,
           y.older,
           h.0,
-          target_stored C (entry C e).act (entry C e).node (entry C e).mark path c (answered C path (entry C e).needs xs) (record { place = Datum ld.1 ld.2; key = y.element.0; value = y.element.1 }) r.0 r.1 (sym ld.4) z.1,
+          target_stored C (entry C e).act (entry C e).node (entry C e).offset path c (answered C path (entry C e).needs xs) (record { place = Datum ld.1 ld.2; key = y.element.0; value = y.element.1 }) r.0 r.1 (sym ld.4) z.1,
           h.1,
         )
 
@@ -300,9 +300,9 @@ module _ (C : Code) (I : IsCode C) (es : List Event) (F : Fields) (x : Stands C 
     inserted Opens g r i q v at arr p m = absurd m
 
     pub clash_from : Clashes (code_system C) s (effect_at C e path c what) → mine.Clashes C F.frames F.cells (Does k e c) what
-    clash_from g = by (stores_told C (entry C e).act (entry C e).node (entry C e).mark path c (answered C path (entry C e).needs xs) (record { place = g.0; key = g.1; value = g.2 }) g.5)
+    clash_from g = by (stores_told C (entry C e).act (entry C e).node (entry C e).offset path c (answered C path (entry C e).needs xs) (record { place = g.0; key = g.1; value = g.2 }) g.5)
       where
-        by : Stored C (entry C e).act (entry C e).node (entry C e).mark path c what (record { place = g.0; key = g.1; value = g.2 }) → mine.Clashes C F.frames F.cells (Does k e c) what
+        by : Stored C (entry C e).act (entry C e).node (entry C e).offset path c what (record { place = g.0; key = g.1; value = g.2 }) → mine.Clashes C F.frames F.cells (Does k e c) what
         by (into r ir at iv) =
             let ld = leads r (right r ir) in
             let a : g.0 ≡ Datum ld.1 ld.2 = at ∙ ld.4 in
@@ -319,7 +319,7 @@ module _ (C : Code) (I : IsCode C) (es : List Event) (F : Fields) (x : Stands C 
               stores = flat_in (λ r. if slot_is ld.0 (job_slot C (layout_of C) F.frames (Does k e c) r) then stored_values what else []) (stored_of (entry C e).node (entry C e).act) r (g.1, g.2) ir (in_if (g.1, g.2) (slot_is ld.0 (job_slot C (layout_of C) F.frames (Does k e c) r)) (stored_values what) (ap (slot_is ld.0) ld.3 ∙ nat_same ld.0) iv);
               has = ap (cell_element g.1) cell.1 ∙ f.1;
             }
-        by (binds l y lo iy ib) = elim (bound_is l (entry C e).mark path y (record { place = g.0; key = g.1; value = g.2 }) ib).is [
+        by (binds l y lo iy ib) = elim (bound_is l (entry C e).offset path y (record { place = g.0; key = g.1; value = g.2 }) ib).is [
           | inl z ↦ absurd (cc (sym g.4 ∙ ap place_array z.0))
           | inr z ↦ absurd (cc (sym g.4 ∙ ap place_array z.2))
         ]
@@ -329,7 +329,7 @@ module _ (C : Code) (I : IsCode C) (es : List Event) (F : Fields) (x : Stands C 
   of_job j = computed_by C (task_of F.frames j) xs
 
   effect_is : (k e c : ℕ) (g : Effect Task Place Key Scalar) → outcome_for C (task_of F.frames (Does k e c)) (of_job (Does k e c)) ≡ Good g → effect_at C e (path_of F.frames k) c (of_job (Does k e c)) ≡ g
-  effect_is k e c g h = outcome_is (of_job (Does k e c)) (is_too_deep (entry C e).act (path_of F.frames k) (instances (entry C e).act (entry C e).mark (path_of F.frames k) c (of_job (Does k e c)))) (effect_at C e (path_of F.frames k) c (of_job (Does k e c))) g h
+  effect_is k e c g h = outcome_is (of_job (Does k e c)) (is_too_deep (entry C e).act (path_of F.frames k) (instances (entry C e).act (entry C e).offset (path_of F.frames k) c (of_job (Does k e c)))) (effect_at C e (path_of F.frames k) c (of_job (Does k e c))) g h
 
   both_there : (j : Job) → row.job ≡ j → (g : Effect Task Place Key Scalar) → outcome_for C (task_of F.frames j) (of_job j) ≡ Good g → mine.Clashes C F.frames F.cells j (of_job j) → Clashes (code_system C) s g
   both_there Script is g h y = absurd y.stores
@@ -353,7 +353,7 @@ module _ (C : Code) (I : IsCode C) (es : List Event) (F : Fields) (x : Stands C 
   pub tells : (e : ProgramEffect) → IsEffect C F.frames F.cells row.job computed e → t.fault ≡ fault_of task e
   tells (To.Fails f) g = wrong_told (kind_of_fault f.kind) g.0
   tells (To.Stores d v) g = well_told (To.Stores d v) g
-  tells (To.Puts d k v) g = well_told (To.Puts d k v) g
+  tells (To.InsertsElement d k v) g = well_told (To.InsertsElement d k v) g
   tells (To.Inserts d es) g = well_told (To.Inserts d es) g
   tells (To.Prints v) g = well_told (To.Prints v) g
   tells To.Passes g = well_told To.Passes g

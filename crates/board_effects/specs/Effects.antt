@@ -25,9 +25,9 @@ use Rattle.board_instances.specs.View.{step_view}
 use Rattle.paths.specs.declared.faults.FaultKind.{FaultKind}
 use Rattle.paths.specs.declared.faults.FaultKind.TheVariants as Kind
 use Rattle.paths.specs.declared.statements.StatementInstance.{StatementInstance}
-use Rattle.board_effects.specs.Openings.{AreOpenings}
+use Rattle.board_data.specs.Openings.{AreOpenings}
 use Rattle.board_effects.specs.declared.effect.Effect.{Effect}
-use Rattle.board_effects.specs.declared.effect.Effect.TheVariants.{Fails, Inserts, Opens, Prints, Puts, Stores}
+use Rattle.board_effects.specs.declared.effect.Effect.TheVariants.{Fails, Inserts, Opens, Prints, InsertsElement, Stores}
 
 -- a fault kind as the machine's fault
 abbrev pub kind_of_fault : FaultKind → Fault EntryFault
@@ -43,13 +43,13 @@ kind_of_fault Kind.AssertFailed = OfTask (InOperation Op.AssertFailed)
 -- the datum that an effect stores into, what it stores there, and what it prints
 abbrev pub target_in : Effect → Option ℕ
 target_in (Stores d v) = d
-target_in (Puts d k v) = d
+target_in (InsertsElement d k v) = d
 target_in (Inserts d es) = d
 target_in _ = None
 
 abbrev pub values_in : Effect → Elements
 values_in (Stores d v) = (only, v) ∷ []
-values_in (Puts d k v) = (k, v) ∷ []
+values_in (InsertsElement d k v) = (k, v) ∷ []
 values_in (Inserts d es) = pairs es.items
 values_in _ = []
 
@@ -61,14 +61,14 @@ lines_in _ = []
 -- the elements if it has room
 abbrev pub CanStore : Effect → Store → Type 0
 CanStore (Stores d v) s = IsScalarTarget d s
-CanStore (Puts d k v) s = (n : ℕ) → d ≡ Some n → HasPlacesFor (element k v ∷ []) (array_at s n) → Takes n (element k v ∷ []) s
+CanStore (InsertsElement d k v) s = (n : ℕ) → d ≡ Some n → HasPlacesFor (element k v ∷ []) (array_at s n) → Takes n (element k v ∷ []) s
 CanStore (Inserts d es) s = (n : ℕ) → d ≡ Some n → HasPlacesFor es.items (array_at s n) → Takes n es.items s
 CanStore _ s = Unit {0}
 
 -- what is stored is what was computed
 abbrev pub IsStored : Effect → Computed → Type 0
 IsStored (Stores d v) x = x ≡ Gives v
-IsStored (Puts d k v) x = x ≡ InsertsAll ((k, v) ∷ [])
+IsStored (InsertsElement d k v) x = x ≡ InsertsAll ((k, v) ∷ [])
 IsStored (Inserts d es) x = x ≡ InsertsAll (pairs es.items)
 IsStored _ x = Unit {0}
 
@@ -85,7 +85,7 @@ module _ (C : Code) where
   -- the outcome of a task that computed this
   abbrev pub outcome_for : Task → Computed → Outcome Task Place Key Scalar EntryFault
   outcome_for Main x = Good (record { writes = []; lines = []; opens = block C (0, []) ∷ [] })
-  outcome_for (Item i p c) x = outcome_of x (is_too_deep (entry C i).act p (instances (entry C i).act (entry C i).mark p c x)) (effect_at C i p c x)
+  outcome_for (Item i p c) x = outcome_of x (is_too_deep (entry C i).act p (instances (entry C i).act (entry C i).offset p c x)) (effect_at C i p c x)
 
   module _ (fs : List (Option Frame)) where
     -- the instance of an item exists, with the table of its entry

@@ -16,7 +16,7 @@ use Rattle.board_instances.specs.declared.pending.PendingInstance.{PendingInstan
 use Rattle.board_instances.specs.declared.pending.PendingInstances.{PendingInstances}
 use Rattle.paths.specs.declared.faults.Fault.{Fault}
 use Rattle.board_effects.specs.Effects.{IsAtWork, IsEffect, IsStatementOf, kind_of_fault}
-use Rattle.board_effects.specs.Openings.{IsScript, IsSpare, long_needs}
+use Rattle.board_data.specs.Openings.{IsScript, IsSpare, long_needs}
 use Rattle.board_effects.specs.Fits.{is_fault}
 use Rattle.board_effects.specs.declared.effect.Effect.{Effect}
 use Rattle.board_effects.specs.declared.effect.Effect.TheVariants.{Fails, Opens}
@@ -81,8 +81,8 @@ pub record OpensList (p : EndingItem) (body : ℕ) (list : List PendingInstance)
 
 -- it opens this one block, unless it is the item for the rest of a loop, and does nothing else
 pub record OpensBlock (p : EndingItem) (x : Computed) (body : ℕ) (way : Option Step) : Type 0 where
-  pub first : (q : List Step) → instances (act_of p) (entry_view p.entry.now).mark q 0 x ≡ (body, step_before way q) ∷ []
-  pub later : (q : List Step) (c : ℕ) → instances (act_of p) (entry_view p.entry.now).mark q (suc c) x ≡ []
+  pub first : (q : List Step) → instances (act_of p) (entry_view p.entry.now).offset q 0 x ≡ (body, step_before way q) ∷ []
+  pub later : (q : List Step) (c : ℕ) → instances (act_of p) (entry_view p.entry.now).offset q (suc c) x ≡ []
   pub steps : steps_on (act_of p) ≡ is_some way
   pub single : loop_of (act_of p) ≡ None
   pub stores : stored_of (entry_view p.entry.now).node (act_of p) ≡ []

@@ -1,6 +1,6 @@
 -- The results that entries can compute, by their act.
 use Rattle.std.specs.Prelude.{Bool, true, false, ◌||◌, Option, Some, None}
-use Rattle.task_code.specs.Code.{Act, Assert, Call, Cell, Copy, Fill, If, Loop, Print, Put, Read, Set, Wait, loop_of}
+use Rattle.task_code.specs.Code.{Act, Assert, Call, Cell, Copy, Fill, If, Loop, Print, InsertElement, Read, Set, Wait, loop_of}
 use Rattle.task_code.specs.Compute.{Computed, Fails, Gives, Inserts, Opens, Takes, Turns}
 
 -- it stores a scalar
@@ -14,7 +14,7 @@ gives_scalar _ = false
 abbrev pub gives_elements : Act → Bool
 gives_elements (Fill r es) = true
 gives_elements (Copy r) = true
-gives_elements (Put r i e) = true
+gives_elements (InsertElement r i e) = true
 gives_elements _ = false
 
 -- it only prints or tests its value

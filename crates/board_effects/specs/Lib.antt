@@ -1,4 +1,3 @@
 pub mod Effects
 pub mod Ended
 pub mod Fits
-pub mod Openings

@@ -37,7 +37,7 @@ pub fn effects_tell()
 /// of that entry. The fields stand for the state of a history.
 pub fn items_at_work()
     ensures { (C : Code) → IsCode C → (events : List Event) (F : Fields) → Stands C (layout_of C) events F → FewSlots F.frames →
-        (n k i c : ℕ) (row : Row) → row_of F.rows n ≡ Some row → row.job ≡ Does k i c → (row.mark ≡ Over → ⊥) →
+        (n k i c : ℕ) (row : Row) → row_of F.rows n ≡ Some row → row.job ≡ Does k i c → (row.status ≡ Over → ⊥) →
         (e : PureEntry) → e ≡ entry_of C i → (table : ATable) → IsEntryTable C (body_of C i) i table → IsAtWork C F.frames k i e table }
 {}
 

@@ -7,7 +7,6 @@
 
 pub mod effect;
 pub mod laws;
-pub mod loop_chunks;
 mod opened_blocks;
 mod present;
 mod spare_lists;

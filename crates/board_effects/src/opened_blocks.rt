@@ -4,7 +4,7 @@ ghost use Rattle.board_history.specs.Fields.{path_of, slot_at, Script, Counted, 
 ghost use Rattle.task_code.specs.Code.{Loop as PureLoop, loop_of};
 ghost use Rattle.task_code.specs.Compute.{Computed, Opens as OpensOne, TooDeep, Takes, Turns, pairs, range_turns};
 ghost use Rattle.board_instances.specs.View.{step_view};
-ghost use Rattle.values.specs.Limits.{most_steps};
+ghost use Rattle.values.specs.Limits.{max_path_steps};
 ghost use Rattle.values.specs.declared.key.Key.TheVariants.{Number as number_key};
 ghost use Rattle.board_effects.specs.Effects.{IsEffect};
 ghost use Rattle.board_effects.specs.Ended.{act_of, code_of, frames_of, Ends, IsEnded, FailsWith, IsLoop, IsScriptList, OpensBlock, OpensList};
@@ -12,7 +12,6 @@ ghost use Rattle.dataflow.specs.Machine.{OfTask};
 ghost use Rattle.board_effects.specs.Fits.{enters_block, takes_branch};
 
 use crate::effect::{Effect, EndingItem};
-use crate::loop_chunks::{are_left, chunk_of};
 use crate::spare_lists::spare_lists;
 use board_instances::parent_key::LastStep;
 use board_instances::pending::{ParentContext, PendingInstance, PendingInstances, outermost};
@@ -21,21 +20,20 @@ use board_program::program::Program;
 use paths::FaultKind;
 use std::alloc::{AllocError, Global};
 use task_code::entry::Act;
+use values::limits::MAX_PATH_STEPS;
+use values::loop_chunks::{are_left, chunk_of};
 use values::map::Map;
 use values::range::IntRange;
-
-/// Maximum number of steps of a path.
-const MOST_STEPS: u32 = 2048;
 
 impl<'a> EndingItem<'a> {
     /// Returns true if the path of the instance has the maximum length, so that no block may be opened by a further
     /// step.
     #[inline(always)]
     fn is_too_deep(self) -> bool
-        ensures { IsEnded self.entry → result ≡ nat_le most_steps (length (path_of (frames_of self.entry) self.entry.view.at)) }
+        ensures { IsEnded self.entry → result ≡ nat_le max_path_steps (length (path_of (frames_of self.entry) self.entry.view.at)) }
     {
         match self.view.instances.get(self.view.at) {
-            Some(around) => around.depth >= MOST_STEPS,
+            Some(around) => around.depth as usize >= MAX_PATH_STEPS,
             None => true,
         }
     }
@@ -50,9 +48,9 @@ impl<'a> EndingItem<'a> {
     /// Returns the step to a block that the entry opens.
     #[inline(always)]
     fn step(self, number: i64) -> LastStep
-        ensures { IsEnded self.entry → option_map step_view result ≡ Some (record { offset = self.entry.entry.now.mark; key = number_key number }) }
+        ensures { IsEnded self.entry → option_map step_view result ≡ Some (record { offset = self.entry.entry.now.offset; key = number_key number }) }
     {
-        LastStep::to_number(self.table.mark, number)
+        LastStep::to_number(self.table.offset, number)
     }
 
     /// Returns the effect that opens these instances of a body.
@@ -95,7 +93,7 @@ impl<'a> EndingItem<'a> {
                 at: self.view.at,
             },
             body,
-            offset: self.table.mark,
+            offset: self.table.offset,
         };
         let mut list = Vec::with_capacity(self.alloc, 1)?;
         push_block(
@@ -135,7 +133,17 @@ impl<'a> EndingItem<'a> {
                 inputs: _,
                 outputs: _,
             } => self.opens(*body, self.step(0)),
-            _ => Ok(Effect::Passes),
+            Act::Cell(_)
+            | Act::Read
+            | Act::Set(_, _)
+            | Act::Fill(_, _)
+            | Act::Copy(_)
+            | Act::InsertElement(_, _, _)
+            | Act::Print(_)
+            | Act::Assert(_)
+            | Act::If(_, _, _)
+            | Act::Range(_, _, _, _)
+            | Act::Each(_) => Ok(Effect::Passes),
         }
     }
 
@@ -145,7 +153,17 @@ impl<'a> EndingItem<'a> {
     {
         match &self.entry.act {
             Act::Range(_, _, _, found) | Act::Each(found) => Some(found.body),
-            _ => None,
+            Act::Cell(_)
+            | Act::Read
+            | Act::Set(_, _)
+            | Act::Fill(_, _)
+            | Act::Copy(_)
+            | Act::InsertElement(_, _, _)
+            | Act::Print(_)
+            | Act::Assert(_)
+            | Act::Call { .. }
+            | Act::If(_, _, _)
+            | Act::Wait(_, _) => None,
         }
     }
 
@@ -166,7 +184,7 @@ impl<'a> EndingItem<'a> {
                 at: self.view.at,
             },
             body,
-            offset: self.table.mark,
+            offset: self.table.offset,
         };
         let mut list = Vec::with_capacity(self.alloc, end.saturating_sub(first) as usize)?;
         push_range(site, &mut list, range, first, end)?;
@@ -190,7 +208,7 @@ impl<'a> EndingItem<'a> {
                 at: self.view.at,
             },
             body,
-            offset: self.table.mark,
+            offset: self.table.offset,
         };
         let mut list = Vec::with_capacity(self.alloc, end.saturating_sub(first) as usize)?;
         push_elements(site, &mut list, &elements[first as usize..end as usize])?;

@@ -4,7 +4,7 @@
 ghost use Rattle.std.specs.Prelude.{◌≡◌, ◌++◌, map, IfOk, OnOk};
 ghost use Rattle.std.specs.List.{AllZip};
 ghost use Rattle.board_effects.specs.Ended.{long_need, needs_of, spare_list};
-ghost use Rattle.board_effects.specs.Openings.{IsSpare, long_needs};
+ghost use Rattle.board_data.specs.Openings.{IsSpare, long_needs};
 
 use board_instances::pending::{MissingInputs, PendingInstance};
 use board_program::program::Program;

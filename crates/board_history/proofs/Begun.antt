@@ -13,16 +13,16 @@ use Rattle.dataflow.proofs.Lists.{in_seam, seam_here}
 use Rattle.dataflow.proofs.Steps.{run_follows}
 use Rattle.board_history.specs.CodeReplay.{next_state, replayed, and_then}
 use Rattle.board_history.specs.Elements.{code_tests}
-use Rattle.board_history.specs.Fields.{Fields, Layout, Mark, Over, Ready, Running, Waiting, is_running, item_before, running_in}
+use Rattle.board_history.specs.Fields.{Fields, Layout, Status, Over, Ready, Running, Waiting, is_running, item_before, running_in}
 use Rattle.board_history.specs.Stands.{Queued, Stands}
 use Rattle.board_history.specs.Marking.{begun_fields, kind_eq, returned_fields, without}
 use Rattle.board_history.specs.Tidy.{MarksOnly}
 use Rattle.board_history.proofs.Tests.{choose, none_some, yes_no}
 use Rattle.board_history.proofs.Counts.{begin_counts, back_counts}
 use Rattle.board_history.proofs.Elements.{code_told}
-use Rattle.board_history.proofs.Marking.{IsItem, RowIs, distinct_without, in_without, item, item_not_over, mark_is as mark_split, running_marked, without_in}
+use Rattle.board_history.proofs.Marking.{IsItem, RowIs, distinct_without, in_without, item, item_not_over, status_is as status_split, running_marked, without_in}
 use Rattle.board_history.proofs.Remarked.{Remark, apart, enabled_back, enabled_on, found, here, new_item, old_item, stands_on}
-use Rattle.board_history.proofs.Quiet.{back_marks, begin_marks, replayed_bare}
+use Rattle.board_history.proofs.Quiet.{back_statuses, begin_statuses, replayed_bare}
 use Rattle.board_history.proofs.Replays.{replayed_then, run_next, run_replayed}
 use Rattle.task_code.proofs.Kept.{code_laws}
 use Rattle.task_code.specs.Code.{Code, Control, Kind, Leaf}
@@ -37,21 +37,21 @@ some_none h = absurd (cc)
 head_is : {X : Type 0} {a b : X} {xs ys : List X} → ◌≡◌ {A = List X} (a ∷ xs) (b ∷ ys) → a ≡ b
 head_is h = cc
 
--- whether a mark runs is told by its item
-runs_is : (m : Mark) (y : IsItem m) (n : ℕ) (t : Task) (is : List CodeItem) (r : Option ℕ) → item_before n t m is ≡ item n t r ∷ is → y.runs ≡ r
+-- whether a status runs is told by its item
+runs_is : (m : Status) (y : IsItem m) (n : ℕ) (t : Task) (is : List CodeItem) (r : Option ℕ) → item_before n t m is ≡ item n t r ∷ is → y.runs ≡ r
 runs_is m y n t is r h = ap (λ (i : CodeItem). i.runs) (head_is (sym (y.is n t is) ∙ h))
 
-idle_mark : (m : Mark) (y : IsItem m) → y.runs ≡ None → is_running m ≡ false
-idle_mark Waiting y h = refl
-idle_mark Ready y h = refl
-idle_mark (Running w) y h = some_none (sym (runs_is (Running w) y 0 Main [] (Some w) refl) ∙ h)
-idle_mark Over y h = refl
+idle_status : (m : Status) (y : IsItem m) → y.runs ≡ None → is_running m ≡ false
+idle_status Waiting y h = refl
+idle_status Ready y h = refl
+idle_status (Running w) y h = some_none (sym (runs_is (Running w) y 0 Main [] (Some w) refl) ∙ h)
+idle_status Over y h = refl
 
-busy_mark : (m : Mark) (y : IsItem m) (w : ℕ) → y.runs ≡ Some w → is_running m ≡ true
-busy_mark Waiting y w h = none_some (sym (runs_is Waiting y 0 Main [] None refl) ∙ h)
-busy_mark Ready y w h = none_some (sym (runs_is Ready y 0 Main [] None refl) ∙ h)
-busy_mark (Running v) y w h = refl
-busy_mark Over y w h = absurd (item_not_over Over y refl)
+busy_status : (m : Status) (y : IsItem m) (w : ℕ) → y.runs ≡ Some w → is_running m ≡ true
+busy_status Waiting y w h = none_some (sym (runs_is Waiting y 0 Main [] None refl) ∙ h)
+busy_status Ready y w h = none_some (sym (runs_is Ready y 0 Main [] None refl) ∙ h)
+busy_status (Running v) y w h = refl
+busy_status Over y w h = absurd (item_not_over Over y refl)
 
 running_not_ready : {B : Type 0} {w : ℕ} → Running w ≡ Ready → B
 running_not_ready h = absurd (cc)
@@ -98,15 +98,15 @@ module _ (C : Code) (I : IsCode C) (L : Layout) (es : List Event) (F : Fields) (
   step e t reached = (run_next (code_system C) code_tests (code_told C) (code_laws C I) es s run e t (next e t reached)).0
 
   -- a row whose item is marked so
-  row_runs : (i : CodeItem) (f : RowIs F.frames F.rows 1 i) (b : Bool) → ((y : IsItem f.row.mark) → is_running f.row.mark ≡ b) → is_running f.row.mark ≡ b
-  row_runs i f b h = elim (mark_split f.row.mark) [ inl o ↦ absurd (f.not_over o) | inr y ↦ h y ]
+  row_runs : (i : CodeItem) (f : RowIs F.frames F.rows 1 i) (b : Bool) → ((y : IsItem f.row.status) → is_running f.row.status ≡ b) → is_running f.row.status ≡ b
+  row_runs i f b h = elim (status_split f.row.status) [ inl o ↦ absurd (f.not_over o) | inr y ↦ h y ]
 
   module _ (w n : ℕ) (t : CodeState) (reached : replayed C (es ++ Begin w n ∷ []) ≡ Some t) where
     begun : CodeStep C s (Begin w n) t
     begun = step (Begin w n) t reached
 
     marks : MarksOnly (code_system C) s n (Some w) t
-    marks = begin_marks (code_system C) code_tests (code_told C) s t w n (replayed_bare (code_system C) code_tests (code_told C) es s x.reached) (next (Begin w n) t reached)
+    marks = begin_statuses (code_system C) code_tests (code_told C) s t w n (replayed_bare (code_system C) code_tests (code_told C) es s x.reached) (next (Begin w n) t reached)
 
     abbrev c : Remark C L es F x (Begin w n) n (Running w) t
     c = record {
@@ -145,8 +145,8 @@ module _ (C : Code) (I : IsCode C) (L : Layout) (es : List Event) (F : Fields) (
         let f = found C I L es F x (Begin w n) n (Running w) t c in
         stands_on C I L es F x (Begin w n) n (Running w) t c (λ k z. without n (F.queue k z)) (suc F.running) [] F.fault
         (λ h. running_not_ready h) (λ h. running_not_waiting h)
-        (let o = row_runs begun.1.item f false (λ y. idle_mark f.row.mark y (sym (f.runs_is y) ∙ begun.1.idle)) in
-        more_runs _ (if is_running f.row.mark then 1 else 0) (running_in F.rows) 1 F.running (running_marked F.rows f.at f.row (Running w) f.there) (λ k. if o k then 1 else 0) refl x.items.running)
+        (let o = row_runs begun.1.item f false (λ y. idle_status f.row.status y (sym (f.runs_is y) ∙ begun.1.idle)) in
+        more_runs _ (if is_running f.row.status then 1 else 0) (running_in F.rows) 1 F.running (running_marked F.rows f.at f.row (Running w) f.there) (λ k. if o k then 1 else 0) refl x.items.running)
         (record {
           all = λ k z m q. (let r = back_to k z m q in without_in n m (F.queue k z) (x.queue.all k z m r.0) r.1);
           only = λ k z m h. (let r = in_without n m (F.queue k z) h in on_to k z m (x.queue.only k z m r.0) r.1);
@@ -167,8 +167,8 @@ module _ (C : Code) (I : IsCode C) (L : Layout) (es : List Event) (F : Fields) (
     backed : CodeStep C s (Back w n) t
     backed = step (Back w n) t reached
 
-    marks_back : MarksOnly (code_system C) s n None t
-    marks_back = back_marks (code_system C) code_tests (code_told C) s t w n (replayed_bare (code_system C) code_tests (code_told C) es s x.reached) (next (Back w n) t reached)
+    statuses_back : MarksOnly (code_system C) s n None t
+    statuses_back = back_statuses (code_system C) code_tests (code_told C) s t w n (replayed_bare (code_system C) code_tests (code_told C) es s x.reached) (next (Back w n) t reached)
 
     abbrev d : Remark C L es F x (Back w n) n Ready t
     d = record {
@@ -181,8 +181,8 @@ module _ (C : Code) (I : IsCode C) (L : Layout) (es : List Event) (F : Fields) (
       at = backed.1.at.items;
       num = backed.1.at.number_is;
       now = backed.1.result.items;
-      places = ap (λ (y : CodeState). y.places) marks_back.is;
-      stored = ap (λ (y : CodeState). y.stored) marks_back.is;
+      places = ap (λ (y : CodeState). y.places) statuses_back.is;
+      stored = ap (λ (y : CodeState). y.stored) statuses_back.is;
       next = backed.1.result.next;
       lines = backed.1.result.lines;
     }
@@ -266,8 +266,8 @@ module _ (C : Code) (I : IsCode C) (L : Layout) (es : List Event) (F : Fields) (
         let f = found C I L es F x (Back w n) n Ready t d in
         stands_on C I L es F x (Back w n) n Ready t d queue (F.running - 1) (n ∷ []) F.fault
         (λ h. able) (λ h. ready_not_waiting h)
-        (let o = row_runs i f true (λ y. busy_mark f.row.mark y w (sym (f.runs_is y) ∙ backed.1.runs)) in
-        fewer_run _ (if is_running f.row.mark then 1 else 0) (running_in F.rows) 0 F.running (running_marked F.rows f.at f.row Ready f.there) (λ k. if o k then 1 else 0) refl x.items.running)
+        (let o = row_runs i f true (λ y. busy_status f.row.status y w (sym (f.runs_is y) ∙ backed.1.runs)) in
+        fewer_run _ (if is_running f.row.status then 1 else 0) (running_in F.rows) 0 F.running (running_marked F.rows f.at f.row Ready f.there) (λ k. if o k then 1 else 0) refl x.items.running)
         (record { all = all_queued; only = only_queued; once = once_queued })
         (record {
           once = ((λ h. h), tt);

@@ -50,7 +50,7 @@ module _ (C : Code) where
   opens_is Main xs e h = (Opens, sym (ap (λ (x : Effect Task Place Key Scalar). x.opens) (good_is h)), refl)
   opens_is (Item i p c) xs e h =
       let y = compute (entry C i).act (answered C p (entry C i).needs xs) in
-      (y, sym (ap (λ (x : Effect Task Place Key Scalar). x.opens) (outcome_is y (is_too_deep (entry C i).act p (instances (entry C i).act (entry C i).mark p c y)) (effect_at C i p c y) e h)), refl)
+      (y, sym (ap (λ (x : Effect Task Place Key Scalar). x.opens) (outcome_is y (is_too_deep (entry C i).act p (instances (entry C i).act (entry C i).offset p c y)) (effect_at C i p c y) e h)), refl)
 
   reads_rest : (a : Place) (u : Task) (y : Computed) → holds (code_system C) code_tests (task_reads C) a (tasks_of (rests C u y)) ≡ length (rests C u y) * times (code_system C) code_tests a (task_reads C u)
   reads_rest a Main y = omega arith

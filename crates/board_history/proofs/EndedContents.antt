@@ -72,13 +72,13 @@ module _ (C : Code) (I : IsCode C) (L : Layout) (es : List Event) (F : Fields) (
 
   abbrev pub job_writes : Job → List (Write Place Key Scalar)
   job_writes Script = []
-  job_writes (Does k e c) = stores C (entry C e).act (entry C e).node (entry C e).mark (path_of fs k) c (computed_of (Does k e c))
+  job_writes (Does k e c) = stores C (entry C e).act (entry C e).node (entry C e).offset (path_of fs k) c (computed_of (Does k e c))
 
   writes_by : (x : Job) → (code_system C).effect (task_of fs x) P.answers ≡ Good effect → effect.writes ≡ job_writes x
   writes_by Script h = sym (ap (λ (e : Effect Task Place Key Scalar). e.writes) (good_is h))
   writes_by (Does k e c) h =
       let y = computed_of (Does k e c) in
-      sym (ap (λ (e : Effect Task Place Key Scalar). e.writes) (outcome_is y (is_too_deep (entry C e).act (path_of fs k) (instances (entry C e).act (entry C e).mark (path_of fs k) c y)) (effect_at C e (path_of fs k) c y) effect h))
+      sym (ap (λ (e : Effect Task Place Key Scalar). e.writes) (outcome_is y (is_too_deep (entry C e).act (path_of fs k) (instances (entry C e).act (entry C e).offset (path_of fs k) c y)) (effect_at C e (path_of fs k) c y) effect h))
 
   writes_are : effect.writes ≡ job_writes j
   writes_are = writes_by j (effect_is C I L es F w n t G P)
@@ -114,21 +114,21 @@ module _ (C : Code) (I : IsCode C) (L : Layout) (es : List Event) (F : Fields) (
   target_right e r h = I.stores e r (stored_target C (entry C e).act (entry C e).node r h)
 
   -- what a turn binds is new
-  turn_new : (k e c : ℕ) → j ≡ Does k e c → (l : Loop) (x : Key × Scalar) → loop_of (entry C e).act ≡ Some l → In x (chunk c (turns_of (computed_of (Does k e c)))) → In (l.body, step_at (entry C e).mark x.0 (path_of fs k)) (opened C (task C I L es F w n t G P) (computed C I L es F w n t G P))
+  turn_new : (k e c : ℕ) → j ≡ Does k e c → (l : Loop) (x : Key × Scalar) → loop_of (entry C e).act ≡ Some l → In x (chunk c (turns_of (computed_of (Does k e c)))) → In (l.body, step_at (entry C e).offset x.0 (path_of fs k)) (opened C (task C I L es F w n t G P) (computed C I L es F w n t G P))
   turn_new k e c q l x lo ix =
-      subst (λ (z : Job). In (l.body, step_at (entry C e).mark x.0 (path_of fs k)) (opened C (task_of fs z) (computed_of z))) (sym q)
-      (subst (λ (ss : List (ℕ × List Step)). In (l.body, step_at (entry C e).mark x.0 (path_of fs k)) ss) (sym (loop_instances C (entry C e).act l (entry C e).mark (path_of fs k) c (computed_of (Does k e c)) lo))
-      (in_map (λ (t : Key × Scalar). (l.body, step_at (entry C e).mark t.0 (path_of fs k))) x (chunk c (turns_of (computed_of (Does k e c)))) ix))
+      subst (λ (z : Job). In (l.body, step_at (entry C e).offset x.0 (path_of fs k)) (opened C (task_of fs z) (computed_of z))) (sym q)
+      (subst (λ (ss : List (ℕ × List Step)). In (l.body, step_at (entry C e).offset x.0 (path_of fs k)) ss) (sym (loop_instances C (entry C e).act l (entry C e).offset (path_of fs k) c (computed_of (Does k e c)) lo))
+      (in_map (λ (t : Key × Scalar). (l.body, step_at (entry C e).offset t.0 (path_of fs k))) x (chunk c (turns_of (computed_of (Does k e c)))) ix))
 
-  turn_apart : {B : Type 0} (k e c : ℕ) → j ≡ Does k e c → (l : Loop) (x : Key × Scalar) → loop_of (entry C e).act ≡ Some l → In x (chunk c (turns_of (computed_of (Does k e c)))) → (v : Variable) → In v (loop_variables l) → In (Datum (step_at (entry C e).mark x.0 (path_of fs k)) v) P.x.state.places → B
+  turn_apart : {B : Type 0} (k e c : ℕ) → j ≡ Does k e c → (l : Loop) (x : Key × Scalar) → loop_of (entry C e).act ≡ Some l → In x (chunk c (turns_of (computed_of (Does k e c)))) → (v : Variable) → In v (loop_variables l) → In (Datum (step_at (entry C e).offset x.0 (path_of fs k)) v) P.x.state.places → B
   turn_apart k e c q l x lo ix v iv h =
-      absurd (made_new C I L es F w n t G P (l.body, step_at (entry C e).mark x.0 (path_of fs k)) (turn_new k e c q l x lo ix) (Datum (step_at (entry C e).mark x.0 (path_of fs k)) v)
-      (in_map (Datum (step_at (entry C e).mark x.0 (path_of fs k))) v (body C l.body).makes ((I.loops e l lo).made v iv)) h)
+      absurd (made_new C I L es F w n t G P (l.body, step_at (entry C e).offset x.0 (path_of fs k)) (turn_new k e c q l x lo ix) (Datum (step_at (entry C e).offset x.0 (path_of fs k)) v)
+      (in_map (Datum (step_at (entry C e).offset x.0 (path_of fs k))) v (body C l.body).makes ((I.loops e l lo).made v iv)) h)
 
   -- where a bound variable lies
-  bound_place : (l : Loop) (mark : ℕ) (p : List Step) (x : Key × Scalar) (u : Write Place Key Scalar) → In u (bound l mark p x) → (v : Variable) × In v (loop_variables l) × (u.place ≡ Datum (step_at mark x.0 p) v)
-  bound_place l mark p x u h =
-      elim (bound_is l mark p x u h).is [
+  bound_place : (l : Loop) (offset : ℕ) (p : List Step) (x : Key × Scalar) (u : Write Place Key Scalar) → In u (bound l offset p x) → (v : Variable) × In v (loop_variables l) × (u.place ≡ Datum (step_at offset x.0 p) v)
+  bound_place l offset p x u h =
+      elim (bound_is l offset p x u h).is [
         | inl z ↦ (scalar l.value, inl refl, z.0)
         | inr z ↦ (scalar z.0, inr (subst (λ (y : Option ℕ). In (scalar z.0) (elim y [ None ↦ [] | Some n ↦ scalar n ∷ [] ])) (sym z.1) (inl refl)), z.2)
       ]
@@ -140,20 +140,20 @@ module _ (C : Code) (I : IsCode C) (L : Layout) (es : List Event) (F : Fields) (
       let r = in_flat (λ r. if slot_is d (job_slot C L fs (Does f x c) r) then stored_values (computed_of (Does f x c)) else []) (stored_of (entry C x).node (entry C x).act) (k, u) i in
       let z = if_in (k, u) (slot_is d (job_slot C L fs (Does f x c) r.0)) (stored_values (computed_of (Does f x c))) r.2 in
       let same = slot_test C names P.x.data_stand.naming.one_name P.x.data_stand.naming.one_datum d (Datum q v) h (job_slot C L fs (Does f x c) r.0) (place_at C (path_of fs f) r.0) (own_writes C I L es F w n t G P f x c e r.0 (target_right x r.0 r.1)) q v refl in
-      target_stored C (entry C x).act (entry C x).node (entry C x).mark (path_of fs f) c (answered C (path_of fs f) (entry C x).needs P.answers) (write (Datum q v) k u) r.0 r.1 (place_sound (Datum q v) (place_at C (path_of fs f) r.0) (sym same ∙ z.0)) z.1
+      target_stored C (entry C x).act (entry C x).node (entry C x).offset (path_of fs f) c (answered C (path_of fs f) (entry C x).needs P.answers) (write (Datum q v) k u) r.0 r.1 (place_sound (Datum q v) (place_at C (path_of fs f) r.0) (sym same ∙ z.0)) z.1
 
   pub to_stored : (d : ℕ) (q : List Step) (v : Variable) → In (d, Datum q v) names → (k : Key) (u : Scalar) (x : Job) → j ≡ x → In (write (Datum q v) k u) (job_writes x) → In (k, u) (job_stores C L fs x (computed_of x) d)
   to_stored d q v h k u Script e i = absurd i
   to_stored d q v h k u (Does f x c) e i =
-      by (stores_told C (entry C x).act (entry C x).node (entry C x).mark (path_of fs f) c (answered C (path_of fs f) (entry C x).needs P.answers) (write (Datum q v) k u) i)
+      by (stores_told C (entry C x).act (entry C x).node (entry C x).offset (path_of fs f) c (answered C (path_of fs f) (entry C x).needs P.answers) (write (Datum q v) k u) i)
     where
-      by : Stored C (entry C x).act (entry C x).node (entry C x).mark (path_of fs f) c (computed_of (Does f x c)) (write (Datum q v) k u) → In (k, u) (job_stores C L fs (Does f x c) (computed_of (Does f x c)) d)
+      by : Stored C (entry C x).act (entry C x).node (entry C x).offset (path_of fs f) c (computed_of (Does f x c)) (write (Datum q v) k u) → In (k, u) (job_stores C L fs (Does f x c) (computed_of (Does f x c)) d)
       by (into r ir at iv) =
           let same = slot_test C names P.x.data_stand.naming.one_name P.x.data_stand.naming.one_datum d (Datum q v) h (job_slot C L fs (Does f x c) r) (place_at C (path_of fs f) r) (own_writes C I L es F w n t G P f x c e r (target_right x r ir)) q v refl in
           let b : place_eq (Datum q v) (place_at C (path_of fs f) r) ≡ true = subst (λ (y : Place). place_eq (Datum q v) y ≡ true) at (place_same (Datum q v)) in
           flat_in (λ r. if slot_is d (job_slot C L fs (Does f x c) r) then stored_values (computed_of (Does f x c)) else []) (stored_of (entry C x).node (entry C x).act) r (k, u) ir (in_if (k, u) (slot_is d (job_slot C L fs (Does f x c) r)) (stored_values (computed_of (Does f x c))) (same ∙ b) iv)
       by (binds l y lo iy ib) =
-          let z = bound_place l (entry C x).mark (path_of fs f) y (write (Datum q v) k u) ib in
+          let z = bound_place l (entry C x).offset (path_of fs f) y (write (Datum q v) k u) ib in
           turn_apart f x c e l y lo iy z.0 z.1 (subst (λ (a : Place). In a P.x.state.places) z.2 (P.x.data_stand.naming.there d (Datum q v) h))
 
   -- a scalar is stored under one key
@@ -213,13 +213,13 @@ module _ (C : Code) (I : IsCode C) (L : Layout) (es : List Event) (F : Fields) (
       turn : Key × Scalar
       loops : loop_of (entry C x).act ≡ Some loop
       there : In turn (chunk c (turns_of (computed_of (Does f x c))))
-      bound_in : In (write a k u) (bound loop (entry C x).mark (path_of fs f) turn)
+      bound_in : In (write a k u) (bound loop (entry C x).offset (path_of fs f) turn)
 
     new_bound : (f x c : ℕ) → j ≡ Does f x c → (k : Key) (u : Scalar) → In (write a k u) (job_writes (Does f x c)) → NewBound f x c k u
     new_bound f x c e k u i =
-        by (stores_told C (entry C x).act (entry C x).node (entry C x).mark (path_of fs f) c (answered C (path_of fs f) (entry C x).needs P.answers) (write a k u) i)
+        by (stores_told C (entry C x).act (entry C x).node (entry C x).offset (path_of fs f) c (answered C (path_of fs f) (entry C x).needs P.answers) (write a k u) i)
       where
-        by : Stored C (entry C x).act (entry C x).node (entry C x).mark (path_of fs f) c (computed_of (Does f x c)) (write a k u) → NewBound f x c k u
+        by : Stored C (entry C x).act (entry C x).node (entry C x).offset (path_of fs f) c (computed_of (Does f x c)) (write a k u) → NewBound f x c k u
         by (into r ir at ik) = old (own_writes C I L es F w n t G P f x c e r (target_right x r ir))
           where
             not_it : (q : List Step) (y : Variable) (b : Place) → place_at C (path_of fs f) r ≡ b → In b P.x.state.places → ⊥
@@ -250,7 +250,7 @@ module _ (C : Code) (I : IsCode C) (L : Layout) (es : List Event) (F : Fields) (
     not_bound f x c e l lo nv nt k u h =
         let b = new_bound f x c e k u (subst (λ (q : Job). In (write a k u) (job_writes q)) e (new_held k u h)) in
         let el : b.loop ≡ l = same_loop (sym b.loops ∙ lo) in
-        elim (bound_is b.loop (entry C x).mark (path_of fs f) b.turn (write a k u) b.bound_in).is [
+        elim (bound_is b.loop (entry C x).offset (path_of fs f) b.turn (write a k u) b.bound_in).is [
           | inl z ↦ yes_no (ap (λ (y : Variable). variable_eq v y) (sym (spot_variable z.0 ∙ ap (λ (y : Loop). scalar y.value) el)) ∙ variable_same v) nv
           | inr z ↦ yes_no (ap (λ (y : Variable). variable_eq v y) (sym (spot_variable z.2)) ∙ variable_same v) (nt z.0 (ap (λ (y : Loop). y.turn) (sym el) ∙ z.1))
         ]
@@ -258,17 +258,17 @@ module _ (C : Code) (I : IsCode C) (L : Layout) (es : List Event) (F : Fields) (
         same_loop : {b d : Loop} → ◌≡◌ {A = Option Loop} (Some b) (Some d) → b ≡ d
         same_loop h = cc
 
-    turn_stands : (f x c : ℕ) → j ≡ Does f x c → (l : Loop) (y : Key × Scalar) → loop_of (entry C x).act ≡ Some l → In y (chunk c (turns_of (computed_of (Does f x c)))) → m.path ≡ step_at (entry C x).mark y.0 (path_of fs f) → ContentStands C t a v.array (turn_content l y v)
+    turn_stands : (f x c : ℕ) → j ≡ Does f x c → (l : Loop) (y : Key × Scalar) → loop_of (entry C x).act ≡ Some l → In y (chunk c (turns_of (computed_of (Does f x c)))) → m.path ≡ step_at (entry C x).offset y.0 (path_of fs f) → ContentStands C t a v.array (turn_content l y v)
     turn_stands f x c e l y lo iy path =
         choose (λ (z : Content). ContentStands C t a v.array z) (variable_eq v (scalar l.value)) (Holding y.1) (elim l.turn [ None ↦ empty_content v.array | Some n ↦ if variable_eq v (scalar n) then Holding (key_scalar y.0) else empty_content v.array ])
         (λ u. let ev = variable_sound v (scalar l.value) u in
-        content_held y.1 (ap (λ (z : Variable). z.array) ev) (held_of l.value y.1 (value_in_bound l (entry C x).mark (path_of fs f) y) ev))
+        content_held y.1 (ap (λ (z : Variable). z.array) ev) (held_of l.value y.1 (value_in_bound l (entry C x).offset (path_of fs f) y) ev))
         (λ u. by l.turn refl u)
       where
-        held_of : (i : ℕ) (u : Scalar) → In (write (Datum (step_at (entry C x).mark y.0 (path_of fs f)) (scalar i)) only u) (bound l (entry C x).mark (path_of fs f) y) → v ≡ scalar i → Holds (code_system C) t a only u
+        held_of : (i : ℕ) (u : Scalar) → In (write (Datum (step_at (entry C x).offset y.0 (path_of fs f)) (scalar i)) only u) (bound l (entry C x).offset (path_of fs f) y) → v ≡ scalar i → Holds (code_system C) t a only u
         held_of i u ip ev =
-            let z : a ≡ Datum (step_at (entry C x).mark y.0 (path_of fs f)) (scalar i) = λ k. Datum (path k) (ev k) in
-            let g = turn_stored C (entry C x).act (entry C x).node (entry C x).mark (path_of fs f) c (computed_of (Does f x c)) (write (Datum (step_at (entry C x).mark y.0 (path_of fs f)) (scalar i)) only u) l y lo iy ip in
+            let z : a ≡ Datum (step_at (entry C x).offset y.0 (path_of fs f)) (scalar i) = λ k. Datum (path k) (ev k) in
+            let g = turn_stored C (entry C x).act (entry C x).node (entry C x).offset (path_of fs f) c (computed_of (Does f x c)) (write (Datum (step_at (entry C x).offset y.0 (path_of fs f)) (scalar i)) only u) l y lo iy ip in
             written_on a only u nf (subst (λ (q : Job). In (write a only u) (job_writes q)) (sym e) (subst (λ (b : Place). In (write b only u) (job_writes (Does f x c))) (sym z) g))
 
         some_nat : {b d : ℕ} → ◌≡◌ {A = Option ℕ} (Some b) (Some d) → b ≡ d
@@ -279,7 +279,7 @@ module _ (C : Code) (I : IsCode C) (L : Layout) (es : List Event) (F : Fields) (
         by (Some i) eo u =
             choose (λ (z : Content). ContentStands C t a v.array z) (variable_eq v (scalar i)) (Holding (key_scalar y.0)) (empty_content v.array)
             (λ z. let ev = variable_sound v (scalar i) z in
-            content_held (key_scalar y.0) (ap (λ (q : Variable). q.array) ev) (held_of i (key_scalar y.0) (turn_in_bound l (entry C x).mark (path_of fs f) y i eo) ev))
+            content_held (key_scalar y.0) (ap (λ (q : Variable). q.array) ev) (held_of i (key_scalar y.0) (turn_in_bound l (entry C x).offset (path_of fs f) y i eo) ev))
             (λ z. content_empty v.array (not_bound f x c e l lo u (λ k q. ap (λ (y : ℕ). variable_eq v (scalar y)) (some_nat (sym q ∙ eo)) ∙ z)))
 
     pub new_content : (x : Content) → StartsAs C fs j (computed C I L es F w n t G P) m v x → ContentStands C t a v.array x
@@ -289,7 +289,7 @@ module _ (C : Code) (I : IsCode C) (L : Layout) (es : List Event) (F : Fields) (
         by Script e st = content_at v.array x (empty_content v.array) st (content_empty v.array (λ k u h. subst (λ (q : Job). In (write a k u) (job_writes q)) e (new_held k u h)))
         by (Does f y c) e st = of (loop_of (entry C y).act) refl st
           where
-            of : (l : Option Loop) → loop_of (entry C y).act ≡ l → StartsBy (path_of fs f) (entry C y).mark c (computed_of (Does f y c)) m v x l → ContentStands C t a v.array x
+            of : (l : Option Loop) → loop_of (entry C y).act ≡ l → StartsBy (path_of fs f) (entry C y).offset c (computed_of (Does f y c)) m v x l → ContentStands C t a v.array x
             of None lo st =
                 content_at v.array x (empty_content v.array) st (content_empty v.array (λ k u h. let b = new_bound f y c e k u (subst (λ (q : Job). In (write a k u) (job_writes q)) e (new_held k u h)) in none_some (sym lo ∙ b.loops)))
             of (Some l) lo st = content_at v.array x (turn_content l st.0 v) st.3 (turn_stands f y c e l st.0 lo st.1 st.2)

@@ -7,7 +7,7 @@ use Rattle.dataflow.specs.Machine.{End, Event, SeesAll}
 use Rattle.dataflow.proofs.Lists.{in_seam}
 use Rattle.board_history.specs.CodeReplay.{replayed}
 use Rattle.board_history.specs.Ending.{EndsTo, jobs_after, new_row, printed}
-use Rattle.board_history.specs.Fields.{Does, Fields, Job, Layout, Over, Ready, Row, Running, Script, Waiter, Waiting, Mark, Want, item_before, items_from, path_of, row_of, running_in, task_of}
+use Rattle.board_history.specs.Fields.{Does, Fields, Job, Layout, Over, Ready, Row, Running, Script, Waiter, Waiting, Status, Want, item_before, items_from, path_of, row_of, running_in, task_of}
 use Rattle.board_history.specs.Stands.{AllStand, ItemsStand, QueueStands, Stands, wants}
 use Rattle.board_history.proofs.EndedBase.{Ending, effect_is, here, numbers_t, o, one_t, own_row, row_there}
 use Rattle.board_history.proofs.EndedCells.{names_after}
@@ -20,7 +20,7 @@ use Rattle.board_history.proofs.EndedSlots.{frames_after}
 use Rattle.board_history.proofs.EndedTurns.{turns_stand}
 use Rattle.board_history.proofs.EndedWaits.{item_split, new_item_in, old_item_in, waits_after, was_item}
 use Rattle.board_history.proofs.Faulted.{runs_on}
-use Rattle.board_history.proofs.Marking.{IsItem, item, item_not_over, mark_is}
+use Rattle.board_history.proofs.Marking.{IsItem, item, item_not_over, status_is}
 use Rattle.board_history.proofs.Remarked.{runs_of, snoc_first}
 use Rattle.board_history.proofs.Ended.{good_is, outcome_is}
 use Rattle.board_history.specs.Static.{computed_by}
@@ -43,15 +43,15 @@ waits_runs h = absurd (cc)
 ready_waits : {B : Type 0} → Ready ≡ Waiting → B
 ready_waits h = absurd (cc)
 
--- a mark of an item that does not run
-idle_mark : (m : Mark) (y : IsItem m) → y.runs ≡ None → (m ≡ Waiting) ⊎ (m ≡ Ready)
-idle_mark Waiting y h = inl refl
-idle_mark Ready y h = inr refl
-idle_mark (Running v) y h = absurd (no_idle (Running v) y h refl)
+-- a status of an item that does not run
+idle_status : (m : Status) (y : IsItem m) → y.runs ≡ None → (m ≡ Waiting) ⊎ (m ≡ Ready)
+idle_status Waiting y h = inl refl
+idle_status Ready y h = inr refl
+idle_status (Running v) y h = absurd (no_idle (Running v) y h refl)
   where
-    no_idle : (m : Mark) (y : IsItem m) → y.runs ≡ None → m ≡ Running v → ⊥
+    no_idle : (m : Status) (y : IsItem m) → y.runs ≡ None → m ≡ Running v → ⊥
     no_idle m y h q = none_some (sym h ∙ runs_of m v y q)
-idle_mark Over y h = absurd (item_not_over Over y refl)
+idle_status Over y h = absurd (item_not_over Over y refl)
 
 module _ (C : Code) (I : IsCode C) (L : Layout) (es : List Event) (F : Fields) (w n : ℕ) (t : CodeState) (G : Fields) (P : Ending C L es F w n t G) where
   abbrev jobs : List Job
@@ -74,31 +74,31 @@ module _ (C : Code) (I : IsCode C) (L : Layout) (es : List Event) (F : Fields) (
       m.3 (left_none later v.missing (subst (λ (l : List (Want Place)). AllStand later v.missing l) (ap (λ (k : CodeItem). wants C t k.task) same ∙ z) m.4))
 
   -- the row of the item that ended runs
-  own_runs : P.row.mark ≡ Running w
+  own_runs : P.row.status ≡ Running w
   own_runs =
       let f = row_there C I L es F w n t G P (o C I L es F w n t G P).item (here C I L es F w n t G P) in
       let p = own_row C I L es F w n t G P f in
-      ap (λ (r : Row). r.mark) (sym p.0) ∙ elim (mark_is f.row.mark) [ inl z ↦ absurd (f.not_over z) | inr y ↦ runs_on w f.row.mark y (sym (f.runs_is y) ∙ (o C I L es F w n t G P).runs) ]
+      ap (λ (r : Row). r.status) (sym p.0) ∙ elim (status_is f.row.status) [ inl z ↦ absurd (f.not_over z) | inr y ↦ runs_on w f.row.status y (sym (f.runs_is y) ∙ (o C I L es F w n t G P).runs) ]
 
   no_zero : {B : Type 0} (rs : List Row) (r : Row) → row_of rs zero ≡ Some r → B
   no_zero [] r h = none_some h
   no_zero (y ∷ rs) r h = none_some h
 
   -- the item of a row that waits
-  waiting_item : (m : ℕ) (r : Row) → row_of rows m ≡ Some r → r.mark ≡ Waiting → (i : CodeItem) × In i t.items × (i.number ≡ m) × (i.runs ≡ None)
+  waiting_item : (m : ℕ) (r : Row) → row_of rows m ≡ Some r → r.status ≡ Waiting → (i : CodeItem) × In i t.items × (i.number ≡ m) × (i.runs ≡ None)
   waiting_item zero r h q = no_zero rows r h
   waiting_item (suc j) r h q = elim (new_job F.rows jobs j r h) [ inl g ↦ old g | inr g ↦ new (row_split_at F.rows jobs (suc j) r g.2 h) ]
     where
       old : row_of F.rows (suc j) ≡ Some r → (i : CodeItem) × In i t.items × (i.number ≡ suc j) × (i.runs ≡ None)
       old g =
-          let y : IsItem r.mark = record { runs = None; is = λ k u is. ap (λ (m : Mark). item_before k u m is) q } in
+          let y : IsItem r.status = record { runs = None; is = λ k u is. ap (λ (m : Status). item_before k u m is) q } in
           let i = item (suc j) (task_of F.frames r.job) None in
           let there : In i P.x.state.items = subst (λ (is : List CodeItem). In i is) P.x.items.items (row_item F.frames 1 F.rows j (suc j) r g y (omega arith)) in
           elim (in_seam i (o C I L es F w n t G P).item (o C I L es F w n t G P).before (o C I L es F w n t G P).after (subst (λ (is : List CodeItem). In i is) (o C I L es F w n t G P).there there)) [
             | inl z ↦ (i, old_item_in C I L es F w n t G P i z, refl, refl)
             | inr z ↦ (let e : suc j ≡ n = ap (λ (k : CodeItem). k.number) z ∙ (o C I L es F w n t G P).number_is in
                 let same : P.row ≡ r = some_same (sym P.row_is ∙ subst (λ (m : ℕ). row_of F.rows m ≡ Some r) e g) in
-                waits_runs (sym q ∙ ap (λ (b : Row). b.mark) (sym same) ∙ own_runs))
+                waits_runs (sym q ∙ ap (λ (b : Row). b.status) (sym same) ∙ own_runs))
           ]
 
       new : (k : ℕ) × (suc j ≡ length F.rows + suc k) × (row_of (map new_row jobs) (suc k) ≡ Some r) → (i : CodeItem) × In i t.items × (i.number ≡ suc j) × (i.runs ≡ None)
@@ -122,9 +122,9 @@ module _ (C : Code) (I : IsCode C) (L : Layout) (es : List Event) (F : Fields) (
               let r = row_there C I L es F w n t G P c.item b in
               let at : suc r.at ≡ m = (let e = r.number_is in let k = c.number_is in omega arith) in
               let there : row_of F.rows m ≡ Some r.row = subst (λ (k : ℕ). row_of F.rows k ≡ Some r.row) at r.there in
-              elim (mark_is r.row.mark) [
+              elim (status_is r.row.status) [
                 | inl z ↦ absurd (r.not_over z)
-                | inr y ↦ elim (idle_mark r.row.mark y (sym (r.runs_is y) ∙ c.idle)) [
+                | inr y ↦ elim (idle_status r.row.status y (sym (r.runs_is y) ∙ c.idle)) [
                   | inl q ↦ P.to.newly.all m r.row (row_kept F.rows (map new_row jobs) m r.row there) q quiet
                   | inr q ↦ absurd (not_before (record { item = c.item; there = b; number_is = c.number_is; idle = c.idle; enabled = subst (λ (u : Task). Enabled C P.x.state u) (sym r.task_is) (P.x.items.ready m r.row there q) }))
                 ]
@@ -148,7 +148,7 @@ module _ (C : Code) (I : IsCode C) (L : Layout) (es : List Event) (F : Fields) (
           let at : suc r.at ≡ m = (let e = r.number_is in let k = c.number_is in omega arith) in
           let there : row_of F.rows m ≡ Some r.row = subst (λ (k : ℕ). row_of F.rows k ≡ Some r.row) at r.there in
           let same : p.0 ≡ r.row = some_same (sym p.1 ∙ row_kept F.rows (map new_row jobs) m r.row there) in
-          P.x.items.waiting m r.row there (ap (λ (b : Row). b.mark) (sym same) ∙ p.2) (subst (λ (u : Task). Enabled C P.x.state u) r.task_is c.enabled)
+          P.x.items.waiting m r.row there (ap (λ (b : Row). b.status) (sym same) ∙ p.2) (subst (λ (u : Task). Enabled C P.x.state u) r.task_is c.enabled)
 
   -- items afterwards
   pub items_stand : ItemsStand C G t
@@ -157,8 +157,8 @@ module _ (C : Code) (I : IsCode C) (L : Layout) (es : List Event) (F : Fields) (
       record {
         items = subst (λ (rs : List Row). items_from G.frames 1 rs ≡ t.items) (sym P.to.rows) y.items;
         next = subst (λ (rs : List Row). t.next ≡ suc (length rs)) (sym P.to.rows) y.next;
-        ready = subst (λ (rs : List Row). (m : ℕ) (r : Row) → row_of rs m ≡ Some r → r.mark ≡ Ready → Enabled C t (task_of G.frames r.job)) (sym P.to.rows) y.ready;
-        waiting = subst (λ (rs : List Row). (m : ℕ) (r : Row) → row_of rs m ≡ Some r → r.mark ≡ Waiting → Enabled C t (task_of G.frames r.job) → ⊥) (sym P.to.rows) y.waiting;
+        ready = subst (λ (rs : List Row). (m : ℕ) (r : Row) → row_of rs m ≡ Some r → r.status ≡ Ready → Enabled C t (task_of G.frames r.job)) (sym P.to.rows) y.ready;
+        waiting = subst (λ (rs : List Row). (m : ℕ) (r : Row) → row_of rs m ≡ Some r → r.status ≡ Waiting → Enabled C t (task_of G.frames r.job) → ⊥) (sym P.to.rows) y.waiting;
         running = P.to.running ∙ subst (λ (rs : List Row). F.running - 1 ≡ running_in rs) (sym P.to.rows) y.running;
       }
 
@@ -170,7 +170,7 @@ module _ (C : Code) (I : IsCode C) (L : Layout) (es : List Event) (F : Fields) (
   lines_by Script h = sym (ap (λ (e : Effect Task Place Key Scalar). e.lines) (good_is h))
   lines_by (Does k e c) h =
       let y = computed_by C (task_of F.frames (Does k e c)) P.answers in
-      sym (ap (λ (z : Effect Task Place Key Scalar). z.lines) (outcome_is y (is_too_deep (entry C e).act (path_of F.frames k) (instances (entry C e).act (entry C e).mark (path_of F.frames k) c y)) (effect_at C e (path_of F.frames k) c y) (o C I L es F w n t G P).effect h))
+      sym (ap (λ (z : Effect Task Place Key Scalar). z.lines) (outcome_is y (is_too_deep (entry C e).act (path_of F.frames k) (instances (entry C e).act (entry C e).offset (path_of F.frames k) c y)) (effect_at C e (path_of F.frames k) c y) (o C I L es F w n t G P).effect h))
 
   pub ended_stands : Stands C L (es ++ End w n ∷ []) G
   ended_stands = record {

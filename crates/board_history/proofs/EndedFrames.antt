@@ -6,15 +6,15 @@ use Rattle.std.proofs.lemmas.List.{map-append}
 use Rattle.dataflow.specs.System.{In, Opening, tasks_of}
 use Rattle.dataflow.specs.Machine.{Event}
 use Rattle.dataflow.proofs.Lists.{in_map, in_split, in_unmap}
-use Rattle.board_history.specs.Ending.{EndsTo, Instance, NewFrame, ended_rows, has_entries, home, is_home, is_one, jobs_after, leaving, level_inside, made_jobs, mark_after, new_row, path_around, rest_jobs, with_live, TasksStay}
-use Rattle.board_history.specs.Fields.{Does, Fields, Frame, Job, Layout, Mark, Over, Ready, Row, Running, Script, Waiting, frames_in, is_of, is_over, level_of, path_from, path_of, row_of, rows_in, slot_at, step_before, task_of}
+use Rattle.board_history.specs.Ending.{EndsTo, Instance, NewFrame, ended_rows, has_entries, home, is_home, is_one, jobs_after, leaving, level_inside, made_jobs, status_after, new_row, path_around, rest_jobs, with_live, TasksStay}
+use Rattle.board_history.specs.Fields.{Does, Fields, Frame, Job, Layout, Status, Over, Ready, Row, Running, Script, Waiting, frames_in, is_of, is_over, level_of, path_from, path_of, row_of, rows_in, slot_at, step_before, task_of}
 use Rattle.board_history.specs.Static.{opened, rests}
 use Rattle.board_history.proofs.EndedBase.{Ending, computed, here, o, opens_are, own_row, row_there, task}
 use Rattle.board_history.proofs.EndedItems.{one_in}
 use Rattle.board_history.proofs.EndedRows.{ended_in, jobs_append, jobs_in, made_none, made_own, new_job, kept_over, of_home, of_is, rest_in_home, row_kept, row_to, rows_some, rows_zero}
 use Rattle.board_history.proofs.Turns.{tasks_append}
 use Rattle.board_history.proofs.Frames.{Alike, Lighter, Sound, Within, alike_live, frames_added, frames_zero, home_here, home_apart, level_same, lies, lies_home, one_if, path_none, path_same, path_step, taken_off}
-use Rattle.board_history.proofs.Marking.{RowIs, live_mark}
+use Rattle.board_history.proofs.Marking.{RowIs, live_status}
 use Rattle.board_history.proofs.Next.{nat_same}
 use Rattle.board_history.proofs.Rows.{row_by}
 use Rattle.board_history.proofs.Tests.{choose, none_some, yes_no, some_same, in_kept}
@@ -28,10 +28,10 @@ use Rattle.task_code.specs.Whole.{IsCode}
 some_none : {A B : Type 0} {x : A} → ◌≡◌ {A = Option A} (Some x) None → B
 some_none h = absurd (cc)
 
-pub not_over : (m : Mark) → is_over m ≡ false → m ≡ Over → ⊥
+pub not_over : (m : Status) → is_over m ≡ false → m ≡ Over → ⊥
 not_over m h e = yes_no (ap is_over e) h
 
-over_or : (m : Mark) → (is_over m ≡ false) ⊎ (m ≡ Over)
+over_or : (m : Status) → (is_over m ≡ false) ⊎ (m ≡ Over)
 over_or Waiting = inl refl
 over_or Ready = inl refl
 over_or (Running w) = inl refl
@@ -97,11 +97,11 @@ module _ (C : Code) (I : IsCode C) (L : Layout) (es : List Event) (F : Fields) (
   own_at : (own.row ≡ P.row) × (suc own.at ≡ n)
   own_at = own_row C I L es F w n t G P own
 
-  pub own_live : is_over P.row.mark ≡ false
-  own_live = ap (λ (r : Row). is_over r.mark) (sym own_at.0) ∙ live_mark own.row.mark own.not_over
+  pub own_live : is_over P.row.status ≡ false
+  own_live = ap (λ (r : Row). is_over r.status) (sym own_at.0) ∙ live_status own.row.status own.not_over
 
   pub own_frame : (k e c : ℕ) → j ≡ Does k e c → (f : Frame) × (slot_at fs k ≡ Some f) × In e (body C f.body).entries
-  own_frame k e c h = P.x.frames.there n k e c P.row P.row_is h (not_over P.row.mark own_live)
+  own_frame k e c h = P.x.frames.there n k e c P.row P.row_is h (not_over P.row.status own_live)
 
   around_there : (k : ℕ) → home j ≡ Some k → (f : Frame) × (slot_at fs k ≡ Some f)
   around_there k h = by j refl h
@@ -112,18 +112,18 @@ module _ (C : Code) (I : IsCode C) (L : Layout) (es : List Event) (F : Fields) (
 
   -- no row or instance of a key that is not there
   free_rows : (k : ℕ) → slot_at fs k ≡ None → rows_in k F.rows ≡ 0
-  free_rows k z = rows_zero k F.rows (λ i r h live of. let p = of_is k r.job of in let q = P.x.frames.there (suc i) k p.0 p.1 r h p.2 (not_over r.mark live) in none_some (sym z ∙ q.1))
+  free_rows k z = rows_zero k F.rows (λ i r h live of. let p = of_is k r.job of in let q = P.x.frames.there (suc i) k p.0 p.1 r h p.2 (not_over r.status live) in none_some (sym z ∙ q.1))
 
   free_frames : (k : ℕ) → slot_at fs k ≡ None → frames_in k fs ≡ 0
   free_frames k z = frames_zero k fs (λ i f h e. let q = P.x.frames.inside i k f h e in none_some (sym z ∙ q.1))
 
   -- those newly enabled were not over
-  newly_live : (i m : ℕ) (r : Row) → row_of F.rows (suc i) ≡ Some r → m ≡ 1 + i → is_one m G.newly ≡ true → is_over r.mark ≡ false
+  newly_live : (i m : ℕ) (r : Row) → row_of F.rows (suc i) ≡ Some r → m ≡ 1 + i → is_one m G.newly ≡ true → is_over r.status ≡ false
   newly_live i m r h e u =
       let q = P.to.newly.only m (one_in m G.newly u) in
       let at : suc i ≡ m = omega arith in
       let same : q.0 ≡ r = some_same (sym q.1 ∙ row_kept F.rows (map new_row jobs) m r (subst (λ (l : ℕ). row_of F.rows l ≡ Some r) at h)) in
-      ap (λ (y : Row). is_over y.mark) (sym same) ∙ ap is_over q.2
+      ap (λ (y : Row). is_over y.status) (sym same) ∙ ap is_over q.2
 
   rows_told : (k : ℕ) → R k + one_if (is_of k j) ≡ rows_in k F.rows + jobs_in k jobs
   rows_told k =
@@ -261,7 +261,7 @@ module _ (C : Code) (I : IsCode C) (L : Layout) (es : List Event) (F : Fields) (
   lighter = taken_off R gs hs (leaving j os) middle_sound P.to.leaves
 
   -- a row that is not over keeps its instance
-  row_busy : (m k e c : ℕ) (r : Row) → row_of G.rows m ≡ Some r → is_over r.mark ≡ false → r.job ≡ Does k e c → 0 < R k
+  row_busy : (m k e c : ℕ) (r : Row) → row_of G.rows m ≡ Some r → is_over r.status ≡ false → r.job ≡ Does k e c → 0 < R k
   row_busy zero k e c r h live q = no_row G.rows h
     where
       no_row : (rows : List Row) → row_of rows zero ≡ Some r → 0 < R k
@@ -290,16 +290,16 @@ module _ (C : Code) (I : IsCode C) (L : Layout) (es : List Event) (F : Fields) (
 
   -- a live row afterwards: it was there, or is new
   pub record LiveRow (m : ℕ) (r : Row) : Type 0 where
-    pub was : ((q : Row) × (row_of F.rows m ≡ Some q) × (q.mark ≡ Over → ⊥) × (m ≡ n → ⊥) × (r.job ≡ q.job)) ⊎ (In r.job jobs × (length F.rows < m))
+    pub was : ((q : Row) × (row_of F.rows m ≡ Some q) × (q.status ≡ Over → ⊥) × (m ≡ n → ⊥) × (r.job ≡ q.job)) ⊎ (In r.job jobs × (length F.rows < m))
 
-  pub live_row : (m : ℕ) (r : Row) → row_of G.rows m ≡ Some r → is_over r.mark ≡ false → LiveRow m r
+  pub live_row : (m : ℕ) (r : Row) → row_of G.rows m ≡ Some r → is_over r.status ≡ false → LiveRow m r
   live_row m r h live = by m (subst (λ (rs : List Row). row_of rs m ≡ Some r) P.to.rows h)
     where
-      after : (i : ℕ) (q : Row) → r.mark ≡ mark_after n G.newly i q.mark → (i ≡ n → ⊥) × ((is_one i G.newly ≡ true) ⊎ (is_over q.mark ≡ false))
+      after : (i : ℕ) (q : Row) → r.status ≡ status_after n G.newly i q.status → (i ≡ n → ⊥) × ((is_one i G.newly ≡ true) ⊎ (is_over q.status ≡ false))
       after i q e =
-          choose (λ (z : Mark). r.mark ≡ z → (i ≡ n → ⊥) × ((is_one i G.newly ≡ true) ⊎ (is_over q.mark ≡ false))) (nat_eq i n) Over (if is_one i G.newly then Ready else q.mark)
-          (λ u g. absurd (not_over r.mark live g))
-          (λ u. choose (λ (z : Mark). r.mark ≡ z → (i ≡ n → ⊥) × ((is_one i G.newly ≡ true) ⊎ (is_over q.mark ≡ false))) (is_one i G.newly) Ready q.mark
+          choose (λ (z : Status). r.status ≡ z → (i ≡ n → ⊥) × ((is_one i G.newly ≡ true) ⊎ (is_over q.status ≡ false))) (nat_eq i n) Over (if is_one i G.newly then Ready else q.status)
+          (λ u g. absurd (not_over r.status live g))
+          (λ u. choose (λ (z : Status). r.status ≡ z → (i ≡ n → ⊥) × ((is_one i G.newly ≡ true) ⊎ (is_over q.status ≡ false))) (is_one i G.newly) Ready q.status
           (λ v g. ((λ e. yes_no (subst (λ (l : ℕ). nat_eq i l ≡ true) e (nat_same i)) u), inl v))
           (λ v g. ((λ e. yes_no (subst (λ (l : ℕ). nat_eq i l ≡ true) e (nat_same i)) u), inr (ap is_over (sym g) ∙ live))))
           e
@@ -311,27 +311,27 @@ module _ (C : Code) (I : IsCode C) (L : Layout) (es : List Event) (F : Fields) (
           no_row [] h = none_some h
           no_row (y ∷ rows) h = none_some h
       by (suc i) h =
-          let q = row_by (mark_after n G.newly) 1 (F.rows ++ map new_row jobs) i (suc i) r h (omega arith) in
+          let q = row_by (status_after n G.newly) 1 (F.rows ++ map new_row jobs) i (suc i) r h (omega arith) in
           let a = after (suc i) q.0 q.3 in
           elim (new_job F.rows jobs i q.0 q.1) [
-            | inl g ↦ record { was = inl (q.0, g, not_over q.0.mark (elim a.1 [ inl u ↦ newly_live i (suc i) q.0 g (omega arith) u | inr v ↦ v ]), a.0, q.2) }
+            | inl g ↦ record { was = inl (q.0, g, not_over q.0.status (elim a.1 [ inl u ↦ newly_live i (suc i) q.0 g (omega arith) u | inr v ↦ v ]), a.0, q.2) }
             | inr g ↦ record { was = inr (subst (λ (b : Job). In b jobs) (sym q.2) g.0, g.2) }
           ]
 
   -- a live row of another item is there afterwards
-  pub old_row_after : (m : ℕ) (r : Row) → row_of F.rows m ≡ Some r → is_over r.mark ≡ false → (m ≡ n → ⊥) → (q : Row) × (row_of G.rows m ≡ Some q) × (is_over q.mark ≡ false) × (q.job ≡ r.job)
+  pub old_row_after : (m : ℕ) (r : Row) → row_of F.rows m ≡ Some r → is_over r.status ≡ false → (m ≡ n → ⊥) → (q : Row) × (row_of G.rows m ≡ Some q) × (is_over q.status ≡ false) × (q.job ≡ r.job)
   old_row_after zero r h live ne = no_row F.rows h
     where
-      no_row : (rows : List Row) → row_of rows zero ≡ Some r → (q : Row) × (row_of G.rows zero ≡ Some q) × (is_over q.mark ≡ false) × (q.job ≡ r.job)
+      no_row : (rows : List Row) → row_of rows zero ≡ Some r → (q : Row) × (row_of G.rows zero ≡ Some q) × (is_over q.status ≡ false) × (q.job ≡ r.job)
       no_row [] h = none_some h
       no_row (y ∷ rows) h = none_some h
   old_row_after (suc i) r h live ne =
-      (record { job = r.job; mark = mark_after n G.newly (suc i) r.mark }, subst (λ (rs : List Row). row_of rs (suc i) ≡ Some (record { job = r.job; mark = mark_after n G.newly (suc i) r.mark })) (sym P.to.rows) (row_to (mark_after n G.newly) 1 (F.rows ++ map new_row jobs) i (suc i) r (row_kept F.rows (map new_row jobs) (suc i) r h) (omega arith)), kept_over n G.newly (suc i) r.mark ne (λ u. live) ∙ live, refl)
+      (record { job = r.job; status = status_after n G.newly (suc i) r.status }, subst (λ (rs : List Row). row_of rs (suc i) ≡ Some (record { job = r.job; status = status_after n G.newly (suc i) r.status })) (sym P.to.rows) (row_to (status_after n G.newly) 1 (F.rows ++ map new_row jobs) i (suc i) r (row_kept F.rows (map new_row jobs) (suc i) r h) (omega arith)), kept_over n G.newly (suc i) r.status ne (λ u. live) ∙ live, refl)
 
-  pub frame_stays : (m k e c : ℕ) (r : Row) → row_of F.rows m ≡ Some r → is_over r.mark ≡ false → (m ≡ n → ⊥) → r.job ≡ Does k e c → (g : Frame) × (slot_at gs k ≡ Some g)
+  pub frame_stays : (m k e c : ℕ) (r : Row) → row_of F.rows m ≡ Some r → is_over r.status ≡ false → (m ≡ n → ⊥) → r.job ≡ Does k e c → (g : Frame) × (slot_at gs k ≡ Some g)
   frame_stays m k e c r h live ne q =
       let a = old_row_after m r h live ne in
-      let f = P.x.frames.there m k e c r h q (not_over r.mark live) in
+      let f = P.x.frames.there m k e c r h q (not_over r.status live) in
       let u = old_there k f.0 f.1 in
       lighter.busy k u.0 u.1 (row_busy m k e c a.0 a.1 a.2 (a.3 ∙ q))
 
@@ -414,13 +414,13 @@ module _ (C : Code) (I : IsCode C) (L : Layout) (es : List Event) (F : Fields) (
         ∙ ap tasks_of (sym (opens_are C I L es F w n t G P));
   }
     where
-      others : (m : ℕ) (r : Row) → row_of F.rows m ≡ Some r → (r.mark ≡ Over → ⊥) → (m ≡ n → ⊥) → task_of gs r.job ≡ task_of fs r.job
+      others : (m : ℕ) (r : Row) → row_of F.rows m ≡ Some r → (r.status ≡ Over → ⊥) → (m ≡ n → ⊥) → task_of gs r.job ≡ task_of fs r.job
       others m r h live ne = by r.job refl
         where
           by : (i : Job) → r.job ≡ i → task_of gs i ≡ task_of fs i
           by Script q = refl
           by (Does k e c) q =
-              let l = live_mark r.mark live in
+              let l = live_status r.status live in
               let f = P.x.frames.there m k e c r h q live in
               let g = frame_stays m k e c r h l ne q in
               ap (λ (p : List Step). Item e p c) (old_path k f.0 g.0 f.1 g.1)
@@ -456,8 +456,8 @@ module _ (C : Code) (I : IsCode C) (L : Layout) (es : List Event) (F : Fields) (
           all [] g = absurd g
           all (q ∷ qs) g = elim g [ inl u ↦ u | inr u ↦ all qs u ]
 
-  pub row_frame : (m k e c : ℕ) (r : Row) → row_of G.rows m ≡ Some r → r.job ≡ Does k e c → (r.mark ≡ Over → ⊥) → (f : Frame) × (slot_at gs k ≡ Some f) × In e (body C f.body).entries
-  row_frame m k e c r h q live = by (live_row m r h (live_mark r.mark live)).was
+  pub row_frame : (m k e c : ℕ) (r : Row) → row_of G.rows m ≡ Some r → r.job ≡ Does k e c → (r.status ≡ Over → ⊥) → (f : Frame) × (slot_at gs k ≡ Some f) × In e (body C f.body).entries
+  row_frame m k e c r h q live = by (live_row m r h (live_status r.status live)).was
     where
       key_is : {a b x y u v : ℕ} → Does a x u ≡ Does b y v → (a ≡ b) × (x ≡ y)
       key_is h = (cc, cc)
@@ -469,10 +469,10 @@ module _ (C : Code) (I : IsCode C) (L : Layout) (es : List Event) (F : Fields) (
           let s : u.0 ≡ v.0 = some_same (sym u.1 ∙ v.1) in
           u.2.body ∙ ap (λ (y : Frame). y.body) s ∙ sym v.2.body
 
-      by : ((q : Row) × (row_of F.rows m ≡ Some q) × (q.mark ≡ Over → ⊥) × (m ≡ n → ⊥) × (r.job ≡ q.job)) ⊎ (In r.job jobs × (length F.rows < m)) → (f : Frame) × (slot_at gs k ≡ Some f) × In e (body C f.body).entries
+      by : ((q : Row) × (row_of F.rows m ≡ Some q) × (q.status ≡ Over → ⊥) × (m ≡ n → ⊥) × (r.job ≡ q.job)) ⊎ (In r.job jobs × (length F.rows < m)) → (f : Frame) × (slot_at gs k ≡ Some f) × In e (body C f.body).entries
       by (inl p) =
           let f = P.x.frames.there m k e c p.0 p.1 (sym p.4 ∙ q) p.2 in
-          let g = frame_stays m k e c p.0 p.1 (live_mark p.0.mark p.2) p.3 (sym p.4 ∙ q) in
+          let g = frame_stays m k e c p.0 p.1 (live_status p.0.status p.2) p.3 (sym p.4 ∙ q) in
           (g.0, g.1, subst (λ (b : ℕ). In e (body C b).entries) (same_body f.0 g.0 f.1 g.1) f.2)
       by (inr p) =
           elim (new_job_is r.job p.0).is [

@@ -17,12 +17,12 @@ use Rattle.dataflow.proofs.Settled.{settled_comes}
 use Rattle.dataflow.proofs.Steps.{run_follows, step_follow}
 use Rattle.board_history.specs.CodeReplay.{next_state, replayed, and_then}
 use Rattle.board_history.specs.Elements.{code_tests}
-use Rattle.board_history.specs.Ending.{OpensItems, TasksStay, ended_rows, is_one, mark_after, new_row}
-use Rattle.board_history.specs.Fields.{Fields, Frame, Job, Layout, Mark, Over, Ready, Row, Running, Waiting, is_running, item_before, items_from, row_of, running_in, task_of}
+use Rattle.board_history.specs.Ending.{OpensItems, TasksStay, ended_rows, is_one, status_after, new_row}
+use Rattle.board_history.specs.Fields.{Fields, Frame, Job, Layout, Status, Over, Ready, Row, Running, Waiting, is_running, item_before, items_from, row_of, running_in, task_of}
 use Rattle.board_history.specs.Stands.{ItemsStand, Stands}
 use Rattle.board_history.proofs.Elements.{code_told}
 use Rattle.board_history.proofs.Faulted.{runs_on}
-use Rattle.board_history.proofs.Marking.{IsItem, RowIs, item, item_not_over, mark_is as mark_split, row_found}
+use Rattle.board_history.proofs.Marking.{IsItem, RowIs, item, item_not_over, status_is as status_split, row_found}
 use Rattle.board_history.proofs.Next.{nat_same, nat_sound}
 use Rattle.board_history.proofs.Replays.{replayed_then, run_next, run_replayed}
 use Rattle.board_history.proofs.Rows.{AllFine, ended_items, ended_running, is_idle, no_row, opened_items, row_by, row_item, row_split, rows_length}
@@ -66,14 +66,14 @@ in_one n (m ∷ ms) h =
       | inr g ↦ or_right (nat_eq n m) (is_one n ms) (in_one n ms g)
     ]
 
--- an item that does not run, told by its row's mark
-pub idle_row : (m : Mark) (y : IsItem m) → y.runs ≡ None → is_idle m ≡ true
+-- an item that does not run, told by its row's status
+pub idle_row : (m : Status) (y : IsItem m) → y.runs ≡ None → is_idle m ≡ true
 idle_row Waiting y h = refl
 idle_row Ready y h = refl
 idle_row (Running w) y h = none_some (sym h ∙ ap (λ (i : CodeItem). i.runs) (head_is (sym (y.is 0 Main []))))
 idle_row Over y h = absurd (item_not_over Over y refl)
 
-row_idle : (m : Mark) (y : IsItem m) → is_idle m ≡ true → y.runs ≡ None
+row_idle : (m : Status) (y : IsItem m) → is_idle m ≡ true → y.runs ≡ None
 row_idle Waiting y h = sym (ap (λ (i : CodeItem). i.runs) (head_is (y.is 0 Main [])))
 row_idle Ready y h = sym (ap (λ (i : CodeItem). i.runs) (head_is (y.is 0 Main [])))
 row_idle (Running w) y h = yes_no h refl
@@ -93,19 +93,19 @@ new_above k (t ∷ ts) i h =
     ]
 
 -- marks afterwards
-after_ready : (n : ℕ) (newly : List ℕ) (k : ℕ) (m : Mark) → mark_after n newly k m ≡ Ready → (is_one k newly ≡ true) ⊎ ((k ≡ n → ⊥) × (m ≡ Ready))
+after_ready : (n : ℕ) (newly : List ℕ) (k : ℕ) (m : Status) → status_after n newly k m ≡ Ready → (is_one k newly ≡ true) ⊎ ((k ≡ n → ⊥) × (m ≡ Ready))
 after_ready n newly k m =
-    choose (λ (z : Mark). z ≡ Ready → (is_one k newly ≡ true) ⊎ ((k ≡ n → ⊥) × (m ≡ Ready))) (nat_eq k n) Over (if is_one k newly then Ready else m)
+    choose (λ (z : Status). z ≡ Ready → (is_one k newly ≡ true) ⊎ ((k ≡ n → ⊥) × (m ≡ Ready))) (nat_eq k n) Over (if is_one k newly then Ready else m)
     (λ t h. over_ready h)
-    (λ t. choose (λ (z : Mark). z ≡ Ready → (is_one k newly ≡ true) ⊎ ((k ≡ n → ⊥) × (m ≡ Ready))) (is_one k newly) Ready m
+    (λ t. choose (λ (z : Status). z ≡ Ready → (is_one k newly ≡ true) ⊎ ((k ≡ n → ⊥) × (m ≡ Ready))) (is_one k newly) Ready m
     (λ u h. inl u)
     (λ u h. inr ((λ e. yes_no (subst (λ (l : ℕ). nat_eq k l ≡ true) e (nat_same k)) t), h)))
 
-after_waiting : (n : ℕ) (newly : List ℕ) (k : ℕ) (m : Mark) → mark_after n newly k m ≡ Waiting → (is_one k newly ≡ false) × (m ≡ Waiting)
+after_waiting : (n : ℕ) (newly : List ℕ) (k : ℕ) (m : Status) → status_after n newly k m ≡ Waiting → (is_one k newly ≡ false) × (m ≡ Waiting)
 after_waiting n newly k m =
-    choose (λ (z : Mark). z ≡ Waiting → (is_one k newly ≡ false) × (m ≡ Waiting)) (nat_eq k n) Over (if is_one k newly then Ready else m)
+    choose (λ (z : Status). z ≡ Waiting → (is_one k newly ≡ false) × (m ≡ Waiting)) (nat_eq k n) Over (if is_one k newly then Ready else m)
     (λ t h. over_waits h)
-    (λ t. choose (λ (z : Mark). z ≡ Waiting → (is_one k newly ≡ false) × (m ≡ Waiting)) (is_one k newly) Ready m
+    (λ t. choose (λ (z : Status). z ≡ Waiting → (is_one k newly ≡ false) × (m ≡ Waiting)) (is_one k newly) Ready m
     (λ u h. ready_waits (sym h))
     (λ u h. (u, h)))
 
@@ -186,7 +186,7 @@ module _ (C : Code) (I : IsCode C) (L : Layout) (es : List Event) (F : Fields) (
     abbrev rows : List Row
     rows = ended_rows F.rows n newly jobs
 
-    idle : (j m : ℕ) (r : Row) → row_of F.rows (suc j) ≡ Some r → m ≡ 1 + j → is_one m newly ≡ true → is_idle r.mark ≡ true
+    idle : (j m : ℕ) (r : Row) → row_of F.rows (suc j) ≡ Some r → m ≡ 1 + j → is_one m newly ≡ true → is_idle r.status ≡ true
     idle j m r h e u =
         let b = new.can m (one_in m newly u) in
         elim (in_split b.item (o.before ++ o.after) (new_items s.next (tasks_of o.effect.opens)) (subst (λ (is : List CodeItem). In b.item is) o.items b.there)) [
@@ -198,14 +198,14 @@ module _ (C : Code) (I : IsCode C) (L : Layout) (es : List Event) (F : Fields) (
               absurd (omega arith))
         ]
       where
-        by : (i : CodeItem) → In i s.items → i.number ≡ m → i.runs ≡ None → is_idle r.mark ≡ true
+        by : (i : CodeItem) → In i s.items → i.number ≡ m → i.runs ≡ None → is_idle r.status ≡ true
         by i g k d =
             let f = row_there i g in
             let a = f.number_is in
             let at : f.at ≡ j = omega arith in
             let same : f.row ≡ r = some_same (sym f.there ∙ subst (λ (l : ℕ). row_of F.rows (suc l) ≡ Some r) (sym at) h) in
-            subst (λ (q : Row). is_idle q.mark ≡ true) same
-            (elim (mark_split f.row.mark) [ inl p ↦ absurd (f.not_over p) | inr y ↦ idle_row f.row.mark y (sym (f.runs_is y) ∙ d) ])
+            subst (λ (q : Row). is_idle q.status ≡ true) same
+            (elim (status_split f.row.status) [ inl p ↦ absurd (f.not_over p) | inr y ↦ idle_row f.row.status y (sym (f.runs_is y) ∙ d) ])
 
     fine : AllFine F.frames gs n newly 1 F.rows
     fine j m r h e =
@@ -222,24 +222,24 @@ module _ (C : Code) (I : IsCode C) (L : Layout) (es : List Event) (F : Fields) (
         ∙ ap (λ (l : List CodeItem). (o.before ++ o.after) ++ l) (opened_items F.frames gs n newly s.next jobs (subst (λ (m : ℕ). m < s.next) o.number_is (numbers.below o.item.number (in_map number_of_item o.item s.items here))) ∙ ap (new_items s.next) stay.opened)
         ∙ sym o.items
 
-    spot : (j : ℕ) (r : Row) → row_of rows (suc j) ≡ Some r → (y : IsItem r.mark) → In (item (suc j) (task_of gs r.job) y.runs) t.items
+    spot : (j : ℕ) (r : Row) → row_of rows (suc j) ≡ Some r → (y : IsItem r.status) → In (item (suc j) (task_of gs r.job) y.runs) t.items
     spot j r h y = subst (λ (is : List CodeItem). In (item (suc j) (task_of gs r.job) y.runs) is) items (row_item gs 1 rows j (suc j) r h y (omega arith))
 
-    old_spot : (j : ℕ) (r : Row) → row_of F.rows (suc j) ≡ Some r → (y : IsItem r.mark) → In (item (suc j) (task_of F.frames r.job) y.runs) s.items
+    old_spot : (j : ℕ) (r : Row) → row_of F.rows (suc j) ≡ Some r → (y : IsItem r.status) → In (item (suc j) (task_of F.frames r.job) y.runs) s.items
     old_spot j r h y = subst (λ (is : List CodeItem). In (item (suc j) (task_of F.frames r.job) y.runs) is) x.items.items (row_item F.frames 1 F.rows j (suc j) r h y (omega arith))
 
-    abbrev ready_item : (r : Row) → r.mark ≡ Ready → IsItem r.mark
-    ready_item r b = record { runs = None; is = λ k u is. ap (λ (m : Mark). item_before k u m is) b }
+    abbrev ready_item : (r : Row) → r.status ≡ Ready → IsItem r.status
+    ready_item r b = record { runs = None; is = λ k u is. ap (λ (m : Status). item_before k u m is) b }
 
-    abbrev waiting_item : (r : Row) → r.mark ≡ Waiting → IsItem r.mark
-    waiting_item r b = record { runs = None; is = λ k u is. ap (λ (m : Mark). item_before k u m is) b }
+    abbrev waiting_item : (r : Row) → r.status ≡ Waiting → IsItem r.status
+    waiting_item r b = record { runs = None; is = λ k u is. ap (λ (m : Status). item_before k u m is) b }
 
-    ready : (m : ℕ) (r : Row) → row_of rows m ≡ Some r → r.mark ≡ Ready → Enabled C t (task_of gs r.job)
+    ready : (m : ℕ) (r : Row) → row_of rows m ≡ Some r → r.status ≡ Ready → Enabled C t (task_of gs r.job)
     ready zero r h b = no_row rows r h
     ready (suc j) r h b =
-        let q = row_by (mark_after n newly) 1 (F.rows ++ map new_row jobs) j (suc j) r h (omega arith) in
+        let q = row_by (status_after n newly) 1 (F.rows ++ map new_row jobs) j (suc j) r h (omega arith) in
         let mine = spot j r h (ready_item r b) in
-        elim (after_ready n newly (suc j) q.0.mark (sym q.3 ∙ b)) [
+        elim (after_ready n newly (suc j) q.0.status (sym q.3 ∙ b)) [
           | inl u ↦ (let c = new.can (suc j) (one_in (suc j) newly u) in
               let e = one_number t.items c.item (item (suc j) (task_of gs r.job) None) numbers_after.once c.there mine c.number_is in
               subst (λ (i : CodeItem). Enabled C t i.task) e c.enabled)
@@ -252,11 +252,11 @@ module _ (C : Code) (I : IsCode C) (L : Layout) (es : List Event) (F : Fields) (
           ]
         ]
 
-    waiting : (m : ℕ) (r : Row) → row_of rows m ≡ Some r → r.mark ≡ Waiting → Enabled C t (task_of gs r.job) → ⊥
+    waiting : (m : ℕ) (r : Row) → row_of rows m ≡ Some r → r.status ≡ Waiting → Enabled C t (task_of gs r.job) → ⊥
     waiting zero r h b en = no_row rows r h
     waiting (suc j) r h b en =
-        let q = row_by (mark_after n newly) 1 (F.rows ++ map new_row jobs) j (suc j) r h (omega arith) in
-        let u = after_waiting n newly (suc j) q.0.mark (sym q.3 ∙ b) in
+        let q = row_by (status_after n newly) 1 (F.rows ++ map new_row jobs) j (suc j) r h (omega arith) in
+        let u = after_waiting n newly (suc j) q.0.status (sym q.3 ∙ b) in
         yes_no (in_one (suc j) newly (new.all (suc j) (record { item = item (suc j) (task_of gs r.job) None; there = spot j r h (waiting_item r b); number_is = refl; idle = refl; enabled = en })
         (λ c. elim (row_split F.rows jobs j q.0 q.1) [
           | inl old ↦ (let e = one_number s.items c.item (item (suc j) (task_of F.frames q.0.job) None) numbers.once c.there (old_spot j q.0 old (waiting_item q.0 u.1)) c.number_is in
@@ -272,7 +272,7 @@ module _ (C : Code) (I : IsCode C) (L : Layout) (es : List Event) (F : Fields) (
         let f = row_there o.item here in
         let a = f.number_is in
         let k = o.number_is in
-        let runs : is_running f.row.mark ≡ true = elim (mark_split f.row.mark) [ inl p ↦ absurd (f.not_over p) | inr y ↦ ap is_running (runs_on w f.row.mark y (sym (f.runs_is y) ∙ o.runs)) ] in
+        let runs : is_running f.row.status ≡ true = elim (status_split f.row.status) [ inl p ↦ absurd (f.not_over p) | inr y ↦ ap is_running (runs_on w f.row.status y (sym (f.runs_is y) ∙ o.runs)) ] in
         fewer F.running (running_in F.rows) (running_in rows) x.items.running (ended_running F.frames gs n newly 1 F.rows jobs fine f.at f.row f.there (omega arith) runs)
       where
         fewer : (a b c : ℕ) → a ≡ b → suc c ≡ b → a - 1 ≡ c
@@ -283,7 +283,7 @@ module _ (C : Code) (I : IsCode C) (L : Layout) (es : List Event) (F : Fields) (
       items = items;
       next = (let z = x.items.next in
           let y = o.next in
-          let l = rows_length (mark_after n newly) 1 F.rows jobs in
+          let l = rows_length (status_after n newly) 1 F.rows jobs in
           let k = ap length (sym stay.opened) ∙ map_length (task_of gs) jobs in
           omega arith);
       ready = ready;

@@ -27,7 +27,7 @@ use Rattle.task_code.specs.Places.{Datum, Place, Step}
 use Rattle.task_code.specs.System.{code_system}
 use Rattle.task_code.specs.Whole.{IsCode}
 use Rattle.values.proofs.Keys.{same_key-eq, same_key-refl}
-use Rattle.values.specs.Keys.{mark_of, same_key}
+use Rattle.values.specs.Keys.{hash_of, same_key}
 use Rattle.values.specs.declared.key.Key.{Key}
 use Rattle.values.specs.declared.value.Scalar.{Scalar}
 
@@ -264,15 +264,15 @@ module _ (C : Code) (I : IsCode C) (L : Layout) (es : List Event) (F : Fields) (
             tail (x ∷ xs) z =
                 elim (or_cases (covers x (Whole d)) (is_covered xs (Whole d)) z) [ inl g ↦ or_left (covers x (AnElement d k)) (is_covered xs (AnElement d k)) (less x g) | inr g ↦ or_right (covers x (AnElement d k)) (is_covered xs (AnElement d k)) (tail xs g) ]
 
-    pub element_unknown : v.array ≡ true → (k : Key) → is_covered P.to.known (AnElement d (mark_of k)) ≡ false → is_closed (code_system C) code_tests P.x.state (Datum q v) ≡ false → value_at (code_system C) code_tests P.x.state.stored (Datum q v) k ≡ None → (value_at (code_system C) code_tests t.stored (Datum q v) k ≡ None) × (is_closed (code_system C) code_tests t (Datum q v) ≡ false)
+    pub element_unknown : v.array ≡ true → (k : Key) → is_covered P.to.known (AnElement d (hash_of k)) ≡ false → is_closed (code_system C) code_tests P.x.state (Datum q v) ≡ false → value_at (code_system C) code_tests P.x.state.stored (Datum q v) k ≡ None → (value_at (code_system C) code_tests t.stored (Datum q v) k ≡ None) × (is_closed (code_system C) code_tests t (Datum q v) ≡ false)
     element_unknown na k nc open_before e =
-        (by (value_at (code_system C) code_tests t.stored (Datum q v) k) refl, array_unknown na (covered_whole (mark_of k) nc) open_before)
+        (by (value_at (code_system C) code_tests t.stored (Datum q v) k) refl, array_unknown na (covered_whole (hash_of k) nc) open_before)
       where
         by : (r : Option Scalar) → value_at (code_system C) code_tests t.stored (Datum q v) k ≡ r → r ≡ None
         by None g = refl
         by (Some u) g =
             let i = P.to.becomes.inserted d before k u was (array_before ∙ na) (new_value k u e g) in
-            yes_no (covered_by (AnElement d (mark_of k)) P.to.known (AnElement d (mark_of k)) i (and_from (nat_eq d d) (nat_eq (mark_of k) (mark_of k)) (nat_same d) (nat_same (mark_of k)))) nc
+            yes_no (covered_by (AnElement d (hash_of k)) P.to.known (AnElement d (hash_of k)) i (and_from (nat_eq d d) (nat_eq (hash_of k) (hash_of k)) (nat_same d) (nat_same (hash_of k)))) nc
 
     -- what is told is known
     told_known : (xs : List (Want ℕ)) → ((x : Want ℕ) → In x xs → In x P.to.known) → is_covered xs (Whole d) ≡ true → is_known G.cells (Whole d) ≡ true

@@ -18,7 +18,7 @@ use Rattle.board_history.specs.Static.{Hold, add_hold, counted_names, held_by, n
 use Rattle.board_history.proofs.Ended.{opens_is}
 use Rattle.board_history.proofs.EndedBase.{Ending, can, computed, follows, log, o, opens_are, own_task, read_there, rests_none, s, settled, task, write_there}
 use Rattle.board_history.proofs.EndedFrames.{hs, made, made_block, not_over, os, own_frame, own_live}
-use Rattle.board_history.proofs.Marking.{item, mark_is}
+use Rattle.board_history.proofs.Marking.{item, status_is}
 use Rattle.board_history.proofs.Rows.{row_item}
 use Rattle.board_history.proofs.Next.{nat_same, nat_sound}
 use Rattle.board_history.proofs.Tests.{choose, none_some, yes_no}
@@ -187,20 +187,20 @@ module _ (C : Code) (I : IsCode C) (L : Layout) (es : List Event) (F : Fields) (
   no_place a ne h = let p = datum_only a h in absurd (ne p.0 p.1 p.2)
 
   -- an item of a live row
-  pub live_item : (m k e c : ℕ) (r : Row) → row_of F.rows m ≡ Some r → r.job ≡ Does k e c → (r.mark ≡ Over → ⊥) → (i : CodeItem) × In i P.x.state.items × (i.task ≡ Item e (path_of fs k) c)
+  pub live_item : (m k e c : ℕ) (r : Row) → row_of F.rows m ≡ Some r → r.job ≡ Does k e c → (r.status ≡ Over → ⊥) → (i : CodeItem) × In i P.x.state.items × (i.task ≡ Item e (path_of fs k) c)
   live_item zero k e c r h q live = no_row F.rows h
     where
       no_row : (rows : List Row) → row_of rows zero ≡ Some r → (i : CodeItem) × In i P.x.state.items × (i.task ≡ Item e (path_of fs k) c)
       no_row [] h = none_some h
       no_row (y ∷ rows) h = none_some h
   live_item (suc b) k e c r h q live =
-      elim (mark_is r.mark) [
+      elim (status_is r.status) [
         | inl over ↦ absurd (live over)
         | inr y ↦ (item (suc b) (task_of fs r.job) y.runs, subst (λ (is : List CodeItem). In (item (suc b) (task_of fs r.job) y.runs) is) P.x.items.items (row_item fs 1 F.rows b (suc b) r h y (omega arith)), ap (task_of fs) q)
       ]
 
   -- its names
-  pub row_reads : (m k e c : ℕ) (r : Row) (f : Frame) → row_of F.rows m ≡ Some r → r.job ≡ Does k e c → (r.mark ≡ Over → ⊥) → slot_at fs k ≡ Some f → (x : Name) → In x (entry C e).reads → Resolved C names (slot_for L fs k f.body x) (place_at C (path_of fs k) x)
+  pub row_reads : (m k e c : ℕ) (r : Row) (f : Frame) → row_of F.rows m ≡ Some r → r.job ≡ Does k e c → (r.status ≡ Over → ⊥) → slot_at fs k ≡ Some f → (x : Name) → In x (entry C e).reads → Resolved C names (slot_for L fs k f.body x) (place_at C (path_of fs k) x)
   row_reads m k e c r f h q live fr x ix =
       by (place_at C (path_of fs k) x) refl (P.x.frames.reads m k e c r f h q live fr x ix)
     where
@@ -218,7 +218,7 @@ module _ (C : Code) (I : IsCode C) (L : Layout) (es : List Event) (F : Fields) (
       by Nowhere z g =
           no_place Nowhere (λ p v y. not_nowhere y) (right Nowhere (in_nowhere (map (place_at C (path_of fs k)) (entry C e).reads) (subst (λ (a : Place). In a (map (place_at C (path_of fs k)) (entry C e).reads)) z (in_map (place_at C (path_of fs k)) x (entry C e).reads ix))))
 
-  pub row_writes : (m k e c : ℕ) (r : Row) (f : Frame) → row_of F.rows m ≡ Some r → r.job ≡ Does k e c → (r.mark ≡ Over → ⊥) → slot_at fs k ≡ Some f → (x : Name) → In x (entry C e).writes → Resolved C names (slot_for L fs k f.body x) (place_at C (path_of fs k) x)
+  pub row_writes : (m k e c : ℕ) (r : Row) (f : Frame) → row_of F.rows m ≡ Some r → r.job ≡ Does k e c → (r.status ≡ Over → ⊥) → slot_at fs k ≡ Some f → (x : Name) → In x (entry C e).writes → Resolved C names (slot_for L fs k f.body x) (place_at C (path_of fs k) x)
   row_writes m k e c r f h q live fr x ix =
       by (place_at C (path_of fs k) x) refl (P.x.frames.writes m k e c r f h q live fr x ix)
     where
@@ -242,20 +242,20 @@ module _ (C : Code) (I : IsCode C) (L : Layout) (es : List Event) (F : Fields) (
   own_reads k e c q x ix =
       let f = own_frame C I L es F w n t G P k e c q in
       resolved_at C names _ _ _ _ (sym (ap (λ (z : Option Frame). elim z [ None ↦ Absent | Some g ↦ slot_for L fs k g.body x ]) f.1)) refl
-      (row_reads n k e c P.row f.0 P.row_is q (not_over P.row.mark (own_live C I L es F w n t G P)) f.1 x ix)
+      (row_reads n k e c P.row f.0 P.row_is q (not_over P.row.status (own_live C I L es F w n t G P)) f.1 x ix)
 
   pub own_writes : (k e c : ℕ) → j ≡ Does k e c → (x : Name) → In x (entry C e).writes → Resolved C names (job_slot C L fs (Does k e c) x) (place_at C (path_of fs k) x)
   own_writes k e c q x ix =
       let f = own_frame C I L es F w n t G P k e c q in
       resolved_at C names _ _ _ _ (sym (ap (λ (z : Option Frame). elim z [ None ↦ Absent | Some g ↦ slot_for L fs k g.body x ]) f.1)) refl
-      (row_writes n k e c P.row f.0 P.row_is q (not_over P.row.mark (own_live C I L es F w n t G P)) f.1 x ix)
+      (row_writes n k e c P.row f.0 P.row_is q (not_over P.row.status (own_live C I L es F w n t G P)) f.1 x ix)
 
   -- how a new instance's block was opened
   pub record OpenedBy (k e c : ℕ) (m : Instance) : Type 0 where
     pub way : Way
     pub key : Key
     pub is_way : In (way, m.body) (ways (entry C e).act)
-    pub path_is : PathBy way (entry C e).mark (path_of fs k) key m.path
+    pub path_is : PathBy way (entry C e).offset (path_of fs k) key m.path
 
   pub opened_by : (k e c : ℕ) → j ≡ Does k e c → (m : Instance) → In m (made C I L es F w n t G P) → OpenedBy k e c m
   opened_by k e c q m i = by (body C m.body).entries refl
@@ -289,7 +289,7 @@ module _ (C : Code) (I : IsCode C) (L : Layout) (es : List Event) (F : Fields) (
                 way = u.by.way;
                 key = u.by.key;
                 is_way = subst (λ (y : ℕ). In (u.by.way, y) (ways (entry C e).act)) eb u.by.is_way;
-                path_is = subst (λ (y : List Step). PathBy u.by.way (entry C e).mark (path_of fs k) u.by.key y) (sym ep) u.by.path_is;
+                path_is = subst (λ (y : List Step). PathBy u.by.way (entry C e).offset (path_of fs k) u.by.key y) (sym ep) u.by.path_is;
               }
           of (inr u) =
               let g : Item x m.path 0 ≡ Item e (path_of fs k) (suc c) = in_rest C e c (path_of fs k) (block C (m.body, m.path)) (Item x m.path 0) u first in
@@ -326,18 +326,18 @@ module _ (C : Code) (I : IsCode C) (L : Layout) (es : List Event) (F : Fields) (
             | inl nd ↦ inr (elim g [
               | inl v ↦ elim v [
                 | inl d ↦ absurd (nd d)
-                | inr s ↦ resolved_at C names _ _ _ _ (sym ((P.to.leads k e c m q i).seen u.way r s.outside u.is_way either_in nd s.seen (in_left s.outside (entry C e).reads (entry C e).writes s.right))) (sym (seen_place C u.way (entry C e).mark (path_of fs k) u.key m.path r s.outside u.path_is s.seen)) (own_reads k e c q s.outside s.right)
+                | inr s ↦ resolved_at C names _ _ _ _ (sym ((P.to.leads k e c m q i).seen u.way r s.outside u.is_way either_in nd s.seen (in_left s.outside (entry C e).reads (entry C e).writes s.right))) (sym (seen_place C u.way (entry C e).offset (path_of fs k) u.key m.path r s.outside u.path_is s.seen)) (own_reads k e c q s.outside s.right)
               ]
               | inr f ↦ fixed_name k e c q u.way u.key u.is_way u.path_is f
             ])
           ]
         where
-          fixed_name : (k e c : ℕ) → j ≡ Does k e c → (y : Way) (key : Key) → In (y, m.body) (ways (entry C e).act) → PathBy y (entry C e).mark (path_of fs k) key m.path → Fixes C (entry C e).mark y r → Resolved C names (slot_for L (hs C I L es F w n t G P) m.key m.body r) (place_at C m.path r)
+          fixed_name : (k e c : ℕ) → j ≡ Does k e c → (y : Way) (key : Key) → In (y, m.body) (ways (entry C e).act) → PathBy y (entry C e).offset (path_of fs k) key m.path → Fixes C (entry C e).offset y r → Resolved C names (slot_for L (hs C I L es F w n t G P) m.key m.body r) (place_at C m.path r)
           fixed_name k e c q InPlace key iw pb f = absurd f
           fixed_name k e c q Through key iw pb f = absurd f
           fixed_name k e c q Calling key iw pb f =
-              let call : call_at C (entry C e).mark ≡ e = (I.fits e Calling m.body iw).opened.1 in
-              let at : argument C (entry C e).mark f.0 f.1 ≡ argument_in (arguments (entry C e).act) f.0 f.1 = ap (λ (l : ℕ). argument_in (arguments (entry C l).act) f.0 f.1) call in
+              let call : call_at C (entry C e).offset ≡ e = (I.fits e Calling m.body iw).opened.1 in
+              let at : argument C (entry C e).offset f.0 f.1 ≡ argument_in (arguments (entry C e).act) f.0 f.1 = ap (λ (l : ℕ). argument_in (arguments (entry C l).act) f.0 f.1) call in
               to_literal e f.0 f.2
               (ap (λ (l : Name). slot_for L (hs C I L es F w n t G P) m.key m.body l) f.3 ∙ (P.to.leads k e c m q i).fixed f.0 f.1 f.2 iw (subst (λ (l : Name). In l (names_in C (λ x. x.reads) m.body)) f.3 name_in) f.4)
               ((λ z. place_at C (pb z) (f.3 z)) ∙ ap (argued C (path_of fs k)) f.4)
@@ -368,6 +368,6 @@ module _ (C : Code) (I : IsCode C) (L : Layout) (es : List Event) (F : Fields) (
             | inr d ↦ inl d
             | inl nd ↦ inr (elim g [
               | inl d ↦ absurd (nd d)
-              | inr s ↦ resolved_at C names _ _ _ _ (sym ((P.to.leads k e c m q i).seen u.way r s.outside u.is_way either_in nd s.seen (in_right s.outside (entry C e).reads (entry C e).writes s.right))) (sym (seen_place C u.way (entry C e).mark (path_of fs k) u.key m.path r s.outside u.path_is s.seen)) (own_writes k e c q s.outside s.right)
+              | inr s ↦ resolved_at C names _ _ _ _ (sym ((P.to.leads k e c m q i).seen u.way r s.outside u.is_way either_in nd s.seen (in_right s.outside (entry C e).reads (entry C e).writes s.right))) (sym (seen_place C u.way (entry C e).offset (path_of fs k) u.key m.path r s.outside u.path_is s.seen)) (own_writes k e c q s.outside s.right)
             ])
           ]

@@ -4,8 +4,8 @@ use Rattle.std.specs.Prelude.{◌-◌, nat_eq}
 use Rattle.dataflow.specs.Machine.{Item as MachineItem, new_items}
 use Rattle.dataflow.specs.System.{Distinct, In, Opening}
 use Rattle.dataflow.proofs.Lists.{in_map}
-use Rattle.board_history.specs.Ending.{Instance, home, is_home, is_one, made_jobs, mark_after, marked_by, new_row, rest_jobs}
-use Rattle.board_history.specs.Fields.{Does, Job, Mark, Over, Ready, Row, Script, Waiting, is_of, is_over, row_of, rows_in}
+use Rattle.board_history.specs.Ending.{Instance, home, is_home, is_one, made_jobs, status_after, with_statuses, new_row, rest_jobs}
+use Rattle.board_history.specs.Fields.{Does, Job, Status, Over, Ready, Row, Script, Waiting, is_of, is_over, row_of, rows_in}
 use Rattle.board_history.proofs.Frames.{one_if}
 use Rattle.board_history.proofs.Next.{nat_same, nat_sound}
 use Rattle.board_history.proofs.Tests.{choose, none_some, yes_no, some_same}
@@ -18,59 +18,59 @@ jobs_in k [] = 0
 jobs_in k (j ∷ js) = one_if (is_of k j) + jobs_in k js
 
 module _ (n : ℕ) (newly : List ℕ) where
-  abbrev f : ℕ → Mark → Mark
-  f = mark_after n newly
+  abbrev f : ℕ → Status → Status
+  f = status_after n newly
 
   -- those newly enabled are not over
   abbrev pub AllLive : ℕ → List Row → Type 0
-  AllLive e rows = (j m : ℕ) (r : Row) → row_of rows (suc j) ≡ Some r → m ≡ e + j → is_one m newly ≡ true → is_over r.mark ≡ false
+  AllLive e rows = (j m : ℕ) (r : Row) → row_of rows (suc j) ≡ Some r → m ≡ e + j → is_one m newly ≡ true → is_over r.status ≡ false
 
-  pub kept_over : (k : ℕ) (m : Mark) → (k ≡ n → ⊥) → (is_one k newly ≡ true → is_over m ≡ false) → is_over (f k m) ≡ is_over m
+  pub kept_over : (k : ℕ) (m : Status) → (k ≡ n → ⊥) → (is_one k newly ≡ true → is_over m ≡ false) → is_over (f k m) ≡ is_over m
   kept_over k m ne x =
-      choose (λ (z : Mark). is_over z ≡ is_over m) (nat_eq k n) Over (if is_one k newly then Ready else m)
+      choose (λ (z : Status). is_over z ≡ is_over m) (nat_eq k n) Over (if is_one k newly then Ready else m)
       (λ h. absurd (ne (nat_sound k n h)))
-      (λ h. choose (λ (z : Mark). is_over z ≡ is_over m) (is_one k newly) Ready m (λ u. sym (x u)) (λ u. refl))
+      (λ h. choose (λ (z : Status). is_over z ≡ is_over m) (is_one k newly) Ready m (λ u. sym (x u)) (λ u. refl))
 
-  own_over : (k : ℕ) (m : Mark) → k ≡ n → is_over (f k m) ≡ true
+  own_over : (k : ℕ) (m : Status) → k ≡ n → is_over (f k m) ≡ true
   own_over k m e =
-      choose (λ (z : Mark). is_over z ≡ true) (nat_eq k n) Over (if is_one k newly then Ready else m)
+      choose (λ (z : Status). is_over z ≡ true) (nat_eq k n) Over (if is_one k newly then Ready else m)
       (λ h. refl)
       (λ h. yes_no (subst (λ (l : ℕ). nat_eq k l ≡ true) e (nat_same k)) h)
 
-  new_in : (k e : ℕ) (jobs : List Job) → n < e → rows_in k (marked_by f e (map new_row jobs)) ≡ jobs_in k jobs
+  new_in : (k e : ℕ) (jobs : List Job) → n < e → rows_in k (with_statuses f e (map new_row jobs)) ≡ jobs_in k jobs
   new_in k e [] lt = refl
   new_in k e (j ∷ jobs) lt =
       let ih = new_in k (suc e) jobs (omega arith) in
       let h : is_over (f e Waiting) ≡ false = kept_over e Waiting (λ p. omega arith) (λ u. refl) in
       λ i. (if h i then 0 else one_if (is_of k j)) + ih i
 
-  rest_in : (k e : ℕ) (rows : List Row) (jobs : List Job) → n < e → AllLive e rows → rows_in k (marked_by f e (rows ++ map new_row jobs)) ≡ rows_in k rows + jobs_in k jobs
+  rest_in : (k e : ℕ) (rows : List Row) (jobs : List Job) → n < e → AllLive e rows → rows_in k (with_statuses f e (rows ++ map new_row jobs)) ≡ rows_in k rows + jobs_in k jobs
   rest_in k e [] jobs lt a = let r = new_in k e jobs lt in omega arith
   rest_in k e (r ∷ rows) jobs lt a =
       let ih = rest_in k (suc e) rows jobs (omega arith) (λ j m q h s. a (suc j) m q h (omega arith)) in
-      let h = kept_over e r.mark (λ q. omega arith) (a 0 e r refl (omega arith)) in
-      behind (if is_over (f e r.mark) then 0 else one_if (is_of k r.job)) (if is_over r.mark then 0 else one_if (is_of k r.job)) _ _ _ (λ i. if h i then 0 else one_if (is_of k r.job)) ih
+      let h = kept_over e r.status (λ q. omega arith) (a 0 e r refl (omega arith)) in
+      behind (if is_over (f e r.status) then 0 else one_if (is_of k r.job)) (if is_over r.status then 0 else one_if (is_of k r.job)) _ _ _ (λ i. if h i then 0 else one_if (is_of k r.job)) ih
     where
       behind : (a b c d e : ℕ) → a ≡ b → c ≡ d + e → a + c ≡ (b + d) + e
       behind a b c d e h g = omega arith
 
   -- the item's own instance has one less, and each has its new ones
-  pub ended_in : (k e : ℕ) (rows : List Row) (jobs : List Job) → AllLive e rows → (j : ℕ) (r : Row) → row_of rows (suc j) ≡ Some r → n ≡ e + j → is_over r.mark ≡ false → rows_in k (marked_by f e (rows ++ map new_row jobs)) + one_if (is_of k r.job) ≡ rows_in k rows + jobs_in k jobs
+  pub ended_in : (k e : ℕ) (rows : List Row) (jobs : List Job) → AllLive e rows → (j : ℕ) (r : Row) → row_of rows (suc j) ≡ Some r → n ≡ e + j → is_over r.status ≡ false → rows_in k (with_statuses f e (rows ++ map new_row jobs)) + one_if (is_of k r.job) ≡ rows_in k rows + jobs_in k jobs
   ended_in k e [] jobs a j r h q o = none_some h
   ended_in k e (y ∷ rows) jobs a zero r h q o =
       let ih = rest_in k (suc e) rows jobs (omega arith) (λ j m q h s. a (suc j) m q h (omega arith)) in
-      let own = own_over e y.mark (omega arith) in
+      let own = own_over e y.status (omega arith) in
       let same : y ≡ r = some_same h in
-      let was : is_over y.mark ≡ false = ap (λ (z : Row). is_over z.mark) same ∙ o in
+      let was : is_over y.status ≡ false = ap (λ (z : Row). is_over z.status) same ∙ o in
       let job : one_if (is_of k y.job) ≡ one_if (is_of k r.job) = ap (λ (z : Row). one_if (is_of k z.job)) same in
-      gone (if is_over (f e y.mark) then 0 else one_if (is_of k y.job)) (if is_over y.mark then 0 else one_if (is_of k y.job)) (one_if (is_of k y.job)) (one_if (is_of k r.job)) _ _ _ (λ i. if own i then 0 else one_if (is_of k y.job)) (λ i. if was i then 0 else one_if (is_of k y.job)) job ih
+      gone (if is_over (f e y.status) then 0 else one_if (is_of k y.job)) (if is_over y.status then 0 else one_if (is_of k y.job)) (one_if (is_of k y.job)) (one_if (is_of k r.job)) _ _ _ (λ i. if own i then 0 else one_if (is_of k y.job)) (λ i. if was i then 0 else one_if (is_of k y.job)) job ih
     where
       gone : (a b p q c d e : ℕ) → a ≡ 0 → b ≡ p → p ≡ q → c ≡ d + e → (a + c) + q ≡ (b + d) + e
       gone a b p q c d e x y z h = omega arith
   ended_in k e (y ∷ rows) jobs a (suc j) r h q o =
       let ih = ended_in k (suc e) rows jobs (λ j m q h s. a (suc j) m q h (omega arith)) j r h (omega arith) o in
-      let same = kept_over e y.mark (λ p. omega arith) (a 0 e y refl (omega arith)) in
-      behind (if is_over (f e y.mark) then 0 else one_if (is_of k y.job)) (if is_over y.mark then 0 else one_if (is_of k y.job)) _ _ _ _ (λ i. if same i then 0 else one_if (is_of k y.job)) ih
+      let same = kept_over e y.status (λ p. omega arith) (a 0 e y refl (omega arith)) in
+      behind (if is_over (f e y.status) then 0 else one_if (is_of k y.job)) (if is_over y.status then 0 else one_if (is_of k y.job)) _ _ _ _ (λ i. if same i then 0 else one_if (is_of k y.job)) ih
     where
       behind : (a b c p d e : ℕ) → a ≡ b → c + p ≡ d + e → (a + c) + p ≡ (b + d) + e
       behind a b c p d e h g = omega arith
@@ -133,22 +133,22 @@ module _ (C : Code) where
       ]
 
 -- rows of an instance
-pub rows_some : (k : ℕ) (rows : List Row) (j : ℕ) (r : Row) → row_of rows (suc j) ≡ Some r → is_over r.mark ≡ false → is_of k r.job ≡ true → 0 < rows_in k rows
+pub rows_some : (k : ℕ) (rows : List Row) (j : ℕ) (r : Row) → row_of rows (suc j) ≡ Some r → is_over r.status ≡ false → is_of k r.job ≡ true → 0 < rows_in k rows
 rows_some k [] j r h o i = none_some h
 rows_some k (y ∷ rows) zero r h o i =
     let same : y ≡ r = some_same h in
-    let a : is_over y.mark ≡ false = ap (λ (z : Row). is_over z.mark) same ∙ o in
+    let a : is_over y.status ≡ false = ap (λ (z : Row). is_over z.status) same ∙ o in
     let b : is_of k y.job ≡ true = ap (λ (z : Row). is_of k z.job) same ∙ i in
-    let c : (if is_over y.mark then 0 else one_if (is_of k y.job)) ≡ 1 = (λ q. if a q then 0 else one_if (b q)) in
+    let c : (if is_over y.status then 0 else one_if (is_of k y.job)) ≡ 1 = (λ q. if a q then 0 else one_if (b q)) in
     omega arith
 rows_some k (y ∷ rows) (suc j) r h o i = let q = rows_some k rows j r h o i in omega arith
 
-pub rows_zero : (k : ℕ) (rows : List Row) → ((j : ℕ) (r : Row) → row_of rows (suc j) ≡ Some r → is_over r.mark ≡ false → is_of k r.job ≡ true → ⊥) → rows_in k rows ≡ 0
+pub rows_zero : (k : ℕ) (rows : List Row) → ((j : ℕ) (r : Row) → row_of rows (suc j) ≡ Some r → is_over r.status ≡ false → is_of k r.job ≡ true → ⊥) → rows_in k rows ≡ 0
 rows_zero k [] n = refl
 rows_zero k (y ∷ rows) n =
     let r = rows_zero k rows (λ j q h. n (suc j) q h) in
-    let c : (if is_over y.mark then 0 else one_if (is_of k y.job)) ≡ 0 =
-    choose (λ (z : ℕ). z ≡ 0) (is_over y.mark) 0 (one_if (is_of k y.job)) (λ t. refl)
+    let c : (if is_over y.status then 0 else one_if (is_of k y.job)) ≡ 0 =
+    choose (λ (z : ℕ). z ≡ 0) (is_over y.status) 0 (one_if (is_of k y.job)) (λ t. refl)
     (λ t. choose (λ (z : ℕ). z ≡ 0) (is_of k y.job) 1 0 (λ u. absurd (n 0 y refl t u)) (λ u. refl)) in
     omega arith
 
@@ -169,9 +169,9 @@ of_home k Script = refl
 of_home k (Does i e c) = refl
 
 -- the row of a new job
-pub new_job : (rows : List Row) (jobs : List Job) (j : ℕ) (r : Row) → row_of (rows ++ map new_row jobs) (suc j) ≡ Some r → (row_of rows (suc j) ≡ Some r) ⊎ (In r.job jobs × (r.mark ≡ Waiting) × (length rows < suc j))
+pub new_job : (rows : List Row) (jobs : List Job) (j : ℕ) (r : Row) → row_of (rows ++ map new_row jobs) (suc j) ≡ Some r → (row_of rows (suc j) ≡ Some r) ⊎ (In r.job jobs × (r.status ≡ Waiting) × (length rows < suc j))
 new_job [] [] j r h = none_some h
-new_job [] (b ∷ jobs) zero r h = let e = some_same h in inr (inl (ap (λ (y : Row). y.job) (sym e)), ap (λ (y : Row). y.mark) (sym e), omega arith)
+new_job [] (b ∷ jobs) zero r h = let e = some_same h in inr (inl (ap (λ (y : Row). y.job) (sym e)), ap (λ (y : Row). y.status) (sym e), omega arith)
 new_job [] (b ∷ jobs) (suc j) r h =
     elim (new_job [] jobs j r h) [
       | inl g ↦ none_some g
@@ -193,12 +193,12 @@ job_row [] (c ∷ jobs) b h =
     ]
 job_row (y ∷ rows) jobs b h = let r = job_row rows jobs b h in let l = r.2 in (suc r.0, r.1, omega arith)
 
-pub row_to : (f : ℕ → Mark → Mark) (k : ℕ) (rows : List Row) (j m : ℕ) (q : Row) → row_of rows (suc j) ≡ Some q → m ≡ k + j → row_of (marked_by f k rows) (suc j) ≡ Some (record { job = q.job; mark = f m q.mark })
+pub row_to : (f : ℕ → Status → Status) (k : ℕ) (rows : List Row) (j m : ℕ) (q : Row) → row_of rows (suc j) ≡ Some q → m ≡ k + j → row_of (with_statuses f k rows) (suc j) ≡ Some (record { job = q.job; status = f m q.status })
 row_to f k [] j m q h e = none_some h
 row_to f k (y ∷ rows) zero m q h e =
     let s : y ≡ q = some_same h in
     let l : k ≡ m = omega arith in
-    λ i. Some (record { job = (s i).job; mark = f (l i) (s i).mark })
+    λ i. Some (record { job = (s i).job; status = f (l i) (s i).status })
 row_to f k (y ∷ rows) (suc j) m q h e = row_to f (suc k) rows j m q h (omega arith)
 
 -- a row behind others

@@ -11,7 +11,7 @@ use Rattle.board_history.proofs.EndedCells.{name_counted, names_after, old_cell_
 use Rattle.board_history.proofs.EndedFrames.{after_only, depth_after, hs, lighter, live_after, live_row, made, made_path, new_job_is, not_over, old_path, old_there, outermost_after, own_live, row_frame, within_old, os}
 use Rattle.board_history.proofs.EndedNames.{Resolved, flat_in, outer_reads, outer_writes, row_reads, row_writes, to_datum, to_literal}
 use Rattle.board_history.proofs.Frames.{slot_same}
-use Rattle.board_history.proofs.Marking.{live_mark}
+use Rattle.board_history.proofs.Marking.{live_status}
 use Rattle.board_history.proofs.Static.{declared_of}
 use Rattle.task_code.proofs.Places.{declared_at}
 use Rattle.task_code.specs.Check.{is_declared}
@@ -110,12 +110,12 @@ module _ (C : Code) (I : IsCode C) (L : Layout) (es : List Event) (F : Fields) (
 
   -- each right of a live row leads to its place
   module _ (rights : Entry → List Name)
-      (old : (m k e c : ℕ) (r : Row) (f : Frame) → row_of F.rows m ≡ Some r → r.job ≡ Does k e c → (r.mark ≡ Over → ⊥) → slot_at fs k ≡ Some f → (x : Name) → In x (rights (entry C e)) → Resolved C names (slot_for L fs k f.body x) (place_at C (path_of fs k) x))
+      (old : (m k e c : ℕ) (r : Row) (f : Frame) → row_of F.rows m ≡ Some r → r.job ≡ Does k e c → (r.status ≡ Over → ⊥) → slot_at fs k ≡ Some f → (x : Name) → In x (rights (entry C e)) → Resolved C names (slot_for L fs k f.body x) (place_at C (path_of fs k) x))
       (new : (m : Instance) → In m ms → (b : ℕ) → In b (body C m.body).entries → (r : Name) → In r (rights (entry C b)) → SlotStands C t later (slot_for L mid m.key m.body r) (place_at C m.path r)) where
-    rights_stand : (m k e c : ℕ) (r : Row) (f : Frame) → row_of G.rows m ≡ Some r → r.job ≡ Does k e c → (r.mark ≡ Over → ⊥) → slot_at G.frames k ≡ Some f → (x : Name) → In x (rights (entry C e)) → SlotStands C t later (slot_for L G.frames k f.body x) (place_at C (path_of G.frames k) x)
-    rights_stand m k e c r f h q live fr x ix = by (live_row C I L es F w n t G P m r h (live_mark r.mark live)).was
+    rights_stand : (m k e c : ℕ) (r : Row) (f : Frame) → row_of G.rows m ≡ Some r → r.job ≡ Does k e c → (r.status ≡ Over → ⊥) → slot_at G.frames k ≡ Some f → (x : Name) → In x (rights (entry C e)) → SlotStands C t later (slot_for L G.frames k f.body x) (place_at C (path_of G.frames k) x)
+    rights_stand m k e c r f h q live fr x ix = by (live_row C I L es F w n t G P m r h (live_status r.status live)).was
       where
-        of_old : (i a b d : ℕ) (u : Row) → row_of F.rows i ≡ Some u → u.job ≡ Does a b d → (u.mark ≡ Over → ⊥) → k ≡ a → e ≡ b → SlotStands C t later (slot_for L G.frames k f.body x) (place_at C (path_of G.frames k) x)
+        of_old : (i a b d : ℕ) (u : Row) → row_of F.rows i ≡ Some u → u.job ≡ Does a b d → (u.status ≡ Over → ⊥) → k ≡ a → e ≡ b → SlotStands C t later (slot_for L G.frames k f.body x) (place_at C (path_of G.frames k) x)
         of_old i a b d u hu qu lu ea eb =
             let g = P.x.frames.there i a b d u hu qu lu in
             let fa : slot_at G.frames a ≡ Some f = subst (λ (y : ℕ). slot_at G.frames y ≡ Some f) ea fr in
@@ -125,7 +125,7 @@ module _ (C : Code) (I : IsCode C) (L : Layout) (es : List Event) (F : Fields) (
             (ap (λ (y : ℕ). place_at C (path_of G.frames y) x) ea ∙ ap (λ (y : List Step). place_at C y x) (old_path C I L es F w n t G P a g.0 f g.1 fa))
             (resolved_stands (slot_for L fs a g.0.body x) (place_at C (path_of fs a) x) z)
 
-        by : ((u : Row) × (row_of F.rows m ≡ Some u) × (u.mark ≡ Over → ⊥) × (m ≡ n → ⊥) × (r.job ≡ u.job)) ⊎ (In r.job (jobs_after C ms j (os C I L es F w n t G P)) × (length F.rows < m)) → SlotStands C t later (slot_for L G.frames k f.body x) (place_at C (path_of G.frames k) x)
+        by : ((u : Row) × (row_of F.rows m ≡ Some u) × (u.status ≡ Over → ⊥) × (m ≡ n → ⊥) × (r.job ≡ u.job)) ⊎ (In r.job (jobs_after C ms j (os C I L es F w n t G P)) × (length F.rows < m)) → SlotStands C t later (slot_for L G.frames k f.body x) (place_at C (path_of G.frames k) x)
         by (inl p) = of_old m k e c p.0 p.1 (sym p.4 ∙ q) p.2 refl refl
         by (inr p) =
             elim (new_job_is C I L es F w n t G P r.job p.0).is [
@@ -135,7 +135,7 @@ module _ (C : Code) (I : IsCode C) (L : Layout) (es : List Event) (F : Fields) (
                   (ap (λ (y : ℕ). slot_for L G.frames y f.body x) a.0 ∙ new_slot u.0 u.2 f x fa)
                   (ap (λ (y : ℕ). place_at C (path_of G.frames y) x) a.0 ∙ ap (λ (y : List Step). place_at C y x) (made_path C I L es F w n t G P u.0 u.2))
                   (new u.0 u.2 u.1 u.3 x (subst (λ (y : ℕ). In x (rights (entry C y))) a.1 ix)))
-              | inr u ↦ (let a = key_is (sym q ∙ u.4) in of_old n u.0 u.1 u.2 P.row P.row_is u.3 (not_over P.row.mark (own_live C I L es F w n t G P)) a.0 a.1)
+              | inr u ↦ (let a = key_is (sym q ∙ u.4) in of_old n u.0 u.1 u.2 P.row P.row_is u.3 (not_over P.row.status (own_live C I L es F w n t G P)) a.0 a.1)
             ]
 
   -- instances afterwards

@@ -18,7 +18,7 @@ use Rattle.board_history.proofs.EndedNames.{Resolved, to_datum, to_literal}
 use Rattle.board_history.proofs.EndedWants.{no_element_input, scalar_place, none_left}
 use Rattle.board_history.proofs.Tests.{choose, closed_sound, closed_told, yes_no}
 use Rattle.task_code.proofs.Equal.{every_in}
-use Rattle.task_code.specs.Code.{Act, Assert, At, AtKey, Call, Cell, Closed, Code, Copy, Each, Fill, Header, If, Name, Need, Print, Put, Range, Read, Set, Stored, Variable, Wait, entry, is_array_name}
+use Rattle.task_code.specs.Code.{Act, Assert, At, AtKey, Call, Cell, Closed, Code, Copy, Each, Fill, Header, If, Name, Need, Print, InsertElement, Range, Read, Set, Stored, Variable, Wait, entry, is_array_name}
 use Rattle.task_code.specs.Compute.{key_of}
 use Rattle.task_code.specs.Effects.{only}
 use Rattle.task_code.specs.Machine.{CodeState}
@@ -26,7 +26,7 @@ use Rattle.task_code.specs.Places.{Datum, Place, Step, place_at}
 use Rattle.task_code.specs.Shape.{feeds, fits_kinds, has_shape, is_none, is_plain, is_same_plain, one_array, one_element}
 use Rattle.task_code.specs.System.{code_system, element_input, inputs_at, key_input, scalar_input, whole_input}
 use Rattle.task_code.specs.Whole.{IsCode}
-use Rattle.values.specs.Keys.{mark_of}
+use Rattle.values.specs.Keys.{hash_of}
 use Rattle.values.specs.declared.key.Key.{Key}
 use Rattle.values.specs.declared.value.Scalar.{Scalar}
 
@@ -86,7 +86,7 @@ shapes (Call b rs os) ns h = inl (none_plain ns h)
 shapes (Set r e) ns h = inl (fed_plain ns _ (and_parts (not (is_array_name r)) _ h).1)
 shapes (Fill r es) ns h = inl (fed_plain ns _ (and_parts (is_array_name r) _ h).1)
 shapes (Copy r) ns h = inl (array_plain ns (and_parts (is_array_name r) _ h).1)
-shapes (Put r i e) ns h = inl (fed_plain ns _ (and_parts (is_array_name r) _ h).1)
+shapes (InsertElement r i e) ns h = inl (fed_plain ns _ (and_parts (is_array_name r) _ h).1)
 shapes (Print e) ns h = inl (fed_plain ns _ h)
 shapes (Assert e) ns h = inl (fed_plain ns _ h)
 shapes (If e b d) ns h = inl (fed_plain ns _ h)
@@ -154,22 +154,22 @@ module _ (C : Code) (I : IsCode C) (L : Layout) (es : List Event) (F : Fields) (
             (λ nc. ap (λ (o : Bool). array_wanted o (Datum q v) ++ []) (array_unknown C I L es F w n t G P d q v h nf na nc e))
             (λ c. ap (λ (o : Bool). array_wanted o (Datum q v) ++ []) (known_array C I L es F w n t G P d q v there na (covered_known C I L es F w n t G P d q v h nf c)))
 
-    element_waited : v.array ≡ true → (k : Key) → Waited (element_wanted (value_at (code_system C) code_tests s.stored (Datum q v) k) (closed_of s (Datum q v)) (Datum q v) (mark_of k) ++ []) (element_wanted (value_at (code_system C) code_tests t.stored (Datum q v) k) (closed_of t (Datum q v)) (Datum q v) (mark_of k) ++ [])
+    element_waited : v.array ≡ true → (k : Key) → Waited (element_wanted (value_at (code_system C) code_tests s.stored (Datum q v) k) (closed_of s (Datum q v)) (Datum q v) (hash_of k) ++ []) (element_wanted (value_at (code_system C) code_tests t.stored (Datum q v) k) (closed_of t (Datum q v)) (Datum q v) (hash_of k) ++ [])
     element_waited na k = by (value_at (code_system C) code_tests s.stored (Datum q v) k) (closed_of s (Datum q v)) refl refl
       where
-        some_none : (o : Option Scalar) (b : Bool) → b ≡ true → element_wanted o b (Datum q v) (mark_of k) ++ [] ≡ []
+        some_none : (o : Option Scalar) (b : Bool) → b ≡ true → element_wanted o b (Datum q v) (hash_of k) ++ [] ≡ []
         some_none None true e = refl
         some_none None false e = yes_no e refl
         some_none (Some u) b e = refl
 
-        by : (o : Option Scalar) (b : Bool) → value_at (code_system C) code_tests s.stored (Datum q v) k ≡ o → closed_of s (Datum q v) ≡ b → Waited (element_wanted (value_at (code_system C) code_tests s.stored (Datum q v) k) (closed_of s (Datum q v)) (Datum q v) (mark_of k) ++ []) (element_wanted (value_at (code_system C) code_tests t.stored (Datum q v) k) (closed_of t (Datum q v)) (Datum q v) (mark_of k) ++ [])
+        by : (o : Option Scalar) (b : Bool) → value_at (code_system C) code_tests s.stored (Datum q v) k ≡ o → closed_of s (Datum q v) ≡ b → Waited (element_wanted (value_at (code_system C) code_tests s.stored (Datum q v) k) (closed_of s (Datum q v)) (Datum q v) (hash_of k) ++ []) (element_wanted (value_at (code_system C) code_tests t.stored (Datum q v) k) (closed_of t (Datum q v)) (Datum q v) (hash_of k) ++ [])
         by (Some u) b e c =
-            none (ap (λ (o : Option Scalar). element_wanted o (closed_of s (Datum q v)) (Datum q v) (mark_of k) ++ []) e) (ap (λ (o : Option Scalar). element_wanted o (closed_of t (Datum q v)) (Datum q v) (mark_of k) ++ []) (value_stays_at C I L es F w n t G P d q v h nf k u e))
+            none (ap (λ (o : Option Scalar). element_wanted o (closed_of s (Datum q v)) (Datum q v) (hash_of k) ++ []) e) (ap (λ (o : Option Scalar). element_wanted o (closed_of t (Datum q v)) (Datum q v) (hash_of k) ++ []) (value_stays_at C I L es F w n t G P d q v h nf k u e))
         by None true e c =
             none (some_none (value_at (code_system C) code_tests s.stored (Datum q v) k) (closed_of s (Datum q v)) c) (some_none (value_at (code_system C) code_tests t.stored (Datum q v) k) (closed_of t (Datum q v)) (closed_told (code_system C) code_tests (code_told C) t (Datum q v) (closed_stays C I L es F w n t G P (Datum q v) nf (closed_sound (code_system C) code_tests (code_told C) s (Datum q v) c))))
         by None false e c =
-            element d (Datum q v) (mark_of k) h there (λ i. element_wanted (e i) (c i) (Datum q v) (mark_of k) ++ [])
-            (λ nc. let z = element_unknown C I L es F w n t G P d q v h nf na k nc c e in λ i. element_wanted (z.0 i) (z.1 i) (Datum q v) (mark_of k) ++ [])
+            element d (Datum q v) (hash_of k) h there (λ i. element_wanted (e i) (c i) (Datum q v) (hash_of k) ++ [])
+            (λ nc. let z = element_unknown C I L es F w n t G P d q v h nf na k nc c e in λ i. element_wanted (z.0 i) (z.1 i) (Datum q v) (hash_of k) ++ [])
 
   -- the needs of an entry whose names stand for places
   module _ (e : ℕ) (p : List Step) (f : Name → Slot) (res : (r : Name) → In r (entry C e).reads → Resolved C names (f r) (place_at C p r)) (nf : (r : Name) → In r (entry C e).reads → (q : List Step) (v : Variable) → place_at C p r ≡ Datum q v → Free (code_system C) t (Datum q v) → ⊥) where

@@ -9,8 +9,8 @@ use Rattle.board_history.specs.Ending.{stored_values}
 use Rattle.board_history.proofs.EndedNames.{flat_in}
 use Rattle.board_history.proofs.Tests.{yes_no}
 use Rattle.task_code.proofs.Rights.{in_gather}
-use Rattle.task_code.specs.Code.{Act, Assert, Call, Cell, Code, Copy, Each, Fill, If, Loop, Name, Need, Print, Put, Range, Read, Set, Wait, here, is_array_name, loop_of, scalar, stored_of}
-use Rattle.task_code.specs.Compute.{Computed, Elements, Fails, Gives, Inserts, Opens, Takes, Turns, answer_at, compute, content, eval, evals, filled, given, key_scalar, put, read}
+use Rattle.task_code.specs.Code.{Act, Assert, Call, Cell, Code, Copy, Each, Fill, If, Loop, Name, Need, Print, InsertElement, Range, Read, Set, Wait, here, is_array_name, loop_of, scalar, stored_of}
+use Rattle.task_code.specs.Compute.{Computed, Elements, Fails, Gives, Inserts, Opens, Takes, Turns, answer_at, compute, content, eval, evals, filled, given, key_scalar, insert_element, read}
 use Rattle.task_code.specs.Effects.{bound, chunk, inserted_at, only, step_at, stored_at, stores, turn_bound, turns_of}
 use Rattle.task_code.specs.Places.{Datum, Place, Step, place_at}
 use Rattle.task_code.specs.Shape.{has_shape}
@@ -89,7 +89,7 @@ filled_elements : (r : Result Value OpFault) → is_gives (filled r) ≡ false
 filled_elements (Ok v) = refl
 filled_elements (Err f) = refl
 
-put_elements : (a b : Result Value OpFault) → is_gives (put a b) ≡ false
+put_elements : (a b : Result Value OpFault) → is_gives (insert_element a b) ≡ false
 put_elements (Err f) b = refl
 put_elements (Ok i) (Err f) = refl
 put_elements (Ok i) (Ok v) = refl
@@ -116,7 +116,7 @@ scalar_key (Fill q es) ns node xs r k v sh i na h =
     elim i [ inl p ↦ yes_no (and_parts (is_array_name q) _ sh).0 (ap is_array_name (sym p) ∙ na) | inr g ↦ absurd g ]
 scalar_key (Copy q) ns node xs r k v sh i na h =
     elim i [ inl p ↦ yes_no (and_parts (is_array_name q) _ sh).0 (ap is_array_name (sym p) ∙ na) | inr g ↦ absurd g ]
-scalar_key (Put q x e) ns node xs r k v sh i na h =
+scalar_key (InsertElement q x e) ns node xs r k v sh i na h =
     elim i [ inl p ↦ yes_no (and_parts (is_array_name q) _ sh).0 (ap is_array_name (sym p) ∙ na) | inr g ↦ absurd g ]
 scalar_key (Print e) ns node xs r k v sh i na h = absurd i
 scalar_key (Assert e) ns node xs r k v sh i na h = absurd i
@@ -127,85 +127,85 @@ scalar_key (Wait hs b) ns node xs r k v sh i na h = absurd i
 
 module _ (C : Code) where
   -- a write is of what the item stores into its target, or of a loop's variable
-  pub data Stored (a : Act) (node mark : ℕ) (p : List Step) (c : ℕ) (y : Computed) (w : Write Place Key Scalar) : Type 0 where
-    into : (r : Name) → In r (stored_of node a) → w.place ≡ place_at C p r → In (w.key, w.value) (stored_values y) → Stored a node mark p c y w
-    binds : (l : Loop) (t : Key × Scalar) → loop_of a ≡ Some l → In t (chunk c (turns_of y)) → In w (bound l mark p t) → Stored a node mark p c y w
+  pub data Stored (a : Act) (node offset : ℕ) (p : List Step) (c : ℕ) (y : Computed) (w : Write Place Key Scalar) : Type 0 where
+    into : (r : Name) → In r (stored_of node a) → w.place ≡ place_at C p r → In (w.key, w.value) (stored_values y) → Stored a node offset p c y w
+    binds : (l : Loop) (t : Key × Scalar) → loop_of a ≡ Some l → In t (chunk c (turns_of y)) → In w (bound l offset p t) → Stored a node offset p c y w
 
-  into_scalar : (a : Act) (node mark : ℕ) (p : List Step) (c : ℕ) (y : Computed) (w : Write Place Key Scalar) (r : Name) → In r (stored_of node a) → is_inserts y ≡ false → In w (stored_at (place_at C p r) y) → Stored a node mark p c y w
-  into_scalar a node mark p c y w r i n h = let z = stored_told (place_at C p r) y w n h in into r i z.0 z.1
+  into_scalar : (a : Act) (node offset : ℕ) (p : List Step) (c : ℕ) (y : Computed) (w : Write Place Key Scalar) (r : Name) → In r (stored_of node a) → is_inserts y ≡ false → In w (stored_at (place_at C p r) y) → Stored a node offset p c y w
+  into_scalar a node offset p c y w r i n h = let z = stored_told (place_at C p r) y w n h in into r i z.0 z.1
 
-  into_array : (a : Act) (node mark : ℕ) (p : List Step) (c : ℕ) (y : Computed) (w : Write Place Key Scalar) (r : Name) → In r (stored_of node a) → In w (inserted_at (place_at C p r) y) → Stored a node mark p c y w
-  into_array a node mark p c y w r i h = let z = inserted_told (place_at C p r) y w h in into r i z.0 z.1
+  into_array : (a : Act) (node offset : ℕ) (p : List Step) (c : ℕ) (y : Computed) (w : Write Place Key Scalar) (r : Name) → In r (stored_of node a) → In w (inserted_at (place_at C p r) y) → Stored a node offset p c y w
+  into_array a node offset p c y w r i h = let z = inserted_told (place_at C p r) y w h in into r i z.0 z.1
 
-  into_turn : (a : Act) (node mark : ℕ) (p : List Step) (c : ℕ) (y : Computed) (w : Write Place Key Scalar) (l : Loop) → loop_of a ≡ Some l → In w (flat_map (bound l mark p) (chunk c (turns_of y))) → Stored a node mark p c y w
-  into_turn a node mark p c y w l e h = let z = in_gather C (bound l mark p) (chunk c (turns_of y)) w h in binds l z.0 e z.1 z.2
+  into_turn : (a : Act) (node offset : ℕ) (p : List Step) (c : ℕ) (y : Computed) (w : Write Place Key Scalar) (l : Loop) → loop_of a ≡ Some l → In w (flat_map (bound l offset p) (chunk c (turns_of y))) → Stored a node offset p c y w
+  into_turn a node offset p c y w l e h = let z = in_gather C (bound l offset p) (chunk c (turns_of y)) w h in binds l z.0 e z.1 z.2
 
-  pub stores_told : (a : Act) (node mark : ℕ) (p : List Step) (c : ℕ) (xs : List (Answer Key Scalar)) (w : Write Place Key Scalar) → In w (stores C a node mark p c (compute a xs)) → Stored a node mark p c (compute a xs) w
-  stores_told (Cell e) node mark p c xs w h = into_scalar (Cell e) node mark p c (given (eval xs e)) w (here (scalar node)) (inl refl) (given_scalar (eval xs e)) h
-  stores_told Read node mark p c xs w h = into_scalar Read node mark p c (read (answer_at xs 0)) w (here (scalar node)) (inl refl) (read_scalar (answer_at xs 0)) h
-  stores_told (Call b rs os) node mark p c xs w h = absurd h
-  stores_told (Set r e) node mark p c xs w h = into_scalar (Set r e) node mark p c (given (eval xs e)) w r (inl refl) (given_scalar (eval xs e)) h
-  stores_told (Fill r es) node mark p c xs w h = into_array (Fill r es) node mark p c (filled (evaluated literal (evals xs es))) w r (inl refl) h
-  stores_told (Copy r) node mark p c xs w h = into_array (Copy r) node mark p c (Inserts (content (answer_at xs 0))) w r (inl refl) h
-  stores_told (Put r i e) node mark p c xs w h = into_array (Put r i e) node mark p c (put (eval xs i) (eval xs e)) w r (inl refl) h
-  stores_told (Print e) node mark p c xs w h = absurd h
-  stores_told (Assert e) node mark p c xs w h = absurd h
-  stores_told (If e b d) node mark p c xs w h = absurd h
-  stores_told (Range l hh s v) node mark p c xs w h = into_turn (Range l hh s v) node mark p c (compute (Range l hh s v) xs) w v refl h
-  stores_told (Each v) node mark p c xs w h = into_turn (Each v) node mark p c (compute (Each v) xs) w v refl h
-  stores_told (Wait hs b) node mark p c xs w h = absurd h
+  pub stores_told : (a : Act) (node offset : ℕ) (p : List Step) (c : ℕ) (xs : List (Answer Key Scalar)) (w : Write Place Key Scalar) → In w (stores C a node offset p c (compute a xs)) → Stored a node offset p c (compute a xs) w
+  stores_told (Cell e) node offset p c xs w h = into_scalar (Cell e) node offset p c (given (eval xs e)) w (here (scalar node)) (inl refl) (given_scalar (eval xs e)) h
+  stores_told Read node offset p c xs w h = into_scalar Read node offset p c (read (answer_at xs 0)) w (here (scalar node)) (inl refl) (read_scalar (answer_at xs 0)) h
+  stores_told (Call b rs os) node offset p c xs w h = absurd h
+  stores_told (Set r e) node offset p c xs w h = into_scalar (Set r e) node offset p c (given (eval xs e)) w r (inl refl) (given_scalar (eval xs e)) h
+  stores_told (Fill r es) node offset p c xs w h = into_array (Fill r es) node offset p c (filled (evaluated literal (evals xs es))) w r (inl refl) h
+  stores_told (Copy r) node offset p c xs w h = into_array (Copy r) node offset p c (Inserts (content (answer_at xs 0))) w r (inl refl) h
+  stores_told (InsertElement r i e) node offset p c xs w h = into_array (InsertElement r i e) node offset p c (insert_element (eval xs i) (eval xs e)) w r (inl refl) h
+  stores_told (Print e) node offset p c xs w h = absurd h
+  stores_told (Assert e) node offset p c xs w h = absurd h
+  stores_told (If e b d) node offset p c xs w h = absurd h
+  stores_told (Range l hh s v) node offset p c xs w h = into_turn (Range l hh s v) node offset p c (compute (Range l hh s v) xs) w v refl h
+  stores_told (Each v) node offset p c xs w h = into_turn (Each v) node offset p c (compute (Each v) xs) w v refl h
+  stores_told (Wait hs b) node offset p c xs w h = absurd h
 
   at_target : (p : List Step) (x r : Name) (w : Write Place Key Scalar) → r ≡ x → w.place ≡ place_at C p r → w.place ≡ place_at C p x
   at_target p x r w e h = h ∙ ap (place_at C p) e
 
-  pub target_stored : (a : Act) (node mark : ℕ) (p : List Step) (c : ℕ) (xs : List (Answer Key Scalar)) (w : Write Place Key Scalar) (r : Name) → In r (stored_of node a) → w.place ≡ place_at C p r → In (w.key, w.value) (stored_values (compute a xs)) → In w (stores C a node mark p c (compute a xs))
-  target_stored (Cell e) node mark p c xs w r i h g =
+  pub target_stored : (a : Act) (node offset : ℕ) (p : List Step) (c : ℕ) (xs : List (Answer Key Scalar)) (w : Write Place Key Scalar) (r : Name) → In r (stored_of node a) → w.place ≡ place_at C p r → In (w.key, w.value) (stored_values (compute a xs)) → In w (stores C a node offset p c (compute a xs))
+  target_stored (Cell e) node offset p c xs w r i h g =
       elim i [ inl q ↦ told_stored (place_at C p (here (scalar node))) (given (eval xs e)) w (given_scalar (eval xs e)) (at_target p (here (scalar node)) r w q h) g | inr z ↦ absurd z ]
-  target_stored Read node mark p c xs w r i h g =
+  target_stored Read node offset p c xs w r i h g =
       elim i [ inl q ↦ told_stored (place_at C p (here (scalar node))) (read (answer_at xs 0)) w (read_scalar (answer_at xs 0)) (at_target p (here (scalar node)) r w q h) g | inr z ↦ absurd z ]
-  target_stored (Call b rs os) node mark p c xs w r i h g = absurd i
-  target_stored (Set t e) node mark p c xs w r i h g =
+  target_stored (Call b rs os) node offset p c xs w r i h g = absurd i
+  target_stored (Set t e) node offset p c xs w r i h g =
       elim i [ inl q ↦ told_stored (place_at C p t) (given (eval xs e)) w (given_scalar (eval xs e)) (at_target p t r w q h) g | inr z ↦ absurd z ]
-  target_stored (Fill t es) node mark p c xs w r i h g =
+  target_stored (Fill t es) node offset p c xs w r i h g =
       elim i [ inl q ↦ told_inserted (place_at C p t) (filled (evaluated literal (evals xs es))) w (filled_elements (evaluated literal (evals xs es))) (at_target p t r w q h) g | inr z ↦ absurd z ]
-  target_stored (Copy t) node mark p c xs w r i h g =
+  target_stored (Copy t) node offset p c xs w r i h g =
       elim i [ inl q ↦ told_inserted (place_at C p t) (Inserts (content (answer_at xs 0))) w refl (at_target p t r w q h) g | inr z ↦ absurd z ]
-  target_stored (Put t x e) node mark p c xs w r i h g =
-      elim i [ inl q ↦ told_inserted (place_at C p t) (put (eval xs x) (eval xs e)) w (put_elements (eval xs x) (eval xs e)) (at_target p t r w q h) g | inr z ↦ absurd z ]
-  target_stored (Print e) node mark p c xs w r i h g = absurd i
-  target_stored (Assert e) node mark p c xs w r i h g = absurd i
-  target_stored (If e b d) node mark p c xs w r i h g = absurd i
-  target_stored (Range l hh s v) node mark p c xs w r i h g = absurd i
-  target_stored (Each v) node mark p c xs w r i h g = absurd i
-  target_stored (Wait hs b) node mark p c xs w r i h g = absurd i
+  target_stored (InsertElement t x e) node offset p c xs w r i h g =
+      elim i [ inl q ↦ told_inserted (place_at C p t) (insert_element (eval xs x) (eval xs e)) w (put_elements (eval xs x) (eval xs e)) (at_target p t r w q h) g | inr z ↦ absurd z ]
+  target_stored (Print e) node offset p c xs w r i h g = absurd i
+  target_stored (Assert e) node offset p c xs w r i h g = absurd i
+  target_stored (If e b d) node offset p c xs w r i h g = absurd i
+  target_stored (Range l hh s v) node offset p c xs w r i h g = absurd i
+  target_stored (Each v) node offset p c xs w r i h g = absurd i
+  target_stored (Wait hs b) node offset p c xs w r i h g = absurd i
 
-  pub turn_stored : (a : Act) (node mark : ℕ) (p : List Step) (c : ℕ) (y : Computed) (w : Write Place Key Scalar) (l : Loop) (t : Key × Scalar) → loop_of a ≡ Some l → In t (chunk c (turns_of y)) → In w (bound l mark p t) → In w (stores C a node mark p c y)
-  turn_stored (Cell e) node mark p c y w l t q i h = absurd (cc)
-  turn_stored Read node mark p c y w l t q i h = absurd (cc)
-  turn_stored (Call b rs os) node mark p c y w l t q i h = absurd (cc)
-  turn_stored (Set r e) node mark p c y w l t q i h = absurd (cc)
-  turn_stored (Fill r es) node mark p c y w l t q i h = absurd (cc)
-  turn_stored (Copy r) node mark p c y w l t q i h = absurd (cc)
-  turn_stored (Put r x e) node mark p c y w l t q i h = absurd (cc)
-  turn_stored (Print e) node mark p c y w l t q i h = absurd (cc)
-  turn_stored (Assert e) node mark p c y w l t q i h = absurd (cc)
-  turn_stored (If e b d) node mark p c y w l t q i h = absurd (cc)
-  turn_stored (Range lo hh s v) node mark p c y w l t q i h =
-      let e : v ≡ l = cc in flat_in (bound v mark p) (chunk c (turns_of y)) t w i (subst (λ (z : Loop). In w (bound z mark p t)) (sym e) h)
-  turn_stored (Each v) node mark p c y w l t q i h =
-      let e : v ≡ l = cc in flat_in (bound v mark p) (chunk c (turns_of y)) t w i (subst (λ (z : Loop). In w (bound z mark p t)) (sym e) h)
-  turn_stored (Wait hs b) node mark p c y w l t q i h = absurd (cc)
+  pub turn_stored : (a : Act) (node offset : ℕ) (p : List Step) (c : ℕ) (y : Computed) (w : Write Place Key Scalar) (l : Loop) (t : Key × Scalar) → loop_of a ≡ Some l → In t (chunk c (turns_of y)) → In w (bound l offset p t) → In w (stores C a node offset p c y)
+  turn_stored (Cell e) node offset p c y w l t q i h = absurd (cc)
+  turn_stored Read node offset p c y w l t q i h = absurd (cc)
+  turn_stored (Call b rs os) node offset p c y w l t q i h = absurd (cc)
+  turn_stored (Set r e) node offset p c y w l t q i h = absurd (cc)
+  turn_stored (Fill r es) node offset p c y w l t q i h = absurd (cc)
+  turn_stored (Copy r) node offset p c y w l t q i h = absurd (cc)
+  turn_stored (InsertElement r x e) node offset p c y w l t q i h = absurd (cc)
+  turn_stored (Print e) node offset p c y w l t q i h = absurd (cc)
+  turn_stored (Assert e) node offset p c y w l t q i h = absurd (cc)
+  turn_stored (If e b d) node offset p c y w l t q i h = absurd (cc)
+  turn_stored (Range lo hh s v) node offset p c y w l t q i h =
+      let e : v ≡ l = cc in flat_in (bound v offset p) (chunk c (turns_of y)) t w i (subst (λ (z : Loop). In w (bound z offset p t)) (sym e) h)
+  turn_stored (Each v) node offset p c y w l t q i h =
+      let e : v ≡ l = cc in flat_in (bound v offset p) (chunk c (turns_of y)) t w i (subst (λ (z : Loop). In w (bound z offset p t)) (sym e) h)
+  turn_stored (Wait hs b) node offset p c y w l t q i h = absurd (cc)
 
 -- a turn's variables
-pub record BoundIs (l : Loop) (mark : ℕ) (p : List Step) (t : Key × Scalar) (w : Write Place Key Scalar) : Type 0 where
+pub record BoundIs (l : Loop) (offset : ℕ) (p : List Step) (t : Key × Scalar) (w : Write Place Key Scalar) : Type 0 where
   pub key : w.key ≡ only
-  pub is : ((w.place ≡ Datum (step_at mark t.0 p) (scalar l.value)) × (w.value ≡ t.1)) ⊎ ((n : ℕ) × (l.turn ≡ Some n) × (w.place ≡ Datum (step_at mark t.0 p) (scalar n)) × (w.value ≡ key_scalar t.0))
+  pub is : ((w.place ≡ Datum (step_at offset t.0 p) (scalar l.value)) × (w.value ≡ t.1)) ⊎ ((n : ℕ) × (l.turn ≡ Some n) × (w.place ≡ Datum (step_at offset t.0 p) (scalar n)) × (w.value ≡ key_scalar t.0))
 
-pub bound_is : (l : Loop) (mark : ℕ) (p : List Step) (t : Key × Scalar) (w : Write Place Key Scalar) → In w (bound l mark p t) → BoundIs l mark p t w
-bound_is l mark p t w (inl e) = record { key = ap (λ (y : Write Place Key Scalar). y.key) e; is = inl (ap (λ (y : Write Place Key Scalar). y.place) e, ap (λ (y : Write Place Key Scalar). y.value) e) }
-bound_is l mark p t w (inr h) = by l.turn refl h
+pub bound_is : (l : Loop) (offset : ℕ) (p : List Step) (t : Key × Scalar) (w : Write Place Key Scalar) → In w (bound l offset p t) → BoundIs l offset p t w
+bound_is l offset p t w (inl e) = record { key = ap (λ (y : Write Place Key Scalar). y.key) e; is = inl (ap (λ (y : Write Place Key Scalar). y.place) e, ap (λ (y : Write Place Key Scalar). y.value) e) }
+bound_is l offset p t w (inr h) = by l.turn refl h
   where
-    by : (o : Option ℕ) → l.turn ≡ o → In w (turn_bound o (step_at mark t.0 p) t.0) → BoundIs l mark p t w
+    by : (o : Option ℕ) → l.turn ≡ o → In w (turn_bound o (step_at offset t.0 p) t.0) → BoundIs l offset p t w
     by None e h = absurd h
     by (Some n) e h =
         elim h [
@@ -213,8 +213,8 @@ bound_is l mark p t w (inr h) = by l.turn refl h
           | inr z ↦ absurd z
         ]
 
-pub value_in_bound : (l : Loop) (mark : ℕ) (p : List Step) (t : Key × Scalar) → In (record { place = Datum (step_at mark t.0 p) (scalar l.value); key = only; value = t.1 }) (bound l mark p t)
-value_in_bound l mark p t = inl refl
+pub value_in_bound : (l : Loop) (offset : ℕ) (p : List Step) (t : Key × Scalar) → In (record { place = Datum (step_at offset t.0 p) (scalar l.value); key = only; value = t.1 }) (bound l offset p t)
+value_in_bound l offset p t = inl refl
 
-pub turn_in_bound : (l : Loop) (mark : ℕ) (p : List Step) (t : Key × Scalar) (n : ℕ) → l.turn ≡ Some n → In (record { place = Datum (step_at mark t.0 p) (scalar n); key = only; value = key_scalar t.0 }) (bound l mark p t)
-turn_in_bound l mark p t n e = inr (subst (λ (o : Option ℕ). In (record { place = Datum (step_at mark t.0 p) (scalar n); key = only; value = key_scalar t.0 }) (turn_bound o (step_at mark t.0 p) t.0)) (sym e) (inl refl))
+pub turn_in_bound : (l : Loop) (offset : ℕ) (p : List Step) (t : Key × Scalar) (n : ℕ) → l.turn ≡ Some n → In (record { place = Datum (step_at offset t.0 p) (scalar n); key = only; value = key_scalar t.0 }) (bound l offset p t)
+turn_in_bound l offset p t n e = inr (subst (λ (o : Option ℕ). In (record { place = Datum (step_at offset t.0 p) (scalar n); key = only; value = key_scalar t.0 }) (turn_bound o (step_at offset t.0 p) t.0)) (sym e) (inl refl))

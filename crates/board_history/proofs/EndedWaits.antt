@@ -20,7 +20,7 @@ use Rattle.board_history.proofs.EndedRows.{NewItem, new_at_item, new_item_at, ro
 use Rattle.board_history.proofs.EndedSlots.{new_slot, old_slot}
 use Rattle.board_history.proofs.EndedStill.{none_later, still_stand}
 use Rattle.board_history.proofs.EndedWants.{needs_stand, none_left, left_none}
-use Rattle.board_history.proofs.Marking.{RowIs, live_mark}
+use Rattle.board_history.proofs.Marking.{RowIs, live_status}
 use Rattle.board_history.proofs.Standing.{enabled_wants, one_number}
 use Rattle.board_history.proofs.Static.{declared_of}
 use Rattle.board_history.proofs.Tests.{none_some, some_same}
@@ -125,7 +125,7 @@ module _ (C : Code) (I : IsCode C) (L : Layout) (es : List Event) (F : Fields) (
       frame = P.x.frames.there (suc r.at) k e c r.row r.there q r.not_over
 
       frame_later : (g : Frame) × (slot_at gs k ≡ Some g)
-      frame_later = frame_stays C I L es F w n t G P (suc r.at) k e c r.row r.there (live_mark r.row.mark r.not_over) not_n q
+      frame_later = frame_stays C I L es F w n t G P (suc r.at) k e c r.row r.there (live_status r.row.status r.not_over) not_n q
 
       old_task : i.task ≡ Item e (path_of fs k) c
       old_task = r.task_is ∙ ap (task_of fs) q

@@ -25,7 +25,7 @@ use Rattle.task_code.specs.Places.{Constant, Datum, Nowhere, Place, Step, place_
 use Rattle.task_code.specs.Shape.{fits_kinds}
 use Rattle.task_code.specs.System.{code_system, element_input, inputs_at, key_input, scalar_input, whole_input}
 use Rattle.task_code.specs.Whole.{IsCode}
-use Rattle.values.specs.Keys.{mark_of}
+use Rattle.values.specs.Keys.{hash_of}
 use Rattle.values.specs.declared.key.Key.{Key}
 use Rattle.values.specs.declared.value.Scalar.{Scalar}
 
@@ -85,13 +85,13 @@ module _ (C : Code) (I : IsCode C) (L : Layout) (es : List Event) (F : Fields) (
   element_pair d a k i None true = tt
   element_pair d a k i None false = ((i, refl), tt)
 
-  element_at : (d : ℕ) (q : List Step) (v : Variable) (k : Key) → In (d, Datum q v) later → v.array ≡ true → AllStand later (element_wanted (cell_element k (slot_at G.cells d)) (is_shut (slot_at G.cells d)) d (mark_of k)) (element_wanted (value_at (code_system C) code_tests t.stored (Datum q v) k) (is_closed (code_system C) code_tests t (Datum q v)) (Datum q v) (mark_of k) ++ [])
+  element_at : (d : ℕ) (q : List Step) (v : Variable) (k : Key) → In (d, Datum q v) later → v.array ≡ true → AllStand later (element_wanted (cell_element k (slot_at G.cells d)) (is_shut (slot_at G.cells d)) d (hash_of k)) (element_wanted (value_at (code_system C) code_tests t.stored (Datum q v) k) (is_closed (code_system C) code_tests t (Datum q v)) (Datum q v) (hash_of k) ++ [])
   element_at d q v k i na =
       let e = element_told C I L es F w n t G P d q v i na k in
       let s = shut_told C I L es F w n t G P d q v i in
-      subst (λ (o : Option Scalar). AllStand later (element_wanted o (is_shut (slot_at G.cells d)) d (mark_of k)) (element_wanted (value_at (code_system C) code_tests t.stored (Datum q v) k) (is_closed (code_system C) code_tests t (Datum q v)) (Datum q v) (mark_of k) ++ [])) (sym e)
-      (subst (λ (b : Bool). AllStand later (element_wanted (value_at (code_system C) code_tests t.stored (Datum q v) k) b d (mark_of k)) (element_wanted (value_at (code_system C) code_tests t.stored (Datum q v) k) (is_closed (code_system C) code_tests t (Datum q v)) (Datum q v) (mark_of k) ++ [])) (sym s)
-      (element_pair d (Datum q v) (mark_of k) i (value_at (code_system C) code_tests t.stored (Datum q v) k) (is_closed (code_system C) code_tests t (Datum q v))))
+      subst (λ (o : Option Scalar). AllStand later (element_wanted o (is_shut (slot_at G.cells d)) d (hash_of k)) (element_wanted (value_at (code_system C) code_tests t.stored (Datum q v) k) (is_closed (code_system C) code_tests t (Datum q v)) (Datum q v) (hash_of k) ++ [])) (sym e)
+      (subst (λ (b : Bool). AllStand later (element_wanted (value_at (code_system C) code_tests t.stored (Datum q v) k) b d (hash_of k)) (element_wanted (value_at (code_system C) code_tests t.stored (Datum q v) k) (is_closed (code_system C) code_tests t (Datum q v)) (Datum q v) (hash_of k) ++ [])) (sym s)
+      (element_pair d (Datum q v) (hash_of k) i (value_at (code_system C) code_tests t.stored (Datum q v) k) (is_closed (code_system C) code_tests t (Datum q v))))
 
   -- what an entry misses by the fields stands for what it waits for
   module _ (e : ℕ) (p : List Step) (f : Name → Slot) (res : (r : Name) → In r (entry C e).reads → Resolved C later (f r) (place_at C p r)) where
@@ -123,7 +123,7 @@ module _ (C : Code) (I : IsCode C) (L : Layout) (es : List Event) (F : Fields) (
     key_stand : (a : Name) (k : Key) → is_array_name a ≡ true → Resolved C later (f a) (place_at C p a) → Stand (AtKey a k)
     key_stand a k ar (to_datum d q v px pa i) =
         subst (λ (x : Slot). AllStand later (missed C G.cells (λ y. x) (AtKey a k)) (flat_map (wanted C t) (inputs_at C p (AtKey a k)))) (sym px)
-        (subst (λ (y : Place). AllStand later (element_wanted (cell_element k (slot_at G.cells d)) (is_shut (slot_at G.cells d)) d (mark_of k)) (flat_map (wanted C t) (key_input y k))) (sym pa)
+        (subst (λ (y : Place). AllStand later (element_wanted (cell_element k (slot_at G.cells d)) (is_shut (slot_at G.cells d)) d (hash_of k)) (flat_map (wanted C t) (key_input y k))) (sym pa)
         (element_at d q v k i (scalar_place C p a q v true ar pa)))
     key_stand a k ar (to_literal x m v px pa l) =
         subst (λ (y : Slot). AllStand later (missed C G.cells (λ z. y) (AtKey a k)) (flat_map (wanted C t) (inputs_at C p (AtKey a k)))) (sym px)

@@ -5,14 +5,14 @@ use Rattle.dataflow.specs.Machine.{End, Event, Fault, Run}
 use Rattle.dataflow.proofs.Lists.{seam_here}
 use Rattle.board_history.specs.CodeReplay.{next_state, replayed, and_then}
 use Rattle.board_history.specs.Elements.{code_tests}
-use Rattle.board_history.specs.Fields.{Fields, Layout, Mark, Over, Ready, Row, Running, Waiting, row_of, running_in}
+use Rattle.board_history.specs.Fields.{Fields, Layout, Status, Over, Ready, Row, Running, Waiting, row_of, running_in}
 use Rattle.board_history.specs.Stands.{Queued, Stands}
-use Rattle.board_history.specs.Marking.{faulted_fields, mark_at}
+use Rattle.board_history.specs.Marking.{faulted_fields, with_status}
 use Rattle.board_history.specs.Tidy.{FaultOnly}
 use Rattle.board_history.proofs.Tests.{none_some, some_same}
 use Rattle.board_history.proofs.Counts.{fault_counts}
 use Rattle.board_history.proofs.Elements.{code_told}
-use Rattle.board_history.proofs.Marking.{IsItem, item, item_not_over, mark_is as mark_split}
+use Rattle.board_history.proofs.Marking.{IsItem, item, item_not_over, status_is as status_split}
 use Rattle.board_history.proofs.Remarked.{Remark, enabled_back, enabled_on, found, new_item, old_item, place, row_there, running_not_ready, running_not_waiting, runs_of, stands_on}
 use Rattle.board_history.proofs.Quiet.{end_fault, replayed_bare}
 use Rattle.board_history.proofs.Replays.{replayed_then, run_next, run_replayed}
@@ -32,19 +32,19 @@ head_is : {X : Type 0} {a b : X} {xs ys : List X} → ◌≡◌ {A = List X} (a 
 head_is h = cc
 
 -- a row that runs on a worker, told by its item
-pub runs_on : (w : ℕ) (m : Mark) (y : IsItem m) → y.runs ≡ Some w → m ≡ Running w
+pub runs_on : (w : ℕ) (m : Status) (y : IsItem m) → y.runs ≡ Some w → m ≡ Running w
 runs_on w Waiting y h = some_none (sym h ∙ ap (λ (i : CodeItem). i.runs) (head_is (sym (y.is 0 Main []))))
 runs_on w Ready y h = some_none (sym h ∙ ap (λ (i : CodeItem). i.runs) (head_is (sym (y.is 0 Main []))))
 runs_on w (Running v) y h = ap Running (some_same (sym (runs_of (Running v) v y refl) ∙ h))
 runs_on w Over y h = absurd (item_not_over Over y refl)
 
--- a mark that a row has already changes nothing
-marked_same : (rows : List Row) (n : ℕ) (m : Mark) (r : Row) → row_of rows n ≡ Some r → r.mark ≡ m → mark_at rows n m ≡ rows
+-- a status that a row has already changes nothing
+marked_same : (rows : List Row) (n : ℕ) (m : Status) (r : Row) → row_of rows n ≡ Some r → r.status ≡ m → with_status rows n m ≡ rows
 marked_same [] n m r h k = refl
 marked_same (q ∷ rows) zero m r h k = refl
 marked_same (q ∷ rows) (suc zero) m r h k =
-    let e : m ≡ q.mark = sym k ∙ ap (λ (y : Row). y.mark) (sym (some_same h)) in
-    λ i. record { job = q.job; mark = e i } ∷ rows
+    let e : m ≡ q.status = sym k ∙ ap (λ (y : Row). y.status) (sym (some_same h)) in
+    λ i. record { job = q.job; status = e i } ∷ rows
 marked_same (q ∷ rows) (suc (suc n)) m r h k = ap (λ (l : List Row). q ∷ l) (marked_same rows (suc n) m r h k)
 
 module _ (C : Code) (I : IsCode C) (L : Layout) (es : List Event) (F : Fields) (x : Stands C L es F) (w n : ℕ) (t : CodeState) (reached : replayed C (es ++ End w n ∷ []) ≡ Some t) (bad : t.fault ≡ None → ⊥) where
@@ -95,12 +95,12 @@ module _ (C : Code) (I : IsCode C) (L : Layout) (es : List Event) (F : Fields) (
       ]
 
   -- the item's row runs already
-  row_runs : (found C I L es F x (End w n) n (Running w) t c).row.mark ≡ Running w
+  row_runs : (found C I L es F x (End w n) n (Running w) t c).row.status ≡ Running w
   row_runs =
       let f = found C I L es F x (End w n) n (Running w) t c in
-      elim (mark_split f.row.mark) [ inl o ↦ absurd (f.not_over o) | inr y ↦ runs_on w f.row.mark y (sym (f.runs_is y) ∙ only.runs) ]
+      elim (status_split f.row.status) [ inl o ↦ absurd (f.not_over o) | inr y ↦ runs_on w f.row.status y (sym (f.runs_is y) ∙ only.runs) ]
 
-  rows_same : mark_at F.rows n (Running w) ≡ F.rows
+  rows_same : with_status F.rows n (Running w) ≡ F.rows
   rows_same =
       marked_same F.rows n (Running w) (found C I L es F x (End w n) n (Running w) t c).row (row_there C I L es F x (End w n) n (Running w) t c) row_runs
 
@@ -110,7 +110,7 @@ module _ (C : Code) (I : IsCode C) (L : Layout) (es : List Event) (F : Fields) (
       let told = ap (λ (y : CodeState). y.fault) only.is in
       let r = stands_on C I L es F x (End w n) n (Running w) t c F.queue F.running [] (Some (only.item.task, only.fault))
       (λ h. running_not_ready h) (λ h. running_not_waiting h)
-      (x.items.running ∙ ap running_in (sym (ap (λ (l : ℕ). mark_at F.rows l (Running w)) (place C I L es F x (End w n) n (Running w) t c) ∙ rows_same)))
+      (x.items.running ∙ ap running_in (sym (ap (λ (l : ℕ). with_status F.rows l (Running w)) (place C I L es F x (End w n) n (Running w) t c) ∙ rows_same)))
       (record { all = λ k z m q. x.queue.all k z m (back k z m q); only = λ k z m h. to k z m (x.queue.only k z m h); once = x.queue.once })
       (record {
         once = tt;

@@ -26,7 +26,7 @@ read_name C b r h =
     let p = in_flat (λ j. (entry C j).reads) (body C b).entries r h in
     flat_in (λ j. (entry C j).reads ++ (entry C j).writes) (body C b).entries p.0 r p.1 (in_left r (entry C p.0).reads (entry C p.0).writes p.2)
 
-module _ (C : Code) (I : IsCode C) (L : Layout) (laid : IsLayout C L) (es : List Event) (F : Fields) (x : Stands C L es F) (n k e c : ℕ) (row : Row) (there : row_of F.rows n ≡ Some row) (job : row.job ≡ Does k e c) (live : row.mark ≡ Over → ⊥) (made : List Instance) (hs : List (Option Frame)) (opens : FramesOpen C F.frames (Some k) made hs) (m : Instance) (im : In m made) where
+module _ (C : Code) (I : IsCode C) (L : Layout) (laid : IsLayout C L) (es : List Event) (F : Fields) (x : Stands C L es F) (n k e c : ℕ) (row : Row) (there : row_of F.rows n ≡ Some row) (job : row.job ≡ Does k e c) (live : row.status ≡ Over → ⊥) (made : List Instance) (hs : List (Option Frame)) (opens : FramesOpen C F.frames (Some k) made hs) (m : Instance) (im : In m made) where
   home : (f : Frame) × (slot_at F.frames k ≡ Some f) × In e (body C f.body).entries
   home = x.frames.there n k e c row there job live
 
@@ -65,7 +65,7 @@ module _ (C : Code) (I : IsCode C) (L : Layout) (laid : IsLayout C L) (es : List
   pub names_lead : ((f : Frame) → slot_at hs m.key ≡ Some f → In (Calling, m.body) (ways (entry C e).act) → Passes C L F.frames k e c m f) → NamesLead C L F.frames hs k e c m
   names_lead passes = record { seen = seen; fixed = fixed }
     where
-      seen : (w : Way) (r s : Name) → In (w, m.body) (ways (entry C e).act) → In r (all_names C m.body) → (Declared C m.body r → ⊥) → Seen C (entry C e).mark w r s → In s ((entry C e).reads ++ (entry C e).writes) → slot_for L hs m.key m.body r ≡ job_slot C L F.frames (Does k e c) s
+      seen : (w : Way) (r s : Name) → In (w, m.body) (ways (entry C e).act) → In r (all_names C m.body) → (Declared C m.body r → ⊥) → Seen C (entry C e).offset w r s → In s ((entry C e).reads ++ (entry C e).writes) → slot_for L hs m.key m.body r ≡ job_slot C L F.frames (Does k e c) s
       seen InPlace r s iw ir nd h is =
           let p = laid.wait e m.body home.0.body r home_reached home.2 iw ir nd in
           further r s (p.0 ∙ ap (λ (y : Name). suc (L.levels home.0.body y)) h) (p.1 ∙ ap (L.slot home.0.body) h)
@@ -79,7 +79,7 @@ module _ (C : Code) (I : IsCode C) (L : Layout) (laid : IsLayout C L) (es : List
           ∙ inside (parameter h.0 h.1) (laid.call m.body h.0 h.1 (I.fits e Calling m.body iw).opened.0 inn)
           ∙ (passes q.0 q.1 iw).named h.0 h.1 s inn h.3 is
 
-      fixed : (i : ℕ) (b : Bool) (v : Scalar) → In (Calling, m.body) (ways (entry C e).act) → In (parameter i b) (names_in C (λ x. x.reads) m.body) → argument C (entry C e).mark i b ≡ Some (Fixed v) → slot_for L hs m.key m.body (parameter i b) ≡ LiteralOf e i
+      fixed : (i : ℕ) (b : Bool) (v : Scalar) → In (Calling, m.body) (ways (entry C e).act) → In (parameter i b) (names_in C (λ x. x.reads) m.body) → argument C (entry C e).offset i b ≡ Some (Fixed v) → slot_for L hs m.key m.body (parameter i b) ≡ LiteralOf e i
       fixed i b v iw ir h =
           let q = opens.new m im in
           let inn = read_name C m.body (parameter i b) ir in

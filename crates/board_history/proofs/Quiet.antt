@@ -57,7 +57,7 @@ module _ {T D K V E : Type 0} (S : System T D K V E) (X : Tests D K V) (R : AreT
       let q = all_values s s.stored b.values in
       λ k. record { places = p k; stored = q k; items = s.items; next = s.next; lines = s.lines; fault = s.fault }
 
-  -- a mark changes no rights
+  -- a status changes no rights
   marked_free : (s : State T D K V E) (x : Spot T) (r : Option ℕ) → s.items ≡ x.before ++ x.item ∷ x.after → (a : D) → Free S (marked S X s x r) a → Free S s a
   marked_free s x r at a f = record {
     unread = λ i h m. by S.may_read f.unread i (subst (λ (is : List (Item T)). In i is) at h) m;
@@ -136,7 +136,7 @@ module _ {T D K V E : Type 0} (S : System T D K V E) (X : Tests D K V) (R : AreT
   pub replayed_bare : (es : List Event) (s : State T D K V E) → replayed S X es ≡ Some s → IsBare S s
   replayed_bare es s h = bare_from es (start S) s start_bare h
 
-  -- beginning and giving back change one mark
+  -- beginning and giving back change one status
   marks : (s t : State T D K V E) (n : ℕ) (r : Option ℕ) (x : Spot T) → (s.items ≡ x.before ++ x.item ∷ x.after) × (x.item.number ≡ n) → IsBare S s → tidied S X (marked S X s x r) ≡ t → MarksOnly S s n r t
   marks s t n r x at b h = record {
     before = x.before;
@@ -147,15 +147,15 @@ module _ {T D K V E : Type 0} (S : System T D K V E) (X : Tests D K V) (R : AreT
     is = sym h ∙ bare_stays (marked S X s x r) (marked_bare s x r at.0 b);
   }
 
-  pub begin_marks : (s t : State T D K V E) (w n : ℕ) → IsBare S s → next_state S X s (Begin w n) ≡ Some t → MarksOnly S s n (Some w) t
-  begin_marks s t w n b h = by (find n s.items) refl (no_fault_then s s.fault (happens S X s (Begin w n) (find n s.items)) t h)
+  pub begin_statuses : (s t : State T D K V E) (w n : ℕ) → IsBare S s → next_state S X s (Begin w n) ≡ Some t → MarksOnly S s n (Some w) t
+  begin_statuses s t w n b h = by (find n s.items) refl (no_fault_then s s.fault (happens S X s (Begin w n) (find n s.items)) t h)
     where
       by : (r : Option (Spot T)) → find n s.items ≡ r → happens S X s (Begin w n) r ≡ Some t → MarksOnly S s n (Some w) t
       by None q h = none_some h
       by (Some x) q h = marks s t n (Some w) x (find_at n s.items x q) b (begun_is s w x x.item.runs (answers S X s (S.inputs x.item.task)) t h)
 
-  pub back_marks : (s t : State T D K V E) (w n : ℕ) → IsBare S s → next_state S X s (Back w n) ≡ Some t → MarksOnly S s n None t
-  back_marks s t w n b h = by (find n s.items) refl (no_fault_then s s.fault (happens S X s (Back w n) (find n s.items)) t h)
+  pub back_statuses : (s t : State T D K V E) (w n : ℕ) → IsBare S s → next_state S X s (Back w n) ≡ Some t → MarksOnly S s n None t
+  back_statuses s t w n b h = by (find n s.items) refl (no_fault_then s s.fault (happens S X s (Back w n) (find n s.items)) t h)
     where
       by : (r : Option (Spot T)) → find n s.items ≡ r → happens S X s (Back w n) r ≡ Some t → MarksOnly S s n None t
       by None q h = none_some h

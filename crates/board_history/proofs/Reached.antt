@@ -12,7 +12,7 @@ use Rattle.dataflow.proofs.Settled.{can_of_comes}
 use Rattle.dataflow.proofs.Steps.{run_follows}
 use Rattle.board_history.proofs.Elements.{code_told}
 use Rattle.board_history.proofs.Ended.{opens_is}
-use Rattle.board_history.proofs.Marking.{item, mark_is}
+use Rattle.board_history.proofs.Marking.{item, status_is}
 use Rattle.board_history.proofs.Replays.{run_replayed}
 use Rattle.board_history.proofs.Rows.{no_row, row_item}
 use Rattle.board_history.specs.Elements.{code_tests}
@@ -73,17 +73,17 @@ module _ (C : Code) where
 
 module _ (C : Code) (I : IsCode C) (L : Layout) (es : List Event) (F : Fields) (x : Stands C L es F) where
   -- the task of a row that is not over
-  row_held : (m : ℕ) (r : Row) → row_of F.rows m ≡ Some r → (r.mark ≡ Over → ⊥) → Held C (task_of F.frames r.job)
+  row_held : (m : ℕ) (r : Row) → row_of F.rows m ≡ Some r → (r.status ≡ Over → ⊥) → Held C (task_of F.frames r.job)
   row_held zero r h live = no_row F.rows r h
   row_held (suc b) r h live =
       let run = (run_replayed (code_system C) code_tests (code_told C) (code_laws C I) es x.state x.reached).0 in
-      elim (mark_is r.mark) [
+      elim (status_is r.status) [
         | inl over ↦ absurd (live over)
         | inr y ↦ item_held C I es x.state run (item (suc b) (task_of F.frames r.job) y.runs) (subst (λ (is : List CodeItem). In (item (suc b) (task_of F.frames r.job) y.runs) is) x.items.items (row_item F.frames 1 F.rows b (suc b) r h y (omega arith)))
       ]
 
   -- an instance with an item is one of a body that runs open
-  pub frame_reached : (n k e c : ℕ) (row : Row) → row_of F.rows n ≡ Some row → row.job ≡ Does k e c → (row.mark ≡ Over → ⊥) → (f : Frame) → In e (body C f.body).entries → Reached C f.body
+  pub frame_reached : (n k e c : ℕ) (row : Row) → row_of F.rows n ≡ Some row → row.job ≡ Does k e c → (row.status ≡ Over → ⊥) → (f : Frame) → In e (body C f.body).entries → Reached C f.body
   frame_reached n k e c row there job live f ie =
       let h = subst (Held C) (ap (task_of F.frames) job) (row_held n row there live) in
       subst (Reached C) (I.entries_once h.0 f.body e h.1 ie) h.2

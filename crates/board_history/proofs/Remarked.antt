@@ -1,4 +1,4 @@
--- A step that changes one mark keeps the fields standing for the state.
+-- A step that changes one status keeps the fields standing for the state.
 use Rattle.std.proofs.Common.{◌≡◌, ◌⊎◌, inl, inr, ℕ, zero, suc, ◌+◌, Bool, true, false, not, ◌&&◌, ◌||◌, List, [], ◌∷◌, ◌++◌, map, length, refl, sym, ap, ◌∙◌, subst, Option, None, Some, arith}
 use Rattle.std.specs.Prelude.{ℤ}
 use Rattle.std.specs.List.{flat_map}
@@ -14,12 +14,12 @@ use Rattle.dataflow.proofs.Steps.{run_follows}
 use Rattle.board_history.specs.Replay.{answer, answers, array_answer, both, element_answer, elements_at, has_writer, is_among, is_closed, keyed_answer, scalar_answer, value_at}
 use Rattle.board_history.specs.CodeReplay.{replayed}
 use Rattle.board_history.specs.Elements.{code_tests}
-use Rattle.board_history.specs.Fields.{Content, Counted, Fields, Holding, Job, Layout, Mapping, Mark, Over, Ready, Row, Running, Slot, Unset, Waiter, Waiting, Want, item_before, items_from, frames_in, row_of, rows_in, running_in, task_of}
+use Rattle.board_history.specs.Fields.{Content, Counted, Fields, Holding, Job, Layout, Mapping, Status, Over, Ready, Row, Running, Slot, Unset, Waiter, Waiting, Want, item_before, items_from, frames_in, row_of, rows_in, running_in, task_of}
 use Rattle.board_history.specs.Stands.{CellStands, ContentStands, DataStand, FramesStand, ItemsStand, QueueStands, SlotStands, Stands, TurnsStand, WaitsStand, AllStand, array_wanted, element_wanted, keyed_wanted, scalar_wanted, kept_turns, turns_left, wanted, wants}
 use Rattle.board_history.specs.Counts.{SameCounts}
-use Rattle.board_history.specs.Marking.{mark_at}
+use Rattle.board_history.specs.Marking.{with_status}
 use Rattle.board_history.proofs.Elements.{code_told}
-use Rattle.board_history.proofs.Marking.{IsItem, RowIs, RowWas, item, item_not_over, items_marked, live_mark, row_found, row_was, rows_marked}
+use Rattle.board_history.proofs.Marking.{IsItem, RowIs, RowWas, item, item_not_over, items_marked, live_status, row_found, row_was, rows_marked}
 use Rattle.board_history.proofs.Replays.{numbered_on, run_replayed}
 use Rattle.board_history.proofs.Seen.{OneValue}
 use Rattle.board_history.proofs.Standing.{enabled_wants, wants_enabled}
@@ -31,7 +31,7 @@ use Rattle.task_code.specs.Machine.{CodeItem, CodeState, Enabled}
 use Rattle.task_code.specs.Places.{Constant, Datum, Nowhere, Place, place_array}
 use Rattle.task_code.specs.System.{code_system, task_inputs}
 use Rattle.task_code.specs.Whole.{IsCode}
-use Rattle.values.specs.Keys.{mark_of}
+use Rattle.values.specs.Keys.{hash_of}
 use Rattle.values.specs.declared.key.Key.{Key}
 use Rattle.values.specs.declared.value.Scalar.{Scalar}
 use Rattle.board_history.proofs.Tests.{some_same}
@@ -53,9 +53,9 @@ snoc_first [] (b ∷ ys) x y h = no_end ys y (tail_is h)
 snoc_first (a ∷ xs) [] x y h = no_end xs x (sym (tail_is h))
 snoc_first (a ∷ xs) (b ∷ ys) x y h = let r = snoc_first xs ys x y (tail_is h) in let e = head_is h in λ i. e i ∷ r i
 
--- what a running mark says of its item
-pub runs_of : (m : Mark) (v : ℕ) (y : IsItem m) → m ≡ Running v → y.runs ≡ Some v
-runs_of m v y q = ap (λ (i : CodeItem). i.runs) (head_is (sym (y.is 0 Main []) ∙ ap (λ (z : Mark). item_before 0 Main z []) q))
+-- what a running status says of its item
+pub runs_of : (m : Status) (v : ℕ) (y : IsItem m) → m ≡ Running v → y.runs ≡ Some v
+runs_of m v y q = ap (λ (i : CodeItem). i.runs) (head_is (sym (y.is 0 Main []) ∙ ap (λ (z : Status). item_before 0 Main z []) q))
 
 pub running_not_ready : {B : Type 0} {w : ℕ} → Running w ≡ Ready → B
 running_not_ready h = absurd (cc)
@@ -73,7 +73,7 @@ alone (b ∷ before) after i k d h e =
     ]
 
 module _ (C : Code) where
-  -- who may write, after a mark was changed
+  -- who may write, after a status was changed
   writer_marked : (before after : List CodeItem) (i : CodeItem) (r : Option ℕ) (a : Place) → has_writer (code_system C) code_tests (before ++ item i.number i.task r ∷ after) a ≡ has_writer (code_system C) code_tests (before ++ i ∷ after) a
   writer_marked [] after i r a = refl
   writer_marked (b ∷ before) after i r a = ap (λ (t : Bool). is_among (code_system C) code_tests a ((code_system C).may_write b.task) || t) (writer_marked before after i r a)
@@ -84,12 +84,12 @@ module _ (C : Code) where
 
     keyed_same : (a d : Place) (r : Option Scalar) → keyed_wanted C t a d r ≡ keyed_wanted C s a d r
     keyed_same a d None = refl
-    keyed_same a d (Some v) = let c = closed_same a in λ i. element_wanted (value_at (code_system C) code_tests (stored i) a (key_of v)) (c i) a (mark_of (key_of v))
+    keyed_same a d (Some v) = let c = closed_same a in λ i. element_wanted (value_at (code_system C) code_tests (stored i) a (key_of v)) (c i) a (hash_of (key_of v))
 
     wanted_same : (i : Input Place Key) → wanted C t i ≡ wanted C s i
     wanted_same (StoredScalar d) = λ j. scalar_wanted (value_at (code_system C) code_tests (stored j) d only) d
     wanted_same (ClosedArray a) = let c = closed_same a in λ j. array_wanted (c j) a
-    wanted_same (ElementOf a k) = let c = closed_same a in λ j. element_wanted (value_at (code_system C) code_tests (stored j) a k) (c j) a (mark_of k)
+    wanted_same (ElementOf a k) = let c = closed_same a in λ j. element_wanted (value_at (code_system C) code_tests (stored j) a k) (c j) a (hash_of k)
     wanted_same (ElementAt a d) =
         keyed_same a d (value_at (code_system C) code_tests t.stored d only)
         ∙ (λ j. keyed_wanted C s a d (value_at (code_system C) code_tests (stored j) d only))
@@ -140,8 +140,8 @@ module _ (C : Code) where
     slot_same names x (Constant v) h = h
     slot_same names x Nowhere h = h
 
-  -- a step that changes the mark of one item and nothing else
-  pub record Remark (L : Layout) (es : List Event) (F : Fields) (x : Stands C L es F) (e : Event) (n : ℕ) (m : Mark) (t : CodeState) : Type 0 where
+  -- a step that changes the status of one item and nothing else
+  pub record Remark (L : Layout) (es : List Event) (F : Fields) (x : Stands C L es F) (e : Event) (n : ℕ) (m : Status) (t : CodeState) : Type 0 where
     pub y : IsItem m
     pub reached : replayed C (es ++ e ∷ []) ≡ Some t
     pub counts : SameCounts (code_system C) code_tests x.state t
@@ -156,7 +156,7 @@ module _ (C : Code) where
     pub next : t.next ≡ x.state.next
     pub lines : t.lines ≡ x.state.lines
 
-  module _ (I : IsCode C) (L : Layout) (es : List Event) (F : Fields) (x : Stands C L es F) (e : Event) (n : ℕ) (m : Mark) (t : CodeState) (c : Remark L es F x e n m t) where
+  module _ (I : IsCode C) (L : Layout) (es : List Event) (F : Fields) (x : Stands C L es F) (e : Event) (n : ℕ) (m : Status) (t : CodeState) (c : Remark L es F x e n m t) where
     abbrev s : CodeState
     s = x.state
 
@@ -248,21 +248,21 @@ module _ (C : Code) where
     pub enabled_back : (u : Task) → Enabled C t u → Enabled C s u
     enabled_back u h = wants_enabled C s one_s u (sym (want_of u) ∙ enabled_wants C t one_t u h)
 
-    rows_place : mark_at F.rows n m ≡ mark_at F.rows (suc found.at) m
-    rows_place = ap (λ (l : ℕ). mark_at F.rows l m) (sym place)
+    rows_place : with_status F.rows n m ≡ with_status F.rows (suc found.at) m
+    rows_place = ap (λ (l : ℕ). with_status F.rows l m) (sym place)
 
-    length_same : (rows : List Row) (l : ℕ) → length (mark_at rows l m) ≡ length rows
+    length_same : (rows : List Row) (l : ℕ) → length (with_status rows l m) ≡ length rows
     length_same [] l = refl
     length_same (q ∷ rows) zero = refl
     length_same (q ∷ rows) (suc zero) = omega arith
     length_same (q ∷ rows) (suc (suc l)) = let r = length_same rows (suc l) in omega arith
 
-    -- with what the mark, the queue, the number that run, those newly enabled and the fault have to be
+    -- with what the status, the queue, the number that run, those newly enabled and the fault have to be
     module _ (queue : Kind → ℤ → List ℕ) (running : ℕ) (newly : List ℕ) (fault : Option (Task × Fault EntryFault)) where
       abbrev G : Fields
-      G = record { frames = F.frames; rows = mark_at F.rows n m; cells = F.cells; waiting = F.waiting; turns = F.turns; queue = queue; lines = F.lines; fault = fault; running = running; newly = newly }
+      G = record { frames = F.frames; rows = with_status F.rows n m; cells = F.cells; waiting = F.waiting; turns = F.turns; queue = queue; lines = F.lines; fault = fault; running = running; newly = newly }
 
-      items_on : (m ≡ Ready → Enabled C s i.task) → (m ≡ Waiting → Enabled C s i.task → ⊥) → (running ≡ running_in (mark_at F.rows (suc found.at) m)) → ItemsStand C G t
+      items_on : (m ≡ Ready → Enabled C s i.task) → (m ≡ Waiting → Enabled C s i.task → ⊥) → (running ≡ running_in (with_status F.rows (suc found.at) m)) → ItemsStand C G t
       items_on good bad count = record {
         items =
             ap (λ (rs : List Row). items_from F.frames 1 rs) rows_place
@@ -271,10 +271,10 @@ module _ (C : Code) where
         next = c.next ∙ x.items.next ∙ ap suc (sym (length_same F.rows n));
         ready = λ l r h b. (let y = row_was F.rows n m l r h in
             subst (λ (b : Job). Enabled C t (task_of F.frames b)) (sym y.job_is) (enabled_on (task_of F.frames y.old.job)
-            (elim y.mark_is [ inl p ↦ subst (λ (u : Task). Enabled C s u) (found.task_is ∙ same_job y p.0) (good (sym p.1 ∙ b)) | inr p ↦ x.items.ready l y.old y.there (sym p ∙ b) ])));
+            (elim y.status_is [ inl p ↦ subst (λ (u : Task). Enabled C s u) (found.task_is ∙ same_job y p.0) (good (sym p.1 ∙ b)) | inr p ↦ x.items.ready l y.old y.there (sym p ∙ b) ])));
         waiting = λ l r h b en. (let y = row_was F.rows n m l r h in
             let en' = subst (λ (b : Job). Enabled C s (task_of F.frames b)) y.job_is (enabled_back (task_of F.frames r.job) en) in
-            elim y.mark_is [
+            elim y.status_is [
               | inl p ↦ bad (sym p.1 ∙ b) (subst (λ (u : Task). Enabled C s u) (sym (found.task_is ∙ same_job y p.0)) en')
               | inr p ↦ x.items.waiting l y.old y.there (sym p ∙ b) en'
             ]);
@@ -286,14 +286,14 @@ module _ (C : Code) where
               let e : found.row ≡ y.old = some_same (sym row_there ∙ subst (λ (k : ℕ). row_of F.rows k ≡ Some y.old) p y.there) in
               ap (λ (q : Row). task_of F.frames q.job) e
 
-      rows_same : (k : ℕ) → rows_in k (mark_at F.rows n m) ≡ rows_in k F.rows
-      rows_same k = ap (rows_in k) rows_place ∙ rows_marked k F.rows found.at found.row m found.there (live_mark found.row.mark found.not_over) (live_mark m (item_not_over m c.y))
+      rows_same : (k : ℕ) → rows_in k (with_status F.rows n m) ≡ rows_in k F.rows
+      rows_same k = ap (rows_in k) rows_place ∙ rows_marked k F.rows found.at found.row m found.there (live_status found.row.status found.not_over) (live_status m (item_not_over m c.y))
 
-      over_not : (l : ℕ) (r : Row) (y : RowWas F.rows n m l r) → (r.mark ≡ Over → ⊥) → y.old.mark ≡ Over → ⊥
+      over_not : (l : ℕ) (r : Row) (y : RowWas F.rows n m l r) → (r.status ≡ Over → ⊥) → y.old.status ≡ Over → ⊥
       over_not l r y live o =
-          elim y.mark_is [
+          elim y.status_is [
             | inl p ↦ (let e : found.row ≡ y.old = some_same (sym row_there ∙ subst (λ (k : ℕ). row_of F.rows k ≡ Some y.old) p.0 y.there) in
-                found.not_over (ap (λ (q : Row). q.mark) e ∙ o))
+                found.not_over (ap (λ (q : Row). q.status) e ∙ o))
             | inr p ↦ live (p ∙ o)
           ]
 
@@ -355,7 +355,7 @@ module _ (C : Code) where
             subst (λ (u : Task). Enabled C t u) o.3 (enabled_on o.0.task (x.turns.going o.0 o.1 e d p (o.3 ∙ q))));
       }
 
-      pub stands_on : (m ≡ Ready → Enabled C s i.task) → (m ≡ Waiting → Enabled C s i.task → ⊥) → (running ≡ running_in (mark_at F.rows (suc found.at) m)) → QueueStands C G t → NewlyAt (code_system C) s t newly → fault ≡ t.fault → Stands C L (es ++ e ∷ []) G
+      pub stands_on : (m ≡ Ready → Enabled C s i.task) → (m ≡ Waiting → Enabled C s i.task → ⊥) → (running ≡ running_in (with_status F.rows (suc found.at) m)) → QueueStands C G t → NewlyAt (code_system C) s t newly → fault ≡ t.fault → Stands C L (es ++ e ∷ []) G
       stands_on good bad count queue_is newly_is fault_is = record {
         state = t;
         reached = c.reached;

@@ -30,7 +30,7 @@ use Rattle.task_code.specs.Machine.{ClosedByRights, CodeItem, CodeState, Enabled
 use Rattle.task_code.specs.Places.{Place, Step}
 use Rattle.task_code.specs.System.{code_system, task_inputs, task_kind, task_priority}
 use Rattle.task_code.specs.Whole.{IsCode}
-use Rattle.values.specs.Keys.{mark_of}
+use Rattle.values.specs.Keys.{hash_of}
 use Rattle.values.specs.declared.key.Key.{Key}
 use Rattle.values.specs.declared.value.Scalar.{Scalar}
 
@@ -65,12 +65,12 @@ module _ (C : Code) (s : CodeState) (one : OneValue (code_system C) code_tests (
   Value a k r = value_at (code_system C) code_tests s.stored a k ≡ r
 
   -- an input that is known has no want, and one without is known
-  element_none : (a : Place) (k : Key) (r : Option Scalar) (b : Bool) → value_at (code_system C) code_tests s.stored a k ≡ r → is_closed (code_system C) code_tests s a ≡ b → element_wanted r b a (mark_of k) ≡ [] → IsKnown (code_system C) s (ElementOf a k)
+  element_none : (a : Place) (k : Key) (r : Option Scalar) (b : Bool) → value_at (code_system C) code_tests s.stored a k ≡ r → is_closed (code_system C) code_tests s a ≡ b → element_wanted r b a (hash_of k) ≡ [] → IsKnown (code_system C) s (ElementOf a k)
   element_none a k (Some v) b q c h = inl (v, value_held (code_system C) code_tests (code_told C) s.stored a k v q)
   element_none a k None true q c h = inr (closed_sound (code_system C) code_tests (code_told C) s a c)
   element_none a k None false q c h = cons_nil h
 
-  none_element : (a : Place) (k : Key) (r : Option Scalar) (b : Bool) → value_at (code_system C) code_tests s.stored a k ≡ r → is_closed (code_system C) code_tests s a ≡ b → IsKnown (code_system C) s (ElementOf a k) → element_wanted r b a (mark_of k) ≡ []
+  none_element : (a : Place) (k : Key) (r : Option Scalar) (b : Bool) → value_at (code_system C) code_tests s.stored a k ≡ r → is_closed (code_system C) code_tests s a ≡ b → IsKnown (code_system C) s (ElementOf a k) → element_wanted r b a (hash_of k) ≡ []
   none_element a k (Some v) b q c h = refl
   none_element a k None true q c h = refl
   none_element a k None false q c (inl h) =
@@ -186,16 +186,16 @@ module _ (C : Code) (L : Layout) where
   no_event [] e h = cons_nil (sym h)
   no_event (b ∷ before) e h = cons_nil (sym h)
 
-  one_row : (n : ℕ) (r : Row) → row_of first_fields.rows n ≡ Some r → record { job = Script; mark = Ready } ≡ r
+  one_row : (n : ℕ) (r : Row) → row_of first_fields.rows n ≡ Some r → record { job = Script; status = Ready } ≡ r
   one_row zero r h = none_some h
   one_row (suc zero) r h = cc
   one_row (suc (suc n)) r h = none_some h
 
-  no_job : {B : Type 0} {k e c : ℕ} (r : Row) → record { job = Script; mark = Ready } ≡ r → r.job ≡ Does k e c → B
+  no_job : {B : Type 0} {k e c : ℕ} (r : Row) → record { job = Script; status = Ready } ≡ r → r.job ≡ Does k e c → B
   no_job r p q = let z : Script ≡ r.job = ap (λ (y : Row). y.job) p in absurd (cc)
 
-  no_wait : {B : Type 0} (r : Row) → record { job = Script; mark = Ready } ≡ r → r.mark ≡ Waiting → B
-  no_wait r p q = let z : Ready ≡ r.mark = ap (λ (y : Row). y.mark) p in absurd (cc)
+  no_wait : {B : Type 0} (r : Row) → record { job = Script; status = Ready } ≡ r → r.status ≡ Waiting → B
+  no_wait r p q = let z : Ready ≡ r.status = ap (λ (y : Row). y.status) p in absurd (cc)
 
   queue_only : (k : Kind) (z : ℤ) (n : ℕ) → In n (first_fields.queue k z) → Queued C (start (code_system C)) k z n
   queue_only Control z n =

@@ -52,45 +52,45 @@ module _ (C : Code) where
   -- what the end of an item opens
   pub opens_holds : (i c : ℕ) (p : List Step) (x : Computed) → OpensHolds C i c p x
   opens_holds i c p x = record {
-    reads = λ a. all_held (task_reads C) a (instances (entry C i).act (entry C i).mark p c x) (rest (loop_of (entry C i).act) i p c x) _ (rest_held (task_reads C) a (loop_of (entry C i).act) i c p x refl);
-    writes = λ a. all_held (task_writes C) a (instances (entry C i).act (entry C i).mark p c x) (rest (loop_of (entry C i).act) i p c x) _ (rest_held (task_writes C) a (loop_of (entry C i).act) i c p x refl);
+    reads = λ a. all_held (task_reads C) a (instances (entry C i).act (entry C i).offset p c x) (rest (loop_of (entry C i).act) i p c x) _ (rest_held (task_reads C) a (loop_of (entry C i).act) i c p x refl);
+    writes = λ a. all_held (task_writes C) a (instances (entry C i).act (entry C i).offset p c x) (rest (loop_of (entry C i).act) i p c x) _ (rest_held (task_writes C) a (loop_of (entry C i).act) i c p x refl);
   }
 
   -- an outer name means the same in each turn
-  same_test : (mark : ℕ) (p q : List Step) (v : Variable) (k l : Key) → (q ≡ step_at mark k p → ⊥) → (q ≡ step_at mark l p → ⊥) → (up : ℕ) (x : Owned) → place_eq (Datum q v) (resolve C (step_at mark k p) up x) ≡ place_eq (Datum q v) (resolve C (step_at mark l p) up x)
-  same_test mark p q v k l nk nl zero (Local w) =
-      false_from_ne_true (place_eq (Datum q v) (Datum (step_at mark k p) w)) (λ h. nk (spot_path (place_sound (Datum q v) (Datum (step_at mark k p) w) h)))
-      ∙ sym (false_from_ne_true (place_eq (Datum q v) (Datum (step_at mark l p) w)) (λ h. nl (spot_path (place_sound (Datum q v) (Datum (step_at mark l p) w) h))))
-  same_test mark p q v k l nk nl zero (Parameter n b) = refl
-  same_test mark p q v k l nk nl (suc up) x = refl
+  same_test : (offset : ℕ) (p q : List Step) (v : Variable) (k l : Key) → (q ≡ step_at offset k p → ⊥) → (q ≡ step_at offset l p → ⊥) → (up : ℕ) (x : Owned) → place_eq (Datum q v) (resolve C (step_at offset k p) up x) ≡ place_eq (Datum q v) (resolve C (step_at offset l p) up x)
+  same_test offset p q v k l nk nl zero (Local w) =
+      false_from_ne_true (place_eq (Datum q v) (Datum (step_at offset k p) w)) (λ h. nk (spot_path (place_sound (Datum q v) (Datum (step_at offset k p) w) h)))
+      ∙ sym (false_from_ne_true (place_eq (Datum q v) (Datum (step_at offset l p) w)) (λ h. nl (spot_path (place_sound (Datum q v) (Datum (step_at offset l p) w) h))))
+  same_test offset p q v k l nk nl zero (Parameter n b) = refl
+  same_test offset p q v k l nk nl (suc up) x = refl
 
-  same_held : (mark : ℕ) (p q : List Step) (v : Variable) (k l : Key) → (q ≡ step_at mark k p → ⊥) → (q ≡ step_at mark l p → ⊥) → (hs : List Hold) → held_by C (step_at mark k p) (Datum q v) hs ≡ held_by C (step_at mark l p) (Datum q v) hs
-  same_held mark p q v k l nk nl [] = refl
-  same_held mark p q v k l nk nl (h ∷ hs) =
-      let t = same_test mark p q v k l nk nl h.name.up h.name.owned in
-      let r = same_held mark p q v k l nk nl hs in
+  same_held : (offset : ℕ) (p q : List Step) (v : Variable) (k l : Key) → (q ≡ step_at offset k p → ⊥) → (q ≡ step_at offset l p → ⊥) → (hs : List Hold) → held_by C (step_at offset k p) (Datum q v) hs ≡ held_by C (step_at offset l p) (Datum q v) hs
+  same_held offset p q v k l nk nl [] = refl
+  same_held offset p q v k l nk nl (h ∷ hs) =
+      let t = same_test offset p q v k l nk nl h.name.up h.name.owned in
+      let r = same_held offset p q v k l nk nl hs in
       λ j. (if t j then h.count else 0) + r j
 
-  module _ (w : Loop) (mark : ℕ) (p q : List Step) (v : Variable) (k : Key) (nk : q ≡ step_at mark k p → ⊥) where
-    turns_read : (ts : Elements) → ((t : Key × Scalar) → In t ts → q ≡ step_at mark t.0 p → ⊥) → blocks_hold C (task_reads C) (Datum q v) (turn_instances w mark p ts) ≡ length ts * held_by C (step_at mark k p) (Datum q v) (outer_holds C (λ e. e.reads) w.body)
+  module _ (w : Loop) (offset : ℕ) (p q : List Step) (v : Variable) (k : Key) (nk : q ≡ step_at offset k p → ⊥) where
+    turns_read : (ts : Elements) → ((t : Key × Scalar) → In t ts → q ≡ step_at offset t.0 p → ⊥) → blocks_hold C (task_reads C) (Datum q v) (turn_instances w offset p ts) ≡ length ts * held_by C (step_at offset k p) (Datum q v) (outer_holds C (λ e. e.reads) w.body)
     turns_read [] n = omega arith
     turns_read (t ∷ ts) n =
         let r = turns_read ts (λ u i. n u (inr i)) in
-        let here = (adds_holds C w.body (step_at mark t.0 p)).outer_reads q v (λ i e. n t (inl refl) e) ∙ same_held mark p q v t.0 k (n t (inl refl)) nk (outer_holds C (λ e. e.reads) w.body) in
-        step (length ts) (held_by C (step_at mark k p) (Datum q v) (outer_holds C (λ e. e.reads) w.body)) _ _ here r
+        let here = (adds_holds C w.body (step_at offset t.0 p)).outer_reads q v (λ i e. n t (inl refl) e) ∙ same_held offset p q v t.0 k (n t (inl refl)) nk (outer_holds C (λ e. e.reads) w.body) in
+        step (length ts) (held_by C (step_at offset k p) (Datum q v) (outer_holds C (λ e. e.reads) w.body)) _ _ here r
       where
         step : (n m x y : ℕ) → x ≡ m → y ≡ n * m → x + y ≡ suc n * m
         step n m x y e f = grind arith
 
-    turns_written : (ts : Elements) → ((t : Key × Scalar) → In t ts → q ≡ step_at mark t.0 p → ⊥) → blocks_hold C (task_writes C) (Datum q v) (turn_instances w mark p ts) ≡ length ts * held_by C (step_at mark k p) (Datum q v) (outer_holds C (λ e. e.writes) w.body)
+    turns_written : (ts : Elements) → ((t : Key × Scalar) → In t ts → q ≡ step_at offset t.0 p → ⊥) → blocks_hold C (task_writes C) (Datum q v) (turn_instances w offset p ts) ≡ length ts * held_by C (step_at offset k p) (Datum q v) (outer_holds C (λ e. e.writes) w.body)
     turns_written [] n = omega arith
     turns_written (t ∷ ts) n =
         let r = turns_written ts (λ u i. n u (inr i)) in
-        let here = (adds_holds C w.body (step_at mark t.0 p)).outer_writes q v (λ i e. n t (inl refl) e) ∙ same_held mark p q v t.0 k (n t (inl refl)) nk (outer_holds C (λ e. e.writes) w.body) in
-        step (length ts) (held_by C (step_at mark k p) (Datum q v) (outer_holds C (λ e. e.writes) w.body)) _ _ here r
+        let here = (adds_holds C w.body (step_at offset t.0 p)).outer_writes q v (λ i e. n t (inl refl) e) ∙ same_held offset p q v t.0 k (n t (inl refl)) nk (outer_holds C (λ e. e.writes) w.body) in
+        step (length ts) (held_by C (step_at offset k p) (Datum q v) (outer_holds C (λ e. e.writes) w.body)) _ _ here r
       where
         step : (n m x y : ℕ) → x ≡ m → y ≡ n * m → x + y ≡ suc n * m
         step n m x y e f = grind arith
 
-    pub turns_hold : (ts : Elements) → ((t : Key × Scalar) → In t ts → q ≡ step_at mark t.0 p → ⊥) → TurnsHold C w mark p ts q v k
+    pub turns_hold : (ts : Elements) → ((t : Key × Scalar) → In t ts → q ≡ step_at offset t.0 p → ⊥) → TurnsHold C w offset p ts q v k
     turns_hold ts n = record { reads = turns_read ts n; writes = turns_written ts n }

@@ -20,7 +20,7 @@ use Rattle.task_code.specs.Code.{Code, Control, Kind, Leaf, Variable, body, here
 use Rattle.task_code.specs.Compute.{Computed, Elements, Gives, Opens}
 use Rattle.task_code.specs.Whole.{IsCode}
 use Rattle.task_code.specs.Worked.{used_before_assigned}
-use Rattle.values.specs.Keys.{mark_of}
+use Rattle.values.specs.Keys.{hash_of}
 use Rattle.values.specs.declared.key.Key.{Key}
 use Rattle.values.specs.declared.value.Scalar.{Scalar}
 use Rattle.values.specs.declared.value.Scalar.TheVariants.{Number}
@@ -124,10 +124,10 @@ cells = record {
 
 -- the rows of the opened script
 abbrev row_1 : Row
-row_1 = record { job = Script; mark = Running 0 }
+row_1 = record { job = Script; status = Running 0 }
 
 abbrev wait_row : ℕ → Row
-wait_row e = record { job = Does 0 e 0; mark = Waiting }
+wait_row e = record { job = Does 0 e 0; status = Waiting }
 
 abbrev opened_rows : List Row
 opened_rows = row_1 ∷ wait_row 0 ∷ wait_row 1 ∷ wait_row 2 ∷ []
@@ -169,10 +169,10 @@ waits = record {
 newly : NewlyAfter opened_fields opened_rows
 newly = record {
   once = ((λ h. h), tt);
-  all = by_row (λ m r. r.mark ≡ Waiting → ((w : Waiter) → In w opened_fields.waiting → w.item ≡ m → ⊥) → In m (3 ∷ []))
+  all = by_row (λ m r. r.status ≡ Waiting → ((w : Waiter) → In w opened_fields.waiting → w.item ≡ m → ⊥) → In m (3 ∷ []))
       (λ q n. running_waits q) (λ q n. absurd (n waiter_2 (inl refl) refl)) (λ q n. inl refl) (λ q n. absurd (n waiter_4 (inr (inl refl)) refl));
   only = λ m i. elim i [
-    | inl e ↦ subst (λ (m : ℕ). (r : Row) × (row_of opened_rows m ≡ Some r) × (r.mark ≡ Waiting) × ((w : Waiter) → In w opened_fields.waiting → w.item ≡ m → ⊥)) (sym e)
+    | inl e ↦ subst (λ (m : ℕ). (r : Row) × (row_of opened_rows m ≡ Some r) × (r.status ≡ Waiting) × ((w : Waiter) → In w opened_fields.waiting → w.item ≡ m → ⊥)) (sym e)
         (wait_row 1, refl, refl, of_waiters (λ w. w.item ≡ 3 → ⊥) (λ h. let z : ⊥ = omega arith in z) (λ h. let z : ⊥ = omega arith in z))
     | inr g ↦ absurd g
   ];
@@ -200,7 +200,7 @@ queue_one ns n z m e =
 queue_once : (n : ℕ) (z : ℤ) → Distinct (if int_eq (pos 0) z then n ∷ [] else [])
 queue_once n z = choose (λ (l : List ℕ). Distinct l) (int_eq (pos 0) z) (n ∷ []) [] (λ t. ((λ h. h), tt)) (λ t. tt)
 
-opened_now : (m : ℕ) (r : Row) → row_of opened_fields.rows m ≡ Some r → m ≡ 3 → r ≡ record { job = Does 0 1 0; mark = Ready }
+opened_now : (m : ℕ) (r : Row) → row_of opened_fields.rows m ≡ Some r → m ≡ 3 → r ≡ record { job = Does 0 1 0; status = Ready }
 opened_now m r h e = sym (some_same (subst (λ (m : ℕ). row_of opened_fields.rows m ≡ Some r) e h))
 
 queue : QueueAfter C begun opened_fields
@@ -222,7 +222,7 @@ queue = record {
     only_ Control z m h = absurd h
     only_ Leaf z m h =
         let p = queue_one (3 ∷ []) 3 z m refl h in
-        inr (record { job = Does 0 1 0; mark = Ready }, subst (λ (m : ℕ). row_of opened_fields.rows m ≡ Some (record { job = Does 0 1 0; mark = Ready })) (sym p.0) refl, inl p.0, refl, p.1)
+        inr (record { job = Does 0 1 0; status = Ready }, subst (λ (m : ℕ). row_of opened_fields.rows m ≡ Some (record { job = Does 0 1 0; status = Ready })) (sym p.0) refl, inl p.0, refl, p.1)
 
     once_ : (k : Kind) (z : ℤ) → Distinct (opened_fields.queue k z)
     once_ Control z = tt
@@ -333,7 +333,7 @@ stored_known = record {
     scalar_cell (suc zero) c h a = yes_no a (ap (λ (c : Counted). is_array_content c.content) (sym (some_same h)))
     scalar_cell (suc (suc d)) c h a = none_some h
 
-    inserted : (d : ℕ) (c : Counted) (k : Key) (v : Scalar) → slot_at storing.cells d ≡ Some c → is_array_content c.content ≡ true → In (k, v) (job_stores C worked_layout storing.frames job stored d) → In (AnElement d (mark_of k)) told
+    inserted : (d : ℕ) (c : Counted) (k : Key) (v : Scalar) → slot_at storing.cells d ≡ Some c → is_array_content c.content ≡ true → In (k, v) (job_stores C worked_layout storing.frames job stored d) → In (AnElement d (hash_of k)) told
     inserted d c k v h a i = scalar_cell d c h a
 
     closed : (d : ℕ) (b c : Counted) → slot_at storing.cells d ≡ Some b → slot_at assigned_fields.cells d ≡ Some c → is_array_content b.content ≡ true → 0 < b.writes → c.writes ≡ 0 → In (Whole d) told
@@ -341,9 +341,9 @@ stored_known = record {
 
 -- the rows while y is stored
 abbrev storing_rows : List Row
-storing_rows = record { job = Script; mark = Over } ∷ wait_row 0 ∷ record { job = Does 0 1 0; mark = Running 1 } ∷ wait_row 2 ∷ []
+storing_rows = record { job = Script; status = Over } ∷ wait_row 0 ∷ record { job = Does 0 1 0; status = Running 1 } ∷ wait_row 2 ∷ []
 
-by_storing : (P : ℕ → Row → Type 0) → P 1 (record { job = Script; mark = Over }) → P 2 (wait_row 0) → P 3 (record { job = Does 0 1 0; mark = Running 1 }) → P 4 (wait_row 2) → (m : ℕ) (r : Row) → row_of storing_rows m ≡ Some r → P m r
+by_storing : (P : ℕ → Row → Type 0) → P 1 (record { job = Script; status = Over }) → P 2 (wait_row 0) → P 3 (record { job = Does 0 1 0; status = Running 1 }) → P 4 (wait_row 2) → (m : ℕ) (r : Row) → row_of storing_rows m ≡ Some r → P m r
 by_storing P a b c d zero r h = none_some h
 by_storing P a b c d (suc zero) r h = subst (P 1) (some_same h) a
 by_storing P a b c d (suc (suc zero)) r h = subst (P 2) (some_same h) b
@@ -371,10 +371,10 @@ stored_waits = record {
 stored_newly : NewlyAfter assigned_fields storing_rows
 stored_newly = record {
   once = ((λ h. h), tt);
-  all = by_storing (λ m r. r.mark ≡ Waiting → ((w : Waiter) → In w assigned_fields.waiting → w.item ≡ m → ⊥) → In m (2 ∷ []))
+  all = by_storing (λ m r. r.status ≡ Waiting → ((w : Waiter) → In w assigned_fields.waiting → w.item ≡ m → ⊥) → In m (2 ∷ []))
       (λ q n. over_waits q) (λ q n. inl refl) (λ q n. running_waits q) (λ q n. absurd (n waiter_4 (inl refl) refl));
   only = λ m i. elim i [
-    | inl e ↦ subst (λ (m : ℕ). (r : Row) × (row_of storing_rows m ≡ Some r) × (r.mark ≡ Waiting) × ((w : Waiter) → In w assigned_fields.waiting → w.item ≡ m → ⊥)) (sym e)
+    | inl e ↦ subst (λ (m : ℕ). (r : Row) × (row_of storing_rows m ≡ Some r) × (r.status ≡ Waiting) × ((w : Waiter) → In w assigned_fields.waiting → w.item ≡ m → ⊥)) (sym e)
         (wait_row 0, refl, refl, of_waiter (λ w. w.item ≡ 2 → ⊥) (λ h. let z : ⊥ = omega arith in z))
     | inr g ↦ absurd g
   ];
@@ -390,7 +390,7 @@ three_gone : (b : Bool) (m : ℕ) → In m (without 3 (if b then 3 ∷ [] else [
 three_gone true m h = h
 three_gone false m h = h
 
-assigned_now : (m : ℕ) (r : Row) → row_of assigned_fields.rows m ≡ Some r → m ≡ 2 → r ≡ record { job = Does 0 0 0; mark = Ready }
+assigned_now : (m : ℕ) (r : Row) → row_of assigned_fields.rows m ≡ Some r → m ≡ 2 → r ≡ record { job = Does 0 0 0; status = Ready }
 assigned_now m r h e = sym (some_same (subst (λ (m : ℕ). row_of assigned_fields.rows m ≡ Some r) e h))
 
 stored_queue : QueueAfter C storing assigned_fields
@@ -412,7 +412,7 @@ stored_queue = record {
     only_ Control z m h = absurd h
     only_ Leaf z m h =
         let p = queue_one (2 ∷ []) 2 z m refl h in
-        inr (record { job = Does 0 0 0; mark = Ready }, subst (λ (m : ℕ). row_of assigned_fields.rows m ≡ Some (record { job = Does 0 0 0; mark = Ready })) (sym p.0) refl, inl p.0, refl, p.1)
+        inr (record { job = Does 0 0 0; status = Ready }, subst (λ (m : ℕ). row_of assigned_fields.rows m ≡ Some (record { job = Does 0 0 0; status = Ready })) (sym p.0) refl, inl p.0, refl, p.1)
 
     once_ : (k : Kind) (z : ℤ) → Distinct (assigned_fields.queue k z)
     once_ Control z = tt
@@ -440,4 +440,4 @@ stored_ends = record {
 }
 
 pub assigned_stand : AssignedStands
-assigned_stand = end_stands C checked worked_layout (Begin 0 1 ∷ End 0 1 ∷ Begin 1 3 ∷ []) storing storing_stand 1 3 _ refl refl (record { job = Does 0 1 0; mark = Running 1 }) refl [] tt assigned_fields stored_ends
+assigned_stand = end_stands C checked worked_layout (Begin 0 1 ∷ End 0 1 ∷ Begin 1 3 ∷ []) storing storing_stand 1 3 _ refl refl (record { job = Does 0 1 0; status = Running 1 }) refl [] tt assigned_fields stored_ends

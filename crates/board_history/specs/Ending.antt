@@ -3,7 +3,7 @@ use Rattle.std.specs.Prelude.{◌≡◌, ◌⊎◌, ℕ, ℤ, pos, zero, suc, �
 use Rattle.std.specs.List.{flat_map, filter}
 use Rattle.dataflow.specs.System.{Answer, Distinct, Effect, Good, In, Opening, System, tasks_of}
 use Rattle.dataflow.specs.Machine.{Item, Leaves, SeesAll, State, ended, new_items}
-use Rattle.board_history.specs.Fields.{Absent, AnElement, Content, Counted, DatumOf, Does, Fields, Frame, Holding, Job, Layout, LiteralOf, Mapping, Mark, Over, Ready, Row, Script, Slot, Unset, Waiter, Waiting, Want, Whole, level_of, path_of, row_of, slot_at, slot_for, step_before, task_of}
+use Rattle.board_history.specs.Fields.{Absent, AnElement, Content, Counted, DatumOf, Does, Fields, Frame, Holding, Job, Layout, LiteralOf, Mapping, Status, Over, Ready, Row, Script, Slot, Unset, Waiter, Waiting, Want, Whole, level_of, path_of, row_of, slot_at, slot_for, step_before, task_of}
 use Rattle.board_history.specs.Needs.{is_array_content, is_known, job_missed, still_missed}
 use Rattle.board_history.specs.Static.{Hold, names_in, opened, outer_holds, own_count, rests}
 use Rattle.task_code.specs.Code.{Calling, Code, Control, Entry, Fixed, Kind, Loop, Name, Parameter, Variable, Way, argument, body, entry, here, kind_of, loop_of, scalar, stored_of, ways}
@@ -11,7 +11,7 @@ use Rattle.task_code.specs.Compute.{Computed, Elements, Fails, Gives, Inserts, O
 use Rattle.task_code.specs.Effects.{Task, chunk, is_some_list, only, prints, step_at, turns_of}
 use Rattle.task_code.specs.Places.{Place, Step, variable_eq}
 use Rattle.task_code.specs.Whole.{Declared, Seen}
-use Rattle.values.specs.Keys.{mark_of}
+use Rattle.values.specs.Keys.{hash_of}
 use Rattle.values.specs.declared.key.Key.{Key}
 use Rattle.values.specs.declared.value.Scalar.{Scalar}
 use Rattle.values.specs.Limits.{chunk_size}
@@ -21,26 +21,26 @@ abbrev pub is_one : ℕ → List ℕ → Bool
 is_one n [] = false
 is_one n (m ∷ ms) = nat_eq n m || is_one n ms
 
--- the mark of a row afterwards: the item's own is over, and the newly enabled ones are ready
-abbrev pub mark_after : (number : ℕ) → (newly : List ℕ) → ℕ → Mark → Mark
-mark_after n newly k m = if nat_eq k n then Over else (if is_one k newly then Ready else m)
+-- the status of a row afterwards: the item's own is over, and the newly enabled ones are ready
+abbrev pub status_after : (number : ℕ) → (newly : List ℕ) → ℕ → Status → Status
+status_after n newly k m = if nat_eq k n then Over else (if is_one k newly then Ready else m)
 
 -- the rows from a number on, with other marks
-abbrev pub marked_by : (ℕ → Mark → Mark) → ℕ → List Row → List Row
-marked_by f k [] = []
-marked_by f k (r ∷ rs) = record { job = r.job; mark = f k r.mark } ∷ marked_by f (suc k) rs
+abbrev pub with_statuses : (ℕ → Status → Status) → ℕ → List Row → List Row
+with_statuses f k [] = []
+with_statuses f k (r ∷ rs) = record { job = r.job; status = f k r.status } ∷ with_statuses f (suc k) rs
 
 -- the row of a new item
 abbrev pub new_row : Job → Row
-new_row j = record { job = j; mark = Waiting }
+new_row j = record { job = j; status = Waiting }
 
 -- all rows afterwards: those of new items follow the old ones
 abbrev pub ended_rows : List Row → (number : ℕ) → (newly : List ℕ) → List Job → List Row
-ended_rows rows n newly jobs = marked_by (mark_after n newly) 1 (rows ++ map new_row jobs)
+ended_rows rows n newly jobs = with_statuses (status_after n newly) 1 (rows ++ map new_row jobs)
 
 -- with other instances, the other items have the same tasks, and the new jobs are the opened tasks, in order
 pub record TasksStay (fs gs : List (Option Frame)) (rows : List Row) (number : ℕ) (jobs : List Job) (tasks : List Task) : Type 0 where
-  pub others : (m : ℕ) (r : Row) → row_of rows m ≡ Some r → (r.mark ≡ Over → ⊥) → (m ≡ number → ⊥) → task_of gs r.job ≡ task_of fs r.job
+  pub others : (m : ℕ) (r : Row) → row_of rows m ≡ Some r → (r.status ≡ Over → ⊥) → (m ≡ number → ⊥) → task_of gs r.job ≡ task_of fs r.job
   pub opened : map (task_of gs) jobs ≡ tasks
 
 module _ {T D K V E : Type 0} (S : System T D K V E) where
@@ -180,19 +180,19 @@ leaving j [] = home j
 leaving j (o ∷ os) = None
 
 -- the initial content: a loop gives its turn's variables their values
-abbrev pub StartsBy : List Step → (mark chunk : ℕ) → Computed → Instance → Variable → Content → Option Loop → Type 0
-StartsBy p mark n x m v c None = c ≡ empty_content v.array
-StartsBy p mark n x m v c (Some w) = (t : Key × Scalar) × In t (chunk n (turns_of x)) × (m.path ≡ step_at mark t.0 p) × (c ≡ turn_content w t v)
+abbrev pub StartsBy : List Step → (offset chunk : ℕ) → Computed → Instance → Variable → Content → Option Loop → Type 0
+StartsBy p offset n x m v c None = c ≡ empty_content v.array
+StartsBy p offset n x m v c (Some w) = (t : Key × Scalar) × In t (chunk n (turns_of x)) × (m.path ≡ step_at offset t.0 p) × (c ≡ turn_content w t v)
 
 -- the newly enabled items: the rows that waited or are new, and have no missing input now
 pub record NewlyAfter (G : Fields) (rows : List Row) : Type 0 where
   pub once : Distinct G.newly
-  pub all : (m : ℕ) (r : Row) → row_of rows m ≡ Some r → r.mark ≡ Waiting → ((w : Waiter) → In w G.waiting → w.item ≡ m → ⊥) → In m G.newly
-  pub only : (m : ℕ) → In m G.newly → (r : Row) × (row_of rows m ≡ Some r) × (r.mark ≡ Waiting) × ((w : Waiter) → In w G.waiting → w.item ≡ m → ⊥)
+  pub all : (m : ℕ) (r : Row) → row_of rows m ≡ Some r → r.status ≡ Waiting → ((w : Waiter) → In w G.waiting → w.item ≡ m → ⊥) → In m G.newly
+  pub only : (m : ℕ) → In m G.newly → (r : Row) × (row_of rows m ≡ Some r) × (r.status ≡ Waiting) × ((w : Waiter) → In w G.waiting → w.item ≡ m → ⊥)
 
 -- the item for the rest of a loop keeps the remaining turns; the other items keep theirs
 pub record TurnsAfter (F G : Fields) (n : ℕ) (x : Computed) (rows : List Row) : Type 0 where
-  pub others : (m : ℕ) (r : Row) → row_of F.rows m ≡ Some r → (r.mark ≡ Over → ⊥) → (m ≡ n → ⊥) → G.turns m ≡ F.turns m
+  pub others : (m : ℕ) (r : Row) → row_of F.rows m ≡ Some r → (r.status ≡ Over → ⊥) → (m ≡ n → ⊥) → G.turns m ≡ F.turns m
   pub new : (m : ℕ) (r : Row) → length F.rows < m → row_of rows m ≡ Some r → G.turns m ≡ turns_of_new x (F.turns n) r.job
 
 -- the kind of a job, and its priority
@@ -250,7 +250,7 @@ module _ (C : Code) where
   -- the initial content
   abbrev pub StartsAs : List (Option Frame) → Job → Computed → Instance → Variable → Content → Type 0
   StartsAs fs Script x m v c = c ≡ empty_content v.array
-  StartsAs fs (Does k e n) x m v c = StartsBy (path_of fs k) (entry C e).mark n x m v c (loop_of (entry C e).act)
+  StartsAs fs (Does k e n) x m v c = StartsBy (path_of fs k) (entry C e).offset n x m v c (loop_of (entry C e).act)
 
   -- the jobs of all new items, and the printed lines
   abbrev pub jobs_after : List Instance → Job → List (Opening Task Place) → List Job
@@ -269,8 +269,8 @@ module _ (C : Code) where
     -- the names of a new instance's entries have the slots of the item's own names, or of a literal argument that the
     -- item passes
     pub record NamesLead (fs hs : List (Option Frame)) (k e c : ℕ) (m : Instance) : Type 0 where
-      pub seen : (w : Way) (r s : Name) → In (w, m.body) (ways (entry C e).act) → In r (names_in C (λ x. x.reads ++ x.writes) m.body) → (Declared C m.body r → ⊥) → Seen C (entry C e).mark w r s → In s ((entry C e).reads ++ (entry C e).writes) → slot_for L hs m.key m.body r ≡ job_slot fs (Does k e c) s
-      pub fixed : (n : ℕ) (b : Bool) (v : Scalar) → In (Calling, m.body) (ways (entry C e).act) → In (record { up = 0; owned = Parameter n b }) (names_in C (λ x. x.reads) m.body) → argument C (entry C e).mark n b ≡ Some (Fixed v) → slot_for L hs m.key m.body (record { up = 0; owned = Parameter n b }) ≡ LiteralOf e n
+      pub seen : (w : Way) (r s : Name) → In (w, m.body) (ways (entry C e).act) → In r (names_in C (λ x. x.reads ++ x.writes) m.body) → (Declared C m.body r → ⊥) → Seen C (entry C e).offset w r s → In s ((entry C e).reads ++ (entry C e).writes) → slot_for L hs m.key m.body r ≡ job_slot fs (Does k e c) s
+      pub fixed : (n : ℕ) (b : Bool) (v : Scalar) → In (Calling, m.body) (ways (entry C e).act) → In (record { up = 0; owned = Parameter n b }) (names_in C (λ x. x.reads) m.body) → argument C (entry C e).offset n b ≡ Some (Fixed v) → slot_for L hs m.key m.body (record { up = 0; owned = Parameter n b }) ≡ LiteralOf e n
 
     -- the holds that the new instances add to the count of a datum, and those that the item gives up
     abbrev pub added_times : (Entry → List Name) → List (Option Frame) → ℕ → List Instance → ℕ
@@ -323,7 +323,7 @@ module _ (C : Code) where
     pub record BecomesKnown (stored : ℕ → Elements) (cs ds : List (Option Counted)) (known : List (Want ℕ)) : Type 0 where
       pub sound : (w : Want ℕ) → In w known → is_known ds w ≡ true
       pub put : (d : ℕ) (c : Counted) (x : Key × Scalar) (xs : Elements) → slot_at cs d ≡ Some c → is_array_content c.content ≡ false → stored d ≡ x ∷ xs → In (Whole d) known
-      pub inserted : (d : ℕ) (c : Counted) (k : Key) (v : Scalar) → slot_at cs d ≡ Some c → is_array_content c.content ≡ true → In (k, v) (stored d) → In (AnElement d (mark_of k)) known
+      pub inserted : (d : ℕ) (c : Counted) (k : Key) (v : Scalar) → slot_at cs d ≡ Some c → is_array_content c.content ≡ true → In (k, v) (stored d) → In (AnElement d (hash_of k)) known
       pub closed : (d : ℕ) (b c : Counted) → slot_at cs d ≡ Some b → slot_at ds d ≡ Some c → is_array_content b.content ≡ true → 0 < b.writes → c.writes ≡ 0 → In (Whole d) known
 
     -- the missing inputs of a waiting item afterwards: those still missing; if there are none, those that its item

@@ -33,11 +33,11 @@ pub record Frame : Type 0 where
   pub slots : List Slot
 
 -- the status of an item
-pub data Mark : Type 0 where
-  Waiting : Mark
-  Ready : Mark
-  Running : (worker : ℕ) → Mark
-  Over : Mark
+pub data Status : Type 0 where
+  Waiting : Status
+  Ready : Status
+  Running : (worker : ℕ) → Status
+  Over : Status
 
 -- the task of an item: it opens the script, or it is an entry in an instance
 pub data Job : Type 0 where
@@ -46,7 +46,7 @@ pub data Job : Type 0 where
 
 pub record Row : Type 0 where
   pub job : Job
-  pub mark : Mark
+  pub status : Status
 
 -- the content of a datum
 pub data Content : Type 0 where
@@ -63,7 +63,7 @@ pub record Counted : Type 0 where
 -- an input of an item: a stored scalar or a closed array, or an element
 pub data Want (D : Type 0) : Type 0 where
   Whole : D → Want D
-  AnElement : D → (mark : ℕ) → Want D
+  AnElement : D → (hash : ℕ) → Want D
 
 -- a waiting item, and its missing inputs, in order
 pub record Waiter : Type 0 where
@@ -135,7 +135,7 @@ abbrev pub task_of : List (Option Frame) → Job → Task
 task_of fs Script = Main
 task_of fs (Does k e c) = Item e (path_of fs k) c
 
-abbrev pub item_before : ℕ → Task → Mark → List CodeItem → List CodeItem
+abbrev pub item_before : ℕ → Task → Status → List CodeItem → List CodeItem
 item_before n t Waiting is = record { number = n; task = t; runs = None } ∷ is
 item_before n t Ready is = record { number = n; task = t; runs = None } ∷ is
 item_before n t (Running w) is = record { number = n; task = t; runs = Some w } ∷ is
@@ -143,20 +143,20 @@ item_before n t Over is = is
 
 abbrev pub items_from : List (Option Frame) → ℕ → List Row → List CodeItem
 items_from fs n [] = []
-items_from fs n (r ∷ rs) = item_before n (task_of fs r.job) r.mark (items_from fs (suc n) rs)
+items_from fs n (r ∷ rs) = item_before n (task_of fs r.job) r.status (items_from fs (suc n) rs)
 
 -- the number of rows that run, of rows that are not over in an instance, and of instances directly inside one
-abbrev pub is_running : Mark → Bool
+abbrev pub is_running : Status → Bool
 is_running (Running w) = true
 is_running _ = false
 
-abbrev pub is_over : Mark → Bool
+abbrev pub is_over : Status → Bool
 is_over Over = true
 is_over _ = false
 
 abbrev pub running_in : List Row → ℕ
 running_in [] = 0
-running_in (r ∷ rs) = (if is_running r.mark then 1 else 0) + running_in rs
+running_in (r ∷ rs) = (if is_running r.status then 1 else 0) + running_in rs
 
 abbrev pub is_of : ℕ → Job → Bool
 is_of k Script = false
@@ -164,7 +164,7 @@ is_of k (Does j e c) = nat_eq j k
 
 abbrev pub rows_in : ℕ → List Row → ℕ
 rows_in k [] = 0
-rows_in k (r ∷ rs) = (if is_over r.mark then 0 else (if is_of k r.job then 1 else 0)) + rows_in k rs
+rows_in k (r ∷ rs) = (if is_over r.status then 0 else (if is_of k r.job then 1 else 0)) + rows_in k rs
 
 abbrev pub lies_in : ℕ → Option Frame → Bool
 lies_in k None = false

@@ -34,5 +34,5 @@ module _ (C : Code) (L : Layout) where
 
   -- a call fills the slots of the parameters: with the slots of the caller's names, and with its literals
   pub record Passes (fs : List (Option Frame)) (k e c : ℕ) (m : Instance) (f : Frame) : Type 0 where
-    pub named : (n : ℕ) (a : Bool) (s : Name) → In (parameter n a) (all_names C m.body) → argument C (entry C e).mark n a ≡ Some (Named s) → In s ((entry C e).reads ++ (entry C e).writes) → nth Absent f.slots (L.slot m.body (parameter n a)) ≡ job_slot C L fs (Does k e c) s
-    pub fixed : (n : ℕ) (a : Bool) (v : Scalar) → In (parameter n a) (all_names C m.body) → argument C (entry C e).mark n a ≡ Some (Fixed v) → nth Absent f.slots (L.slot m.body (parameter n a)) ≡ LiteralOf e n
+    pub named : (n : ℕ) (a : Bool) (s : Name) → In (parameter n a) (all_names C m.body) → argument C (entry C e).offset n a ≡ Some (Named s) → In s ((entry C e).reads ++ (entry C e).writes) → nth Absent f.slots (L.slot m.body (parameter n a)) ≡ job_slot C L fs (Does k e c) s
+    pub fixed : (n : ℕ) (a : Bool) (v : Scalar) → In (parameter n a) (all_names C m.body) → argument C (entry C e).offset n a ≡ Some (Fixed v) → nth Absent f.slots (L.slot m.body (parameter n a)) ≡ LiteralOf e n

@@ -5,7 +5,7 @@ use Rattle.board_history.specs.Fields.{Absent, AnElement, Content, Counted, Datu
 use Rattle.board_history.specs.Stands.{array_wanted, element_wanted, scalar_wanted}
 use Rattle.task_code.specs.Code.{At, AtKey, Closed, Code, Name, Need, Stored, entry}
 use Rattle.task_code.specs.Compute.{Elements, key_of}
-use Rattle.values.specs.Keys.{mark_of, same_key}
+use Rattle.values.specs.Keys.{hash_of, same_key}
 use Rattle.values.specs.declared.key.Key.{Key}
 use Rattle.values.specs.declared.value.Scalar.{Scalar}
 
@@ -57,7 +57,7 @@ array_missed cs (DatumOf d) = array_wanted (is_shut (slot_at cs d)) d
 abbrev pub element_missed : List (Option Counted) → Slot → Key → List (Want ℕ)
 element_missed cs Absent k = []
 element_missed cs (LiteralOf e n) k = []
-element_missed cs (DatumOf d) k = element_wanted (cell_element k (slot_at cs d)) (is_shut (slot_at cs d)) d (mark_of k)
+element_missed cs (DatumOf d) k = element_wanted (cell_element k (slot_at cs d)) (is_shut (slot_at cs d)) d (hash_of k)
 
 -- the index is missing first: its own value, or a literal
 abbrev pub indexed_missed : List (Option Counted) → ℕ → ℕ → Option Scalar → List (Want ℕ)
@@ -121,15 +121,15 @@ abbrev pub has : Option Scalar → Bool
 has None = false
 has (Some v) = true
 
--- an element of this mark is present; it may differ from the awaited one
-abbrev pub has_mark : ℕ → Elements → Bool
-has_mark m [] = false
-has_mark m (x ∷ xs) = nat_eq m (mark_of x.0) || has_mark m xs
+-- an element of this hash is present; it may differ from the awaited one
+abbrev pub has_hash : ℕ → Elements → Bool
+has_hash m [] = false
+has_hash m (x ∷ xs) = nat_eq m (hash_of x.0) || has_hash m xs
 
-abbrev pub cell_marked : ℕ → Option Counted → Bool
-cell_marked m None = false
-cell_marked m (Some c) = has_mark m (elements_in c.content)
+abbrev pub cell_hashed : ℕ → Option Counted → Bool
+cell_hashed m None = false
+cell_hashed m (Some c) = has_hash m (elements_in c.content)
 
 abbrev pub is_known : List (Option Counted) → Want ℕ → Bool
 is_known cs (Whole d) = cell_known (slot_at cs d)
-is_known cs (AnElement d m) = cell_marked m (slot_at cs d) || is_shut (slot_at cs d)
+is_known cs (AnElement d m) = cell_hashed m (slot_at cs d) || is_shut (slot_at cs d)

@@ -18,7 +18,7 @@ use Rattle.task_code.specs.Effects.{Item, Main, Task, left_at, only, turns_of}
 use Rattle.task_code.specs.Machine.{CodeItem, CodeState, Enabled}
 use Rattle.task_code.specs.Places.{Constant, Datum, Nowhere, Place, Step, place_array, place_at}
 use Rattle.task_code.specs.System.{code_system, task_inputs, task_kind, task_priority}
-use Rattle.values.specs.Keys.{mark_of}
+use Rattle.values.specs.Keys.{hash_of}
 use Rattle.values.specs.declared.key.Key.{Key}
 use Rattle.values.specs.declared.value.Scalar.{Scalar}
 
@@ -31,7 +31,7 @@ abbrev pub array_wanted : {D : Type 0} → Bool → D → List (Want D)
 array_wanted true a = []
 array_wanted false a = Whole a ∷ []
 
-abbrev pub element_wanted : {D : Type 0} → Option Scalar → Bool → D → (mark : ℕ) → List (Want D)
+abbrev pub element_wanted : {D : Type 0} → Option Scalar → Bool → D → (hash : ℕ) → List (Want D)
 element_wanted (Some v) closed a m = []
 element_wanted None true a m = []
 element_wanted None false a m = AnElement a m ∷ []
@@ -50,12 +50,12 @@ AllStand names _ _ = ⊥
 module _ (C : Code) where
   abbrev pub keyed_wanted : CodeState → Place → Place → Option Scalar → List (Want Place)
   keyed_wanted s a d None = Whole d ∷ []
-  keyed_wanted s a d (Some v) = element_wanted (value_at (code_system C) code_tests s.stored a (key_of v)) (is_closed (code_system C) code_tests s a) a (mark_of (key_of v))
+  keyed_wanted s a d (Some v) = element_wanted (value_at (code_system C) code_tests s.stored a (key_of v)) (is_closed (code_system C) code_tests s a) a (hash_of (key_of v))
 
   abbrev pub wanted : CodeState → Input Place Key → List (Want Place)
   wanted s (StoredScalar d) = scalar_wanted (value_at (code_system C) code_tests s.stored d only) d
   wanted s (ClosedArray a) = array_wanted (is_closed (code_system C) code_tests s a) a
-  wanted s (ElementOf a k) = element_wanted (value_at (code_system C) code_tests s.stored a k) (is_closed (code_system C) code_tests s a) a (mark_of k)
+  wanted s (ElementOf a k) = element_wanted (value_at (code_system C) code_tests s.stored a k) (is_closed (code_system C) code_tests s a) a (hash_of k)
   wanted s (ElementAt a d) = keyed_wanted s a d (value_at (code_system C) code_tests s.stored d only)
 
   -- all missing inputs of a task, in the order of its inputs
@@ -91,22 +91,22 @@ module _ (C : Code) where
   pub record ItemsStand (F : Fields) (s : CodeState) : Type 0 where
     pub items : items_from F.frames 1 F.rows ≡ s.items
     pub next : s.next ≡ suc (length F.rows)
-    pub ready : (n : ℕ) (r : Row) → row_of F.rows n ≡ Some r → r.mark ≡ Ready → Enabled C s (task_of F.frames r.job)
-    pub waiting : (n : ℕ) (r : Row) → row_of F.rows n ≡ Some r → r.mark ≡ Waiting → Enabled C s (task_of F.frames r.job) → ⊥
+    pub ready : (n : ℕ) (r : Row) → row_of F.rows n ≡ Some r → r.status ≡ Ready → Enabled C s (task_of F.frames r.job)
+    pub waiting : (n : ℕ) (r : Row) → row_of F.rows n ≡ Some r → r.status ≡ Waiting → Enabled C s (task_of F.frames r.job) → ⊥
     pub running : F.running ≡ running_in F.rows
 
   -- instances: that of each item exists, levels rise by one, and an instance is kept as long as it has an item or an
   -- instance inside
   pub record FramesStand (L : Layout) (F : Fields) (s : CodeState) (names : List (ℕ × Place)) : Type 0 where
-    pub there : (n k e c : ℕ) (r : Row) → row_of F.rows n ≡ Some r → r.job ≡ Does k e c → (r.mark ≡ Over → ⊥) → (f : Frame) × (slot_at F.frames k ≡ Some f) × In e (body C f.body).entries
+    pub there : (n k e c : ℕ) (r : Row) → row_of F.rows n ≡ Some r → r.job ≡ Does k e c → (r.status ≡ Over → ⊥) → (f : Frame) × (slot_at F.frames k ≡ Some f) × In e (body C f.body).entries
     pub outermost : (k : ℕ) (f : Frame) → slot_at F.frames k ≡ Some f → f.parent ≡ None → (f.level ≡ 0) × (f.way ≡ None) × (f.body ≡ 0)
     pub inside : (k j : ℕ) (f : Frame) → slot_at F.frames k ≡ Some f → f.parent ≡ Some j → (g : Frame) × (slot_at F.frames j ≡ Some g) × (f.level ≡ suc g.level)
     pub depth : (k : ℕ) (f : Frame) → slot_at F.frames k ≡ Some f → f.depth ≡ length (path_of F.frames k)
     pub live : (k : ℕ) (f : Frame) → slot_at F.frames k ≡ Some f → f.live ≡ rows_in k F.rows + frames_in k F.frames
     pub kept : (k : ℕ) (f : Frame) → slot_at F.frames k ≡ Some f → 0 < f.live
     -- each name to which an item has a right resolves to its place
-    pub reads : (n k e c : ℕ) (r : Row) (f : Frame) → row_of F.rows n ≡ Some r → r.job ≡ Does k e c → (r.mark ≡ Over → ⊥) → slot_at F.frames k ≡ Some f → (x : Name) → In x (entry C e).reads → SlotStands s names (slot_for L F.frames k f.body x) (place_at C (path_of F.frames k) x)
-    pub writes : (n k e c : ℕ) (r : Row) (f : Frame) → row_of F.rows n ≡ Some r → r.job ≡ Does k e c → (r.mark ≡ Over → ⊥) → slot_at F.frames k ≡ Some f → (x : Name) → In x (entry C e).writes → SlotStands s names (slot_for L F.frames k f.body x) (place_at C (path_of F.frames k) x)
+    pub reads : (n k e c : ℕ) (r : Row) (f : Frame) → row_of F.rows n ≡ Some r → r.job ≡ Does k e c → (r.status ≡ Over → ⊥) → slot_at F.frames k ≡ Some f → (x : Name) → In x (entry C e).reads → SlotStands s names (slot_for L F.frames k f.body x) (place_at C (path_of F.frames k) x)
+    pub writes : (n k e c : ℕ) (r : Row) (f : Frame) → row_of F.rows n ≡ Some r → r.job ≡ Does k e c → (r.status ≡ Over → ⊥) → slot_at F.frames k ≡ Some f → (x : Name) → In x (entry C e).writes → SlotStands s names (slot_for L F.frames k f.body x) (place_at C (path_of F.frames k) x)
 
   -- a datum: both counts are sums over the items
   pub record CellStands (s : CodeState) (a : Place) (c : Counted) : Type 0 where
@@ -168,4 +168,4 @@ first_queue Control z = if int_eq (pos 0) z then 1 ∷ [] else []
 first_queue Leaf z = []
 
 abbrev pub first_fields : Fields
-first_fields = record { frames = []; rows = record { job = Script; mark = Ready } ∷ []; cells = []; waiting = []; turns = λ n. None; queue = first_queue; lines = []; fault = None; running = 0; newly = [] }
+first_fields = record { frames = []; rows = record { job = Script; status = Ready } ∷ []; cells = []; waiting = []; turns = λ n. None; queue = first_queue; lines = []; fault = None; running = 0; newly = [] }

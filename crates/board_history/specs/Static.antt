@@ -67,18 +67,18 @@ module _ (C : Code) where
   -- the openings of an item of code: its blocks, and the item for the rest of a loop, which takes over the holds of
   -- this one
   pub record OpensHolds (i c : ℕ) (p : List Step) (x : Computed) : Type 0 where
-    pub reads : (a : Place) → holds (code_system C) code_tests (task_reads C) a (tasks_of (effect_at C i p c x).opens) ≡ blocks_hold (task_reads C) a (instances (entry C i).act (entry C i).mark p c x) + length (rest (loop_of (entry C i).act) i p c x) * times (code_system C) code_tests a (task_reads C (Item i p c))
-    pub writes : (a : Place) → holds (code_system C) code_tests (task_writes C) a (tasks_of (effect_at C i p c x).opens) ≡ blocks_hold (task_writes C) a (instances (entry C i).act (entry C i).mark p c x) + length (rest (loop_of (entry C i).act) i p c x) * times (code_system C) code_tests a (task_writes C (Item i p c))
+    pub reads : (a : Place) → holds (code_system C) code_tests (task_reads C) a (tasks_of (effect_at C i p c x).opens) ≡ blocks_hold (task_reads C) a (instances (entry C i).act (entry C i).offset p c x) + length (rest (loop_of (entry C i).act) i p c x) * times (code_system C) code_tests a (task_reads C (Item i p c))
+    pub writes : (a : Place) → holds (code_system C) code_tests (task_writes C) a (tasks_of (effect_at C i p c x).opens) ≡ blocks_hold (task_writes C) a (instances (entry C i).act (entry C i).offset p c x) + length (rest (loop_of (entry C i).act) i p c x) * times (code_system C) code_tests a (task_writes C (Item i p c))
 
   -- a loop's turns add the same to older data: the holds of one turn, times their number
-  pub record TurnsHold (w : Loop) (mark : ℕ) (p : List Step) (ts : Elements) (q : List Step) (v : Variable) (k : Key) : Type 0 where
-    pub reads : blocks_hold (task_reads C) (Datum q v) (turn_instances w mark p ts) ≡ length ts * held_by (step_at mark k p) (Datum q v) (outer_holds (λ e. e.reads) w.body)
-    pub writes : blocks_hold (task_writes C) (Datum q v) (turn_instances w mark p ts) ≡ length ts * held_by (step_at mark k p) (Datum q v) (outer_holds (λ e. e.writes) w.body)
+  pub record TurnsHold (w : Loop) (offset : ℕ) (p : List Step) (ts : Elements) (q : List Step) (v : Variable) (k : Key) : Type 0 where
+    pub reads : blocks_hold (task_reads C) (Datum q v) (turn_instances w offset p ts) ≡ length ts * held_by (step_at offset k p) (Datum q v) (outer_holds (λ e. e.reads) w.body)
+    pub writes : blocks_hold (task_writes C) (Datum q v) (turn_instances w offset p ts) ≡ length ts * held_by (step_at offset k p) (Datum q v) (outer_holds (λ e. e.writes) w.body)
 
   -- the blocks that the end of a task opens, and the item for the rest of a loop
   abbrev pub opened : Task → Computed → List (ℕ × List Step)
   opened Main x = (0, []) ∷ []
-  opened (Item i p c) x = instances (entry C i).act (entry C i).mark p c x
+  opened (Item i p c) x = instances (entry C i).act (entry C i).offset p c x
 
   abbrev pub rests : Task → Computed → List (Opening Task Place)
   rests Main x = []

@@ -56,10 +56,10 @@ opened_fields =
     record {
       frames = Some worked_frame ∷ [];
       rows =
-          record { job = Script; mark = Over }
-          ∷ record { job = Does 0 0 0; mark = Waiting }
-          ∷ record { job = Does 0 1 0; mark = Ready }
-          ∷ record { job = Does 0 2 0; mark = Waiting }
+          record { job = Script; status = Over }
+          ∷ record { job = Does 0 0 0; status = Waiting }
+          ∷ record { job = Does 0 1 0; status = Ready }
+          ∷ record { job = Does 0 2 0; status = Waiting }
           ∷ [];
       cells = Some (record { reads = 1; writes = 1; content = Unset }) ∷ Some (record { reads = 1; writes = 1; content = Unset }) ∷ [];
       waiting = record { item = 2; missing = Whole 1 ∷ [] } ∷ record { item = 4; missing = Whole 0 ∷ [] } ∷ [];
@@ -77,10 +77,10 @@ assigned_fields =
     record {
       frames = Some (record { parent = None; level = 0; depth = 0; way = None; body = 0; live = 2; slots = DatumOf 0 ∷ DatumOf 1 ∷ [] }) ∷ [];
       rows =
-          record { job = Script; mark = Over }
-          ∷ record { job = Does 0 0 0; mark = Ready }
-          ∷ record { job = Does 0 1 0; mark = Over }
-          ∷ record { job = Does 0 2 0; mark = Waiting }
+          record { job = Script; status = Over }
+          ∷ record { job = Does 0 0 0; status = Ready }
+          ∷ record { job = Does 0 1 0; status = Over }
+          ∷ record { job = Does 0 2 0; status = Waiting }
           ∷ [];
       cells = Some (record { reads = 1; writes = 1; content = Unset }) ∷ Some (record { reads = 1; writes = 0; content = Holding (Number (pos 2)) }) ∷ [];
       waiting = record { item = 4; missing = Whole 0 ∷ [] } ∷ [];

@@ -111,8 +111,8 @@ pub fn counted_rights<T, D, K, V, E>()
 pub fn counted_rights_of_code()
     ensures adds { (C : Code) (b : ℕ) (p : List PathStep) → AddsHolds C b p }
     ensures opens { (C : Code) (i c : ℕ) (p : List PathStep) (x : Computed) → OpensHolds C i c p x }
-    ensures turns { (C : Code) (w : Loop) (mark : ℕ) (p q : List PathStep) (v : Variable) (k : Key) → (q ≡ step_at mark k p → ⊥) →
-        (ts : Elements) → ((t : Key × Scalar) → In t ts → q ≡ step_at mark t.0 p → ⊥) → TurnsHold C w mark p ts q v k }
+    ensures turns { (C : Code) (w : Loop) (offset : ℕ) (p q : List PathStep) (v : Variable) (k : Key) → (q ≡ step_at offset k p → ⊥) →
+        (ts : Elements) → ((t : Key × Scalar) → In t ts → q ≡ step_at offset t.0 p → ⊥) → TurnsHold C w offset p ts q v k }
     ensures starts { (C : Code) → IsCode C →
         (events : List Event) (s : CodeState) → RunOfCode C events s →
         (t : CodeState) (w n : ℕ) → CodeStep C s (End w n) t → t.fault ≡ None →
@@ -124,8 +124,8 @@ pub fn counted_rights_of_code()
 
 /// States that a replayed state has no free data, and that a step from such a state changes little.
 ///
-/// Begin and Back change one mark. An End with a fault records the fault and changes nothing else. An End without fault
-/// removes only data to which the item has a right, and closes only arrays that it may write.
+/// Begin and Back change the status of one item. An End with a fault records the fault and changes nothing else. An End
+/// without fault removes only data to which the item has a right, and closes only arrays that it may write.
 pub fn small_steps<T, D, K, V, E>()
     ensures replayed_bare { (S : System T D K V E) (X : Tests D K V) → AreTests S X →
         (events : List Event) (s : State T D K V E) → replayed S X events ≡ Some s → IsBare S s }
@@ -211,7 +211,7 @@ pub fn standing_fields()
         (answers : List (Answer Key Scalar)) → SeesAll (code_system C) x.state (task_inputs C i.task) answers →
         F.turns i.number ≡ Some (left_at (suc c) (turns_of (computed_by C i.task answers))) }
     ensures leads { (C : Code) → IsCode C → (L : Layout) → IsLayout C L → (events : List Event) (F : Fields) → Stands C L events F →
-        (n k e c : ℕ) (row : Row) → row_of F.rows n ≡ Some row → row.job ≡ Does k e c → (row.mark ≡ Over → ⊥) →
+        (n k e c : ℕ) (row : Row) → row_of F.rows n ≡ Some row → row.job ≡ Does k e c → (row.status ≡ Over → ⊥) →
         (made : List Instance) (middle : List (Option Frame)) → FramesOpen C F.frames (Some k) made middle → (m : Instance) → In m made →
         ((f : Frame) → slot_at middle m.key ≡ Some f → In (Calling, m.body) (ways (entry C e).act) → Passes C L F.frames k e c m f) →
         NamesLead C L F.frames middle k e c m }

@@ -84,7 +84,7 @@ module _ (C : Code) (fs : List (Option Frame)) (k e chunk : ℕ) (m : Instance) 
   abbrev all : List Argument
   all = arguments (entry C e).act
 
-  here_at : (n : ℕ) (a : Bool) (y : Argument) → argument C (entry C e).mark n a ≡ Some y → nth Absent f.slots (slot_of (spot_in C m.body (parameter n a))) ≡ passed_slot fs k e n (passed_in C x.outer.body y)
+  here_at : (n : ℕ) (a : Bool) (y : Argument) → argument C (entry C e).offset n a ≡ Some y → nth Absent f.slots (slot_of (spot_in C m.body (parameter n a))) ≡ passed_slot fs k e n (passed_in C x.outer.body y)
   here_at n a y h =
       ap (nth Absent f.slots) (parameter_at C m.body n a some x.function few ∙ ap (λ l. l + n) (sym x.own_are))
       ∙ ap (λ ss. nth Absent ss (length x.own + n)) x.slots

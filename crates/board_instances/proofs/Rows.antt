@@ -2,8 +2,8 @@
 use Rattle.std.proofs.Common.{◌≡◌, ◌∙◌, refl, sym, ap, subst, ℕ, zero, suc, ◌-◌, ◌<◌, ◌≤◌, List, [], ◌∷◌, length, Some, None, arith, slice_set}
 use Rattle.std.specs.Prelude.{slice_index_or}
 use Rattle.board_history.specs.Fields.{Row, row_of}
-use Rattle.board_history.specs.Marking.{mark_at}
-use Rattle.board_instances.specs.View.{mark_view, row_view, rows_view}
+use Rattle.board_history.specs.Marking.{with_status}
+use Rattle.board_instances.specs.View.{status_view, row_view, rows_view}
 use Rattle.board_instances.specs.declared.item.ItemRecord.{ItemRecord}
 use Rattle.board_instances.specs.declared.item.ItemStatus.{ItemStatus}
 
@@ -40,29 +40,29 @@ row_past xs zero h = no_row xs
 row_past xs (suc n) h = none_behind xs n (omega (arith, h))
 
 -- no item is marked by the number 0, nor by one past the last
-pub mark_none : (xs : List ItemRecord) (m : ItemStatus) → mark_at (rows_view xs) 0 (mark_view m) ≡ rows_view xs
-mark_none [] m = refl
-mark_none (x ∷ xs) m = refl
+pub status_none : (xs : List ItemRecord) (m : ItemStatus) → with_status (rows_view xs) 0 (status_view m) ≡ rows_view xs
+status_none [] m = refl
+status_none (x ∷ xs) m = refl
 
-mark_behind : (xs : List ItemRecord) (n : ℕ) (m : ItemStatus) → length xs ≤ n → mark_at (rows_view xs) (suc n) (mark_view m) ≡ rows_view xs
-mark_behind [] n m h = refl
-mark_behind (x ∷ xs) zero m h = absurd (omega (arith, h))
-mark_behind (x ∷ xs) (suc n) m h = ap (λ ys. row_view x ∷ ys) (mark_behind xs n m (omega (arith, h)))
+status_behind : (xs : List ItemRecord) (n : ℕ) (m : ItemStatus) → length xs ≤ n → with_status (rows_view xs) (suc n) (status_view m) ≡ rows_view xs
+status_behind [] n m h = refl
+status_behind (x ∷ xs) zero m h = absurd (omega (arith, h))
+status_behind (x ∷ xs) (suc n) m h = ap (λ ys. row_view x ∷ ys) (status_behind xs n m (omega (arith, h)))
 
-pub mark_past : (xs : List ItemRecord) (n : ℕ) (m : ItemStatus) → length xs ≤ n - 1 → mark_at (rows_view xs) n (mark_view m) ≡ rows_view xs
-mark_past xs zero m h = mark_none xs m
-mark_past xs (suc n) m h = mark_behind xs n m (omega (arith, h))
+pub status_past : (xs : List ItemRecord) (n : ℕ) (m : ItemStatus) → length xs ≤ n - 1 → with_status (rows_view xs) n (status_view m) ≡ rows_view xs
+status_past xs zero m h = status_none xs m
+status_past xs (suc n) m h = status_behind xs n m (omega (arith, h))
 
-mark_at_place : (xs : List ItemRecord) (n : ℕ) (m : ItemStatus) (d y : ItemRecord) → row_view y ≡ record { job = (row_view (slice_index_or xs n d)).job; mark = mark_view m } → n < length xs → rows_view (slice_set xs n y) ≡ mark_at (rows_view xs) (suc n) (mark_view m)
-mark_at_place [] n m d y e h = absurd (omega (arith, h))
-mark_at_place (x ∷ xs) zero m d y e h = ap (λ (r : Row). r ∷ rows_view xs) e
-mark_at_place (x ∷ xs) (suc n) m d y e h = ap (λ ys. row_view x ∷ ys) (mark_at_place xs n m d y e (omega (arith, h)))
+status_at_place : (xs : List ItemRecord) (n : ℕ) (m : ItemStatus) (d y : ItemRecord) → row_view y ≡ record { job = (row_view (slice_index_or xs n d)).job; status = status_view m } → n < length xs → rows_view (slice_set xs n y) ≡ with_status (rows_view xs) (suc n) (status_view m)
+status_at_place [] n m d y e h = absurd (omega (arith, h))
+status_at_place (x ∷ xs) zero m d y e h = ap (λ (r : Row). r ∷ rows_view xs) e
+status_at_place (x ∷ xs) (suc n) m d y e h = ap (λ ys. row_view x ∷ ys) (status_at_place xs n m d y e (omega (arith, h)))
 
-mark_behind_one : (xs : List ItemRecord) (n k : ℕ) (m : ItemStatus) (d y : ItemRecord) → n ≡ k → row_view y ≡ record { job = (row_view (slice_index_or xs k d)).job; mark = mark_view m } → n < length xs → rows_view (slice_set xs k y) ≡ mark_at (rows_view xs) (suc n) (mark_view m)
-mark_behind_one xs n k m d y same e h =
-    ap (λ i. rows_view (slice_set xs i y)) (sym same) ∙ mark_at_place xs n m d y (subst (λ i. row_view y ≡ record { job = (row_view (slice_index_or xs i d)).job; mark = mark_view m }) (sym same) e) h
+status_behind_one : (xs : List ItemRecord) (n k : ℕ) (m : ItemStatus) (d y : ItemRecord) → n ≡ k → row_view y ≡ record { job = (row_view (slice_index_or xs k d)).job; status = status_view m } → n < length xs → rows_view (slice_set xs k y) ≡ with_status (rows_view xs) (suc n) (status_view m)
+status_behind_one xs n k m d y same e h =
+    ap (λ i. rows_view (slice_set xs i y)) (sym same) ∙ status_at_place xs n m d y (subst (λ i. row_view y ≡ record { job = (row_view (slice_index_or xs i d)).job; status = status_view m }) (sym same) e) h
 
--- the item of the number has the mark
-pub mark_there : (xs : List ItemRecord) (n : ℕ) (m : ItemStatus) (d y : ItemRecord) → row_view y ≡ record { job = (row_view (slice_index_or xs (n - 1) d)).job; mark = mark_view m } → 0 < n → n - 1 < length xs → rows_view (slice_set xs (n - 1) y) ≡ mark_at (rows_view xs) n (mark_view m)
-mark_there xs zero m d y e p h = absurd (omega (arith, p))
-mark_there xs (suc n) m d y e p h = mark_behind_one xs n (suc n - 1) m d y (before n) e (omega (arith, h))
+-- the item of the number has the status
+pub status_there : (xs : List ItemRecord) (n : ℕ) (m : ItemStatus) (d y : ItemRecord) → row_view y ≡ record { job = (row_view (slice_index_or xs (n - 1) d)).job; status = status_view m } → 0 < n → n - 1 < length xs → rows_view (slice_set xs (n - 1) y) ≡ with_status (rows_view xs) n (status_view m)
+status_there xs zero m d y e p h = absurd (omega (arith, p))
+status_there xs (suc n) m d y e p h = status_behind_one xs n (suc n - 1) m d y (before n) e (omega (arith, h))

@@ -13,4 +13,4 @@ unpacked number place = cond (place == 4294967295) Absent (cond (place == 429496
 
 -- the script's item, or that of an entry
 abbrev pub unpacked_item : Bool → ItemStatus → (entry instance chunk : ℕ) → ItemRecord
-unpacked_item is_script mark entry instance chunk = cond is_script (Script mark) (Does mark entry instance chunk)
+unpacked_item is_script status entry instance chunk = cond is_script (Script status) (Does status entry instance chunk)

@@ -17,5 +17,5 @@ pub record HandsOver (C : Code) (fs : List (Option Frame)) (k e : ℕ) (m : Inst
   pub slots : f.slots ≡ own ++ passed_from fs k e 0 (map (passed_in C outer.body) (arguments (entry C e).act))
   pub few : length f.slots < 2 ^ 64
   pub function : (body C m.body).opener ≡ ByCalls
-  pub call : call_at C (entry C e).mark ≡ e
+  pub call : call_at C (entry C e).offset ≡ e
   pub leads : (s : Name) → In s ((entry C e).reads ++ (entry C e).writes) → spot_in C outer.body s ≡ None → ⊥

@@ -15,19 +15,19 @@ use Rattle.board_instances.specs.declared.pending.PendingInstance.{PendingInstan
 use Rattle.paths.specs.declared.steps.Step.{Step}
 
 -- items
-abbrev pub mark_view : ItemStatus → Pure.Mark
-mark_view Marks.Waiting = Pure.Waiting
-mark_view Marks.Ready = Pure.Ready
-mark_view (Marks.Running w) = Pure.Running w
-mark_view Marks.Over = Pure.Over
+abbrev pub status_view : ItemStatus → Pure.Status
+status_view Marks.Waiting = Pure.Waiting
+status_view Marks.Ready = Pure.Ready
+status_view (Marks.Running w) = Pure.Running w
+status_view Marks.Over = Pure.Over
 
 abbrev pub job_view : ItemTask → Pure.Job
 job_view Jobs.Script = Pure.Script
 job_view (Jobs.Does e k c) = Pure.Does k e c
 
 abbrev pub row_view : ItemRecord → Pure.Row
-row_view (Items.Script m) = record { job = Pure.Script; mark = mark_view m }
-row_view (Items.Does m e k c) = record { job = Pure.Does k e c; mark = mark_view m }
+row_view (Items.Script m) = record { job = Pure.Script; status = status_view m }
+row_view (Items.Does m e k c) = record { job = Pure.Does k e c; status = status_view m }
 
 abbrev pub rows_view : List ItemRecord → List Pure.Row
 rows_view items = map row_view items

@@ -3,8 +3,8 @@
 //! The item of number n is row n - 1. A row is never removed, and is packed into two words.
 ghost use Rattle.std.specs.Prelude.{◌≡◌, ◌<◌, ◌^◌, map, option_map, IfOk, IsOk};
 ghost use Rattle.board_history.specs.Fields.{row_of};
-ghost use Rattle.board_history.specs.Marking.{mark_at};
-ghost use Rattle.board_instances.specs.View.{job_view, mark_view, row_view, rows_view};
+ghost use Rattle.board_history.specs.Marking.{with_status};
+ghost use Rattle.board_instances.specs.View.{job_view, status_view, row_view, rows_view};
 
 use std::alloc::AllocError;
 use std::marker::Model;
@@ -34,7 +34,7 @@ pub enum ItemTask {
 pub enum ItemRecord {
     Script(ItemStatus),
     Does {
-        mark: ItemStatus,
+        status: ItemStatus,
         entry: u32,
         instance: usize,
         chunk: usize,
@@ -49,7 +49,7 @@ impl ItemRecord {
         match self {
             ItemRecord::Script(_) => ItemTask::Script,
             ItemRecord::Does {
-                mark: _,
+                status: _,
                 entry,
                 instance,
                 chunk,
@@ -62,12 +62,12 @@ impl ItemRecord {
     }
 
     /// Returns its status.
-    pub fn mark(self) -> ItemStatus
-        ensures { mark_view result ≡ (row_view self).mark }
+    pub fn status(self) -> ItemStatus
+        ensures { status_view result ≡ (row_view self).status }
     {
         match self {
-            ItemRecord::Script(mark) => mark,
-            ItemRecord::Does { mark, .. } => mark,
+            ItemRecord::Script(status) => status,
+            ItemRecord::Does { status, .. } => status,
         }
     }
 }
@@ -78,7 +78,7 @@ pub struct PackedItem {
     entry: u32,
     instance: u32,
     chunk: u32,
-    mark: ItemStatus,
+    status: ItemStatus,
     is_script: bool,
 }
 
@@ -88,19 +88,19 @@ impl Model for PackedItem {
 
     ghost Value = { ItemRecord };
 
-    ghost view = { λ a. unpacked_item a.is_script a.mark a.entry a.instance a.chunk };
+    ghost view = { λ a. unpacked_item a.is_script a.status a.entry a.instance a.chunk };
 }
 
 impl PackedItem {
     /// Creates the item that opens the script.
-    pub fn script(mark: ItemStatus) -> PackedItem
-        ensures { result ≡ ItemRecord.Script mark }
+    pub fn script(status: ItemStatus) -> PackedItem
+        ensures { result ≡ ItemRecord.Script status }
     {
         PackedItem {
             entry: 0,
             instance: 0,
             chunk: 0,
-            mark,
+            status,
             is_script: true,
         }
     }
@@ -122,7 +122,7 @@ impl PackedItem {
             entry,
             instance,
             chunk,
-            mark: ItemStatus::Waiting,
+            status: ItemStatus::Waiting,
             is_script: false,
         })
     }
@@ -132,10 +132,10 @@ impl PackedItem {
         ensures { result ≡ self.now }
     {
         if self.is_script {
-            ItemRecord::Script(self.mark)
+            ItemRecord::Script(self.status)
         } else {
             ItemRecord::Does {
-                mark: self.mark,
+                status: self.status,
                 entry: self.entry,
                 instance: self.instance as usize,
                 chunk: self.chunk as usize,
@@ -144,10 +144,10 @@ impl PackedItem {
     }
 
     /// Sets the status.
-    fn set_mark(&mut self, mark: ItemStatus)
-        ensures { row_view self.new ≡ record { job = (row_view self.old).job; mark = mark_view mark } }
+    fn set_status(&mut self, status: ItemStatus)
+        ensures { row_view self.new ≡ record { job = (row_view self.old).job; status = status_view status } }
     {
-        self.mark = mark;
+        self.status = status;
     }
 }
 
@@ -163,12 +163,12 @@ pub fn item_of(items: &[PackedItem], number: u64) -> Option<ItemRecord>
 }
 
 /// Sets the status of the item of this number. Does nothing if there is none.
-#[tactic(auto, using(crate::proofs::Rows::mark_none, crate::proofs::Rows::mark_past, crate::proofs::Rows::mark_there))]
-pub fn mark_item(items: &mut [PackedItem], number: u64, mark: ItemStatus)
-    ensures { rows_view items.new ≡ mark_at (rows_view items.old) number (mark_view mark) }
+#[tactic(auto, using(crate::proofs::Rows::status_none, crate::proofs::Rows::status_past, crate::proofs::Rows::status_there))]
+pub fn set_item_status(items: &mut [PackedItem], number: u64, status: ItemStatus)
+    ensures { rows_view items.new ≡ with_status (rows_view items.old) number (status_view status) }
 {
     if number == 0 || items.len() as u64 <= number - 1 {
         return;
     }
-    items[(number - 1) as usize].set_mark(mark);
+    items[(number - 1) as usize].set_status(status);
 }

@@ -7,7 +7,7 @@ use Rattle.std.proofs.Common.{◌≡◌, false, true, reverse, ◌∙◌, ℕ, �
 use Rattle.std.specs.Prelude.{vec_capacity, vec_len}
 use Rattle.board_history.specs.Ending.{job_kind}
 use Rattle.board_history.specs.Fields.{Counted, Frame, Job, Over}
-use Rattle.board_history.specs.Marking.{mark_at}
+use Rattle.board_history.specs.Marking.{with_status}
 use Rattle.task_code.specs.Code.{Code}
 use Rattle.board_instances.specs.View.{rows_view}
 use Rattle.work_queue.specs.declared.entry.Kind.{Kind}
@@ -33,7 +33,7 @@ module _ (C : Code) (fs : List (Option Frame)) (cs : List (Option Counted)) (num
 
   -- once it is closed
   module _ (N : Items) (ew : N.woken ≡ old.woken) where
-    pub first_far : (k : Kind) → k ≡ job_kind C job → rows_view N.rows.items ≡ mark_at (rows_view old.rows.items) number Over → N.rules ≡ old.rules → N.queue ≡ old.queue → N.newly.items ≡ [] → vec_capacity N.newly ≡ vec_capacity old.newly → N.apart ≡ one_less k old.apart → Far [] (length N.woken.items + ((length old.rows.items - first) + 0)) N
+    pub first_far : (k : Kind) → k ≡ job_kind C job → rows_view N.rows.items ≡ with_status (rows_view old.rows.items) number Over → N.rules ≡ old.rules → N.queue ≡ old.queue → N.newly.items ≡ [] → vec_capacity N.newly ≡ vec_capacity old.newly → N.apart ≡ one_less k old.apart → Far [] (length N.woken.items + ((length old.rows.items - first) + 0)) N
     first_far k e er eu eq en ec ea =
         subst (λ v. Far [] (length v.items + (new_count + 0)) N) (sym ew)
         (closed C fs cs number job first old can N er eu eq en ec (ea ∙ ap (λ (k : Kind). one_less k old.apart) e))

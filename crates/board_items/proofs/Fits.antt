@@ -8,10 +8,10 @@ use Rattle.dataflow.proofs.Follows.{Follows, sees_enabled}
 use Rattle.dataflow.proofs.Known.{sees_only}
 use Rattle.dataflow.proofs.Steps.{run_follows}
 use Rattle.board_history.specs.Elements.{code_tests}
-use Rattle.board_history.specs.Fields.{Fields, Layout, Mark, Over, Ready, Row, Running, Waiter, Waiting, row_of, task_of}
+use Rattle.board_history.specs.Fields.{Fields, Layout, Status, Over, Ready, Row, Running, Waiter, Waiting, row_of, task_of}
 use Rattle.board_history.specs.Stands.{Stands}
 use Rattle.board_history.proofs.Elements.{code_told}
-use Rattle.board_history.proofs.Marking.{IsItem, RowIs, item, mark_is, row_found}
+use Rattle.board_history.proofs.Marking.{IsItem, RowIs, item, status_is, row_found}
 use Rattle.board_history.proofs.Next.{nat_same, nat_sound}
 use Rattle.board_history.proofs.Remarked.{runs_of}
 use Rattle.board_history.proofs.Replays.{run_replayed}
@@ -62,19 +62,19 @@ module _ (C : Code) (I : IsCode C) (L : Layout) (es : List Event) (F : Fields) (
   row_at : (i : CodeItem) → In i s.items → RowIs F.frames F.rows 1 i
   row_at i h = row_found F.frames 1 F.rows i (subst (λ (l : List CodeItem). In i l) (sym x.items.items) h)
 
-  waits : (m : ℕ) (r : Row) → row_of F.rows m ≡ Some r → r.mark ≡ Waiting → (w : Waiter) × In w F.waiting × (w.item ≡ m)
+  waits : (m : ℕ) (r : Row) → row_of F.rows m ≡ Some r → r.status ≡ Waiting → (w : Waiter) × In w F.waiting × (w.item ≡ m)
   waits zero r h k = no_row F.rows r h
-  waits (suc j) r h k = elim (waiter_or F.waiting (suc j)) [ inl w ↦ w | inr d ↦ absurd (x.items.waiting (suc j) r h k (by (mark_is r.mark) d)) ]
+  waits (suc j) r h k = elim (waiter_or F.waiting (suc j)) [ inl w ↦ w | inr d ↦ absurd (x.items.waiting (suc j) r h k (by (status_is r.status) d)) ]
     where
-      by : (r.mark ≡ Over) ⊎ IsItem r.mark → ((w : Waiter) → In w F.waiting → w.item ≡ suc j → ⊥) → Enabled C s (task_of F.frames r.job)
+      by : (r.status ≡ Over) ⊎ IsItem r.status → ((w : Waiter) → In w F.waiting → w.item ≡ suc j → ⊥) → Enabled C s (task_of F.frames r.job)
       by (inl o) d = waits_over (sym k ∙ o)
       by (inr y) d =
           let i = item (suc j) (task_of F.frames r.job) y.runs in
           let n : suc j ≡ 1 + j = omega arith in
           (missing_told C I L es F x i (subst (λ (l : List CodeItem). In i l) x.items.items (row_item F.frames 1 F.rows j (suc j) r h y n))).0 d
 
-  waiting : (w : Waiter) → In w F.waiting → (w.missing ≡ [] → ⊥) × ((r : Row) × (row_of F.rows w.item ≡ Some r) × (r.mark ≡ Waiting))
-  waiting w h = let p = x.waits.missing w h in let f = row_at p.0 p.1 in (p.3, (f.row, ap (row_of F.rows) (number p.0 f p.2) ∙ f.there, by p.0 p.1 p.2 f f.row.mark refl))
+  waiting : (w : Waiter) → In w F.waiting → (w.missing ≡ [] → ⊥) × ((r : Row) × (row_of F.rows w.item ≡ Some r) × (r.status ≡ Waiting))
+  waiting w h = let p = x.waits.missing w h in let f = row_at p.0 p.1 in (p.3, (f.row, ap (row_of F.rows) (number p.0 f p.2) ∙ f.there, by p.0 p.1 p.2 f f.row.status refl))
     where
       number : (i : CodeItem) (f : RowIs F.frames F.rows 1 i) → i.number ≡ w.item → w.item ≡ suc f.at
       number i f e = let q = f.number_is in omega arith
@@ -82,30 +82,30 @@ module _ (C : Code) (I : IsCode C) (L : Layout) (es : List Event) (F : Fields) (
       idle : (i : CodeItem) → In i s.items → i.number ≡ w.item → Enabled C s i.task → ⊥
       idle i g e en = (missing_told C I L es F x i g).1 en w h (sym e)
 
-      by : (i : CodeItem) → In i s.items → i.number ≡ w.item → (f : RowIs F.frames F.rows 1 i) → (m : Mark) → f.row.mark ≡ m → f.row.mark ≡ Waiting
+      by : (i : CodeItem) → In i s.items → i.number ≡ w.item → (f : RowIs F.frames F.rows 1 i) → (m : Status) → f.row.status ≡ m → f.row.status ≡ Waiting
       by i g e f Waiting q = q
       by i g e f Ready q = absurd (idle i g e (subst (λ (t : Task). Enabled C s t) (sym f.task_is) (x.items.ready (suc f.at) f.row f.there q)))
-      by i g e f (Running v) q = absurd (idle i g e (of (mark_is f.row.mark)))
+      by i g e f (Running v) q = absurd (idle i g e (of (status_is f.row.status)))
         where
-          of : (f.row.mark ≡ Over) ⊎ IsItem f.row.mark → Enabled C s i.task
+          of : (f.row.status ≡ Over) ⊎ IsItem f.row.status → Enabled C s i.task
           of (inl o) = absurd (f.not_over o)
-          of (inr y) = running_enabled i v g (f.runs_is y ∙ runs_of f.row.mark v y q)
+          of (inr y) = running_enabled i v g (f.runs_is y ∙ runs_of f.row.status v y q)
       by i g e f Over q = absurd (f.not_over q)
 
-  queued : (k : Kind) (z : ℤ) (m : ℕ) → In m (F.queue k z) → (r : Row) × (row_of F.rows m ≡ Some r) × (r.mark ≡ Ready)
-  queued k z m h = let q = x.queue.only k z m h in let f = row_at q.item q.there in (f.row, ap (row_of F.rows) (number q.item f q.number_is) ∙ f.there, by q.item q.idle q.enabled f f.row.mark refl)
+  queued : (k : Kind) (z : ℤ) (m : ℕ) → In m (F.queue k z) → (r : Row) × (row_of F.rows m ≡ Some r) × (r.status ≡ Ready)
+  queued k z m h = let q = x.queue.only k z m h in let f = row_at q.item q.there in (f.row, ap (row_of F.rows) (number q.item f q.number_is) ∙ f.there, by q.item q.idle q.enabled f f.row.status refl)
     where
       number : (i : CodeItem) (f : RowIs F.frames F.rows 1 i) → i.number ≡ m → m ≡ suc f.at
       number i f e = let q = f.number_is in omega arith
 
-      by : (i : CodeItem) → i.runs ≡ None → Enabled C s i.task → (f : RowIs F.frames F.rows 1 i) → (m : Mark) → f.row.mark ≡ m → f.row.mark ≡ Ready
+      by : (i : CodeItem) → i.runs ≡ None → Enabled C s i.task → (f : RowIs F.frames F.rows 1 i) → (m : Status) → f.row.status ≡ m → f.row.status ≡ Ready
       by i d en f Waiting q = absurd (x.items.waiting (suc f.at) f.row f.there q (subst (λ (t : Task). Enabled C s t) f.task_is en))
       by i d en f Ready q = q
-      by i d en f (Running v) q = of (mark_is f.row.mark)
+      by i d en f (Running v) q = of (status_is f.row.status)
         where
-          of : (f.row.mark ≡ Over) ⊎ IsItem f.row.mark → f.row.mark ≡ Ready
+          of : (f.row.status ≡ Over) ⊎ IsItem f.row.status → f.row.status ≡ Ready
           of (inl o) = absurd (f.not_over o)
-          of (inr y) = none_some (sym d ∙ f.runs_is y ∙ runs_of f.row.mark v y q)
+          of (inr y) = none_some (sym d ∙ f.runs_is y ∙ runs_of f.row.status v y q)
       by i d en f Over q = absurd (f.not_over q)
 
   pub items_fit : ItemsFit F

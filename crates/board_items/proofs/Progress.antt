@@ -6,9 +6,9 @@ use Rattle.std.proofs.lemmas.List.Sorted.{IsPermutation-map}
 use Rattle.std.proofs.lemmas.Bool.Decides.{nat_tests}
 use Rattle.std.proofs.lemmas.List.{take_more}
 use Rattle.dataflow.specs.System.{Distinct, In}
-use Rattle.board_history.specs.Ending.{is_one, job_kind, job_priority, mark_after, marked_by}
-use Rattle.board_history.specs.Fields.{Counted, Frame, Job, Mark, Over, Ready, Row, Waiter, Waiting, Want, row_of}
-use Rattle.board_history.specs.Marking.{kind_eq, mark_at}
+use Rattle.board_history.specs.Ending.{is_one, job_kind, job_priority, status_after, with_statuses}
+use Rattle.board_history.specs.Fields.{Counted, Frame, Job, Status, Over, Ready, Row, Waiter, Waiting, Want, row_of}
+use Rattle.board_history.specs.Marking.{kind_eq, with_status}
 use Rattle.board_history.proofs.EndedItems.{one_in}
 use Rattle.board_history.proofs.EndedRows.{row_to}
 use Rattle.board_history.proofs.Next.{nat_sound}
@@ -71,14 +71,14 @@ nil_or [] = inl refl
 nil_or (x ∷ xs) = inr (λ h. absurd (cc (h)))
 
 -- the row of an item that has not been settled is as it was
-waits_still : (n : ℕ) (newly : List ℕ) (rows : List Row) (m : ℕ) (r : Row) → row_of rows m ≡ Some r → r.mark ≡ Waiting → (m ≡ n → ⊥) → (In m newly → ⊥) → row_of (marked_by (mark_after n newly) 1 rows) m ≡ Some (record { job = r.job; mark = Waiting })
+waits_still : (n : ℕ) (newly : List ℕ) (rows : List Row) (m : ℕ) (r : Row) → row_of rows m ≡ Some r → r.status ≡ Waiting → (m ≡ n → ⊥) → (In m newly → ⊥) → row_of (with_statuses (status_after n newly) 1 rows) m ≡ Some (record { job = r.job; status = Waiting })
 waits_still n newly rows zero r h w d e = no_row rows r h
 waits_still n newly rows (suc j) r h w d e =
-    row_to (mark_after n newly) 1 rows j (suc j) r h (omega arith)
-    ∙ ap (λ (x : Mark). Some (record { job = r.job; mark = x }))
-    (choose (λ (x : Mark). x ≡ Waiting) (nat_eq (suc j) n) Over (if is_one (suc j) newly then Ready else r.mark)
+    row_to (status_after n newly) 1 rows j (suc j) r h (omega arith)
+    ∙ ap (λ (x : Status). Some (record { job = r.job; status = x }))
+    (choose (λ (x : Status). x ≡ Waiting) (nat_eq (suc j) n) Over (if is_one (suc j) newly then Ready else r.status)
     (λ t. absurd (d (nat_sound (suc j) n t)))
-    (λ f. choose (λ (x : Mark). x ≡ Waiting) (is_one (suc j) newly) Ready r.mark (λ t. absurd (e (one_in (suc j) newly t))) (λ g. w)))
+    (λ f. choose (λ (x : Status). x ≡ Waiting) (is_one (suc j) newly) Ready r.status (λ t. absurd (e (one_in (suc j) newly t))) (λ g. w)))
 
 -- ROOM BY KINDS
 
@@ -128,20 +128,20 @@ kind_own Control = refl
 kind_own Leaf = refl
 
 -- there is room for an item that waits or runs
-pub one_counted : (C : Code) (items : Items) (n : ℕ) (r : Row) → row_of (rows_view items.rows.items) n ≡ Some r → is_apart r.mark ≡ true → IsRoomy C items → 0 < room_of (job_kind C r.job) items.queue
+pub one_counted : (C : Code) (items : Items) (n : ℕ) (r : Row) → row_of (rows_view items.rows.items) n ≡ Some r → is_apart r.status ≡ true → IsRoomy C items → 0 < room_of (job_kind C r.job) items.queue
 one_counted C items n r there apart room =
     let a = marked_at C (job_kind C r.job) (rows_view items.rows.items) n r Over there in
-    let b = counts_apart C (job_kind C r.job) r.mark r apart (kind_own (job_kind C r.job)) in
+    let b = counts_apart C (job_kind C r.job) r.status r apart (kind_own (job_kind C r.job)) in
     let c = counts_not C (job_kind C r.job) Over r refl in
     let f = (fits_of C items room (job_kind C r.job)).fits in
     omega arith
 
 -- an item that waited or ran does so no longer
-module _ (C : Code) (old new : Items) (n : ℕ) (r : Row) (m : Mark) (there : row_of (rows_view old.rows.items) n ≡ Some r) (apart : is_apart r.mark ≡ true) (free : is_apart m ≡ false) (rows_are : rows_view new.rows.items ≡ mark_at (rows_view old.rows.items) n m) (room : IsRoomy C old) where
+module _ (C : Code) (old new : Items) (n : ℕ) (r : Row) (m : Status) (there : row_of (rows_view old.rows.items) n ≡ Some r) (apart : is_apart r.status ≡ true) (free : is_apart m ≡ false) (rows_are : rows_view new.rows.items ≡ with_status (rows_view old.rows.items) n m) (room : IsRoomy C old) where
   fewer : (k : Kind) → apart_in C k (rows_view new.rows.items) + one_if (kind_eq k (job_kind C r.job)) ≡ apart_in C k (rows_view old.rows.items)
   fewer k =
       let a = marked_at C k (rows_view old.rows.items) n r m there in
-      let b : one_if (is_apart r.mark && kind_eq k (job_kind C r.job)) ≡ one_if (kind_eq k (job_kind C r.job)) = λ i. one_if (apart i && kind_eq k (job_kind C r.job)) in
+      let b : one_if (is_apart r.status && kind_eq k (job_kind C r.job)) ≡ one_if (kind_eq k (job_kind C r.job)) = λ i. one_if (apart i && kind_eq k (job_kind C r.job)) in
       let c = counts_not C k m r free in
       let d = ap (apart_in C k) rows_are in
       omega arith
@@ -178,7 +178,7 @@ module _ (C : Code) (fs : List (Option Frame)) (cs : List (Option Counted)) (row
   abbrev Far : List ℕ → ℕ → Items → Type 0
   Far = Progress C fs cs rows first number before queued
 
-  pub progress_more : (done : List ℕ) (left : ℕ) (old new : Items) (m : ℕ) (r : Row) → Far done (suc left) old → row_of rows m ≡ Some r → r.mark ≡ Waiting → (m ≡ number → ⊥) → (In m done → ⊥) → Settles m (missed_at C fs cs rows first m) (job_kind C r.job) (job_priority C r.job) old new → Far (done ++ m ∷ []) left new
+  pub progress_more : (done : List ℕ) (left : ℕ) (old new : Items) (m : ℕ) (r : Row) → Far done (suc left) old → row_of rows m ≡ Some r → r.status ≡ Waiting → (m ≡ number → ⊥) → (In m done → ⊥) → Settles m (missed_at C fs cs rows first m) (job_kind C r.job) (job_priority C r.job) old new → Far (done ++ m ∷ []) left new
   progress_more done left old new m r far h w d e s = by (nil_or (missed_at C fs cs rows first m))
     where
       a : AreSettled C fs cs rows first number before queued done (rows_view old.rows.items) (waiters_view old.rules.waiting) (queue_view old.queue) old.newly.items
@@ -187,7 +187,7 @@ module _ (C : Code) (fs : List (Option Frame)) (cs : List (Option Counted)) (row
       fresh : In m old.newly.items → ⊥
       fresh i = e (in_kept (can_begin C fs cs rows first) m done (in_back (filter (can_begin C fs cs rows first) done) old.newly.items m a.newly_are i)).0
 
-      there : row_of (rows_view old.rows.items) m ≡ Some (record { job = r.job; mark = Waiting })
+      there : row_of (rows_view old.rows.items) m ≡ Some (record { job = r.job; status = Waiting })
       there = ap (λ (l : List Row). row_of l m) a.rows_are ∙ waits_still number old.newly.items rows m r h w d fresh
 
       waits : (missed_at C fs cs rows first m ≡ [] → ⊥) → Far (done ++ m ∷ []) left new
@@ -218,7 +218,7 @@ module _ (C : Code) (fs : List (Option Frame)) (cs : List (Option Counted)) (row
           let f = far.room.rules_fit in
           let c = s.capacity in
           let n = x.newly (omega arith) in
-          let q = x.queue (one_counted C old m (record { job = r.job; mark = Waiting }) there refl far.room.roomy) in
+          let q = x.queue (one_counted C old m (record { job = r.job; status = Waiting }) there refl far.room.roomy) in
           let ru = ap (λ l. l.room) x.rules in
           let o5 = far.room.roomy.noted in
           let noted : 0 < vec_capacity new.newly = omega arith in
@@ -233,7 +233,7 @@ module _ (C : Code) (fs : List (Option Frame)) (cs : List (Option Counted)) (row
                 (λ k y. subst (λ (b : Bool). IsPermutation (queue_view old.queue k y ++ (if b then m ∷ [] else [])) (queue_view new.queue k y)) (sym (ap (runs_so C k y) h))
                 (subst (λ (u : Both). IsPermutation (queue_view old.queue k y ++ (if runs_so C k y (Some r) then m ∷ [] else [])) (queue_view u k y)) (sym q) (queue_put (job_kind C r.job) (job_priority C r.job) m old.queue k y)))));
             room = record {
-              roomy = less_roomy C old new m (record { job = r.job; mark = Waiting }) Ready there refl refl x.rows far.room.roomy x.apart (λ k. let e = ap (room_of k) q ∙ put_of k (job_kind C r.job) _ old.queue in omega arith) noted;
+              roomy = less_roomy C old new m (record { job = r.job; status = Waiting }) Ready there refl refl x.rows far.room.roomy x.apart (λ k. let e = ap (room_of k) q ∙ put_of k (job_kind C r.job) _ old.queue in omega arith) noted;
               rules_fit = omega arith;
               newly_fit = omega arith;
             };
@@ -245,11 +245,11 @@ module _ (C : Code) (fs : List (Option Frame)) (cs : List (Option Counted)) (row
 
   -- the row of an item that is to be settled, by the rows as they are now
   abbrev pub remarked : Items → ℕ → Row → Row
-  remarked old m r = record { job = r.job; mark = mark_after number old.newly.items m r.mark }
+  remarked old m r = record { job = r.job; status = status_after number old.newly.items m r.status }
 
   pub row_now : (done : List ℕ) (left : ℕ) (old : Items) (m : ℕ) (r : Row) → Far done left old → row_of rows m ≡ Some r → row_of (rows_view old.rows.items) m ≡ Some (remarked old m r)
   row_now done left old zero r far h = no_row rows r h
-  row_now done left old (suc j) r far h = ap (λ (l : List Row). row_of l (suc j)) far.settled.rows_are ∙ row_to (mark_after number old.newly.items) 1 rows j (suc j) r h (omega arith)
+  row_now done left old (suc j) r far h = ap (λ (l : List Row). row_of l (suc j)) far.settled.rows_are ∙ row_to (status_after number old.newly.items) 1 rows j (suc j) r h (omega arith)
 
   missed_old : (m : ℕ) (r : Row) → row_of rows m ≡ Some r → m ≤ first → missed_at C fs cs rows first m ≡ misses C fs cs r.job
   missed_old m r h l =
@@ -266,7 +266,7 @@ module _ (C : Code) (fs : List (Option Frame)) (cs : List (Option Counted)) (row
     there : In m woken
     there = subst (λ (k : ℕ). In k woken) (sym is) (get_in woken i m within)
 
-    w : (r : Row) × (row_of rows m ≡ Some r) × (r.mark ≡ Waiting)
+    w : (r : Row) × (row_of rows m ≡ Some r) × (r.status ≡ Waiting)
     w = can.waits m there
 
     fresh : In m (take i woken) → ⊥
@@ -290,7 +290,7 @@ module _ (C : Code) (fs : List (Option Frame)) (cs : List (Option Counted)) (row
     new_in : In m (numbers_behind first count)
     new_in = first_behind first count m (omega arith) (omega arith)
 
-    v : (r : Row) × (row_of rows m ≡ Some r) × (r.mark ≡ Waiting)
+    v : (r : Row) × (row_of rows m ≡ Some r) × (r.status ≡ Waiting)
     v = can.waits m new_in
 
     new_fresh : In m (start ++ numbers_behind first k) → ⊥
@@ -348,7 +348,7 @@ module _ (C : Code) (fs : List (Option Frame)) (cs : List (Option Counted)) (num
   abbrev pub count : ℕ
   count = length old.rows.items - first
 
-  pub closed : (new : Items) → rows_view new.rows.items ≡ mark_at was number Over → new.rules ≡ old.rules → new.queue ≡ old.queue → new.newly.items ≡ [] → vec_capacity new.newly ≡ vec_capacity old.newly → new.apart ≡ one_less (job_kind C job) old.apart → Progress C fs cs was first number (waiters_view old.rules.waiting) (queue_view old.queue) [] (length old.woken.items + (count + 0)) new
+  pub closed : (new : Items) → rows_view new.rows.items ≡ with_status was number Over → new.rules ≡ old.rules → new.queue ≡ old.queue → new.newly.items ≡ [] → vec_capacity new.newly ≡ vec_capacity old.newly → new.apart ≡ one_less (job_kind C job) old.apart → Progress C fs cs was first number (waiters_view old.rules.waiting) (queue_view old.queue) [] (length old.woken.items + (count + 0)) new
   closed new er eu eq en ec ea =
       let f = can.rules_fit in
       let g = can.newly_fit in

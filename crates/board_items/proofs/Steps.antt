@@ -6,7 +6,7 @@ use Rattle.std.proofs.lemmas.List.Elements.{filter-append}
 use Rattle.std.proofs.lemmas.List.Sorted.{IsPermutation-append_comm, IsPermutation-append_left, IsPermutation-refl, IsPermutation-trans}
 use Rattle.std.proofs.lemmas.List.{map-append}
 use Rattle.board_history.specs.Fields.{Counted, Frame, Over, Ready, Row, Waiter, row_of}
-use Rattle.board_history.specs.Marking.{mark_at}
+use Rattle.board_history.specs.Marking.{with_status}
 use Rattle.task_code.specs.Code.{Code, Kind}
 use Rattle.board_items.specs.Ended.{AreSettled, can_begin, missed_at, runs_so, waiter_at}
 use Rattle.board_data.specs.Wanted.{is_nil}
@@ -27,7 +27,7 @@ module _ (C : Code) (fs : List (Option Frame)) (cs : List (Option Counted)) (row
   waits_on m = not (can_begin C fs cs rows first m)
 
   -- nothing is settled yet, but that the item is over
-  pub settled_none : (new : List Row) (r : Row) → row_of rows number ≡ Some r → new ≡ mark_at rows number Over → AreSettled C fs cs rows first number before queued [] new before queued []
+  pub settled_none : (new : List Row) (r : Row) → row_of rows number ≡ Some r → new ≡ with_status rows number Over → AreSettled C fs cs rows first number before queued [] new before queued []
   settled_none new r h e =
       record {
         rows_are = e ∙ over_first number rows r h;
@@ -52,11 +52,11 @@ module _ (C : Code) (fs : List (Option Frame)) (cs : List (Option Counted)) (row
         }
 
     -- it can begin
-    pub settled_ready : (rows' : List Row) (queue' : Kind → ℤ → List ℕ) (r : Row) → row_of rows m ≡ Some r → (m ≡ number → ⊥) → missed_at C fs cs rows first m ≡ [] → rows' ≡ mark_at new m Ready → ((k : Kind) (z : ℤ) → IsPermutation (queue k z ++ (if runs_so C k z (row_of rows m) then m ∷ [] else [])) (queue' k z)) → AreSettled C fs cs rows first number before queued (done ++ m ∷ []) rows' waiting queue' (newly ++ m ∷ [])
+    pub settled_ready : (rows' : List Row) (queue' : Kind → ℤ → List ℕ) (r : Row) → row_of rows m ≡ Some r → (m ≡ number → ⊥) → missed_at C fs cs rows first m ≡ [] → rows' ≡ with_status new m Ready → ((k : Kind) (z : ℤ) → IsPermutation (queue k z ++ (if runs_so C k z (row_of rows m) then m ∷ [] else [])) (queue' k z)) → AreSettled C fs cs rows first number before queued (done ++ m ∷ []) rows' waiting queue' (newly ++ m ∷ [])
     settled_ready rows' queue' r h d z e q =
         let n : is_nil (missed_at C fs cs rows first m) ≡ true = ap is_nil z in
         record {
-          rows_are = e ∙ ap (λ (l : List Row). mark_at l m Ready) a.rows_are ∙ ready_more number newly m rows r h d;
+          rows_are = e ∙ ap (λ (l : List Row). with_status l m Ready) a.rows_are ∙ ready_more number newly m rows r h d;
           newly_are = subst (λ (l : List ℕ). IsPermutation l (newly ++ m ∷ [])) (sym (kept_more (can_begin C fs cs rows first) done m n)) (IsPermutation-append_left (m ∷ []) _ _ a.newly_are);
           waits = subst (λ (l : List ℕ). IsPermutation (before ++ map (waiter_at C fs cs rows first) l) waiting) (sym (left_out waits_on done m (ap not n))) a.waits;
           queue_is = λ k y.

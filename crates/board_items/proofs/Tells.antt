@@ -10,7 +10,7 @@ use Rattle.std.proofs.lemmas.Bool.{and_from, not-true, and_parts}
 use Rattle.std.proofs.lemmas.List.{map-append}
 use Rattle.dataflow.specs.System.{Distinct, In}
 use Rattle.dataflow.proofs.Lists.{distinct_append, in_left, in_map, in_right, in_split, in_unmap}
-use Rattle.board_history.specs.Ending.{NewlyAfter, QueueAfter, WaitsAfter, ended_rows, job_kind, job_priority, mark_after, missed_again, missed_first, new_row, or_else}
+use Rattle.board_history.specs.Ending.{NewlyAfter, QueueAfter, WaitsAfter, ended_rows, job_kind, job_priority, status_after, missed_again, missed_first, new_row, or_else}
 use Rattle.board_history.specs.Fields.{Does, Counted, Fields, Frame, Job, Layout, Ready, Row, Script, Waiter, Waiting, Want, row_of}
 use Rattle.board_history.specs.Marking.{kind_eq}
 use Rattle.board_history.specs.Needs.{job_missed}
@@ -72,13 +72,13 @@ number_from rows (suc j) r h = (j, refl, row_below rows j r h)
 
 -- all that were woken, and all new ones, wait to be settled
 module _ (F : Fields) (jobs : List Job) (known : List (Want ℕ)) (ws : List Rules.Waiting) (woken : List ℕ) (fit : ItemsFit F) (learnt : HaveLearnt known F.waiting ws woken) where
-  woken_row : (m : ℕ) → In m woken → (r : Row) × (row_of F.rows m ≡ Some r) × (r.mark ≡ Waiting)
+  woken_row : (m : ℕ) → In m woken → (r : Row) × (row_of F.rows m ≡ Some r) × (r.status ≡ Waiting)
   woken_row m h =
       let s = served_was known F.waiting m (in_back (served known F.waiting) woken m learnt.noted h) in
       let r = (fit.waiting s.was s.there).1 in
       (r.0, ap (row_of F.rows) (sym s.same) ∙ r.1, r.2)
 
-  new_row_there : (m : ℕ) → length F.rows < m → m ≤ length F.rows + length jobs → (r : Row) × (row_of (F.rows ++ map new_row jobs) m ≡ Some r) × (r.mark ≡ Waiting)
+  new_row_there : (m : ℕ) → length F.rows < m → m ≤ length F.rows + length jobs → (r : Row) × (row_of (F.rows ++ map new_row jobs) m ≡ Some r) × (r.status ≡ Waiting)
   new_row_there zero l u = absurd (omega arith)
   new_row_there (suc k) l u =
       let e : (j : ℕ) × (suc k ≡ length F.rows + suc j) × (j < length jobs) = (k - length F.rows, omega arith, omega arith) in
@@ -88,22 +88,22 @@ module _ (F : Fields) (jobs : List Job) (known : List (Want ℕ)) (ws : List Rul
   pub woken_old : AreOld (length F.rows) woken
   woken_old m h = let r = woken_row m h in let q = number_from F.rows m r.0 r.1 in let e = q.1 in let l = q.2 in omega arith
 
-  all_wait : (m : ℕ) → In m (woken ++ numbers_behind (length F.rows) (length jobs)) → (r : Row) × (row_of (F.rows ++ map new_row jobs) m ≡ Some r) × (r.mark ≡ Waiting)
+  all_wait : (m : ℕ) → In m (woken ++ numbers_behind (length F.rows) (length jobs)) → (r : Row) × (row_of (F.rows ++ map new_row jobs) m ≡ Some r) × (r.status ≡ Waiting)
   all_wait m h =
       elim (in_split m woken (numbers_behind (length F.rows) (length jobs)) h) [
         | inl g ↦ (let r = woken_row m g in (r.0, row_kept F.rows (map new_row jobs) m r.0 r.1, r.2))
         | inr g ↦ (let b = behind_first (length F.rows) (length jobs) m g in new_row_there m b.0 b.1)
       ]
 
-  pub all_settle : (C : Code) (fs : List (Option Frame)) (cs : List (Option Counted)) (n : ℕ) (own : Row) → row_of F.rows n ≡ Some own → (own.mark ≡ Waiting → ⊥) → ((m : ℕ) (r : Row) → row_of (F.rows ++ map new_row jobs) m ≡ Some r → r.mark ≡ Waiting → IsSeen C fs r.job) → AreToSettle C fs cs (F.rows ++ map new_row jobs) (length F.rows) n (woken ++ numbers_behind (length F.rows) (length jobs))
+  pub all_settle : (C : Code) (fs : List (Option Frame)) (cs : List (Option Counted)) (n : ℕ) (own : Row) → row_of F.rows n ≡ Some own → (own.status ≡ Waiting → ⊥) → ((m : ℕ) (r : Row) → row_of (F.rows ++ map new_row jobs) m ≡ Some r → r.status ≡ Waiting → IsSeen C fs r.job) → AreToSettle C fs cs (F.rows ++ map new_row jobs) (length F.rows) n (woken ++ numbers_behind (length F.rows) (length jobs))
   all_settle C fs cs n own at runs seen =
       record {
         waits = all_wait;
-        seen_job = λ m r h q. let w = all_wait m h in seen m r q (ap (λ (x : Row). x.mark) (some_same (sym q ∙ w.1)) ∙ w.2);
+        seen_job = λ m r h q. let w = all_wait m h in seen m r q (ap (λ (x : Row). x.status) (some_same (sym q ∙ w.1)) ∙ w.2);
         others = λ m h e.
             let w = all_wait m h in
             let same : own ≡ w.0 = some_same (sym (row_kept F.rows (map new_row jobs) n own at) ∙ ap (row_of (F.rows ++ map new_row jobs)) (sym e) ∙ w.1) in
-            runs (ap (λ (x : Row). x.mark) same ∙ w.2);
+            runs (ap (λ (x : Row). x.status) same ∙ w.2);
         once =
             distinct_append woken (numbers_behind (length F.rows) (length jobs)) (distinct_moved (served known F.waiting) woken learnt.noted (served_once known F.waiting fit.once)) (behind_once (length F.rows) (length jobs))
             (λ m h g. let l = woken_old m h in let u = (behind_first (length F.rows) (length jobs) m g).0 in absurd (omega arith));
@@ -148,7 +148,7 @@ module _ (C : Code) (F G : Fields) (n : ℕ) (jobs : List Job) (known : List (Wa
     pub none : left_to known was ≡ []
     pub row : Row
     pub row_is : row_of F.rows m ≡ Some row
-    pub waits : row.mark ≡ Waiting
+    pub waits : row.status ≡ Waiting
 
   woken_is : (m : ℕ) → In m woken → Woken m
   woken_is m h =
@@ -204,7 +204,7 @@ module _ (C : Code) (F G : Fields) (n : ℕ) (jobs : List Job) (known : List (Wa
     pub above : first < m
     pub row : Row
     pub row_is : row_of rows m ≡ Some row
-    pub waits : row.mark ≡ Waiting
+    pub waits : row.status ≡ Waiting
 
   new_is : (m : ℕ) → In m (numbers_behind first (length jobs)) → New m
   new_is m h = let r = behind_first first (length jobs) m h in by m r.0 r.1
@@ -217,7 +217,7 @@ module _ (C : Code) (F G : Fields) (n : ℕ) (jobs : List Job) (known : List (Wa
           record { above = l; row = new_row b.0; row_is = ap (row_of rows) e.1 ∙ row_of_new F.rows jobs e.0 ∙ b.1; waits = refl }
 
   -- all that were settled waited
-  done_row : (m : ℕ) → In m done → (r : Row) × (row_of rows m ≡ Some r) × (r.mark ≡ Waiting)
+  done_row : (m : ℕ) → In m done → (r : Row) × (row_of rows m ≡ Some r) × (r.status ≡ Waiting)
   done_row m h =
       elim (in_split m woken (numbers_behind first (length jobs)) h) [
         | inl g ↦ (let w = woken_is m g in (w.row, old_row m w.row w.row_is, w.waits))
@@ -345,7 +345,7 @@ module _ (C : Code) (F G : Fields) (n : ℕ) (jobs : List Job) (known : List (Wa
           no_nil : ◌≡◌ {A = List (Want ℕ)} (u ∷ us) [] → ⊥
           no_nil y = absurd (cc)
 
-  newly_all : (m : ℕ) (r : Row) → row_of rows m ≡ Some r → r.mark ≡ Waiting → ((w : Waiter) → In w G.waiting → w.item ≡ m → ⊥) → In m G.newly
+  newly_all : (m : ℕ) (r : Row) → row_of rows m ≡ Some r → r.status ≡ Waiting → ((w : Waiter) → In w G.waiting → w.item ≡ m → ⊥) → In m G.newly
   newly_all m r h k none = nothing_missed m none (by (cases m first))
     where
       cases : (x y : ℕ) → (x ≤ y) ⊎ (y < x)
@@ -373,7 +373,7 @@ module _ (C : Code) (F G : Fields) (n : ℕ) (jobs : List Job) (known : List (Wa
       by (inl l) = let v = fit.waits m r (old_there F.rows m r h l) k in waited v.0 v.1 v.2 (left_to known v.0) refl
       by (inr l) = in_right m woken (numbers_behind first (length jobs)) (new_number m r h l)
 
-  newly_only : (m : ℕ) → In m G.newly → (r : Row) × (row_of rows m ≡ Some r) × (r.mark ≡ Waiting) × ((w : Waiter) → In w G.waiting → w.item ≡ m → ⊥)
+  newly_only : (m : ℕ) → In m G.newly → (r : Row) × (row_of rows m ≡ Some r) × (r.status ≡ Waiting) × ((w : Waiter) → In w G.waiting → w.item ≡ m → ⊥)
   newly_only m h = let d = newly_was m h in let r = done_row m d.0 in (r.0, r.1, r.2, (λ w g e. by w e d.0 d.1 (who w g)))
     where
       by : (w : Waiter) → w.item ≡ m → In m done → missed_of m ≡ [] → Who w → ⊥
@@ -389,11 +389,11 @@ module _ (C : Code) (F G : Fields) (n : ℕ) (jobs : List Job) (known : List (Wa
   -- the queue
   row_after : (m : ℕ) (r : Row) → row_of rows m ≡ Some r → (q : Row) × (row_of G.rows m ≡ Some q) × (q.job ≡ r.job)
   row_after zero r h = no_row rows r h
-  row_after (suc j) r h = (record { job = r.job; mark = mark_after n G.newly (1 + j) r.mark }, ap (λ (l : List Row). row_of l (suc j)) a.rows_are ∙ row_to (mark_after n G.newly) 1 rows j (1 + j) r h refl, refl)
+  row_after (suc j) r h = (record { job = r.job; status = status_after n G.newly (1 + j) r.status }, ap (λ (l : List Row). row_of l (suc j)) a.rows_are ∙ row_to (status_after n G.newly) 1 rows j (1 + j) r h refl, refl)
 
   row_before : (m : ℕ) (q : Row) → row_of G.rows m ≡ Some q → (r : Row) × (row_of rows m ≡ Some r) × (q.job ≡ r.job)
   row_before zero q h = no_row G.rows q h
-  row_before (suc j) q h = let r = row_by (mark_after n G.newly) 1 rows j (1 + j) q (ap (λ (l : List Row). row_of l (suc j)) (sym a.rows_are) ∙ h) refl in (r.0, r.1, r.2)
+  row_before (suc j) q h = let r = row_by (status_after n G.newly) 1 rows j (1 + j) q (ap (λ (l : List Row). row_of l (suc j)) (sym a.rows_are) ∙ h) refl in (r.0, r.1, r.2)
 
   abbrev so : Kind → ℤ → ℕ → Bool
   so k z m = runs_so C k z (row_of rows m)
@@ -434,7 +434,7 @@ module _ (C : Code) (F G : Fields) (n : ℕ) (jobs : List Job) (known : List (Wa
       let d = (in_kept begins m done (in_kept (so k z) m (filter begins done) g).0).0 in
       let r = done_row m d in
       let e : q.0 ≡ r.0 = some_same (sym (old_row m q.0 q.1) ∙ r.1) in
-      ready_waits (sym q.2 ∙ ap (λ (y : Row). y.mark) e ∙ r.2)))
+      ready_waits (sym q.2 ∙ ap (λ (y : Row). y.status) e ∙ r.2)))
 
   pub queue_after : QueueAfter C F G
   queue_after = record { kept = queue_kept; added = queue_added; only = queue_only; once = queue_once }

@@ -3,7 +3,7 @@ use Rattle.std.specs.List.{list_all}
 use Rattle.std.specs.Ordering.{int_eq}
 use Rattle.std.specs.Prelude.{◌≡◌, ◌⊎◌, ℕ, zero, suc, ℤ, ◌+◌, ◌≤◌, Bool, true, false, not, ◌&&◌, List, [], ◌∷◌, ◌++◌, map, length, filter, Option, Some, None, nat_lt, if◌then◌else◌, IsPermutation}
 use Rattle.dataflow.specs.System.{Distinct, In}
-use Rattle.board_history.specs.Ending.{job_kind, job_priority, mark_after, marked_by, missed_first}
+use Rattle.board_history.specs.Ending.{job_kind, job_priority, status_after, with_statuses, missed_first}
 use Rattle.board_history.specs.Fields.{Counted, Does, Fields, Frame, Job, Ready, Row, Script, Waiter, Waiting, Want, row_of, slot_at}
 use Rattle.board_history.specs.Marking.{kind_eq}
 use Rattle.board_history.specs.Needs.{job_missed}
@@ -91,14 +91,14 @@ module _ (C : Code) where
       -- the items of these numbers were settled: those that miss nothing are ready and in the queue, the others wait;
       -- the item that ended is over
       pub record AreSettled (number : ℕ) (before : List Waiter) (queued : Kind → ℤ → List ℕ) (done : List ℕ) (new : List Row) (waiting : List Waiter) (queue : Kind → ℤ → List ℕ) (newly : List ℕ) : Type 0 where
-        pub rows_are : new ≡ marked_by (mark_after number newly) 1 rows
+        pub rows_are : new ≡ with_statuses (status_after number newly) 1 rows
         pub newly_are : IsPermutation (filter can_begin done) newly
         pub waits : IsPermutation (before ++ map waiter_at (filter (λ m. not (can_begin m)) done)) waiting
         pub queue_is : (k : Kind) (z : ℤ) → IsPermutation (queued k z ++ filter (λ m. runs_so k z (row_of rows m)) (filter can_begin done)) (queue k z)
 
       -- the items of these numbers wait, and each is settled once; none of them is the one that ended
       pub record AreToSettle (number : ℕ) (ms : List ℕ) : Type 0 where
-        pub waits : (m : ℕ) → In m ms → (r : Row) × (row_of rows m ≡ Some r) × (r.mark ≡ Waiting)
+        pub waits : (m : ℕ) → In m ms → (r : Row) × (row_of rows m ≡ Some r) × (r.status ≡ Waiting)
         pub seen_job : (m : ℕ) (r : Row) → In m ms → row_of rows m ≡ Some r → IsSeen fs r.job
         pub others : (m : ℕ) → In m ms → m ≡ number → ⊥
         pub once : Distinct ms
@@ -110,8 +110,8 @@ module _ (C : Code) where
 -- consistent rows, waiting items and queue: exactly the items marked as waiting wait, once, and exactly those marked as
 -- ready are in the queue
 pub record ItemsFit (F : Fields) : Type 0 where
-  pub waits : (m : ℕ) (r : Row) → row_of F.rows m ≡ Some r → r.mark ≡ Waiting → (w : Waiter) × In w F.waiting × (w.item ≡ m)
-  pub waiting : (w : Waiter) → In w F.waiting → (w.missing ≡ [] → ⊥) × ((r : Row) × (row_of F.rows w.item ≡ Some r) × (r.mark ≡ Waiting))
+  pub waits : (m : ℕ) (r : Row) → row_of F.rows m ≡ Some r → r.status ≡ Waiting → (w : Waiter) × In w F.waiting × (w.item ≡ m)
+  pub waiting : (w : Waiter) → In w F.waiting → (w.missing ≡ [] → ⊥) × ((r : Row) × (row_of F.rows w.item ≡ Some r) × (r.status ≡ Waiting))
   pub once : Distinct (map (λ (w : Waiter). w.item) F.waiting)
-  pub queued : (k : Kind) (z : ℤ) (m : ℕ) → In m (F.queue k z) → (r : Row) × (row_of F.rows m ≡ Some r) × (r.mark ≡ Ready)
+  pub queued : (k : Kind) (z : ℤ) (m : ℕ) → In m (F.queue k z) → (r : Row) × (row_of F.rows m ≡ Some r) × (r.status ≡ Ready)
   pub queued_once : (k : Kind) (z : ℤ) → Distinct (F.queue k z)

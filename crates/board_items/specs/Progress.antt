@@ -33,7 +33,7 @@ all_to_settle first items = items.woken.items ++ numbers_behind first (length it
 pub record CanFinish (C : Code) (fs : List (Option Frame)) (cs : List (Option Counted)) (number : ℕ) (job : Job) (first : ℕ) (items : Items) : Type 0 where
   pub row : Row
   pub there : row_of (rows_view items.rows.items) number ≡ Some row
-  pub runs : is_apart row.mark ≡ true
+  pub runs : is_apart row.status ≡ true
   pub job_is : row.job ≡ job
   pub few : FewSlots fs
   pub to_settle : AreToSettle C fs cs (rows_view items.rows.items) first number (all_to_settle first items)

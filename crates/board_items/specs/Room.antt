@@ -4,7 +4,7 @@ use Rattle.std.specs.List.{AllZip}
 use Rattle.smallvec.specs.SmallVec.{SmallVec}
 use Rattle.rules.specs.declared.input.Input.{Input}
 use Rattle.board_history.specs.Ending.{job_kind}
-use Rattle.board_history.specs.Fields.{Job, Mark, Over, Ready, Row, Running, Waiting}
+use Rattle.board_history.specs.Fields.{Job, Status, Over, Ready, Row, Running, Waiting}
 use Rattle.board_history.specs.Marking.{kind_eq}
 use Rattle.task_code.specs.Code.{Code, Control, Kind, Leaf}
 use Rattle.board_instances.specs.View.{rows_view}
@@ -12,7 +12,7 @@ use Rattle.board_items.specs.Ended.{first_needs}
 use Rattle.board_items.specs.declared.items.Items.{Items}
 
 -- the item waits or runs
-abbrev pub is_apart : Mark → Bool
+abbrev pub is_apart : Status → Bool
 is_apart Waiting = true
 is_apart (Running w) = true
 is_apart Ready = false
@@ -26,7 +26,7 @@ module _ (C : Code) where
   -- the number of items of a kind that wait or run
   abbrev pub apart_in : Kind → List Row → ℕ
   apart_in k [] = 0
-  apart_in k (r ∷ rs) = (if is_apart r.mark && kind_eq k (job_kind C r.job) then 1 else 0) + apart_in k rs
+  apart_in k (r ∷ rs) = (if is_apart r.status && kind_eq k (job_kind C r.job) then 1 else 0) + apart_in k rs
 
   -- lists for the missing inputs of new items: one for each that may wait for more than two inputs, in order
   abbrev pub AreSpare : List Job → List (SmallVec Input) → Type 0

@@ -1,7 +1,7 @@
 -- The items after one of them was made to wait or made ready.
 use Rattle.std.specs.Prelude.{◌≡◌, ◌+◌, ◌^◌, min, ◌-◌, ◌<◌, ◌≤◌, ◌++◌, ◌∷◌, [], ℕ, ℤ, List, map, pos, vec_capacity, vec_len}
 use Rattle.board_history.specs.Fields as Pure
-use Rattle.board_history.specs.Marking.{mark_at}
+use Rattle.board_history.specs.Marking.{with_status}
 use Rattle.rules.specs.Waiting.{GivesRoomBack, IsAdded, IsListed, still_waiting, woken}
 use Rattle.rules.specs.declared.input.Input.{Input}
 use Rattle.board_history.specs.Fields.{Want, row_of}
@@ -55,7 +55,7 @@ one_more Leaf a = record a { leaves = min (a.leaves + 1) (2 ^ 64 - 1) }
 
 -- the item of number 1 alone, which opens the script and is ready
 pub record AreFirst (items : Items) : Type 0 where
-  pub rows : rows_view items.rows.items ≡ record { job = Pure.Script; mark = Pure.Ready } ∷ []
+  pub rows : rows_view items.rows.items ≡ record { job = Pure.Script; status = Pure.Ready } ∷ []
   pub waiting : items.rules.waiting ≡ []
   pub controls : items.queue.control.entries ≡ record { priority = pos 0; no = 1 } ∷ []
   pub leaves : items.queue.leaf.entries ≡ []
@@ -76,7 +76,7 @@ pub record IsWaiting (number : ℕ) (missing : List (Want ℕ)) (old new : Items
 -- the item is ready now, and waits for nothing
 pub record IsReady (number : ℕ) (kind : Kind) (priority : ℤ) (old new : Items) : Type 0 where
   pub rules : new.rules ≡ old.rules
-  pub rows : rows_view new.rows.items ≡ mark_at (rows_view old.rows.items) number Pure.Ready
+  pub rows : rows_view new.rows.items ≡ with_status (rows_view old.rows.items) number Pure.Ready
   pub queue : 0 < (of kind old.queue).room → new.queue ≡ with_changed kind (with_put (record { priority = priority; no = number })) old.queue
   pub newly : vec_len old.newly < vec_capacity old.newly → new.newly.items ≡ old.newly.items ++ number ∷ []
   pub apart : new.apart ≡ one_less kind old.apart

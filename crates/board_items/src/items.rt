@@ -2,9 +2,9 @@
 ghost use Rattle.std.specs.Prelude.{◌≡◌, ◌<◌, ◌≤◌, ◌+◌, ◌-◌, ◌++◌, ◌∷◌, ◌^◌, [], ℕ, List, Contains, IsOk, IfOk, IsTrue, None, ◌↔◌, OnOk, length, vec_len, vec_capacity};
 ghost use Rattle.work_queue.specs.Entries.{first_number};
 ghost use Rattle.board_history.specs.Ending.{job_kind, job_priority};
-ghost use Rattle.board_history.specs.Fields.{Ready as ready_mark, Running as running_mark};
+ghost use Rattle.board_history.specs.Fields.{Ready as ready_status, Running as running_status};
 ghost use Rattle.board_history.specs.Fields.{Waiter, Want};
-ghost use Rattle.board_history.specs.Marking.{mark_at};
+ghost use Rattle.board_history.specs.Marking.{with_status};
 ghost use Rattle.rules.specs.Waiting.{GivesRoomBack};
 ghost use Rattle.work_queue.specs.Both.{of, with_changed};
 ghost use Rattle.work_queue.specs.Waiting.{with_put, without};
@@ -15,7 +15,7 @@ ghost use Rattle.board_items.specs.Room.{IsRoomy, IsRoomyFor};
 ghost use Rattle.task_code.specs.Code.{Code};
 ghost use Rattle.board_items.specs.Settled.{AreFirst, one_more, IsTold, StaysButRoom, one_less, StaysButOrder, StaysButWaits};
 
-use board_instances::item::{ItemStatus, ItemTask, PackedItem, mark_item};
+use board_instances::item::{ItemStatus, ItemTask, PackedItem, set_item_status};
 use board_instances::pending::MissingInputs;
 use board_program::program::Program;
 use rules::input::Input;
@@ -127,7 +127,7 @@ impl Items {
     /// priority. Allocates no memory.
     pub fn begin(&mut self, worker: u8, number: u64, order: (Kind, i32))
         ensures stays { StaysButOrder self.old self.new }
-        ensures rows { rows_view self.new.rows.items ≡ mark_at (rows_view self.old.rows.items) number (running_mark worker) }
+        ensures rows { rows_view self.new.rows.items ≡ with_status (rows_view self.old.rows.items) number (running_status worker) }
         ensures queue { Contains (of order.0 self.old.queue).entries (record { priority = order.1; no = number })
             → self.new.queue ≡ with_changed order.0 (without (record { priority = order.1; no = number })) self.old.queue }
         ensures running { self.old.running + 1 < 2 ^ 64 → self.new.running ≡ self.old.running + 1 }
@@ -139,7 +139,7 @@ impl Items {
         self.newly.clear();
         let _there = self.queue.remove(kind, priority, number);
         self.apart.add(kind);
-        mark_item(
+        set_item_status(
             self.rows.as_mut_slice(),
             number,
             ItemStatus::Running(worker),
@@ -150,7 +150,7 @@ impl Items {
     /// Marks a running item as ready again. `order` is its kind and priority. Allocates no memory.
     pub fn back(&mut self, number: u64, order: (Kind, i32))
         ensures stays { StaysButOrder self.old self.new }
-        ensures rows { rows_view self.new.rows.items ≡ mark_at (rows_view self.old.rows.items) number ready_mark }
+        ensures rows { rows_view self.new.rows.items ≡ with_status (rows_view self.old.rows.items) number ready_status }
         ensures queue { 0 < (of order.0 self.old.queue).room
             → self.new.queue ≡ with_changed order.0 (with_put (record { priority = order.1; no = number })) self.old.queue }
         ensures running { self.new.running ≡ self.old.running - 1 }
@@ -170,7 +170,7 @@ impl Items {
         ensures apart { self.new.apart ≡ one_less order.0 self.old.apart }
         ensures len { vec_len self.new.rows ≡ vec_len self.old.rows }
         ensures stays { StaysButOrder self.old self.new }
-        ensures rows { rows_view self.new.rows.items ≡ mark_at (rows_view self.old.rows.items) number ready_mark }
+        ensures rows { rows_view self.new.rows.items ≡ with_status (rows_view self.old.rows.items) number ready_status }
         ensures queue { 0 < (of order.0 self.old.queue).room
             → self.new.queue ≡ with_changed order.0 (with_put (record { priority = order.1; no = number })) self.old.queue }
         ensures running { self.new.running ≡ self.old.running }
@@ -179,7 +179,7 @@ impl Items {
     {
         let (kind, priority) = order;
         self.apart.take(kind);
-        mark_item(self.rows.as_mut_slice(), number, ItemStatus::Ready);
+        set_item_status(self.rows.as_mut_slice(), number, ItemStatus::Ready);
         let _put = self.queue.put(kind, priority, number);
         let _noted = self.newly.push(number);
     }

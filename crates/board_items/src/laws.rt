@@ -9,7 +9,7 @@ ghost use Rattle.smallvec.specs.SmallVec.{SmallVec};
 ghost use Rattle.task_code.specs.Effects.{Task};
 ghost use Rattle.task_code.specs.Places.{Place};
 ghost use Rattle.board_history.specs.Ending.{Instance, NewlyAfter, jobs_after, QueueAfter, WaitsAfter, ended_rows, new_row};
-ghost use Rattle.board_history.specs.Fields.{Counted, Does, Fields, Frame, Job, Layout, Row, Waiting as waiting_mark, Want, row_of, slot_at};
+ghost use Rattle.board_history.specs.Fields.{Counted, Does, Fields, Frame, Job, Layout, Row, Waiting as waiting_status, Want, row_of, slot_at};
 ghost use Rattle.board_history.specs.Stands.{Stands};
 ghost use Rattle.rules.specs.Waiting.{Waiting};
 ghost use Rattle.task_code.specs.Code.{Code, Control, Leaf, body, entry};
@@ -58,8 +58,8 @@ pub fn items_to_settle()
         → HaveLearnt known F.waiting left woken → AreOld (length F.rows) woken }
     ensures all { (F : Fields) (jobs : List Job) (known : List (Want ℕ)) (left : List Waiting) (woken : List ℕ) → ItemsFit F
         → HaveLearnt known F.waiting left woken →
-        (C : Code) (fs : List (Option Frame)) (cs : List (Option Counted)) (n : ℕ) (own : Row) → row_of F.rows n ≡ Some own → (own.mark ≡ waiting_mark → ⊥) →
-        ((m : ℕ) (r : Row) → row_of (F.rows ++ map new_row jobs) m ≡ Some r → r.mark ≡ waiting_mark → IsSeen C fs r.job) →
+        (C : Code) (fs : List (Option Frame)) (cs : List (Option Counted)) (n : ℕ) (own : Row) → row_of F.rows n ≡ Some own → (own.status ≡ waiting_status → ⊥) →
+        ((m : ℕ) (r : Row) → row_of (F.rows ++ map new_row jobs) m ≡ Some r → r.status ≡ waiting_status → IsSeen C fs r.job) →
         AreToSettle C fs cs (F.rows ++ map new_row jobs) (length F.rows) n (woken ++ numbers_behind (length F.rows) (length jobs)) }
 {}
 

@@ -9,7 +9,7 @@ ghost use Rattle.board_instances.specs.Names.{led_slot};
 ghost use Rattle.std.specs.Prelude.{◌≡◌, ◌⊎◌, ◌<◌, ◌≤◌, ◌+◌, ◌-◌, ◌++◌, ◌∷◌, [], ℕ, ℤ, List, Some, drop, length, map, reverse, true, false, IfOk, IsOk, MatchOption, IsTrue, OnErr, OnOk, vec_len, vec_capacity};
 ghost use Rattle.smallvec.specs.SmallVec.{HasRoomFor};
 ghost use Rattle.board_history.specs.Ending.{job_kind, job_priority};
-ghost use Rattle.board_history.specs.Fields.{Job as AJob, Over as over_mark, Row, Waiter, Want, row_of};
+ghost use Rattle.board_history.specs.Fields.{Job as AJob, Over as over_status, Row, Waiter, Want, row_of};
 ghost use Rattle.board_data.specs.View.{cells_view, want_view};
 ghost use Rattle.board_data.specs.Wanted.{FewSlots};
 ghost use Rattle.board_instances.specs.View.{frames_view, job_view, rows_view};
@@ -17,7 +17,7 @@ ghost use Rattle.board_items.specs.Ended.{AreSettled, AreShort, AreToSettle, IsS
 ghost use Rattle.board_items.specs.Progress.{AreOld, CanFinish, Progress, all_to_settle, jobs_behind};
 ghost use Rattle.board_items.specs.Room.{AreListsFor, AreSpare, IsRoomy};
 ghost use Rattle.board_items.specs.View.{queue_view, waiters_view};
-ghost use Rattle.board_history.specs.Marking.{mark_at};
+ghost use Rattle.board_history.specs.Marking.{with_status};
 ghost use Rattle.std.specs.List.Sorted.{IsSorted};
 ghost use Rattle.std.specs.Ordering.{nat_cmp};
 ghost use Rattle.task_code.specs.Code.{Kind as AKind};
@@ -26,7 +26,7 @@ ghost use Rattle.board_items.specs.Settled.{Settles, one_less};
 use crate::items::{Items, order_of};
 use board_data::inputs::Environment;
 use board_instances::instance::Instance;
-use board_instances::item::{ItemStatus, ItemTask, item_of, mark_item};
+use board_instances::item::{ItemStatus, ItemTask, item_of, set_item_status};
 use board_instances::pending::MissingInputs;
 use board_program::program::{Program, ResolvedNeed};
 use data_store::store::Store;
@@ -513,7 +513,7 @@ impl Items {
 
     /// Marks a running item as over.
     fn close(&mut self, number: u64, kind: Kind)
-        ensures rows { rows_view self.new.rows.items ≡ mark_at (rows_view self.old.rows.items) number over_mark }
+        ensures rows { rows_view self.new.rows.items ≡ with_status (rows_view self.old.rows.items) number over_status }
         ensures len { vec_len self.new.rows ≡ vec_len self.old.rows }
         ensures rules { self.new.rules ≡ self.old.rules }
         ensures queue { self.new.queue ≡ self.old.queue }
@@ -526,7 +526,7 @@ impl Items {
         self.newly.clear();
         self.apart.take(kind);
         self.running = self.running.saturating_sub(1);
-        mark_item(self.rows.as_mut_slice(), number, ItemStatus::Over);
+        set_item_status(self.rows.as_mut_slice(), number, ItemStatus::Over);
     }
 
     /// Ends a running item with this task: marks it as over, and settles the woken items and the new ones, in rows from

@@ -114,11 +114,11 @@ module _ (C : Code) where
   -- it is declared, or is a name of the body around, or a literal
   record Outside (i c : ℕ) (w : Way) (r : Name) : Type 0 where
     pub outside : Name
-    pub seen : Seen C (entry C i).mark w r outside
+    pub seen : Seen C (entry C i).offset w r outside
     pub named : In outside (all_names C c)
 
   module _ (I : IsCode C) where
-    covered : (i c b : ℕ) (w : Way) (r : Name) → In i (body C c).entries → In (w, b) (ways (entry C i).act) → In r (all_names C b) → (Declared C b r ⊎ Outside i c w r) ⊎ Fixes C (entry C i).mark w r
+    covered : (i c b : ℕ) (w : Way) (r : Name) → In i (body C c).entries → In (w, b) (ways (entry C i).act) → In r (all_names C b) → (Declared C b r ⊎ Outside i c w r) ⊎ Fixes C (entry C i).offset w r
     covered i c b w r ih iw h = by (name_of b r h)
       where
         seen_read : SeenFrom C (λ e. e.reads) i w r → Outside i c w r
@@ -127,7 +127,7 @@ module _ (C : Code) where
         seen_written : SeenFrom C (λ e. e.writes) i w r → Outside i c w r
         seen_written s = record { outside = s.outside; seen = s.seen; named = of_writes c i s.outside ih s.right }
 
-        by : NameOf b r → (Declared C b r ⊎ Outside i c w r) ⊎ Fixes C (entry C i).mark w r
+        by : NameOf b r → (Declared C b r ⊎ Outside i c w r) ⊎ Fixes C (entry C i).offset w r
         by n = elim n.is [
           | inl g ↦ elim ((I.fits i w b iw).reads n.by r n.there g) [
             | inl x ↦ elim x [ inl d ↦ inl (inl d) | inr s ↦ inl (inr (seen_read s)) ]
@@ -238,7 +238,7 @@ module _ (C : Code) where
         found : (r : Name) (k : ℕ) (a : Bool) → r ≡ parameter k a → Leads 1 b r
         found r k a e = subst (λ (y : Name). Leads 1 b y) (sym e) (_, parameter_found 0 b k a opener)
 
-        by : (r : Name) → (Declared C b r ⊎ Outside i c Calling r) ⊎ Fixes C (entry C i).mark Calling r → Leads 1 b r
+        by : (r : Name) → (Declared C b r ⊎ Outside i c Calling r) ⊎ Fixes C (entry C i).offset Calling r → Leads 1 b r
         by r (inl (inl d)) = declared_found 0 b r d
         by r (inl (inr o)) = found r o.seen.0 o.seen.1 o.seen.2
         by r (inr f) = found r f.0 f.1 f.3

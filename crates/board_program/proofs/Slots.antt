@@ -11,7 +11,7 @@ use Rattle.board_history.specs.Fields.{Frame, Slot, slot_for}
 use Rattle.board_history.specs.Layouts.{Reached, all_names}
 use Rattle.board_history.specs.Static.{Hold, names_in, outer_holds}
 use Rattle.task_code.specs.Check.{is_declared}
-use Rattle.task_code.specs.Code.{Act, Assert, Call, Cell, Code, Copy, Each, Entry, Fill, If, Name, Print, Put, Range, Read, Set, Wait, body, entry, stored_of, targets_of}
+use Rattle.task_code.specs.Code.{Act, Assert, Call, Cell, Code, Copy, Each, Entry, Fill, If, Name, Print, InsertElement, Range, Read, Set, Wait, body, entry, stored_of, targets_of}
 use Rattle.task_code.specs.Compute.{Computed, Elements}
 use Rattle.task_code.specs.Whole.{IsCode}
 use Rattle.board_program.proofs.Laid.{leads_somewhere}
@@ -85,7 +85,7 @@ module _ (C : Code) (I : IsCode C) (b : ℕ) (reached : Reached C b) (fs : List 
   stored_by_act x d n (Set r e) all = one_stored x d r (all r (inl refl))
   stored_by_act x d n (Fill r es) all = one_stored x d r (all r (inl refl))
   stored_by_act x d n (Copy r) all = one_stored x d r (all r (inl refl))
-  stored_by_act x d n (Put r i e) all = one_stored x d r (all r (inl refl))
+  stored_by_act x d n (InsertElement r i e) all = one_stored x d r (all r (inl refl))
   stored_by_act x d n (Print e) all = refl
   stored_by_act x d n (Assert e) all = refl
   stored_by_act x d n (If e c m) all = refl

@@ -1,8 +1,8 @@
 -- The tables of an entry and of a body, as determined by the code.
 use Rattle.std.specs.Prelude.{◌≡◌, nat_eq, nat_lt, not, ℕ, suc, ◌+◌, Bool, true, false, List, [], ◌∷◌, map, length, Option, Some, None, if◌then◌else◌}
 use Rattle.std.specs.List.{filter, filter_map, flat_map, list_all, list_any}
-use Rattle.data_store.specs.declared.datum.DatumKind.{DatumKind}
-use Rattle.data_store.specs.declared.datum.DatumKind.TheVariants.{Single, Keyed}
+use Rattle.values.specs.declared.datum_kind.DatumKind.{DatumKind}
+use Rattle.values.specs.declared.datum_kind.DatumKind.TheVariants.{Single, Keyed}
 use Rattle.board_history.specs.Ending.{held_times, slot_is}
 use Rattle.board_history.specs.Fields.{Absent, Slot}
 use Rattle.board_history.specs.Static.{name_times, names_in, outer_holds}
@@ -130,7 +130,7 @@ module _ (C : Code) where
     pub kind : t.kind ≡ kind_of (entry C i).act
     pub priority : t.priority ≡ (entry C i).priority
     pub needs : t.needs.items ≡ map (wanted_in b) (entry C i).needs
-    pub mark : t.mark ≡ (entry C i).mark
+    pub offset : t.offset ≡ (entry C i).offset
     pub plain : t.plain ≡ list_all is_plain (entry C i).needs
     pub closed : t.closed ≡ list_any is_closed (entry C i).needs
     pub reads : t.reads.items ≡ spots_in b (entry C i).reads

@@ -11,10 +11,10 @@ use crate::lexical_address::NameResolver;
 use crate::outer_holds::OuterHolds;
 use crate::program::{BodyTable, Hold, LocalVariable};
 use crate::variable_index::VariableIndex;
-use data_store::store::DatumKind;
 use std::alloc::{AllocError, Global};
 use task_code::code::{Body, Code};
 use task_code::entry::{Entry, Kind, Name, Variable};
+use values::datum_kind::DatumKind;
 
 /// Returns the count plus 1.
 ///

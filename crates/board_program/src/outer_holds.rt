@@ -9,13 +9,13 @@ use indexmap::IndexMap;
 use std::alloc::{AllocError, Global};
 
 // The number of holds that are searched linearly before the index is used.
-const FEW: usize = 8;
+const LINEAR_SEARCH_LIMIT: usize = 8;
 
 /// Holds on data outside of a body, mostly one for each address.
 #[derive(Drop)]
 pub struct OuterHolds {
     pub holds: Vec<Hold>,
-    /// The index of the holds beyond the first `FEW`, keyed by the hash of the address.
+    /// The index of the holds beyond the first `LINEAR_SEARCH_LIMIT`, keyed by the hash of the address.
     places: IndexMap<u64, usize>,
 }
 
@@ -67,7 +67,7 @@ impl OuterHolds {
 
     /// Returns the index of a hold that may be the one on this address. The caller compares the addresses.
     fn place_of(&self, spot: LexicalAddress) -> Option<usize> {
-        for at in 0..self.holds.len().min(FEW) {
+        for at in 0..self.holds.len().min(LINEAR_SEARCH_LIMIT) {
             if is_same(self.holds[at].spot, spot) {
                 return Some(at);
             }
@@ -75,11 +75,11 @@ impl OuterHolds {
         self.places.get(&number_of(spot)).copied()
     }
 
-    /// Records the next index for this address, unless the list has fewer than `FEW` holds.
+    /// Records the next index for this address, unless the list has fewer than `LINEAR_SEARCH_LIMIT` holds.
     fn note(&mut self, spot: LexicalAddress) -> Result<(), AllocError>
         ensures { self.new.holds ≡ self.old.holds }
     {
-        if self.holds.len() >= FEW {
+        if self.holds.len() >= LINEAR_SEARCH_LIMIT {
             self.places.insert(number_of(spot), self.holds.len())?;
         }
         Ok(())

@@ -14,13 +14,13 @@ ghost use Rattle.board_program.specs.Tables.{AllFrom, IsBodyTable, IsEntryTable,
 use crate::bodies::body_table;
 use crate::lexical_address::{LexicalAddress, NameResolver};
 use crate::name_count::most_names;
-use data_store::store::DatumKind;
 use smallvec::SmallVec;
 use std::alloc::{AllocError, Global};
 use std::marker::Model;
 use std::sync::Arc;
 use task_code::code::Code;
 use task_code::entry::{Act, Argument, Entry, Loop, Name, Need, Owned, Variable};
+use values::datum_kind::DatumKind;
 use values::key::Key;
 use work_queue::entry::Kind;
 
@@ -53,7 +53,7 @@ pub enum PassedArgument {
 #[derive(Drop)]
 pub struct EntryTable {
     /// The offset in the paths of the blocks that the entry opens.
-    pub mark: u32,
+    pub offset: u32,
     pub kind: Kind,
     pub priority: i32,
     pub needs: SmallVec<ResolvedNeed, 1>,
@@ -239,10 +239,15 @@ fn target_of(entry: &Entry) -> Option<Name>
                 array: false,
             }),
         }),
-        Act::Set(name, _) | Act::Fill(name, _) | Act::Copy(name) | Act::Put(name, _, _) => {
-            Some(*name)
-        }
-        _ => None,
+        Act::Set(name, _) | Act::Fill(name, _) | Act::Copy(name) | Act::InsertElement(name, _, _) =>
+            { Some(*name) }
+        Act::Call { .. }
+        | Act::Print(_)
+        | Act::Assert(_)
+        | Act::If(_, _, _)
+        | Act::Range(_, _, _, _)
+        | Act::Each(_)
+        | Act::Wait(_, _) => None,
     }
 }
 
@@ -350,7 +355,17 @@ fn loop_of(act: &Act) -> Option<Loop>
 {
     match act {
         Act::Range(_, _, _, found) | Act::Each(found) => Some(*found),
-        _ => None,
+        Act::Cell(_)
+        | Act::Read
+        | Act::Set(_, _)
+        | Act::Fill(_, _)
+        | Act::Copy(_)
+        | Act::InsertElement(_, _, _)
+        | Act::Print(_)
+        | Act::Assert(_)
+        | Act::Call { .. }
+        | Act::If(_, _, _)
+        | Act::Wait(_, _) => None,
     }
 }
 
@@ -394,11 +409,11 @@ fn entry_table(
     requires there { entry_view entry.now ≡ entry_at code.now number }
     ensures { IfOk result (λ table. IsEntryTable code.now body number table) }
 {
-    let Ok(mark) = u32::try_from(entry.mark) else {
+    let Ok(offset) = u32::try_from(entry.offset) else {
         return Err(AllocError);
     };
     Ok(EntryTable {
-        mark,
+        offset,
         kind: code.kind(number),
         priority: entry.priority,
         needs: needs_of(alloc, code, leads, body, entry.needs.as_slice())?,

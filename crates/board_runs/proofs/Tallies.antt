@@ -8,6 +8,7 @@ use Rattle.dataflow.specs.Machine.{Event}
 use Rattle.task_code.specs.declared.event.Event.{Event as Happens}
 use Rattle.task_code.specs.View.{event_view}
 use Rattle.board_runs.specs.Report.{AreTallies}
+use Rattle.values.specs.Limits.{max_threads}
 
 -- 1 for an event of the worker
 one_of : Event → ℕ → ℕ
@@ -37,11 +38,11 @@ unfolding one_of
 tally_bound [] w = omega arith
 tally_bound (e ∷ es) w = omega (arith, tally_bound es w, at_most_one e w)
 
-pub none_counted : AreTallies [] (replicate 64 0)
-none_counted = record { workers = refl; each = λ w l. get_or-replicate 64 w 0 0 l }
+pub none_counted : AreTallies [] (replicate max_threads 0)
+none_counted = record { workers = refl; each = λ w l. get_or-replicate max_threads w 0 0 l }
 
 -- one more event is counted
-each_counted : (es : List Event) (e : Event) (ts : List ℕ) → AreTallies es ts → (w : ℕ) → w < 64 → get_or (set ts (worker_of e) (get_or ts (worker_of e) 0 + 1)) w 0 ≡ tally (es ++ e ∷ []) w
+each_counted : (es : List Event) (e : Event) (ts : List ℕ) → AreTallies es ts → (w : ℕ) → w < max_threads → get_or (set ts (worker_of e) (get_or ts (worker_of e) 0 + 1)) w 0 ≡ tally (es ++ e ∷ []) w
 each_counted es e ts t w b = elim (eqb_tells w (worker_of e)) [ inl s ↦ same_worker s.1 | inr n ↦ other_worker n.1 ]
   where
     same_worker : w ≡ worker_of e → get_or (set ts (worker_of e) (get_or ts (worker_of e) 0 + 1)) w 0 ≡ tally (es ++ e ∷ []) w
@@ -72,4 +73,4 @@ counted_at xs i d ts new w l t is_worker is_new =
 
 -- no tally is greater than the number of events
 pub tally_small : (es : List Event) (ts : List ℕ) (w : ℕ) → AreTallies es ts → get_or ts w 0 ≤ length es
-tally_small es ts w t = elim (leb_tells 64 w) [ inl past ↦ omega (arith, get_or_past ts w 0 (omega (arith, past.1, t.workers))) | inr below ↦ omega (arith, t.each w below.1, tally_bound es w) ]
+tally_small es ts w t = elim (leb_tells max_threads w) [ inl past ↦ omega (arith, get_or_past ts w 0 (omega (arith, past.1, t.workers))) | inr below ↦ omega (arith, t.each w below.1, tally_bound es w) ]

@@ -29,10 +29,11 @@ use Rattle.board_runs.specs.Report.{AreBlockedAt, AreTallies, EndsAs, Reports, l
 use Rattle.board_runs.specs.Same.{SameEnd, SameReport, place_view}
 use Rattle.board_runs.proofs.Alike.{blocked_too, quiet_too}
 use Rattle.board_runs.proofs.Ordered.{AreAmong, one_listing, unreversed}
+use Rattle.values.specs.Limits.{max_threads}
 
 -- tallies of the same events
 same_tallies : (es : List Event) (xs ys : List ℕ) → AreTallies es xs → AreTallies es ys → xs ≡ ys
-same_tallies es xs ys x y = ext_get_or 0 xs ys (x.workers ∙ sym y.workers) (λ w l. (let below : w < 64 = omega (arith, l, x.workers) in x.each w below ∙ sym (y.each w below)))
+same_tallies es xs ys x y = ext_get_or 0 xs ys (x.workers ∙ sym y.workers) (λ w l. (let below : w < max_threads = omega (arith, l, x.workers) in x.each w below ∙ sym (y.each w below)))
 
 -- faults are told by what they stand for
 kind_back : Machine.Fault Pure.EntryFault → FaultKind

@@ -15,6 +15,7 @@ use Rattle.board.specs.Numbers.{AreNumbered}
 use Rattle.board_runs.specs.declared.report.End.{End}
 use Rattle.board_runs.specs.declared.report.End.TheVariants as Ends
 use Rattle.board_runs.specs.declared.report.Report.{Report}
+use Rattle.values.specs.Limits.{max_threads}
 
 -- nothing is left to do: the state is quiet, there is a fault, or the limit is reached
 abbrev pub IsOver : Seen → Type 0
@@ -32,10 +33,10 @@ AreBlockedAt b Ends.Quiet statements = AreBlocked b.code b.state statements
 AreBlockedAt b (Ends.Fault f) statements = statements ≡ []
 AreBlockedAt b Ends.Limit statements = statements ≡ []
 
--- the number of events of each of the 64 workers
+-- the number of events of each worker
 pub record AreTallies (events : List Event) (tallies : List ℕ) : Type 0 where
-  pub workers : length tallies ≡ 64
-  pub each : (w : ℕ) → w < 64 → slice_index tallies w ≡ tally events w
+  pub workers : length tallies ≡ max_threads
+  pub each : (w : ℕ) → w < max_threads → slice_index tallies w ≡ tally events w
 
 -- the bytes of a line: those of a text, the decimal digits of a number, the name of a truth value. The code of a script
 -- prints texts alone

@@ -7,6 +7,7 @@ use board::{Board, BoardParts, Fault, StatementInstance, Step};
 use board_program::program::Program;
 use std::alloc::{AllocError, Global};
 use task_code::packed_event::PackedEvent;
+use values::limits::MAX_THREADS;
 use values::text::Text;
 use values::value::Scalar;
 
@@ -32,7 +33,7 @@ pub struct Report {
     /// The blocked statements, each once, ordered by path and then by offset. Empty unless the end is `Quiet`.
     pub blocked: Vec<StatementInstance>,
     /// The number of events of each worker, indexed by the worker's number.
-    pub tallies: [u32; 64],
+    pub tallies: [u32; MAX_THREADS],
 }
 
 // Written out, so that the owner of a report drops it by one call.
@@ -54,7 +55,7 @@ impl Drop for Report {
 struct RunSummary {
     end: End,
     blocked: Vec<StatementInstance>,
-    tallies: [u32; 64],
+    tallies: [u32; MAX_THREADS],
 }
 
 /// Summarizes the run of a board on which nothing is left to do.

@@ -6,24 +6,22 @@ ghost use Rattle.board_runs.specs.Report.{AreTallies};
 
 use task_code::event::Event;
 use task_code::packed_event::PackedEvent;
-
-/// The number of workers, which are numbered from 0.
-const WORKERS: usize = 64;
+use values::limits::MAX_THREADS;
 
 /// Returns the number of events of each worker. None exceeds the number of all events.
-pub(crate) fn tallies(history: &Vec<PackedEvent>) -> [u32; WORKERS]
+pub(crate) fn tallies(history: &Vec<PackedEvent>) -> [u32; MAX_THREADS]
     requires { length history.now.items ≤ u32.MAX }
     ensures { AreTallies (map event_view history.now.items) result }
 {
-    let mut tallies = [0u32; WORKERS];
+    let mut tallies = [0u32; MAX_THREADS];
     for event in history {
         count(&mut tallies, worker_of_event(event));
     }
     tallies
 }
 
-/// Increments the count of this worker, if its number is less than `WORKERS`.
-fn count(tallies: &mut [u32; WORKERS], worker: usize)
+/// Increments the count of this worker, if its number is less than `MAX_THREADS`.
+fn count(tallies: &mut [u32; MAX_THREADS], worker: usize)
     requires { slice_index tallies.old worker < u32.MAX }
     ensures { tallies.new ≡ slice_set tallies.old worker (slice_index tallies.old worker + 1) }
 {

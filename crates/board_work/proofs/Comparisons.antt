@@ -20,7 +20,7 @@ use Rattle.values.specs.declared.value.Scalar.{Scalar}
 use Rattle.values.specs.Keys.{same_key}
 use Rattle.values.proofs.Keys.{same_key-refl, same_key-eq}
 use Rattle.values.specs.Operators.{Operation, sum_of, product_of, compare, equal, unequal, all_true, any_true, not_true, negate, join, from_int, to_int, size, printf, assert, literal}
-use Rattle.task_code.specs.Code.{Need, Stored, Closed, At, AtKey, Expr, constant, need, operation, Exprs, no_operand, operand, Argument, Named, Fixed, Loop, Header, Act, Cell, Read, Call, Set, Fill, Copy, Put, Print, Assert, If, Range, Each, Wait, Entry}
+use Rattle.task_code.specs.Code.{Need, Stored, Closed, At, AtKey, Expr, constant, need, operation, Exprs, no_operand, operand, Argument, Named, Fixed, Loop, Header, Act, Cell, Read, Call, Set, Fill, Copy, InsertElement, Print, Assert, If, Range, Each, Wait, Entry}
 use Rattle.task_code.specs.declared.expr.Expr.{Expr as Written}
 use Rattle.task_code.specs.View.{exprs_view}
 use Rattle.task_code.specs.Places.{Place, Constant, Datum, Nowhere, name_eq}
@@ -286,13 +286,13 @@ acts = record { sound = sound'; own = own' }
         let y = exprs_sound es fs t.1 in
         λ i. Fill (x i) (y i)
     sound' (Copy r) (Copy s) h = ap Copy (name_sound r s h)
-    sound' (Put r j e) (Put s k f) h =
+    sound' (InsertElement r j e) (InsertElement s k f) h =
         let t = and_parts (name_eq r s) _ h in
         let u = and_parts (expr_eq j k) _ t.1 in
         let x = name_sound r s t.0 in
         let y = expr_sound j k u.0 in
         let z = expr_sound e f u.1 in
-        λ i. Put (x i) (y i) (z i)
+        λ i. InsertElement (x i) (y i) (z i)
     sound' (Print e) (Print f) h = ap Print (expr_sound e f h)
     sound' (Assert e) (Assert f) h = ap Assert (expr_sound e f h)
     sound' (If e b c) (If f d g) h =
@@ -326,7 +326,7 @@ acts = record { sound = sound'; own = own' }
     own' (Set r e) = and_from (name_eq r r) _ (name_same r) (expr_own e)
     own' (Fill r es) = and_from (name_eq r r) _ (name_same r) (exprs_own es)
     own' (Copy r) = name_same r
-    own' (Put r j e) = and_from (name_eq r r) _ (name_same r) (and_from (expr_eq j j) _ (expr_own j) (expr_own e))
+    own' (InsertElement r j e) = and_from (name_eq r r) _ (name_same r) (and_from (expr_eq j j) _ (expr_own j) (expr_own e))
     own' (Print e) = expr_own e
     own' (Assert e) = expr_own e
     own' (If e b c) = and_from (expr_eq e e) _ (expr_own e) (and_from (nat_eq b b) _ (nat_same b) ((options numbers).own c))
@@ -342,26 +342,26 @@ entries = record { sound = sound'; own = own' }
     sound' a b h =
         let t1 = and_parts (nat_eq a.node b.node) _ h in
         let t2 = and_parts (nat_eq a.at b.at) _ t1.1 in
-        let t3 = and_parts (nat_eq a.mark b.mark) _ t2.1 in
+        let t3 = and_parts (nat_eq a.offset b.offset) _ t2.1 in
         let t4 = and_parts (int_eq a.priority b.priority) _ t3.1 in
         let t5 = and_parts (pointwise need_eq a.needs b.needs) _ t4.1 in
         let t6 = and_parts (act_eq a.act b.act) _ t5.1 in
         let t7 = and_parts (pointwise name_eq a.reads b.reads) _ t6.1 in
         let node' = nat_sound a.node b.node t1.0 in
         let at' = nat_sound a.at b.at t2.0 in
-        let mark' = nat_sound a.mark b.mark t3.0 in
+        let mark' = nat_sound a.offset b.offset t3.0 in
         let priority' = integers.sound a.priority b.priority t4.0 in
         let needs' = (lists needs).sound a.needs b.needs t5.0 in
         let act' = acts.sound a.act b.act t6.0 in
         let reads' = (lists names).sound a.reads b.reads t7.0 in
         let writes' = (lists names).sound a.writes b.writes t7.1 in
-        λ i. record { node = node' i; at = at' i; mark = mark' i; priority = priority' i; needs = needs' i; act = act' i; reads = reads' i; writes = writes' i }
+        λ i. record { node = node' i; at = at' i; offset = mark' i; priority = priority' i; needs = needs' i; act = act' i; reads = reads' i; writes = writes' i }
 
     own' : (a : Entry) → entry_eq a a ≡ true
     own' a =
         and_from (nat_eq a.node a.node) _ (nat_same a.node)
         (and_from (nat_eq a.at a.at) _ (nat_same a.at)
-        (and_from (nat_eq a.mark a.mark) _ (nat_same a.mark)
+        (and_from (nat_eq a.offset a.offset) _ (nat_same a.offset)
         (and_from (int_eq a.priority a.priority) _ (integers.own a.priority)
         (and_from (pointwise need_eq a.needs a.needs) _ ((lists needs).own a.needs)
         (and_from (act_eq a.act a.act) _ (acts.own a.act)

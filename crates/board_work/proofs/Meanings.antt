@@ -4,7 +4,7 @@ use Rattle.std.proofs.lemmas.Option.{none-some, same_Some}
 use Rattle.dataflow.specs.System.{Answer}
 use Rattle.values.specs.declared.key.Key.{Key}
 use Rattle.values.specs.declared.value.Scalar.{Scalar}
-use Rattle.task_code.specs.Code.{Act, Cell, Read, Call, Set, Fill, Copy, Put, Print, Assert, If, Range, Each, Wait}
+use Rattle.task_code.specs.Code.{Act, Cell, Read, Call, Set, Fill, Copy, InsertElement, Print, Assert, If, Range, Each, Wait}
 use Rattle.task_code.specs.Compute as Pure
 use Rattle.board_work.specs.declared.outcome.Outcome.{Outcome}
 use Rattle.board_work.specs.declared.outcome.Outcome.TheVariants as Of
@@ -24,8 +24,8 @@ computed_of_parts (Fill r es) xs (Of.Leaf v) p q = ap Pure.filled (same_Some _ _
 computed_of_parts (Fill r es) xs (Of.Control made) p q = absurd (none-some _ p)
 computed_of_parts (Copy r) xs (Of.Leaf v) p q = absurd (none-some _ (sym p))
 computed_of_parts (Copy r) xs (Of.Control made) p q = same_Some _ _ q
-computed_of_parts (Put r i e) xs (Of.Leaf v) p q = absurd (none-some _ (sym p))
-computed_of_parts (Put r i e) xs (Of.Control made) p q = same_Some _ _ q
+computed_of_parts (InsertElement r i e) xs (Of.Leaf v) p q = absurd (none-some _ (sym p))
+computed_of_parts (InsertElement r i e) xs (Of.Control made) p q = same_Some _ _ q
 computed_of_parts (Print e) xs (Of.Leaf v) p q = ap Pure.given (same_Some _ _ p)
 computed_of_parts (Print e) xs (Of.Control made) p q = absurd (none-some _ p)
 computed_of_parts (Assert e) xs (Of.Leaf v) p q = ap Pure.given (same_Some _ _ p)

@@ -17,7 +17,7 @@ use Rattle.values.specs.declared.value.Value.TheVariants.{One}
 use Rattle.values.specs.Keys.{same_key}
 use Rattle.values.specs.Values.{same}
 use Rattle.values.specs.Operators.{Operation, sum_of, product_of, compare, equal, unequal, all_true, any_true, not_true, negate, join, from_int, to_int, size, printf, assert, literal}
-use Rattle.task_code.specs.Code.{Need, Stored, Closed, At, AtKey, Expr, constant, need, operation, Exprs, no_operand, operand, Argument, Named, Fixed, Loop, Header, Act, Cell, Read, Call, Set, Fill, Copy, Put, Print, Assert, If, Range, Each, Wait, Entry}
+use Rattle.task_code.specs.Code.{Need, Stored, Closed, At, AtKey, Expr, constant, need, operation, Exprs, no_operand, operand, Argument, Named, Fixed, Loop, Header, Act, Cell, Read, Call, Set, Fill, Copy, InsertElement, Print, Assert, If, Range, Each, Wait, Entry}
 use Rattle.task_code.specs.Places.{name_eq}
 
 -- both values exist and are equal, or neither exists
@@ -114,7 +114,7 @@ act_eq (Call b rs os) (Call c ss ps) = nat_eq b c && (pointwise argument_eq rs s
 act_eq (Set r e) (Set s f) = name_eq r s && expr_eq e f
 act_eq (Fill r es) (Fill s fs) = name_eq r s && exprs_eq es fs
 act_eq (Copy r) (Copy s) = name_eq r s
-act_eq (Put r i e) (Put s j f) = name_eq r s && (expr_eq i j && expr_eq e f)
+act_eq (InsertElement r i e) (InsertElement s j f) = name_eq r s && (expr_eq i j && expr_eq e f)
 act_eq (Print e) (Print f) = expr_eq e f
 act_eq (Assert e) (Assert f) = expr_eq e f
 act_eq (If e b c) (If f d x) = expr_eq e f && (nat_eq b d && option_eq nat_eq c x)
@@ -127,7 +127,7 @@ abbrev pub entry_eq : Entry → Entry → Bool
 entry_eq e f =
     nat_eq e.node f.node
     && (nat_eq e.at f.at
-    && (nat_eq e.mark f.mark
+    && (nat_eq e.offset f.offset
     && (int_eq e.priority f.priority
     && (pointwise need_eq e.needs f.needs
     && (act_eq e.act f.act

@@ -31,7 +31,7 @@ abbrev pub computed_view : ControlResult → Pure.Computed
 computed_view (Comes.Fails f) = Pure.Fails (fault_view f)
 computed_view (Comes.Gives v) = Pure.Gives v
 computed_view (Comes.Inserts m) = Pure.Inserts (Pure.pairs m)
-computed_view (Comes.Puts k v) = Pure.Inserts ((k, v) ∷ [])
+computed_view (Comes.InsertsElement k v) = Pure.Inserts ((k, v) ∷ [])
 computed_view (Comes.Takes b) = Pure.Takes b
 computed_view (Comes.Counts r) = Pure.Turns (Pure.range_turns r.low r.step 0 r.count)
 computed_view (Comes.Goes m) = Pure.Turns (Pure.pairs m)

@@ -2,7 +2,7 @@
 ghost use Rattle.std.specs.Prelude.{◌≡◌, IfOk};
 ghost use Rattle.values.specs.Ranges.{range_count};
 ghost use Rattle.values.specs.Values.{scalar_of};
-ghost use Rattle.task_code.specs.Compute.{eval, put, branched, ranged, turns_or, read, content, pairs, answer_at, leaf_result, InOperation, Fails as Failed, Inserts as Inserted, Turns as Turned};
+ghost use Rattle.task_code.specs.Compute.{eval, insert_element, branched, ranged, turns_or, read, content, pairs, answer_at, leaf_result, InOperation, Fails as Failed, Inserts as Inserted, Turns as Turned};
 ghost use Rattle.task_code.specs.View.{act_view, expr_view};
 ghost use Rattle.board_work.specs.View.{answers_view, computed_view};
 ghost use Rattle.board_work.specs.Outcome.{control_result, result_in, control_in};
@@ -37,7 +37,7 @@ pub enum ControlResult {
     /// The elements of the array to copy.
     Inserts(Map),
     /// The element to write.
-    Puts(Key, Scalar),
+    InsertsElement(Key, Scalar),
     /// The branch to take.
     Takes(bool),
     /// A loop's turns, one for each value of a range.
@@ -57,7 +57,7 @@ impl ControlResult {
             ControlResult::Fails(fault) => Ok(ControlResult::Fails(*fault)),
             ControlResult::Gives(scalar) => Ok(ControlResult::Gives(scalar.share()?)),
             ControlResult::Inserts(map) => Ok(ControlResult::Inserts(map.share()?)),
-            ControlResult::Puts(key, value) => Ok(ControlResult::Puts(
+            ControlResult::InsertsElement(key, value) => Ok(ControlResult::InsertsElement(
                 key.share()?,
                 value.share()?,
             )),
@@ -106,7 +106,9 @@ pub fn outcome_of(alloc: Global, act: &Act, answers: &[Answer]) -> Result<Outcom
         Act::Set(_, expr) => Ok(Outcome::Leaf(evaluate(alloc, expr, answers)?)),
         Act::Fill(_, exprs) => Ok(Outcome::Leaf(evaluate_literal(alloc, exprs, answers)?)),
         Act::Copy(_) => Ok(Outcome::Control(copied(alloc, answers)?)),
-        Act::Put(_, index, right) => Ok(Outcome::Control(written(alloc, index, right, answers)?)),
+        Act::InsertElement(_, index, right) => Ok(Outcome::Control(written(
+            alloc, index, right, answers,
+        )?)),
         Act::Print(expr) => Ok(Outcome::Leaf(evaluate(alloc, expr, answers)?)),
         Act::Assert(expr) => Ok(Outcome::Leaf(evaluate(alloc, expr, answers)?)),
         Act::If(test, _, _) => Ok(Outcome::Control(branch(alloc, test, answers)?)),
@@ -174,7 +176,7 @@ fn written(
     right: &Expr,
     answers: &[Answer],
 ) -> Result<ControlResult, AllocError>
-    ensures { IfOk result (λ c. computed_view c ≡ put (eval (answers_view answers.now) (expr_view index.now))
+    ensures { IfOk result (λ c. computed_view c ≡ insert_element (eval (answers_view answers.now) (expr_view index.now))
         (eval (answers_view answers.now) (expr_view right.now))) }
 {
     let index = match evaluate(alloc, index, answers)? {
@@ -182,7 +184,10 @@ fn written(
         Err(fault) => return Ok(fails(fault)),
     };
     match evaluate(alloc, right, answers)? {
-        Ok(right) => Ok(ControlResult::Puts(Key::of(into_scalar(index)), into_scalar(right))),
+        Ok(right) => Ok(ControlResult::InsertsElement(
+            Key::of(into_scalar(index)),
+            into_scalar(right),
+        )),
         Err(fault) => Ok(fails(fault)),
     }
 }

@@ -235,7 +235,7 @@ impl ViewEq for Act {
             (Act::Set(a, x), Act::Set(b, y)) => a == b && is_same_expr(x, y),
             (Act::Fill(a, xs), Act::Fill(b, ys)) => a == b && are_same_exprs(xs, ys),
             (Act::Copy(a), Act::Copy(b)) => a == b,
-            (Act::Put(a, i, x), Act::Put(b, j, y)) => {
+            (Act::InsertElement(a, i, x), Act::InsertElement(b, j, y)) => {
                 a == b && is_same_expr(i, j) && is_same_expr(x, y)
             }
             (Act::Print(a), Act::Print(b)) => is_same_expr(a, b),
@@ -261,7 +261,7 @@ impl ViewEq for Entry {
     fn is_same(&self, other: &Entry) -> bool {
         self.node == other.node
             && self.at == other.at
-            && self.mark == other.mark
+            && self.offset == other.offset
             && self.priority == other.priority
             && self.needs.is_same(&other.needs)
             && self.act.is_same(&other.act)

@@ -39,11 +39,11 @@ use Rattle.code_laws.proofs.Fields.{script_settled, passes}
 
 module _ {s : Core} {fs : List Kinds} {ds : List (ℕ × Bool)} (C : Code) (l : Layout) (L : IsLaid s fs ds C l) (R : HasRights C) (found : CallsAreFound C) (scoped : Scoped s)
     (sigs : List Signature) (type_of : ℕ → Typ) (S : ScriptScoped sigs type_of s) (D : (n : ℕ) (b : Bool) → ◌∈◌ {X = ℕ × Bool} (n, b) ds → is_array_shape (type_of n).shape ≡ b) (kinds : fs ≡ map kinds_of_signature sigs) (single : SinglyAssigned s) where
-  reads_pass : (i : ℕ) (w : Way) (b j : ℕ) (r : code.Name) → In {X = Way × ℕ} (w, b) (ways (entry C i).act) → In j (body C b).entries → In r (entry C j).reads → (Declared C b r ⊎ SeenFrom C (λ e. e.reads) i w r) ⊎ Fixes C (entry C i).mark w r
+  reads_pass : (i : ℕ) (w : Way) (b j : ℕ) (r : code.Name) → In {X = Way × ℕ} (w, b) (ways (entry C i).act) → In j (body C b).entries → In r (entry C j).reads → (Declared C b r ⊎ SeenFrom C (λ e. e.reads) i w r) ⊎ Fixes C (entry C i).offset w r
   reads_pass i w b j r way h right =
       elim (passes C l L found scoped sigs type_of S D kinds single Free (keeps_all s) needs_of (λ e. e.reads) R.reads R.all_reads (base_reads C l L found scoped sigs type_of S D) i b w j r way h right) [
         | inl x ↦ inl x
-        | inr x ↦ inr (subst (λ (v : Way). Fixes C (entry C i).mark v r) (sym x.0) (x.1).fixes)
+        | inr x ↦ inr (subst (λ (v : Way). Fixes C (entry C i).offset v r) (sym x.0) (x.1).fixes)
       ]
 
   writes_pass : (i : ℕ) (w : Way) (b j : ℕ) (r : code.Name) → In {X = Way × ℕ} (w, b) (ways (entry C i).act) → In j (body C b).entries → In r (entry C j).writes → Declared C b r ⊎ SeenFrom C (λ e. e.writes) i w r

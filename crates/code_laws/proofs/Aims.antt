@@ -57,7 +57,7 @@ named_of (further_in d {b = b} m i h) = outwards b (inner_below b m i) (named_of
 
 -- an entry that calls
 pub record Calls (C : Code) (j : ℕ) (c : Call) (b : ℕ) : Type 0 where
-  pub mark : (entry C j).mark ≡ c.at
+  pub offset : (entry C j).offset ≡ c.at
   pub opens : In {X = Opening × ℕ} (Calling, b) (ways (entry C j).act)
 
 module _ {s : Core} {fs : List Kinds} {ds : List (ℕ × Bool)} (C : Code) (l : Layout) (L : IsLaid s fs ds C l) (found : CallsAreFound C) (scoped : Scoped s)
@@ -115,7 +115,7 @@ module _ {s : Core} {fs : List Kinds} {ds : List (ℕ × Bool)} (C : Code) (l : 
         known = call_known_of C l L found scoped sigs type_of S D Assigns (keeps_targets s single) k.comes m
 
         called : Calls C i c (l.body_of c.function)
-        called = record { mark = ca.mark_is; opens = subst (λ (z : Act). In {X = Opening × ℕ} (Calling, l.body_of c.function) (ways z)) (sym (ca.is).act_is) (inl refl) }
+        called = record { offset = ca.offset_is; opens = subst (λ (z : Act). In {X = Opening × ℕ} (Calling, l.body_of c.function) (ways z)) (sym (ca.is).act_is) (inl refl) }
 
         by : ((x : Name) × (f : Bool) × (slice_get c.outputs j ≡ Some x) × (r ≡ name_as (k_of t) f x))
             → ((calls c ∈ before a × Hidden c.outputs known.signature.outputs) ⊎ ((p : ℤ) × (ps : List Part) × (a ≡ call_alone p ps c) × OutputsCome k.scope c.outputs known.signature.outputs)) → Aims t (stmt at n a) i r
@@ -227,7 +227,7 @@ module _ {s : Core} {fs : List Kinds} {ds : List (ℕ × Bool)} (C : Code) (l : 
 
     through_call : {at n i b at' : ℕ} {p : ℤ} {a : Action} {c : Call} {f : Function} {vs : List Variable} {o : code.Opener} (j : ℕ) (q : code.Name) (k : KnownAt a) → calls c ∈ own_parts a → (ca : CallAs C l (k_of t) (own_parts a) at' p c i)
         → In {X = Opening × ℕ} (Calling, b) (ways (entry C i).act) → slice_get s.functions c.function ≡ Some f → Stands C l L.table f.inputs f.body vs o b → In j (body C b).entries → Leads C targets j q → (Declared C b q → ⊥)
-        → (kk : ℕ) (bb : Bool) → q ≡ record { up = 0; owned = Parameter kk bb } → argument C (entry C i).mark kk bb ≡ Some (Named r) → Aims t (stmt at n a) i r
+        → (kk : ℕ) (bb : Bool) → q ≡ record { up = 0; owned = Parameter kk bb } → argument C (entry C i).offset kk bb ≡ Some (Named r) → Aims t (stmt at n a) i r
     through_call {at} {n} {i} {b} {a = a} {c = c} {f = f} j q k m ca way fn st h ld nd kk bb seen ar = by (inner_led b j F.scope q h (subst (λ (y : Block). InScopes sigs type_of F.scope y) (sym st.block) F.body) ld)
       where
         F : FunctionScoped sigs type_of sigs c.function f
@@ -280,7 +280,7 @@ module _ {s : Core} {fs : List Kinds} {ds : List (ℕ × Bool)} (C : Code) (l : 
     no_place e = absurd (cc (e))
 
     opening_aims : {at n : ℕ} {a : Action} (i j b : ℕ) (w : Opening) (q : code.Name) (k : KnownAt a) → Role C l L.table (k_of t) (stmt at n a) i → In {X = Opening × ℕ} (w, b) (ways (entry C i).act) → OpensAs s C l L.table t i (stmt at n a) w b
-        → In j (body C b).entries → Leads C targets j q → (Declared C b q → ⊥) → Seen C (entry C i).mark w q r → Aims t (stmt at n a) i r
+        → In j (body C b).entries → Leads C targets j q → (Declared C b q → ⊥) → Seen C (entry C i).offset w q r → Aims t (stmt at n a) i r
     opening_aims i j b w q k role way (opens_header vs roles m c mk st) h ld nd seen = header_aims j q k (own_role i b Through no_through role way) roles c st h ld nd seen
     opening_aims i j b w q k role way (opens_wait m hd st) h ld nd seen = wait_aims j q k (own_role i b InPlace no_place role way) hd st h ld nd seen
     opening_aims i j b w q k role way (opens_call at' p m c ca fn st e) h ld nd seen = through_call j q k c ca way fn st h ld nd seen.0 seen.1 seen.2 seen.3

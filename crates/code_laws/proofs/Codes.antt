@@ -31,7 +31,7 @@ shape_rest : (shape : ℕ → Bool) (ds bs cs : List (ℕ × Bool)) → ds ≡ b
 shape_rest shape ds bs cs e h v b m = h v b (subst (λ (z : List (ℕ × Bool)). ◌∈◌ {X = ℕ × Bool} (v, b) z) (sym e) (to_right bs cs m))
 
 bare_same : {e f : Entry} → DoSame (bare e) (bare f) → DoSame e f
-bare_same d = record { at = d.at; priority = d.priority; needs = d.needs; act = d.act; node = d.node; mark = d.mark }
+bare_same d = record { at = d.at; priority = d.priority; needs = d.needs; act = d.act; node = d.node; offset = d.offset }
 
 all_bare : (es fs : List Entry) → AllDoSame (map bare es) (map bare fs) → AllDoSame es fs
 all_bare [] [] h = tt
@@ -73,7 +73,7 @@ module _ (c : Core) (fs : List Kinds) (l : Layout) (suits : (at n : ℕ) (a : Ac
 -- RIGHTS
 
 blank_same : DoSame blank_entry blank_entry
-blank_same = record { at = refl; priority = refl; needs = refl; act = refl; node = λ z. refl; mark = λ z. refl }
+blank_same = record { at = refl; priority = refl; needs = refl; act = refl; node = λ z. refl; offset = λ z. refl }
 
 pub nth_same : (es fs : List Entry) → AllDoSame es fs → (i : ℕ) → DoSame (nth blank_entry es i) (nth blank_entry fs i)
 nth_same [] [] h i = blank_same
@@ -89,7 +89,7 @@ targets_node (code.Call b rs os) m n h = refl
 targets_node (code.Set r e) m n h = refl
 targets_node (code.Fill r es) m n h = refl
 targets_node (code.Copy r) m n h = refl
-targets_node (code.Put r i e) m n h = refl
+targets_node (code.InsertElement r i e) m n h = refl
 targets_node (code.Print e) m n h = refl
 targets_node (code.Assert e) m n h = refl
 targets_node (code.If e b d) m n h = refl
@@ -106,14 +106,14 @@ needs_same e f d = ap (λ ns. flat_map needed ns) d.needs
 -- WHICH CALL A MARK TELLS
 
 from_same : (i : ℕ) (a : Act) (m n : ℕ) (es fs : List Entry) (at : ℕ) → (OpensAtMark a → m ≡ n) → call_from (suc i) es at ≡ call_from (suc i) fs at
-    → call_from i (record blank_entry { act = a; mark = m } ∷ es) at ≡ call_from i (record blank_entry { act = a; mark = n } ∷ fs) at
+    → call_from i (record blank_entry { act = a; offset = m } ∷ es) at ≡ call_from i (record blank_entry { act = a; offset = n } ∷ fs) at
 from_same i (code.Call b rs os) m n es fs at h r = ap₂ (λ (z y : ℕ). elim (nat_eq z at) [ true ↦ i | false ↦ y ]) (h tt) r
 from_same i (code.Cell e) m n es fs at h r = r
 from_same i code.Read m n es fs at h r = r
 from_same i (code.Set x e) m n es fs at h r = r
 from_same i (code.Fill x xs) m n es fs at h r = r
 from_same i (code.Copy x) m n es fs at h r = r
-from_same i (code.Put x y e) m n es fs at h r = r
+from_same i (code.InsertElement x y e) m n es fs at h r = r
 from_same i (code.Print e) m n es fs at h r = r
 from_same i (code.Assert e) m n es fs at h r = r
 from_same i (code.If e b d) m n es fs at h r = r
@@ -126,8 +126,8 @@ calls_same i [] [] at h = refl
 calls_same i [] (f ∷ fs) at h = absurd h
 calls_same i (e ∷ es) [] at h = absurd h
 calls_same i (e ∷ es) (f ∷ fs) at h =
-    ap (λ (a : Act). call_from i (record blank_entry { act = a; mark = e.mark } ∷ es) at) (h.0).act
-    ∙ from_same i f.act e.mark f.mark es fs at (λ z. (h.0).mark (subst OpensAtMark (sym (h.0).act) z)) (calls_same (suc i) es fs at h.1)
+    ap (λ (a : Act). call_from i (record blank_entry { act = a; offset = e.offset } ∷ es) at) (h.0).act
+    ∙ from_same i f.act e.offset f.offset es fs at (λ z. (h.0).offset (subst OpensAtMark (sym (h.0).act) z)) (calls_same (suc i) es fs at h.1)
 
 module _ (C D : Code) (bodies : C.bodies ≡ D.bodies) (entries : AllDoSame C.entries D.entries) where
   pub same_at : (i : ℕ) → DoSame (entry C i) (entry D i)
@@ -144,11 +144,11 @@ module _ (C D : Code) (bodies : C.bodies ≡ D.bodies) (entries : AllDoSame C.en
   declared_back : (b : ℕ) (r : Name) → Declared D b r → Declared C b r
   declared_back b r d = record { variable = d.variable; is = d.is; made = subst (λ (x : Body). In d.variable x.makes) (sym (body_same b)) d.made }
 
-  seen_moves : (i : ℕ) (w : Way) (b : ℕ) (r s : Name) → In {X = Way × ℕ} (w, b) (ways (entry C i).act) → Seen C (entry C i).mark w r s → Seen D (entry D i).mark w r s
+  seen_moves : (i : ℕ) (w : Way) (b : ℕ) (r s : Name) → In {X = Way × ℕ} (w, b) (ways (entry C i).act) → Seen C (entry C i).offset w r s → Seen D (entry D i).offset w r s
   seen_moves i InPlace b r s m h = h
   seen_moves i Through b r s m h = h
   seen_moves i Calling b r s m h =
-      (h.0, h.1, h.2, sym (argument_same (entry D i).mark h.0 h.1) ∙ ap (λ (z : ℕ). argument C z h.0 h.1) (sym ((same_at i).mark (calling_opens (entry C i).act b m))) ∙ h.3)
+      (h.0, h.1, h.2, sym (argument_same (entry D i).offset h.0 h.1) ∙ ap (λ (z : ℕ). argument C z h.0 h.1) (sym ((same_at i).offset (calling_opens (entry C i).act b m))) ∙ h.3)
     where
       calling_opens : (a : Act) (b : ℕ) → In {X = Way × ℕ} (Calling, b) (ways a) → OpensAtMark a
       calling_opens (code.Call x rs os) b m = tt
@@ -157,7 +157,7 @@ module _ (C D : Code) (bodies : C.bodies ≡ D.bodies) (entries : AllDoSame C.en
       calling_opens (code.Set x e) b m = m
       calling_opens (code.Fill x xs) b m = m
       calling_opens (code.Copy x) b m = m
-      calling_opens (code.Put x y e) b m = m
+      calling_opens (code.InsertElement x y e) b m = m
       calling_opens (code.Print e) b m = m
       calling_opens (code.Assert e) b m = m
       calling_opens (code.If e x d) b m = tt
@@ -182,7 +182,7 @@ same_back (e ∷ es) (f ∷ fs) h = (
     needs = sym (h.0).needs;
     act = sym (h.0).act;
     node = λ z. sym ((h.0).node (subst StoresAtNode (sym (h.0).act) z));
-    mark = λ z. sym ((h.0).mark (subst OpensAtMark (sym (h.0).act) z));
+    offset = λ z. sym ((h.0).offset (subst OpensAtMark (sym (h.0).act) z));
   },
   same_back es fs h.1,
 )

@@ -105,7 +105,7 @@ module _ {s : Core} {fs : List Kinds} {ds : List (ℕ × Bool)} (C : Code) (l : 
 
     -- a parameter that stands for a literal
     pub record Literal (i b : ℕ) (r : code.Name) : Type 0 where
-      pub fixes : Fixes C (entry C i).mark Calling r
+      pub fixes : Fixes C (entry C i).offset Calling r
       pub function : Function
       pub place : ℕ
       pub there : slice_get s.functions place ≡ Some function
@@ -118,7 +118,7 @@ module _ {s : Core} {fs : List Kinds} {ds : List (ℕ × Bool)} (C : Code) (l : 
     Outcome i b w r = (Declared C b r ⊎ SeenFrom C rights i w r) ⊎ ((w ≡ Calling) × Literal i b r)
 
     -- what is not declared passes out
-    pass : (i j b : ℕ) (w : Way) (r q : code.Name) → In {X = Way × ℕ} (w, b) (ways (entry C i).act) → In j (body C b).entries → In r (rights (entry C j)) → Seen C (entry C i).mark w r q → Outcome i b w r
+    pass : (i j b : ℕ) (w : Way) (r q : code.Name) → In {X = Way × ℕ} (w, b) (ways (entry C i).act) → In j (body C b).entries → In r (rights (entry C j)) → Seen C (entry C i).offset w r q → Outcome i b w r
     pass i j b w r q way h right seen = elim (declared_or C b r) [
       | inl d ↦ inl (inl d)
       | inr nd ↦ inl (inr (record { outside = q; seen = seen; right = complete i q (through i j b w q r way h (sound j r right) nd seen) }))
@@ -207,10 +207,10 @@ module _ {s : Core} {fs : List Kinds} {ds : List (ℕ × Bool)} (C : Code) (l : 
         named z = z.is ∙ ap₂ (λ (n : ℕ) (y : Name). name_as n z.flag y) st.inputs z.sees.is
 
         given : (kk : ℕ) (d : Bool) (arg : Argument) → r ≡ record { up = 0; owned = Parameter kk d } → slice_get (ca.ins ++ map Named ca.outs) kk ≡ Some arg → Kind arg d
-            → ((v : _) → arg ≡ Fixed v → Fixes C (entry C i).mark Calling r → Outcome i b Calling r) → Outcome i b Calling r
+            → ((v : _) → arg ≡ Fixed v → Fixes C (entry C i).offset Calling r → Outcome i b Calling r) → Outcome i b Calling r
         given kk d arg e q k lit = of_kind arg refl
           where
-            found_arg : argument C (entry C i).mark kk d ≡ Some arg
+            found_arg : argument C (entry C i).offset kk d ≡ Some arg
             found_arg = handed C l L found scoped sigs type_of S D Q K b ca way kk d ∙ arg_of (ca.ins ++ map Named ca.outs) kk d arg q k
 
             of_kind : (x : Argument) → arg ≡ x → Outcome i b Calling r

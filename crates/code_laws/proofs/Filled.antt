@@ -64,7 +64,7 @@ filled_script =
       fit = fit_more _ _ (laid 0) [] (call_fit _ _ (laid 0) _ _ _ first refl refl (one_fits _ (here 27) _ _ false true refl refl refl)) (fit_none _ _);
       parts_as = λ l pl b st.
           one_part (plain_literal pl.0)
-          (one_part (a_call (record { ins = _; outs = _; is = calls_body (b 0) refl refl refl refl; mark_is = refl; inputs = one_input (of_literal first pl.0) no_input; outputs = one_output true no_output })) no_part refl) refl;
+          (one_part (a_call (record { ins = _; outs = _; is = calls_body (b 0) refl refl refl refl; offset_is = refl; inputs = one_input (of_literal first pl.0) no_input; outputs = one_output true no_output })) no_part refl) refl;
     }))
     (one_statement {cs = []} {ds = []} {t = s3} {is = 1 ∷ 2 ∷ []} {js = []} {vs = scalar 36 ∷ []} {ws = []}
     (simple (laid 2) {s = s1} {t = s2} {u = s3} {es = 1 ∷ 2 ∷ []} {is = 1 ∷ []} tt
@@ -121,7 +121,7 @@ filled_functions =
     (λ l su. (let x = sym su.parts_plain.0 in
     let y = sym su.parts_plain.1.0 in
     same refl refl (λ i. each_once (flat_map (wanted 1) (seen_as (x i) 14 index ∷ seen_as (y i) 16 square ∷ [])))
-    (λ i. code.Put (name_as 1 true (record { up = 1; what = Co.output 0 })) (over 1 (each_once (flat_map (wanted 1) (seen_as (x i) 14 index ∷ seen_as (y i) 16 square ∷ []))) (seen_as (x i) 14 index)) (over 1 (each_once (flat_map (wanted 1) (seen_as (x i) 14 index ∷ seen_as (y i) 16 square ∷ []))) (seen_as (y i) 16 square)))))
+    (λ i. code.InsertElement (name_as 1 true (record { up = 1; what = Co.output 0 })) (over 1 (each_once (flat_map (wanted 1) (seen_as (x i) 14 index ∷ seen_as (y i) 16 square ∷ []))) (seen_as (x i) 14 index)) (over 1 (each_once (flat_map (wanted 1) (seen_as (x i) 14 index ∷ seen_as (y i) 16 square ∷ []))) (seen_as (y i) 16 square)))))
     (refl, refl) refl refl)
     no_statement refl refl refl)
     (λ l su. (let x = sym su.parts_plain.0 in

@@ -30,7 +30,7 @@ opens_no_call (code.Call b rs os) h f ins outs q = h
 opens_no_call (code.Set r e) h f ins outs q = h
 opens_no_call (code.Fill r es) h f ins outs q = h
 opens_no_call (code.Copy r) h f ins outs q = h
-opens_no_call (code.Put r i e) h f ins outs q = h
+opens_no_call (code.InsertElement r i e) h f ins outs q = h
 opens_no_call (code.Print e) h f ins outs q = h
 opens_no_call (code.Assert e) h f ins outs q = h
 

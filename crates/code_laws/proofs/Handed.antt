@@ -57,7 +57,7 @@ stored_or_call n (code.Call b rs os) r h = inr (b, rs, os, refl)
 stored_or_call n (code.Set x e) r h = inl h
 stored_or_call n (code.Fill x es) r h = inl h
 stored_or_call n (code.Copy x) r h = inl h
-stored_or_call n (code.Put x i e) r h = inl h
+stored_or_call n (code.InsertElement x i e) r h = inl h
 stored_or_call n (code.Print e) r h = inl h
 stored_or_call n (code.Assert e) r h = inl h
 stored_or_call n (code.If e b d) r h = inl h
@@ -82,7 +82,7 @@ opens_of code.Read y h = absurd h
 opens_of (code.Set x e) y h = absurd h
 opens_of (code.Fill x es) y h = absurd h
 opens_of (code.Copy x) y h = absurd h
-opens_of (code.Put x i e) y h = absurd h
+opens_of (code.InsertElement x i e) y h = absurd h
 opens_of (code.Print e) y h = absurd h
 opens_of (code.Assert e) y h = absurd h
 
@@ -124,7 +124,7 @@ module _ {s : Core} {fs : List Kinds} {ds : List (ℕ × Bool)} (C : Code) (l : 
       inr (always, λ w d p. subst (λ (z : Way × ℕ). HandsOn C i z.0 z.1 r) (sym (only (subst (λ (zs : List (Way × ℕ)). In {X = Way × ℕ} (w, d) zs) one p))) h)
 
   -- CALLS
-  argument_is : {k at i : ℕ} {p : _} {all : List Part} {c : Call} (b : ℕ) (ca : CallAs C l k all at p c i) → In {X = Way × ℕ} (Calling, b) (ways (entry C i).act) → (kk : ℕ) (bb : Bool) → argument C (entry C i).mark kk bb ≡ argument_in (ca.ins ++ map Named ca.outs) kk bb
+  argument_is : {k at i : ℕ} {p : _} {all : List Part} {c : Call} (b : ℕ) (ca : CallAs C l k all at p c i) → In {X = Way × ℕ} (Calling, b) (ways (entry C i).act) → (kk : ℕ) (bb : Bool) → argument C (entry C i).offset kk bb ≡ argument_in (ca.ins ++ map Named ca.outs) kk bb
   argument_is {i = i} b ca h kk bb = ap (λ (u : ℕ). argument_in (arguments (entry C u).act) kk bb) (found i b h) ∙ ap (λ (u : Act). argument_in (arguments u) kk bb) (ca.is).act_is
 
   parameter_place : {k k' : ℕ} {b b' : Bool} → Parameter k b ≡ Parameter k' b' → k ≡ k'
@@ -135,14 +135,14 @@ module _ {s : Core} {fs : List Kinds} {ds : List (ℕ × Bool)} (C : Code) (l : 
       → Writes C l L I b f.inputs (output j) → HandsOn C i Calling b r
   output_hands {t} {i} {b} f ca way counted j r at_j z = by ((I.fits i Calling b way).writes z.number z.name z.there z.right)
     where
-      by_place : (q : code.Name) (k : ℕ) (bb : Bool) → z.name ≡ record { up = 0; owned = Parameter k bb } → argument C (entry C i).mark k bb ≡ Some (Named q) → HandsOn C i Calling b r
+      by_place : (q : code.Name) (k : ℕ) (bb : Bool) → z.name ≡ record { up = 0; owned = Parameter k bb } → argument C (entry C i).offset k bb ≡ Some (Named q) → HandsOn C i Calling b r
       by_place q k bb e ar =
           let place : k ≡ f.inputs + j = parameter_place (sym (ap (λ (y : code.Name). y.owned) e) ∙ z.is) in
           let a = arg_at (ca.ins ++ map Named ca.outs) k bb (Named q) (sym (argument_is b ca way k bb) ∙ ar) in
           let e1 : k ≡ length ca.ins + j = place ∙ ap (λ (x : ℕ). x + j) (sym counted) in
           let here_q : slice_get (map Named ca.outs) j ≡ Some (Named q) = sym (get_right ca.ins (map Named ca.outs) j) ∙ subst (λ (x : ℕ). slice_get (ca.ins ++ map Named ca.outs) x ≡ Some (Named q)) e1 a.0 in
           let same : q ≡ r = named_same (same_Some _ _ (sym here_q ∙ get_map Named ca.outs j r at_j)) in
-          record { holder = z.number; there = z.there; inside = z.name; seen = (k, bb, e, subst (λ (y : code.Name). argument C (entry C i).mark k bb ≡ Some (Named y)) same ar); right = z.right }
+          record { holder = z.number; there = z.there; inside = z.name; seen = (k, bb, e, subst (λ (y : code.Name). argument C (entry C i).offset k bb ≡ Some (Named y)) same ar); right = z.right }
 
       by : Declared C b z.name ⊎ SeenFrom C (λ e. e.writes) i Calling z.name → HandsOn C i Calling b r
       by (inl d) = absurd (let q : Parameter (f.inputs + j) z.flag ≡ Local d.variable = sym z.is ∙ ap (λ (y : code.Name). y.owned) d.is in cc (q))
@@ -294,7 +294,7 @@ module _ {s : Core} {fs : List Kinds} {ds : List (ℕ × Bool)} (C : Code) (l : 
           let way : In {X = Way × ℕ} (Calling, b) (ways (entry C i).act) = subst (λ (z : Act). In {X = Way × ℕ} (Calling, b) (ways z)) (sym q) (inl refl) in
           one_hands i r Calling b (subst (λ (z : Act). always_opens z ≡ true) (sym q) refl) (ap ways q) (called_hands Calling refl x h way (opens_as C l L scoped t i b Calling h way).1 r u)
 
-      of_way : (w : Way) (d j : ℕ) (q : code.Name) → In {X = Way × ℕ} (w, d) (ways (entry C i).act) → In j (body C d).entries → Leads C targets j q → Seen C (entry C i).mark w q r → Opens (entry C i).act → HandedOn i r
+      of_way : (w : Way) (d j : ℕ) (q : code.Name) → In {X = Way × ℕ} (w, d) (ways (entry C i).act) → In j (body C d).entries → Leads C targets j q → Seen C (entry C i).offset w q r → Opens (entry C i).act → HandedOn i r
       of_way w d j q way g ld seen (opens_one v b always one_way) =
           let same = only (subst (λ (zs : List (Way × ℕ)). In {X = Way × ℕ} (w, d) zs) one_way way) in
           one_hands i r v b always one_way (subst (λ (z : Way × ℕ). HandsOn C i z.0 z.1 r) same (record { holder = j; there = g; inside = q; seen = seen; right = R.all_writes j q ld }))

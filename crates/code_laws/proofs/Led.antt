@@ -158,7 +158,7 @@ module _ {s : Core} {fs : List Kinds} {ds : List (ℕ × Bool)} (C : Code) (l : 
       call_known w m = call_known_of w.known.comes m
 
       pub handed : {k at i : ℕ} {p : ℤ} {all : List Part} {c : Call} (b : ℕ) (ca : CallAs C l k all at p c i) → In {X = Way × ℕ} (Calling, b) (ways (entry C i).act) → (kk : ℕ) (bb : Bool)
-          → argument C (entry C i).mark kk bb ≡ argument_in (ca.ins ++ map Named ca.outs) kk bb
+          → argument C (entry C i).offset kk bb ≡ argument_in (ca.ins ++ map Named ca.outs) kk bb
       handed {i = i} b ca h kk bb = ap (λ (u : ℕ). argument_in (arguments (entry C u).act) kk bb) (found i b h) ∙ ap (λ (u : code.Act). argument_in (arguments u) kk bb) (ca.is).act_is
 
       pub out_settled : {t : ℕ} {g : Scope} {a : Action} {c : Call} {outs : List code.Name} (w : Within t g a) → PartsMade C l L t a → (k : CallKnown w.known.scope a c) → OutputsAs C l (T.inputs_of t) c.outputs outs
@@ -206,7 +206,7 @@ module _ {s : Core} {fs : List Kinds} {ds : List (ℕ × Bool)} (C : Code) (l : 
 
       pub outside_call : {t i at : ℕ} {p : ℤ} {g : Scope} {a : Action} {c : Call} {f : Function} {x : Visible} (b : ℕ) (w : Within t g a) → PartsMade C l L t a → calls c ∈ own_parts a → CallAs C l (T.inputs_of t) (own_parts a) at p c i
           → In {X = Way × ℕ} (Calling, b) (ways (entry C i).act) → slice_get s.functions c.function ≡ Some f → (F : FunctionScoped sigs type_of sigs c.function f) → IsParameter F.signature x → (d : Bool) → is_array_shape x.type.shape ≡ d → Q d f.body x.refers_to.what
-          → (kk : ℕ) (bb : Bool) (r : code.Name) → ◌≡◌ {A = code.Name} (record { up = 0; owned = Parameter kk bb }) (name_as f.inputs d x.refers_to) → argument C (entry C i).mark kk bb ≡ Some (Named r) → Settled t g r
+          → (kk : ℕ) (bb : Bool) (r : code.Name) → ◌≡◌ {A = code.Name} (record { up = 0; owned = Parameter kk bb }) (name_as f.inputs d x.refers_to) → argument C (entry C i).offset kk bb ≡ Some (Named r) → Settled t g r
       outside_call {t} {g = g} {a = a} {c = c} {f = f} {x = x} b w p m ca way fn F parameter d sh kept kk bb r z ar = by parameter
         where
           known : CallKnown w.known.scope a c
@@ -288,7 +288,7 @@ module _ {s : Core} {fs : List Kinds} {ds : List (ℕ × Bool)} (C : Code) (l : 
 
         by_call : {t i b at : ℕ} {p : ℤ} {g : Scope} {a : Action} {c : Call} {f : Function} {vs : List Variable} {o : code.Opener} (q r : code.Name) (w : Within t g a) → PartsMade C l L t a → calls c ∈ own_parts a → CallAs C l (T.inputs_of t) (own_parts a) at p c i
             → In {X = Way × ℕ} (Calling, b) (ways (entry C i).act) → slice_get s.functions c.function ≡ Some f → Stands C l T f.inputs f.body vs o b → (Declared C b q → ⊥)
-            → (kk : ℕ) (bb : Bool) → q ≡ record { up = 0; owned = Parameter kk bb } → argument C (entry C i).mark kk bb ≡ Some (Named r) → Inner b q → Settled t g r
+            → (kk : ℕ) (bb : Bool) → q ≡ record { up = 0; owned = Parameter kk bb } → argument C (entry C i).offset kk bb ≡ Some (Named r) → Inner b q → Settled t g r
         by_call {t} {i} {b} {g = g} {a = a} {c = c} {f = f} q r w p m ca way fn st nd kk bb seen ar rec = by (rec F.scope (stand st F.body))
           where
             F : FunctionScoped sigs type_of sigs c.function f
@@ -304,7 +304,7 @@ module _ {s : Core} {fs : List Kinds} {ds : List (ℕ × Bool)} (C : Code) (l : 
         within_of h i m = record { at = _; node = _; there = m; known = lookup sigs type_of i m; in_code = h }
 
         by_way : {t i b : ℕ} {g : Scope} {u : Stmt} (v : Way) (q r : code.Name) → In i (body C t).entries → InScopes sigs type_of g (T.block_of t) → In {X = Way × ℕ} (v, b) (ways (entry C i).act) → OpensAs s C l T t i u v b → (Declared C b q → ⊥)
-            → Seen C (entry C i).mark v q r → Inner b q → Settled t g r
+            → Seen C (entry C i).offset v q r → Inner b q → Settled t g r
         by_way {t} {i} v q r h sc way (opens_header vs roles m c mk st) nd seen rec = by_header q r (within_of (body_within C t i h) sc m) roles c st nd seen rec
         by_way {t} {i} v q r h sc way (opens_wait m hd st) nd seen rec = by_wait q r (within_of (body_within C t i h) sc m) hd st nd seen rec
         by_way {t} {i} {b} {g} v q r h sc way (opens_call {st = u} {c = c} {f = f} at p m k ca fn st e) nd seen rec = of_stmt u m k ca

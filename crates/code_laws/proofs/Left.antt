@@ -11,7 +11,7 @@ use Rattle.dataflow.proofs.Lists.{in_unmap}
 use Rattle.dataflow.proofs.Runs.{run_settled}
 use Rattle.dataflow.proofs.Settled.{live_valid}
 use Rattle.values.specs.declared.key.Key.{Key}
-use Rattle.task_code.specs.Code.{Act, Argument, Assert, At, AtKey, Call, Cell, Closed, Code, Copy, Each, Entry, Fill, Fixed, Header, If, Local, Name, Named, Need, Owned, Parameter, Print, Put, Range, Read, Set, Stored, Variable, Wait, Way, argument, arguments, call_at, entry, here, is_array_name, is_array_owned, scalar, targets, targets_of, ways}
+use Rattle.task_code.specs.Code.{Act, Argument, Assert, At, AtKey, Call, Cell, Closed, Code, Copy, Each, Entry, Fill, Fixed, Header, If, Local, Name, Named, Need, Owned, Parameter, Print, InsertElement, Range, Read, Set, Stored, Variable, Wait, Way, argument, arguments, call_at, entry, here, is_array_name, is_array_owned, scalar, targets, targets_of, ways}
 use Rattle.task_code.specs.Effects.{Item, Main, Task}
 use Rattle.task_code.specs.Exact.{IsExact, Leads, itself, needs_of, through}
 use Rattle.task_code.specs.Machine.{CodeItem, CodeLog, CodeState, Quiet}
@@ -69,7 +69,7 @@ kind_is (Call b rs os) ns h = inr (inr (none_is ns h))
 kind_is (Set r e) ns h = inl refl
 kind_is (Fill r es) ns h = inl refl
 kind_is (Copy r) ns h = inl refl
-kind_is (Put r i e) ns h = inl refl
+kind_is (InsertElement r i e) ns h = inl refl
 kind_is (Print e) ns h = inl refl
 kind_is (Assert e) ns h = inl refl
 kind_is (If e b d) ns h = inl refl
@@ -85,7 +85,7 @@ cell_targets n (Call b rs os) h = absurd (cc)
 cell_targets n (Set r e) h = absurd (cc)
 cell_targets n (Fill r es) h = absurd (cc)
 cell_targets n (Copy r) h = absurd (cc)
-cell_targets n (Put r i e) h = absurd (cc)
+cell_targets n (InsertElement r i e) h = absurd (cc)
 cell_targets n (Print e) h = absurd (cc)
 cell_targets n (Assert e) h = absurd (cc)
 cell_targets n (If e b d) h = absurd (cc)
@@ -100,7 +100,7 @@ cell_ways (Call b rs os) h = absurd (cc)
 cell_ways (Set r e) h = refl
 cell_ways (Fill r es) h = refl
 cell_ways (Copy r) h = refl
-cell_ways (Put r i e) h = refl
+cell_ways (InsertElement r i e) h = refl
 cell_ways (Print e) h = refl
 cell_ways (Assert e) h = refl
 cell_ways (If e b d) h = absurd (cc)
@@ -345,7 +345,7 @@ module _ (C : Code) where
       stands p (Set r e) ns own sh n m u = (own, refl)
       stands p (Fill r es) ns own sh n m u = (own, refl)
       stands p (Copy r) ns own sh n m u = (own, refl)
-      stands p (Put r i e) ns own sh n m u = (own, refl)
+      stands p (InsertElement r i e) ns own sh n m u = (own, refl)
       stands p (Print e) ns own sh n m u = (own, refl)
       stands p (Assert e) ns own sh n m u = (own, refl)
       stands p (If e b d) ns own sh n m u = (own, refl)

@@ -101,10 +101,10 @@ module _ (C : Code) (I : IsCode C) where
       let same : d.variable ≡ v = local_same (sym (ap (λ (z : Name). z.owned) d.is) ∙ e) in
       record { home = t; reached = x; made = subst (λ (z : Variable). In z (body C t).makes) same d.made; far = inl (refl, ap (λ (z : Name). z.up) d.is) }
 
-  seen_further : {u t : ℕ} (mark : ℕ) (w : Way) (x : Reached C u) (r q : Name) (v : Variable) → Seen C mark w r q → r.owned ≡ Local v → (q.owned ≡ Local v → Declarer u (level x) q.up v) → Declarer t (way_level w (level x)) r.up v
-  seen_further mark InPlace x r q v s e rec = further x (suc (level x)) (omega arith) (rec (sym (ap (λ (z : Name). z.owned) s) ∙ e))
-  seen_further mark Through x r q v s e rec = further x (suc (level x)) (omega arith) (rec (sym (ap (λ (z : Name). z.owned) s) ∙ e))
-  seen_further mark Calling x r q v s e rec = no_local (sym (ap (λ (z : Name). z.owned) s.2) ∙ e)
+  seen_further : {u t : ℕ} (offset : ℕ) (w : Way) (x : Reached C u) (r q : Name) (v : Variable) → Seen C offset w r q → r.owned ≡ Local v → (q.owned ≡ Local v → Declarer u (level x) q.up v) → Declarer t (way_level w (level x)) r.up v
+  seen_further offset InPlace x r q v s e rec = further x (suc (level x)) (omega arith) (rec (sym (ap (λ (z : Name). z.owned) s) ∙ e))
+  seen_further offset Through x r q v s e rec = further x (suc (level x)) (omega arith) (rec (sym (ap (λ (z : Name). z.owned) s) ∙ e))
+  seen_further offset Calling x r q v s e rec = no_local (sym (ap (λ (z : Name). z.owned) s.2) ∙ e)
 
   pub declarer : {t : ℕ} (x : Reached C t) (j : ℕ) (r : Name) (v : Variable) → In j (body C t).entries → In r (entry C j).writes → r.owned ≡ Local v → Declarer t (level x) r.up v
   declarer at_start j r v h right e = declared_here at_start r v (I.script_writes j r h right) e
@@ -112,7 +112,7 @@ module _ (C : Code) (I : IsCode C) where
     where
       by : Declared C t r ⊎ SeenFrom C (λ z. z.writes) i w r → ((q : Name) → In q (entry C i).writes → q.owned ≡ Local v → Declarer b (level x) q.up v) → Declarer t (way_level w (level x)) r.up v
       by (inl d) rec = declared_here (by_entry i w x g p) r v d e
-      by (inr s) rec = seen_further (entry C i).mark w x r s.outside v s.seen e (λ z. rec s.outside s.right z)
+      by (inr s) rec = seen_further (entry C i).offset w x r s.outside v s.seen e (λ z. rec s.outside s.right z)
 
   -- a variable of the node is the same one, wherever it is made
   module _ (K : (t u : ℕ) (v w : Variable) → In v (body C t).makes → In w (body C u).makes → v.node ≡ w.node → v ≡ w) where
@@ -148,16 +148,16 @@ module _ (C : Code) (I : IsCode C) where
     parameter_slot : (r q : Name) (k k' : ℕ) (b b' : Bool) → r ≡ record { up = 0; owned = Parameter k b } → q ≡ record { up = 0; owned = Parameter k' b' } → SameSlot r.owned q.owned → k ≡ k'
     parameter_slot r q k k' b b' e f s = subst (λ (z : Name). SameSlot (Parameter k b) z.owned) f (subst (λ (z : Name). SameSlot z.owned q.owned) e s)
 
-    seen_slot : (mark : ℕ) (w : Way) (r q o p : Name) → Seen C mark w r o → Seen C mark w q p → SameSlot r.owned q.owned → (SameSlot o.owned p.owned → o ≡ p) → r ≡ q
-    seen_slot mark InPlace r q o p s z e rec = s ∙ (rec (subst (λ (y : Name). SameSlot o.owned y.owned) z (subst (λ (y : Name). SameSlot y.owned q.owned) s e)) ∙ sym z)
-    seen_slot mark Through r q o p s z e rec =
+    seen_slot : (offset : ℕ) (w : Way) (r q o p : Name) → Seen C offset w r o → Seen C offset w q p → SameSlot r.owned q.owned → (SameSlot o.owned p.owned → o ≡ p) → r ≡ q
+    seen_slot offset InPlace r q o p s z e rec = s ∙ (rec (subst (λ (y : Name). SameSlot o.owned y.owned) z (subst (λ (y : Name). SameSlot y.owned q.owned) s e)) ∙ sym z)
+    seen_slot offset Through r q o p s z e rec =
         let same = rec (subst (λ (y : Name). SameSlot o.owned y.owned) z (subst (λ (y : Name). SameSlot y.owned q.owned) s e)) in
         s ∙ (ap (λ (y : Name). record { up = suc y.up; owned = y.owned }) same ∙ sym z)
-    seen_slot mark Calling r q o p s z e rec =
+    seen_slot offset Calling r q o p s z e rec =
         let k = parameter_slot r q s.0 z.0 s.1 z.1 s.2 z.2 e in
-        let a = arg_at (arguments (entry C (call_at C mark)).act) s.0 s.1 (Named o) s.3 in
-        let c = arg_at (arguments (entry C (call_at C mark)).act) z.0 z.1 (Named p) z.3 in
-        let same : o ≡ p = named_same (same_Some _ _ (sym a.0 ∙ (ap (λ (n : ℕ). Rattle.std.specs.Prelude.slice_get (arguments (entry C (call_at C mark)).act) n) k ∙ c.0))) in
+        let a = arg_at (arguments (entry C (call_at C offset)).act) s.0 s.1 (Named o) s.3 in
+        let c = arg_at (arguments (entry C (call_at C offset)).act) z.0 z.1 (Named p) z.3 in
+        let same : o ≡ p = named_same (same_Some _ _ (sym a.0 ∙ (ap (λ (n : ℕ). Rattle.std.specs.Prelude.slice_get (arguments (entry C (call_at C offset)).act) n) k ∙ c.0))) in
         let flag : s.1 ≡ z.1 = sym a.1 ∙ (ap is_array_name same ∙ c.1) in
         s.2 ∙ (ap₂ (λ (n : ℕ) (b : Bool). record { up = 0; owned = Parameter n b }) k flag ∙ sym z.2)
 
@@ -174,4 +174,4 @@ module _ (C : Code) (I : IsCode C) where
         by : Declared C t r ⊎ SeenFrom C (λ z. z.writes) e w r → Declared C t q ⊎ SeenFrom C (λ z. z.writes) e w q → ((o u : Name) → In o (entry C e).writes → In u (entry C e).writes → SameSlot o.owned u.owned → o ≡ u) → r ≡ q
         by (inl d) f rec = d.is ∙ sym (same_here y j q d.variable g other (slot_of r d.variable q.owned d.is s) d.made)
         by (inr z) (inl d) rec = same_here y i r d.variable h right (slot_of q d.variable r.owned d.is (swapped r.owned q.owned s)) d.made ∙ sym d.is
-        by (inr z) (inr u) rec = seen_slot (entry C e).mark w r q z.outside u.outside z.seen u.seen s (λ k. rec z.outside u.outside z.right u.right k)
+        by (inr z) (inr u) rec = seen_slot (entry C e).offset w r q z.outside u.outside z.seen u.seen s (λ k. rec z.outside u.outside z.right u.right k)

@@ -1,4 +1,4 @@
--- An entry of laid code that calls a function is found by its mark, where no call has the offset of another.
+-- An entry of laid code that calls a function is found by its offset, where no call has the offset of another.
 use Rattle.std.proofs.Common.{◌≡◌, ◌⊎◌, inl, inr, ℕ, zero, suc, ◌+◌, ◌≤◌, ◌<◌, Bool, true, false, nat_eq, List, [], ◌∷◌, ◌++◌, map, length, refl, sym, ap, ◌∙◌, subst, arith, Some, None}
 use Rattle.std.specs.Prelude.{ℤ}
 use Rattle.std.proofs.lemmas.Bool.{eqb-true, cases_lt}
@@ -18,13 +18,13 @@ use Rattle.code_laws.proofs.Layouts.{layout_of, layout_suits}
 use Rattle.code_laws.proofs.Few.{IsOwn, it_works, it_opens, OpensBlocks, Weights, stmt_weight, script_few}
 use Rattle.std.proofs.lemmas.List.{map-append}
 
--- the mark of a call
+-- the offset of a call
 abbrev pub call_mark : ℕ → Act → List ℕ
 call_mark m (code.Call b rs os) = m ∷ []
 call_mark m _ = []
 
 abbrev pub marked : ℕ → Entry → ℕ
-marked n e = count n (call_mark e.mark e.act)
+marked n e = count n (call_mark e.offset e.act)
 
 pub simple_unmarked : (l : Layout) (k m : ℕ) (a : Action) → IsSimple a → call_mark m (simple_act l k (own_needs l k a) a) ≡ []
 simple_unmarked l k m (assign x o) h = refl
@@ -57,7 +57,7 @@ opens_unmarked m (code.Call b rs os) h = absurd h
 opens_unmarked m (code.Set r e) h = absurd h
 opens_unmarked m (code.Fill r es) h = absurd h
 opens_unmarked m (code.Copy r) h = absurd h
-opens_unmarked m (code.Put r i e) h = absurd h
+opens_unmarked m (code.InsertElement r i e) h = absurd h
 opens_unmarked m (code.Print e) h = absurd h
 opens_unmarked m (code.Assert e) h = absurd h
 
@@ -67,21 +67,21 @@ abbrev call_hit : ℕ → Part → ℕ
 call_hit n (inner c) = 0
 call_hit n (calls c) = hit n c.at
 
-unmarked : (n : ℕ) (e : Entry) → call_mark e.mark e.act ≡ [] → marked n e ≤ 0
+unmarked : (n : ℕ) (e : Entry) → call_mark e.offset e.act ≡ [] → marked n e ≤ 0
 unmarked n e q = let a : marked n e ≡ 0 = ap (count n) q in omega arith
 
 part_marks : (n : ℕ) (C : Code) (l : Layout) (k : ℕ) (all : List Part) (at : ℕ) (p : ℤ) (x : Part) (is : List ℕ) → PartAs C l k all at p x is → total (λ j. marked n (entry C j)) is ≤ call_hit n x
 part_marks n C l k all at p x is (plain_literal z) = omega arith
 part_marks n C l k all at p x is (plain_name z) = omega arith
-part_marks n C l k all at p x is (a_cell {j = j} z nd en) = let a = unmarked n (entry C j) (ap (call_mark (entry C j).mark) en.act_is) in omega arith
-part_marks n C l k all at p x is (a_read {j = j} z nd ix en) = let a = unmarked n (entry C j) (ap (call_mark (entry C j).mark) en.act_is) in omega arith
+part_marks n C l k all at p x is (a_cell {j = j} z nd en) = let a = unmarked n (entry C j) (ap (call_mark (entry C j).offset) en.act_is) in omega arith
+part_marks n C l k all at p x is (a_read {j = j} z nd ix en) = let a = unmarked n (entry C j) (ap (call_mark (entry C j).offset) en.act_is) in omega arith
 part_marks n C l k all at p x is (a_call {c = c} {j = j} ca) =
-    let a : marked n (entry C j) ≡ hit n c.at + 0 = ap (count n) (ap (call_mark (entry C j).mark) ca.is.act_is) ∙ ap (λ (m : ℕ). hit n m + 0) ca.mark_is in
+    let a : marked n (entry C j) ≡ hit n c.at + 0 = ap (count n) (ap (call_mark (entry C j).offset) ca.is.act_is) ∙ ap (λ (m : ℕ). hit n m + 0) ca.offset_is in
     omega arith
 
 own_marks : (n : ℕ) (e : Entry) (at m : ℕ) (a : Action) → IsOwn e m a → marked n e ≤ 0
-own_marks n e at m a (it_works l k s q nd) = unmarked n e (ap (call_mark e.mark) q ∙ simple_unmarked l k e.mark a s)
-own_marks n e at m a (it_opens h) = unmarked n e (opens_unmarked e.mark e.act h)
+own_marks n e at m a (it_works l k s q nd) = unmarked n e (ap (call_mark e.offset) q ∙ simple_unmarked l k e.offset a s)
+own_marks n e at m a (it_opens h) = unmarked n e (opens_unmarked e.offset e.act h)
 
 mark_weights : ℕ → Weights
 mark_weights n = record { of_entry = marked n; of_part = call_hit n; of_own = λ st. 0; bared = λ e. refl; part_few = part_marks n; own_few = own_marks n }
@@ -132,12 +132,12 @@ is_called b code.Read m h = absurd h
 is_called b (code.Set r e) m h = absurd h
 is_called b (code.Fill r es) m h = absurd h
 is_called b (code.Copy r) m h = absurd h
-is_called b (code.Put r i e) m h = absurd h
+is_called b (code.InsertElement r i e) m h = absurd h
 is_called b (code.Print e) m h = absurd h
 is_called b (code.Assert e) m h = absurd h
 
--- what the search does at an entry that is the call, and at one whose mark is another
-found_here : (act : Act) (e : Entry) (i at : ℕ) (es : List Entry) → e.act ≡ act → call_mark e.mark act ≡ e.mark ∷ [] → e.mark ≡ at → call_from i (e ∷ es) at ≡ i
+-- what the search does at an entry that is the call, and at one whose offset is another
+found_here : (act : Act) (e : Entry) (i at : ℕ) (es : List Entry) → e.act ≡ act → call_mark e.offset act ≡ e.offset ∷ [] → e.offset ≡ at → call_from i (e ∷ es) at ≡ i
 found_here (code.Call b rs os) e i at es q h m = (rw (q, call_from) (rw m (rw (self_eq at) refl)))
 found_here _ e i at es q h m = absurd (cc (h))
 
@@ -148,14 +148,14 @@ differs m at h = by (nat_eq m at) refl
     by true e = absurd (let a = hit_same at m (sym (eqb-true m at e)) in omega arith)
     by false e = e
 
-found_later : (act : Act) (e : Entry) (i at : ℕ) (es : List Entry) → e.act ≡ act → count at (call_mark e.mark act) ≡ 0 → call_from i (e ∷ es) at ≡ call_from (suc i) es at
-found_later (code.Call b rs os) e i at es q h = (rw (q, call_from) (rw (differs e.mark at h) refl))
+found_later : (act : Act) (e : Entry) (i at : ℕ) (es : List Entry) → e.act ≡ act → count at (call_mark e.offset act) ≡ 0 → call_from i (e ∷ es) at ≡ call_from (suc i) es at
+found_later (code.Call b rs os) e i at es q h = (rw (q, call_from) (rw (differs e.offset at h) refl))
 found_later (code.Cell x) e i at es q h = (rw (q, call_from) refl)
 found_later code.Read e i at es q h = (rw (q, call_from) refl)
 found_later (code.Set r x) e i at es q h = (rw (q, call_from) refl)
 found_later (code.Fill r xs) e i at es q h = (rw (q, call_from) refl)
 found_later (code.Copy r) e i at es q h = (rw (q, call_from) refl)
-found_later (code.Put r x y) e i at es q h = (rw (q, call_from) refl)
+found_later (code.InsertElement r x y) e i at es q h = (rw (q, call_from) refl)
 found_later (code.Print x) e i at es q h = (rw (q, call_from) refl)
 found_later (code.Assert x) e i at es q h = (rw (q, call_from) refl)
 found_later (code.If x b d) e i at es q h = (rw (q, call_from) refl)
@@ -168,18 +168,18 @@ nth_total w [] i h = absurd (omega arith)
 nth_total w (e ∷ es) zero h = omega arith
 nth_total w (e ∷ es) (suc i) h = let a = nth_total w es i (omega arith) in omega arith
 
-found_from : (es : List Entry) (from i at b : ℕ) → i < length es → In (Calling, b) (ways (nth blank_entry es i).act) → (nth blank_entry es i).mark ≡ at → total (marked at) es ≤ 1 → call_from from es at ≡ from + i
+found_from : (es : List Entry) (from i at b : ℕ) → i < length es → In (Calling, b) (ways (nth blank_entry es i).act) → (nth blank_entry es i).offset ≡ at → total (marked at) es ≤ 1 → call_from from es at ≡ from + i
 found_from [] from i at b h c m t = absurd (omega arith)
-found_from (e ∷ es) from zero at b h c m t = found_here e.act e from at es refl (is_called b e.act e.mark c) m ∙ (let z : from ≡ from + 0 = omega arith in z)
+found_from (e ∷ es) from zero at b h c m t = found_here e.act e from at es refl (is_called b e.act e.offset c) m ∙ (let z : from ≡ from + 0 = omega arith in z)
 found_from (e ∷ es) from (suc i) at b h c m t =
     let x = nth_total (marked at) es i (omega arith) in
-    let y : marked at (nth blank_entry es i) ≡ hit at at + 0 = ap (count at) (is_called b (nth blank_entry es i).act (nth blank_entry es i).mark c) ∙ ap (λ (z : ℕ). hit at z + 0) m in
+    let y : marked at (nth blank_entry es i) ≡ hit at at + 0 = ap (count at) (is_called b (nth blank_entry es i).act (nth blank_entry es i).offset c) ∙ ap (λ (z : ℕ). hit at z + 0) m in
     let v = hit_same at at refl in
     found_later e.act e from at es refl (omega arith) ∙ (found_from es (suc from) i at b (omega arith) c m (omega arith) ∙ (let z : suc from + i ≡ from + suc i = omega arith in z))
 
-pub laid_marks : (c : Core) (fs : List Kinds) (ds : List (ℕ × Bool)) (C : Code) → LaysScript c fs ds C → CellsOnce c → ReadsStand c → CallsOnce c → (i b : ℕ) → In (Calling, b) (ways (entry C i).act) → call_at C (entry C i).mark ≡ i
+pub laid_marks : (c : Core) (fs : List Kinds) (ds : List (ℕ × Bool)) (C : Code) → LaysScript c fs ds C → CellsOnce c → ReadsStand c → CallsOnce c → (i b : ℕ) → In (Calling, b) (ways (entry C i).act) → call_at C (entry C i).offset ≡ i
 laid_marks c fs ds C L apart reads once i b h = by (cases_lt i (length C.entries))
   where
-    by : (i < length C.entries) ⊎ (length C.entries ≤ i) → call_at C (entry C i).mark ≡ i
-    by (inl l) = found_from C.entries 0 i (entry C i).mark b l h refl (marks_few c fs ds C L apart reads once (entry C i).mark) ∙ (let z : 0 + i ≡ i = omega arith in z)
+    by : (i < length C.entries) ⊎ (length C.entries ≤ i) → call_at C (entry C i).offset ≡ i
+    by (inl l) = found_from C.entries 0 i (entry C i).offset b l h refl (marks_few c fs ds C L apart reads once (entry C i).offset) ∙ (let z : 0 + i ≡ i = omega arith in z)
     by (inr l) = absurd (subst (λ (e : Entry). In (Calling, b) (ways e.act)) (nth_beyond blank_entry C.entries i l) h)

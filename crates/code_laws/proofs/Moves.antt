@@ -45,7 +45,7 @@ module _ {D C : Code} {l : Layout} {k : ℕ} {all : List Part} where
   part_moves (plain_name z) h = plain_name z
   part_moves (a_cell {j = j} z nd en) h = a_cell z (ap (λ (e : Entry). e.node) (h j first) ∙ nd) (entry_moves (h j first) en)
   part_moves (a_read {j = j} z nd ix en) h = a_read z (ap (λ (e : Entry). e.node) (h j first) ∙ nd) (index_moves ix) (entry_moves (h j first) en)
-  part_moves (a_call {j = j} ca) h = a_call (record { ins = ca.ins; outs = ca.outs; is = entry_moves (h j first) ca.is; mark_is = ap (λ (e : Entry). e.mark) (h j first) ∙ ca.mark_is; inputs = inputs_move ca.inputs; outputs = outputs_move ca.outputs })
+  part_moves (a_call {j = j} ca) h = a_call (record { ins = ca.ins; outs = ca.outs; is = entry_moves (h j first) ca.is; offset_is = ap (λ (e : Entry). e.offset) (h j first) ∙ ca.offset_is; inputs = inputs_move ca.inputs; outputs = outputs_move ca.outputs })
 
   pub parts_move : {at : ℕ} {p : ℤ} {xs : List Part} {is : List ℕ} → PartsAs D l k all at p xs is → ((j : ℕ) → j ∈ is → bare (entry C j) ≡ entry D j) → PartsAs C l k all at p xs is
   parts_move no_part h = no_part

@@ -83,10 +83,10 @@ module _ {s : Core} {fs : List Kinds} {ds : List (ℕ × Bool)} (C : Code) (l : 
   abbrev pub Held : ℕ → ℕ → ℕ → Owned → Type 0
   Held t n k o = Writes t k o ⊎ Inside n o
 
-  seen_owned : (mark : ℕ) (w : Way) (r q : code.Name) → (w ≡ Calling → ⊥) → Seen C mark w r q → q.owned ≡ r.owned
-  seen_owned mark InPlace r q f s = sym (ap (λ (z : code.Name). z.owned) s)
-  seen_owned mark Through r q f s = sym (ap (λ (z : code.Name). z.owned) s)
-  seen_owned mark Calling r q f s = absurd (f refl)
+  seen_owned : (offset : ℕ) (w : Way) (r q : code.Name) → (w ≡ Calling → ⊥) → Seen C offset w r q → q.owned ≡ r.owned
+  seen_owned offset InPlace r q f s = sym (ap (λ (z : code.Name). z.owned) s)
+  seen_owned offset Through r q f s = sym (ap (λ (z : code.Name). z.owned) s)
+  seen_owned offset Calling r q f s = absurd (f refl)
 
   -- what a body that an entry opens holds, the entry's body does
   lift : {t d k : ℕ} {o : Owned} (x : Reached C t) (i : ℕ) (w : Way) → In i (body C t).entries → In {X = Way × ℕ} (w, d) (ways (entry C i).act) → (w ≡ Calling → ⊥) → Held d (way_level w (level x)) k o → Held t (level x) k o
@@ -100,7 +100,7 @@ module _ {s : Core} {fs : List Kinds} {ds : List (ℕ × Bool)} (C : Code) (l : 
       by (inl y) =
           let v = local_of k z.flag o y.variable (sym z.is ∙ ap (λ (q : code.Name). q.owned) y.is) in
           inr (record { home = d; reached = by_entry i w x h p; deeper = step_deeper w (level x) f; node = v.0; flag = z.flag; is = v.1; made = subst (λ (q : Variable). In q (body C d).makes) v.2 y.made })
-      by (inr y) = inl (record { number = i; there = h; name = y.outside; flag = z.flag; right = y.right; is = seen_owned (entry C i).mark w z.name y.outside f y.seen ∙ z.is })
+      by (inr y) = inl (record { number = i; there = h; name = y.outside; flag = z.flag; right = y.right; is = seen_owned (entry C i).offset w z.name y.outside f y.seen ∙ z.is })
 
   -- an entry of the body that stores into it
   stored : {t k m : ℕ} {a : Act} (j : ℕ) (o : Owned) (r : code.Name) (b : Bool) → In j (body C t).entries → (entry C j).act ≡ a → In r (targets_by (entry C j).node a) → r.owned ≡ owned_as k b o → Held t m k o

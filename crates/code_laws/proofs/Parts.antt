@@ -36,14 +36,14 @@ longer xs ys x y q = sym (one_longer xs x) ∙ ap suc q ∙ one_longer ys y
 
 -- ENTRIES
 
-pub same_entry : {e f : Entry} {at : ℕ} {p : ℤ} {ns : List Need} {a : Act} → IsEntry e at p ns a → IsEntry f at p ns a → (StoresAtNode a → e.node ≡ f.node) → (OpensAtMark a → e.mark ≡ f.mark) → DoSame e f
-same_entry h g node mark = record {
+pub same_entry : {e f : Entry} {at : ℕ} {p : ℤ} {ns : List Need} {a : Act} → IsEntry e at p ns a → IsEntry f at p ns a → (StoresAtNode a → e.node ≡ f.node) → (OpensAtMark a → e.offset ≡ f.offset) → DoSame e f
+same_entry h g node offset = record {
   at = h.at_is ∙ sym g.at_is;
   priority = h.priority_is ∙ sym g.priority_is;
   needs = h.needs_is ∙ sym g.needs_is;
   act = h.act_is ∙ sym g.act_is;
   node = λ z. node (subst StoresAtNode h.act_is z);
-  mark = λ z. mark (subst OpensAtMark h.act_is z);
+  offset = λ z. offset (subst OpensAtMark h.act_is z);
 }
 
 -- NAMES
@@ -164,13 +164,13 @@ module _ (fs : List Kinds) (l : Layout) (bodies : (i : ℕ) → l.body_of i ≡ 
       let ins : x.ins ≡ y.ins = inputs_same x.inputs y.inputs (λ n z a b q r s. (let g = h.inputs n z q in record { kind = g.0; left = fx.inputs h.kinds n z a g.0 h.is q r g.1; right = fy.inputs h.kinds n z b g.0 h.is q s g.1 })) in
       let outs : x.outs ≡ y.outs = outputs_same x.outputs y.outputs (λ n z r s q u v. (let g = h.outputs n z q in fx.outputs h.kinds n r g.0 h.is u g.1 ∙ sym (fy.outputs h.kinds n s g.0 h.is v g.1))) in
       let moved : IsEntry (entry D j) at p [] (code.Call (l.body_of c.function) x.ins x.outs) = subst (λ (zs : List Argument). IsEntry (entry D j) at p [] (code.Call (l.body_of c.function) zs x.outs)) (sym ins) (subst (λ (os : List code.Name). IsEntry (entry D j) at p [] (code.Call (l.body_of c.function) y.ins os)) (sym outs) y.is) in
-      same_entry x.is moved (λ z. absurd z) (λ z. x.mark_is ∙ sym y.mark_is)
+      same_entry x.is moved (λ z. absurd z) (λ z. x.offset_is ∙ sym y.offset_is)
 
-  -- what an entry that calls hands over is fitting, since its mark tells the call
+  -- what an entry that calls hands over is fitting, since its offset tells the call
   fits_of : {E : Code} {at : ℕ} {p : ℤ} {c : Call} {i : ℕ} (x : CallAs E l k all at p c i) (more : List Entry) → CallsFit fs all more → In (entry E i) more → c ∈ part_calls all → CallFits fs all c x.ins x.outs
   fits_of {E} {at} {p} {c} {i} x more fit there m =
       let f = fit (entry E i) c.function x.ins x.outs there ((x.is).act_is ∙ ap (λ (b : ℕ). code.Call b x.ins x.outs) (bodies c.function)) in
-      subst (λ (z : Call). CallFits fs all z x.ins x.outs) (pinned.calls_once f.call c f.there m (sym f.mark ∙ x.mark_is)) f.fits
+      subst (λ (z : Call). CallFits fs all z x.ins x.outs) (pinned.calls_once f.call c f.there m (sym f.offset ∙ x.offset_is)) f.fits
 
   -- PARTS
 

@@ -102,7 +102,7 @@ module _ (c : Core) (C : Code) (l : Layout) (whole : List Row) (suits : (at n : 
         let hu = has_less C u w (e ∷ []) q h in
         let g = block_grows fs roots k bl in
         branch_laid (length u.entries) (parts_at lp (has_less C t u g.0 g.1 hu) su.parts_plain su.bodies (stands o n (when co b) (among_script c m i)))
-        (entry_moves le (ow l su)) (ap (λ (z : Entry). z.mark) le ∙ mk)
+        (entry_moves le (ow l su)) (ap (λ (z : Entry). z.offset) le ∙ mk)
         (opened t u (ByStep (length u.entries)) b [] vs js (block_rows fs roots k bl) [] (block_bodies fs roots k bl) (at_same s t _ lp.bodies at)) ee
     stmt_laid (branches {at = o} {n = n} {c = co} {b = b} {d = d} e {s = s} {t = t} {u = u} {v = v} {w = w} {js = js} {ks = ks} {vs = vs} {ws = ws} lp bl dl de ow mk we ee) h at B m i =
         let su = suits o n (choose co b d) (among_script c m i) in
@@ -115,7 +115,7 @@ module _ (c : Core) (C : Code) (l : Layout) (whole : List Row) (suits : (at n : 
         let bb = both_bodies t u v (block_rows fs roots k bl) (block_rows fs roots k dl) (block_bodies fs roots k bl) (block_bodies fs roots k dl) in
         let st = at_same s t _ lp.bodies at in
         branches_laid (length v.entries) (parts_at lp (has_less C t u g.0 g.1 hu) su.parts_plain su.bodies (stands o n (choose co b d) (among_script c m i)))
-        (entry_moves le (ow l su)) (ap (λ (z : Entry). z.mark) le ∙ mk)
+        (entry_moves le (ow l su)) (ap (λ (z : Entry). z.offset) le ∙ mk)
         (opened t v (ByStep (length v.entries)) b [] vs js (block_rows fs roots k bl ++ block_rows fs roots k dl) (row k d [] (ByStep (length v.entries)) ws ks ∷ []) bb st)
         (second t v (row k b [] (ByStep (length v.entries)) vs js) (ByStep (length v.entries)) d [] ws ks (block_rows fs roots k bl ++ block_rows fs roots k dl) bb st) ee
     stmt_laid (range_loop {at = o} {n = n} {x = x} {lo = lo} {hi = hi} {st = so} {y = y} {b = b} e {s = s} {t = t} {u = u} {w = w} {js = js} {vs = vs} lp bl ow mk we ee) h at B m i =
@@ -125,13 +125,13 @@ module _ (c : Core) (C : Code) (l : Layout) (whole : List Row) (suits : (at n : 
         let hu = has_less C u w (e ∷ []) q h in
         let g = block_grows fs roots k bl in
         range_laid (length u.entries) (parts_at lp (has_less C t u g.0 g.1 hu) su.parts_plain su.bodies (stands o n (range lo hi so x y b) (among_script c m i)))
-        (entry_moves le (ow l su)) (ap (λ (z : Entry). z.mark) le ∙ mk)
+        (entry_moves le (ow l su)) (ap (λ (z : Entry). z.offset) le ∙ mk)
         (opened t u (ByStep (length u.entries)) b (loop_variables (record { body = 0; value = x; turn = y })) vs js (block_rows fs roots k bl) [] (block_bodies fs roots k bl) (at_same s t _ lp.bodies at)) ee
     stmt_laid (array_loop {at = o} {n = n} {x = x} {a = a} {y = y} {b = b} e {s = s} {u = u} {w = w} {js = js} {vs = vs} bl ow mk we ee) h at B m i =
         let su = suits o n (each a x y b) (among_script c m i) in
         let q : w.entries ≡ u.entries ++ e ∷ [] = ap (λ (z : Laying). z.entries) we in
         let le = last_entry u w e q h in
-        each_laid (length u.entries) (entry_moves le (ow l su)) (ap (λ (z : Entry). z.mark) le ∙ mk)
+        each_laid (length u.entries) (entry_moves le (ow l su)) (ap (λ (z : Entry). z.offset) le ∙ mk)
         (opened s u (ByStep (length u.entries)) b (loop_variables (record { body = 0; value = x; turn = y })) vs js (block_rows fs roots k bl) [] (block_bodies fs roots k bl) at) ee
     stmt_laid (waits {b = b} e {s = s} {u = u} {w = w} {js = js} {vs = vs} hd bl en we ee) h at B m i =
         let q : w.entries ≡ u.entries ++ e ∷ [] = ap (λ (z : Laying). z.entries) we in

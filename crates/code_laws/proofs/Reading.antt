@@ -336,7 +336,7 @@ module _ {s : Core} {fs : List Kinds} {ds : List (ℕ × Bool)} (C : Code) (l : 
   LeadsTo j r = Leads C needs_of j r
 
   outside_block : {t b : ℕ} (i : ℕ) (w : Way) (r q : code.Name) → q.owned ≡ r.owned → T.block_of b ∈ blocks_below (T.block_of t) → T.inputs_of b ≡ T.inputs_of t → In i (body C t).entries → In {X = Way × ℕ} (w, b) (ways (entry C i).act)
-      → (Declared C b q → ⊥) → Seen C (entry C i).mark w q r → Use b q → Use t r
+      → (Declared C b q → ⊥) → Seen C (entry C i).offset w q r → Use b q → Use t r
   outside_block i w r q e m k h way nd seen (of_an_array z) = of_an_array (subst (λ (o : code.Owned). Rattle.task_code.specs.Code.is_array_owned o ≡ true) e z)
   outside_block {b = b} i w r q e m k h way nd seen (of_a_write j g right) = of_a_write i h (R.all_writes i r (through i j b w r q way g (R.writes j q right) nd seen))
   outside_block {t = t} i w r q e m k h way nd seen (of_a_read o rd z) = of_a_read o (read_outwards (T.block_of t) m rd) (sym e ∙ (z ∙ ap (λ (n : ℕ). owned_as n false o) k))
@@ -356,7 +356,7 @@ module _ {s : Core} {fs : List Kinds} {ds : List (ℕ × Bool)} (C : Code) (l : 
       out_in (o ∷ os) (inl e) = inl (named_same e)
       out_in (o ∷ os) (inr k) = inr (out_in os k)
 
-  step : (found : (i b : ℕ) → In {X = Way × ℕ} (Calling, b) (ways (entry C i).act) → call_at C (entry C i).mark ≡ i) → {t i b : ℕ} {u : Stmt} (w : Way) (r q : code.Name) → In i (body C t).entries → In {X = Way × ℕ} (w, b) (ways (entry C i).act) → OpensAs s C l T t i u w b → (Declared C b q → ⊥) → Seen C (entry C i).mark w q r → Use b q → Use t r
+  step : (found : (i b : ℕ) → In {X = Way × ℕ} (Calling, b) (ways (entry C i).act) → call_at C (entry C i).offset ≡ i) → {t i b : ℕ} {u : Stmt} (w : Way) (r q : code.Name) → In i (body C t).entries → In {X = Way × ℕ} (w, b) (ways (entry C i).act) → OpensAs s C l T t i u w b → (Declared C b q → ⊥) → Seen C (entry C i).offset w q r → Use b q → Use t r
   step found {t} {i} {b} w r q h way (opens_header {a = a} vs roles m c mk st) nd seen x =
       outside_block i Through r q (step_owned seen) (subst (λ (z : Block). z ∈ blocks_below (T.block_of t)) (sym st.block) (inner_below (T.block_of t) m (header_inner a c))) st.inputs h way nd seen x
   step found {t} {i} w r q h way (opens_wait m hd st) nd seen x =
@@ -365,11 +365,11 @@ module _ {s : Core} {fs : List Kinds} {ds : List (ℕ × Bool)} (C : Code) (l : 
     where
       of_stmt : (v : Stmt) → v ∈ block_list (T.block_of t) → CallAs C l (T.inputs_of t) (own_of v) at p c i → Use t r
       of_stmt (stmt at' n a) m ca =
-          let z = arg_at (arguments (entry C (call_at C (entry C i).mark)).act) seen.0 seen.1 (Named r) seen.3 in
+          let z = arg_at (arguments (entry C (call_at C (entry C i).offset)).act) seen.0 seen.1 (Named r) seen.3 in
           of_arguments at' n a i r m (parted C l T (L.bodies t (body_within C t i h)).stmts m) h ca
-          (subst (λ (y : ℕ). In (Named r) (arguments (entry C y).act)) (found i b way) (to_in (get_in (arguments (entry C (call_at C (entry C i).mark)).act) seen.0 (Named r) z.0)))
+          (subst (λ (y : ℕ). In (Named r) (arguments (entry C y).act)) (found i b way) (to_in (get_in (arguments (entry C (call_at C (entry C i).offset)).act) seen.0 (Named r) z.0)))
 
   -- WHAT AN ENTRY MAY READ
-  pub uses : (found : (i b : ℕ) → In {X = Way × ℕ} (Calling, b) (ways (entry C i).act) → call_at C (entry C i).mark ≡ i) (t j : ℕ) (r : code.Name) → In j (body C t).entries → LeadsTo j r → Use t r
+  pub uses : (found : (i b : ℕ) → In {X = Way × ℕ} (Calling, b) (ways (entry C i).act) → call_at C (entry C i).offset ≡ i) (t j : ℕ) (r : code.Name) → In j (body C t).entries → LeadsTo j r → Use t r
   uses found t j r h (itself i x u) = base_uses t j r h u
   uses found t j r h (through i j' b w x q way m ld nd seen) = step found w r q h way (opens_as C l L scoped t j b w h way).1 nd seen (uses found b j' q m ld)

@@ -64,7 +64,7 @@ module _ (C D : Code) (same : (at k : ℕ) (b : Bool) → argument C at k b ≡ 
       by None [] h = refl
       by None (x ∷ xs) h = ap (λ zs. x ∷ zs) (h xs)
 
-  -- what is stored, where node and mark count
+  -- what is stored, where node and offset count
   stores_same : (a : Act) (m n i j : ℕ) (p : List Places.Step) (c : ℕ) (x : Computed) → (StoresAtNode a → m ≡ n) → (OpensAtMark a → i ≡ j) → stores C a m i p c x ≡ stores D a n j p c x
   stores_same (code.Cell e) m n i j p c x h g = ap (λ (z : ℕ). stored_at (place_at C p (here (scalar z))) x) (h tt) ∙ ap (λ (z : Place). stored_at z x) (place_same p (here (scalar n)))
   stores_same code.Read m n i j p c x h g = ap (λ (z : ℕ). stored_at (place_at C p (here (scalar z))) x) (h tt) ∙ ap (λ (z : Place). stored_at z x) (place_same p (here (scalar n)))
@@ -72,7 +72,7 @@ module _ (C D : Code) (same : (at k : ℕ) (b : Bool) → argument C at k b ≡ 
   stores_same (code.Set r e) m n i j p c x h g = ap (λ (z : Place). stored_at z x) (place_same p r)
   stores_same (code.Fill r es) m n i j p c x h g = ap (λ (z : Place). inserted_at z x) (place_same p r)
   stores_same (code.Copy r) m n i j p c x h g = ap (λ (z : Place). inserted_at z x) (place_same p r)
-  stores_same (code.Put r k e) m n i j p c x h g = ap (λ (z : Place). inserted_at z x) (place_same p r)
+  stores_same (code.InsertElement r k e) m n i j p c x h g = ap (λ (z : Place). inserted_at z x) (place_same p r)
   stores_same (code.Print e) m n i j p c x h g = refl
   stores_same (code.Assert e) m n i j p c x h g = refl
   stores_same (code.If e b d) m n i j p c x h g = refl
@@ -87,7 +87,7 @@ module _ (C D : Code) (same : (at k : ℕ) (b : Bool) → argument C at k b ≡ 
   instances_same (code.Set r e) i j p c x g = refl
   instances_same (code.Fill r es) i j p c x g = refl
   instances_same (code.Copy r) i j p c x g = refl
-  instances_same (code.Put r k e) i j p c x g = refl
+  instances_same (code.InsertElement r k e) i j p c x g = refl
   instances_same (code.Print e) i j p c x g = refl
   instances_same (code.Assert e) i j p c x g = refl
   instances_same (code.If e b d) i j p c x g = ap (λ (z : ℕ). instances (code.If e b d) z p c x) (g tt)
@@ -148,9 +148,9 @@ module _ (C D : Code) (al : AreAlike C D) where
       let d = entries i in
       let e = entry C i in
       let f = entry D i in
-      let stored : stores C e.act e.node e.mark p c x ≡ stores D f.act f.node f.mark p c x = stores_same C D arguments e.act e.node f.node e.mark f.mark p c x d.node d.mark ∙ ap (λ (a : Act). stores D a f.node f.mark p c x) d.act in
-      let opened : map (block C) (instances e.act e.mark p c x) ++ rest (loop_of e.act) i p c x ≡ map (block D) (instances f.act f.mark p c x) ++ rest (loop_of f.act) i p c x =
-      ap₂ (λ (xs ys : List (Opening Task Place)). xs ++ ys) (blocks_same (instances e.act e.mark p c x) ∙ ap (map (block D)) (instances_same C D arguments e.act e.mark f.mark p c x d.mark ∙ ap (λ (a : Act). instances a f.mark p c x) d.act)) (ap (λ (a : Act). rest (loop_of a) i p c x) d.act) in
+      let stored : stores C e.act e.node e.offset p c x ≡ stores D f.act f.node f.offset p c x = stores_same C D arguments e.act e.node f.node e.offset f.offset p c x d.node d.offset ∙ ap (λ (a : Act). stores D a f.node f.offset p c x) d.act in
+      let opened : map (block C) (instances e.act e.offset p c x) ++ rest (loop_of e.act) i p c x ≡ map (block D) (instances f.act f.offset p c x) ++ rest (loop_of f.act) i p c x =
+      ap₂ (λ (xs ys : List (Opening Task Place)). xs ++ ys) (blocks_same (instances e.act e.offset p c x) ∙ ap (map (block D)) (instances_same C D arguments e.act e.offset f.offset p c x d.offset ∙ ap (λ (a : Act). instances a f.offset p c x) d.act)) (ap (λ (a : Act). rest (loop_of a) i p c x) d.act) in
       λ z. record { writes = stored z; lines = prints (d.act z) x; opens = opened z }
 
   task_effects : (t : Task) (xs : List (Answer Key Scalar)) → task_effect C t xs ≡ task_effect D t xs
@@ -162,9 +162,9 @@ module _ (C D : Code) (al : AreAlike C D) where
       let x = compute e.act (answered C p e.needs xs) in
       let y = compute f.act (answered D p f.needs xs) in
       let same : x ≡ y = ap₂ (λ (a : Act) (ns : List Need). compute a (answered C p ns xs)) d.act d.needs ∙ ap (compute f.act) (answers_same C D arguments p f.needs xs) in
-      let deep : is_too_deep e.act p (instances e.act e.mark p c x) ≡ is_too_deep f.act p (instances f.act f.mark p c x) =
-      ap (λ (ss : List (ℕ × List Places.Step)). is_too_deep e.act p ss) (instances_same C D arguments e.act e.mark f.mark p c x d.mark) ∙ ap (λ (a : Act). is_too_deep a p (instances a f.mark p c x)) d.act in
-      ap₂ (λ (b : Bool) (z : Effect Task Place Key Scalar). outcome_of x b z) deep (effect_same i p c x) ∙ ap (λ (z : Computed). outcome_of z (is_too_deep f.act p (instances f.act f.mark p c z)) (effect_at D i p c z)) same
+      let deep : is_too_deep e.act p (instances e.act e.offset p c x) ≡ is_too_deep f.act p (instances f.act f.offset p c x) =
+      ap (λ (ss : List (ℕ × List Places.Step)). is_too_deep e.act p ss) (instances_same C D arguments e.act e.offset f.offset p c x d.offset) ∙ ap (λ (a : Act). is_too_deep a p (instances a f.offset p c x)) d.act in
+      ap₂ (λ (b : Bool) (z : Effect Task Place Key Scalar). outcome_of x b z) deep (effect_same i p c x) ∙ ap (λ (z : Computed). outcome_of z (is_too_deep f.act p (instances f.act f.offset p c z)) (effect_at D i p c z)) same
 
   task_inputs_same : (t : Task) → task_inputs C t ≡ task_inputs D t
   task_inputs_same Main = refl

@@ -13,7 +13,7 @@ use Rattle.values.specs.declared.key.Key.{Key}
 use Rattle.values.specs.declared.key.Key.TheVariants.{Number as number_key}
 use Rattle.values.specs.declared.value.Scalar.{Scalar}
 use Rattle.values.specs.declared.value.Value.{Value}
-use Rattle.task_code.specs.Code.{Act, Assert, ByCalls, ByMain, ByStep, ByWait, Call, Calling, Cell, Code, Copy, Each, Fill, If, InPlace, Loop, Name, Need, Opener, Print, Put, Range, Read, Set, Through, Variable, Wait, Way, body, entry, here, is_array_name, loop_of, loop_variables, scalar, stored_of, turn_variables, ways}
+use Rattle.task_code.specs.Code.{Act, Assert, ByCalls, ByMain, ByStep, ByWait, Call, Calling, Cell, Code, Copy, Each, Fill, If, InPlace, Loop, Name, Need, Opener, Print, InsertElement, Range, Read, Set, Through, Variable, Wait, Way, body, entry, here, is_array_name, loop_of, loop_variables, scalar, stored_of, turn_variables, ways}
 use Rattle.task_code.specs.Compute.{Computed, EntryFault, Fails, Gives, Inserts, Opens, Takes, Turns, answer_at, branched, compute, eval, given, key_scalar, read}
 use Rattle.task_code.specs.Effects.{Item, Main, Task, block, bound, branch_instances, chunk, effect_at, instances, is_too_deep, only, outcome_of, rest, step_at, stored_at, stores, turn_bound, turns_of}
 use Rattle.task_code.specs.Places.{Datum, Place, Step, place_array, place_at}
@@ -61,36 +61,36 @@ always_no_loop Read h = refl
 always_no_loop (Set r e) h = refl
 always_no_loop (Fill r es) h = refl
 always_no_loop (Copy r) h = refl
-always_no_loop (Put r i e) h = refl
+always_no_loop (InsertElement r i e) h = refl
 always_no_loop (Print e) h = refl
 always_no_loop (Assert e) h = refl
 always_no_loop (Range l h' s w) h = absurd (cc)
 always_no_loop (Each w) h = absurd (cc)
 
 -- an act that always opens a block has one
-opens_one : (a : Act) (mark : ℕ) (p : List Step) (xs : List (Answer Key Scalar)) → always_opens a ≡ true → IsFound (compute a xs) → (s : ℕ × List Step) × In s (instances a mark p 0 (compute a xs))
-opens_one (Call b rs os) mark p xs h g = ((b, step_at mark (number_key (pos 0)) p), inl refl)
-opens_one (Wait hs b) mark p xs h g = ((b, p), inl refl)
-opens_one (If e b (Some d)) mark p xs h g = by (eval xs e) g
+opens_one : (a : Act) (offset : ℕ) (p : List Step) (xs : List (Answer Key Scalar)) → always_opens a ≡ true → IsFound (compute a xs) → (s : ℕ × List Step) × In s (instances a offset p 0 (compute a xs))
+opens_one (Call b rs os) offset p xs h g = ((b, step_at offset (number_key (pos 0)) p), inl refl)
+opens_one (Wait hs b) offset p xs h g = ((b, p), inl refl)
+opens_one (If e b (Some d)) offset p xs h g = by (eval xs e) g
   where
-    at : (t : Bool) → (s : ℕ × List Step) × In s (branch_instances (Takes t) b (Some d) mark p)
-    at true = ((b, step_at mark (number_key (pos 0)) p), inl refl)
-    at false = ((d, step_at mark (number_key (pos 1)) p), inl refl)
+    at : (t : Bool) → (s : ℕ × List Step) × In s (branch_instances (Takes t) b (Some d) offset p)
+    at true = ((b, step_at offset (number_key (pos 0)) p), inl refl)
+    at false = ((d, step_at offset (number_key (pos 1)) p), inl refl)
 
-    by : (r : Result Value OpFault) → IsFound (branched r) → (s : ℕ × List Step) × In s (branch_instances (branched r) b (Some d) mark p)
+    by : (r : Result Value OpFault) → IsFound (branched r) → (s : ℕ × List Step) × In s (branch_instances (branched r) b (Some d) offset p)
     by (Ok v) g = at (truth_of v)
     by (Err f) g = absurd g
-opens_one (If e b None) mark p xs h g = absurd (cc)
-opens_one (Cell e) mark p xs h g = absurd (cc)
-opens_one Read mark p xs h g = absurd (cc)
-opens_one (Set r e) mark p xs h g = absurd (cc)
-opens_one (Fill r es) mark p xs h g = absurd (cc)
-opens_one (Copy r) mark p xs h g = absurd (cc)
-opens_one (Put r i e) mark p xs h g = absurd (cc)
-opens_one (Print e) mark p xs h g = absurd (cc)
-opens_one (Assert e) mark p xs h g = absurd (cc)
-opens_one (Range l h' s w) mark p xs h g = absurd (cc)
-opens_one (Each w) mark p xs h g = absurd (cc)
+opens_one (If e b None) offset p xs h g = absurd (cc)
+opens_one (Cell e) offset p xs h g = absurd (cc)
+opens_one Read offset p xs h g = absurd (cc)
+opens_one (Set r e) offset p xs h g = absurd (cc)
+opens_one (Fill r es) offset p xs h g = absurd (cc)
+opens_one (Copy r) offset p xs h g = absurd (cc)
+opens_one (InsertElement r i e) offset p xs h g = absurd (cc)
+opens_one (Print e) offset p xs h g = absurd (cc)
+opens_one (Assert e) offset p xs h g = absurd (cc)
+opens_one (Range l h' s w) offset p xs h g = absurd (cc)
+opens_one (Each w) offset p xs h g = absurd (cc)
 
 -- what is opened by a step is opened by one entry
 stepped_by : (C : Code) (i n : ℕ) (w : Way) (o : Opener) → OpenedBy C i w o → o ≡ ByStep n → n ≡ i
@@ -168,31 +168,31 @@ module _ (C : Code) where
         subst (λ (x : Place). In x (map (place_at C s.1) (entry C a.assigner).writes)) (declared_at C s.1 v) (in_map (place_at C s.1) (here v) (entry C a.assigner).writes a.right),
       )
 
-  loop_stores : (a : Act) (l : Loop) (node mark : ℕ) (p : List Step) (c : ℕ) (x : Computed) → loop_of a ≡ Some l → stores C a node mark p c x ≡ flat_map (bound l mark p) (chunk c (turns_of x))
-  loop_stores (Range lo h s v) l node mark p c x e = ap (λ (z : Loop). flat_map (bound z mark p) (chunk c (turns_of x))) (some_same e)
-  loop_stores (Each v) l node mark p c x e = ap (λ (z : Loop). flat_map (bound z mark p) (chunk c (turns_of x))) (some_same e)
-  loop_stores (Cell y) l node mark p c x e = absurd (cc)
-  loop_stores Read l node mark p c x e = absurd (cc)
-  loop_stores (Call b rs os) l node mark p c x e = absurd (cc)
-  loop_stores (Set t y) l node mark p c x e = absurd (cc)
-  loop_stores (Fill t es) l node mark p c x e = absurd (cc)
-  loop_stores (Copy t) l node mark p c x e = absurd (cc)
-  loop_stores (Put t i y) l node mark p c x e = absurd (cc)
-  loop_stores (Print y) l node mark p c x e = absurd (cc)
-  loop_stores (Assert y) l node mark p c x e = absurd (cc)
-  loop_stores (If y b d) l node mark p c x e = absurd (cc)
-  loop_stores (Wait hs b) l node mark p c x e = absurd (cc)
+  loop_stores : (a : Act) (l : Loop) (node offset : ℕ) (p : List Step) (c : ℕ) (x : Computed) → loop_of a ≡ Some l → stores C a node offset p c x ≡ flat_map (bound l offset p) (chunk c (turns_of x))
+  loop_stores (Range lo h s v) l node offset p c x e = ap (λ (z : Loop). flat_map (bound z offset p) (chunk c (turns_of x))) (some_same e)
+  loop_stores (Each v) l node offset p c x e = ap (λ (z : Loop). flat_map (bound z offset p) (chunk c (turns_of x))) (some_same e)
+  loop_stores (Cell y) l node offset p c x e = absurd (cc)
+  loop_stores Read l node offset p c x e = absurd (cc)
+  loop_stores (Call b rs os) l node offset p c x e = absurd (cc)
+  loop_stores (Set t y) l node offset p c x e = absurd (cc)
+  loop_stores (Fill t es) l node offset p c x e = absurd (cc)
+  loop_stores (Copy t) l node offset p c x e = absurd (cc)
+  loop_stores (InsertElement t i y) l node offset p c x e = absurd (cc)
+  loop_stores (Print y) l node offset p c x e = absurd (cc)
+  loop_stores (Assert y) l node offset p c x e = absurd (cc)
+  loop_stores (If y b d) l node offset p c x e = absurd (cc)
+  loop_stores (Wait hs b) l node offset p c x e = absurd (cc)
 
   -- a turn stores each of its variables
-  turn_stores : (l : Loop) (mark : ℕ) (p : List Step) (t : Key × Scalar) (v : Variable) → In v (loop_variables l) → (x : Scalar) × In (record { place = Datum (stepped mark t.0 p) v; key = only; value = x }) (bound l mark p t)
-  turn_stores l mark p t v (inl q) = (t.1, inl (λ i. record { place = Datum (stepped mark t.0 p) (q i); key = only; value = t.1 }))
-  turn_stores l mark p t v (inr h) = (let r = by l.turn h in (r.0, inr r.1))
+  turn_stores : (l : Loop) (offset : ℕ) (p : List Step) (t : Key × Scalar) (v : Variable) → In v (loop_variables l) → (x : Scalar) × In (record { place = Datum (stepped offset t.0 p) v; key = only; value = x }) (bound l offset p t)
+  turn_stores l offset p t v (inl q) = (t.1, inl (λ i. record { place = Datum (stepped offset t.0 p) (q i); key = only; value = t.1 }))
+  turn_stores l offset p t v (inr h) = (let r = by l.turn h in (r.0, inr r.1))
     where
-      by : (o : Option ℕ) → In v (turn_variables o) → (x : Scalar) × In (record { place = Datum (stepped mark t.0 p) v; key = only; value = x }) (turn_bound o (stepped mark t.0 p) t.0)
+      by : (o : Option ℕ) → In v (turn_variables o) → (x : Scalar) × In (record { place = Datum (stepped offset t.0 p) v; key = only; value = x }) (turn_bound o (stepped offset t.0 p) t.0)
       by None h = absurd h
       by (Some n) h =
           elim h [
-            | inl q ↦ (key_scalar t.0, inl (λ i. record { place = Datum (stepped mark t.0 p) (q i); key = only; value = key_scalar t.0 }))
+            | inl q ↦ (key_scalar t.0, inl (λ i. record { place = Datum (stepped offset t.0 p) (q i); key = only; value = key_scalar t.0 }))
             | inr z ↦ absurd z
           ]
 
@@ -204,20 +204,20 @@ module _ (C : Code) where
   no_array : (r t : Name) (b : Bool) {B : Type 0} → r ≡ t → is_array_name r ≡ false → (is_array_name t && b) ≡ true → B
   no_array r t b q n h = (let m = (and_parts (is_array_name t) b h).0 in let k = sym (ap is_array_name q) ∙ n in absurd (cc))
 
-  stored_itself : (a : Act) (ns : List Need) (node mark : ℕ) (p : List Step) (c : ℕ) (xs : List (Answer Key Scalar)) (r : Name) → has_shape a ns ≡ true → In r (stored_of node a) → is_array_name r ≡ false → IsFound (compute a xs) → (v : Scalar) × In (record { place = place_at C p r; key = only; value = v }) (stores C a node mark p c (compute a xs))
-  stored_itself (Cell e) ns node mark p c xs r sh h n g = elim h [ inl q ↦ one_stored p r (here (scalar node)) (given (eval xs e)) q (given_is (eval xs e) g) | inr z ↦ absurd z ]
-  stored_itself Read ns node mark p c xs r sh h n g = elim h [ inl q ↦ one_stored p r (here (scalar node)) (read (answer_at xs 0)) q (read_is (answer_at xs 0) g) | inr z ↦ absurd z ]
-  stored_itself (Set t e) ns node mark p c xs r sh h n g = elim h [ inl q ↦ one_stored p r t (given (eval xs e)) q (given_is (eval xs e) g) | inr z ↦ absurd z ]
-  stored_itself (Fill t es) ns node mark p c xs r sh h n g = elim h [ inl q ↦ no_array r t _ q n sh | inr z ↦ absurd z ]
-  stored_itself (Copy t) ns node mark p c xs r sh h n g = elim h [ inl q ↦ no_array r t _ q n sh | inr z ↦ absurd z ]
-  stored_itself (Put t i e) ns node mark p c xs r sh h n g = elim h [ inl q ↦ no_array r t _ q n sh | inr z ↦ absurd z ]
-  stored_itself (Call b rs os) ns node mark p c xs r sh h n g = absurd h
-  stored_itself (Print e) ns node mark p c xs r sh h n g = absurd h
-  stored_itself (Assert e) ns node mark p c xs r sh h n g = absurd h
-  stored_itself (If e b d) ns node mark p c xs r sh h n g = absurd h
-  stored_itself (Range lo hi st w) ns node mark p c xs r sh h n g = absurd h
-  stored_itself (Each w) ns node mark p c xs r sh h n g = absurd h
-  stored_itself (Wait hs b) ns node mark p c xs r sh h n g = absurd h
+  stored_itself : (a : Act) (ns : List Need) (node offset : ℕ) (p : List Step) (c : ℕ) (xs : List (Answer Key Scalar)) (r : Name) → has_shape a ns ≡ true → In r (stored_of node a) → is_array_name r ≡ false → IsFound (compute a xs) → (v : Scalar) × In (record { place = place_at C p r; key = only; value = v }) (stores C a node offset p c (compute a xs))
+  stored_itself (Cell e) ns node offset p c xs r sh h n g = elim h [ inl q ↦ one_stored p r (here (scalar node)) (given (eval xs e)) q (given_is (eval xs e) g) | inr z ↦ absurd z ]
+  stored_itself Read ns node offset p c xs r sh h n g = elim h [ inl q ↦ one_stored p r (here (scalar node)) (read (answer_at xs 0)) q (read_is (answer_at xs 0) g) | inr z ↦ absurd z ]
+  stored_itself (Set t e) ns node offset p c xs r sh h n g = elim h [ inl q ↦ one_stored p r t (given (eval xs e)) q (given_is (eval xs e) g) | inr z ↦ absurd z ]
+  stored_itself (Fill t es) ns node offset p c xs r sh h n g = elim h [ inl q ↦ no_array r t _ q n sh | inr z ↦ absurd z ]
+  stored_itself (Copy t) ns node offset p c xs r sh h n g = elim h [ inl q ↦ no_array r t _ q n sh | inr z ↦ absurd z ]
+  stored_itself (InsertElement t i e) ns node offset p c xs r sh h n g = elim h [ inl q ↦ no_array r t _ q n sh | inr z ↦ absurd z ]
+  stored_itself (Call b rs os) ns node offset p c xs r sh h n g = absurd h
+  stored_itself (Print e) ns node offset p c xs r sh h n g = absurd h
+  stored_itself (Assert e) ns node offset p c xs r sh h n g = absurd h
+  stored_itself (If e b d) ns node offset p c xs r sh h n g = absurd h
+  stored_itself (Range lo hi st w) ns node offset p c xs r sh h n g = absurd h
+  stored_itself (Each w) ns node offset p c xs r sh h n g = absurd h
+  stored_itself (Wait hs b) ns node offset p c xs r sh h n g = absurd h
 
   module _ (I : IsCode C) (F : FindsSources C) where
     pub shape : (i : ℕ) → has_shape (entry C i).act (entry C i).needs ≡ true
@@ -233,15 +233,15 @@ module _ (C : Code) where
         loops : loop_of (entry C i).act ≡ Some t.loop
         loops = subst (λ (n : ℕ). loop_of (entry C n).act ≡ Some t.loop) opener t.loops
 
-        by : ((c ≡ 0) × (loop_of (entry C i).act ≡ None)) ⊎ ((w : Loop) × (loop_of (entry C i).act ≡ Some w) × (b.instance.0 ≡ w.body) × (b.instance.1 ≡ stepped (entry C i).mark b.by.key p) × In b.by.key (map (λ (x : Key × Scalar). x.0) (chunk c (turns_of (found C can))))) → Supplies (code_system C) e (Datum b.instance.1 v)
+        by : ((c ≡ 0) × (loop_of (entry C i).act ≡ None)) ⊎ ((w : Loop) × (loop_of (entry C i).act ≡ Some w) × (b.instance.0 ≡ w.body) × (b.instance.1 ≡ stepped (entry C i).offset b.by.key p) × In b.by.key (map (λ (x : Key × Scalar). x.0) (chunk c (turns_of (found C can))))) → Supplies (code_system C) e (Datum b.instance.1 v)
         by (inl z) = (let q : ◌≡◌ {A = Option Loop} (Some t.loop) None = sym loops ∙ z.1 in absurd (cc))
         by (inr z) =
             let turn = in_unmap (λ (x : Key × Scalar). x.0) b.by.key (chunk c (turns_of (found C can))) z.4 in
-            let w = turn_stores t.loop (entry C i).mark p turn.0 v t.variable in
-            let path : stepped (entry C i).mark turn.0.0 p ≡ b.instance.1 = ap (λ (k : Key). stepped (entry C i).mark k p) turn.2 ∙ sym z.3 in
-            let there = gather_in (bound t.loop (entry C i).mark p) (chunk c (turns_of (found C can))) turn.0 _ turn.1 w.1 in
-            let stored = subst (λ (l : List (Write Place Key Scalar)). In (record { place = Datum (stepped (entry C i).mark turn.0.0 p) v; key = only; value = w.0 }) l) (sym (loop_stores (entry C i).act t.loop (entry C i).node (entry C i).mark p c (found C can) loops)) there in
-            let written = subst (λ (x : E). In (record { place = Datum (stepped (entry C i).mark turn.0.0 p) v; key = only; value = w.0 }) x.writes) (effect_is C i c p e can) stored in
+            let w = turn_stores t.loop (entry C i).offset p turn.0 v t.variable in
+            let path : stepped (entry C i).offset turn.0.0 p ≡ b.instance.1 = ap (λ (k : Key). stepped (entry C i).offset k p) turn.2 ∙ sym z.3 in
+            let there = gather_in (bound t.loop (entry C i).offset p) (chunk c (turns_of (found C can))) turn.0 _ turn.1 w.1 in
+            let stored = subst (λ (l : List (Write Place Key Scalar)). In (record { place = Datum (stepped (entry C i).offset turn.0.0 p) v; key = only; value = w.0 }) l) (sym (loop_stores (entry C i).act t.loop (entry C i).node (entry C i).offset p c (found C can) loops)) there in
+            let written = subst (λ (x : E). In (record { place = Datum (stepped (entry C i).offset turn.0.0 p) v; key = only; value = w.0 }) x.writes) (effect_is C i c p e can) stored in
             inl (w.0, subst (λ (q : List Step). In (record { place = Datum q v; key = only; value = w.0 }) e.writes) path written)
 
     assigned : (t u : Task) (e : E) (o : O) (d : Place) → Begun t → Can (code_system C) t e → In o e.opens → In u o.tasks → place_array d ≡ false → In d o.makes → In d (task_reads C u) → Supplies (code_system C) e d
@@ -287,7 +287,7 @@ module _ (C : Code) where
         scalar_r = scalar_name C p r.0.up r.0.owned (subst (λ (a : Place). place_array a ≡ false) (sym r.2) sc)
 
         is_found : IsFound (found C can)
-        is_found = found_is (found C can) (is_too_deep (entry C i).act p (instances (entry C i).act (entry C i).mark p c (found C can))) (effect_at C i p c (found C can)) e can.is
+        is_found = found_is (found C can) (is_too_deep (entry C i).act p (instances (entry C i).act (entry C i).offset p c (found C can))) (effect_at C i p c (found C can)) e can.is
 
         first : always_opens (entry C i).act ≡ true → c ≡ 0
         first a = at z.begins
@@ -299,17 +299,17 @@ module _ (C : Code) where
         -- the block that it opens
         opens : always_opens (entry C i).act ≡ true → (o : O) × In o e.opens
         opens a =
-            let x = opens_one (entry C i).act (entry C i).mark p (answered C p (entry C i).needs can.answers) a is_found in
-            let is : In x.0 (instances (entry C i).act (entry C i).mark p c (found C can)) = subst (λ (n : ℕ). In x.0 (instances (entry C i).act (entry C i).mark p n (found C can))) (sym (first a)) x.1 in (
+            let x = opens_one (entry C i).act (entry C i).offset p (answered C p (entry C i).needs can.answers) a is_found in
+            let is : In x.0 (instances (entry C i).act (entry C i).offset p c (found C can)) = subst (λ (n : ℕ). In x.0 (instances (entry C i).act (entry C i).offset p n (found C can))) (sym (first a)) x.1 in (
               block C x.0,
-              subst (λ (y : E). In (block C x.0) y.opens) (effect_is C i c p e can) (in_left (block C x.0) (map (block C) (instances (entry C i).act (entry C i).mark p c (found C can))) (rest (loop_of (entry C i).act) i p c (found C can)) (in_map (block C) x.0 _ is)),
+              subst (λ (y : E). In (block C x.0) y.opens) (effect_is C i c p e can) (in_left (block C x.0) (map (block C) (instances (entry C i).act (entry C i).offset p c (found C can))) (rest (loop_of (entry C i).act) i p c (found C can)) (in_map (block C) x.0 _ is)),
             )
 
         handed_on : always_opens (entry C i).act ≡ true → ((w : Way) (b : ℕ) → In (w, b) (ways (entry C i).act) → HandsOn C i w b r.0) → (o : O) → In o e.opens → OpensBlock C i p c (found C can) o ⊎ IsRest C i p c o → Supplies (code_system C) e d
         handed_on a g o io (inr x) = no_loop_rest C i c p o x (always_no_loop (entry C i).act a)
         handed_on a g o io (inl b) =
             let x = g b.by.way b.instance.0 b.by.is_way in
-            let same : place_at C b.instance.1 x.inside ≡ d = seen_place C b.by.way (entry C i).mark p b.by.key b.instance.1 x.inside r.0 b.by.path_is x.seen ∙ r.2 in
+            let same : place_at C b.instance.1 x.inside ≡ d = seen_place C b.by.way (entry C i).offset p b.by.key b.instance.1 x.inside r.0 b.by.path_is x.seen ∙ r.2 in
             inr (
               Item x.holder b.instance.1 0,
               tasks_in (Item x.holder b.instance.1 0) o e.opens io (subst (λ (y : O). In (Item x.holder b.instance.1 0) y.tasks) (sym b.is) (in_map (λ j. Item j b.instance.1 0) x.holder (body C b.instance.0).entries x.there)),
@@ -318,7 +318,7 @@ module _ (C : Code) where
 
         by : (In r.0 (stored_of (entry C i).node (entry C i).act) ⊎ ((always_opens (entry C i).act ≡ true) × ((w : Way) (b : ℕ) → In (w, b) (ways (entry C i).act) → HandsOn C i w b r.0))) → Supplies (code_system C) e d
         by (inl m) =
-            let x = stored_itself (entry C i).act (entry C i).needs (entry C i).node (entry C i).mark p c (answered C p (entry C i).needs can.answers) r.0 (shape i) m scalar_r is_found in
+            let x = stored_itself (entry C i).act (entry C i).needs (entry C i).node (entry C i).offset p c (answered C p (entry C i).needs can.answers) r.0 (shape i) m scalar_r is_found in
             let w = subst (λ (y : E). In (record { place = place_at C p r.0; key = only; value = x.0 }) y.writes) (effect_is C i c p e can) x.1 in
             inl (x.0, subst (λ (a : Place). In (record { place = a; key = only; value = x.0 }) e.writes) r.2 w)
         by (inr g) = (let o = opens g.0 in handed_on g.0 g.1 o.0 o.1 (opened C i c p e can o.0 o.1))

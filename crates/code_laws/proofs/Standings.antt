@@ -42,7 +42,7 @@ wait_only (code.Call c is os) b (inr z) = absurd z
 wait_only (code.Set r e) b h = absurd h
 wait_only (code.Fill r es) b h = absurd h
 wait_only (code.Copy r) b h = absurd h
-wait_only (code.Put r i e) b h = absurd h
+wait_only (code.InsertElement r i e) b h = absurd h
 wait_only (code.Print e) b h = absurd h
 wait_only (code.Assert e) b h = absurd h
 wait_only (code.If e c None) b (inl q) = let q' = way_is q in absurd (cc (q'))
@@ -66,7 +66,7 @@ inside_wait C i b v hs r e m q (through k j c w p inner h g x d s) = by (subst (
     by (inr z) = z
     by (inl o) =
         let same : c ≡ b = ap (λ (z : Way × ℕ). z.1) o in
-        let seen : inner ≡ r = subst (λ (z : Way). Seen C (entry C i).mark z inner r) (way_is o) s in
+        let seen : inner ≡ r = subst (λ (z : Way). Seen C (entry C i).offset z inner r) (way_is o) s in
         d (record { variable = v; is = seen ∙ q; made = subst (λ (z : ℕ). In v (body C z).makes) (sym same) m })
 
 module _ {s : Core} {fs : List Kinds} {ds : List (ℕ × Bool)} (C : Code) (l : Layout) (L : IsLaid s fs ds C l) (R : HasRights C) (found : CallsAreFound C) (scoped : Scoped s) where

@@ -19,31 +19,31 @@ below a b h = grind arith
 
 module _ (C : Code) where
   -- what the name means outside, among these
-  record Outside (names : List Name) (mark : ℕ) (w : Way) (r : Name) : Type 0 where
+  record Outside (names : List Name) (offset : ℕ) (w : Way) (r : Name) : Type 0 where
     name : Name
     there : In name names
-    seen : Seen C mark w r name
+    seen : Seen C offset w r name
 
-  seen_named : (names : List Name) (mark : ℕ) (w : Way) (up : ℕ) (x : Owned) → is_seen C names mark w (record { up = up; owned = x }) ≡ true → Outside names mark w (record { up = up; owned = x })
-  seen_named names mark InPlace up x h = record { name = record { up = up; owned = x }; there = name_in_sound _ names h; seen = refl }
-  seen_named names mark Through zero x h = absurd (cc)
-  seen_named names mark Through (suc up) x h = record { name = record { up = up; owned = x }; there = name_in_sound _ names h; seen = refl }
-  seen_named names mark Calling zero (Local v) h = absurd (cc)
-  seen_named names mark Calling zero (Parameter k a) h = by (argument C mark k a) refl h
+  seen_named : (names : List Name) (offset : ℕ) (w : Way) (up : ℕ) (x : Owned) → is_seen C names offset w (record { up = up; owned = x }) ≡ true → Outside names offset w (record { up = up; owned = x })
+  seen_named names offset InPlace up x h = record { name = record { up = up; owned = x }; there = name_in_sound _ names h; seen = refl }
+  seen_named names offset Through zero x h = absurd (cc)
+  seen_named names offset Through (suc up) x h = record { name = record { up = up; owned = x }; there = name_in_sound _ names h; seen = refl }
+  seen_named names offset Calling zero (Local v) h = absurd (cc)
+  seen_named names offset Calling zero (Parameter k a) h = by (argument C offset k a) refl h
     where
-      by : (o : Option Argument) → argument C mark k a ≡ o → elim o [ None ↦ false | Some x ↦ elim x [ Named s ↦ name_in s names | Fixed v ↦ false ] ] ≡ true → Outside names mark Calling (record { up = 0; owned = Parameter k a })
+      by : (o : Option Argument) → argument C offset k a ≡ o → elim o [ None ↦ false | Some x ↦ elim x [ Named s ↦ name_in s names | Fixed v ↦ false ] ] ≡ true → Outside names offset Calling (record { up = 0; owned = Parameter k a })
       by None e h = absurd (cc)
       by (Some (Fixed v)) e h = absurd (cc)
       by (Some (Named s)) e h = record { name = s; there = name_in_sound s names h; seen = (k, a, refl, e) }
-  seen_named names mark Calling (suc up) x h = absurd (cc)
+  seen_named names offset Calling (suc up) x h = absurd (cc)
 
   handed_on : (i : ℕ) (r : Name) (w : Way) (b : ℕ) → hands_on C (entry C i) r (w, b) ≡ true → HandsOn C i w b r
   handed_on i r w b h =
-      let j = any_in (λ j. list_any (is_seen C (r ∷ []) (entry C i).mark w) (entry C j).writes) (body C b).entries h in
-      let n = any_in (is_seen C (r ∷ []) (entry C i).mark w) (entry C j.0).writes j.2 in
-      let o = seen_named (r ∷ []) (entry C i).mark w n.0.up n.0.owned n.2 in
+      let j = any_in (λ j. list_any (is_seen C (r ∷ []) (entry C i).offset w) (entry C j).writes) (body C b).entries h in
+      let n = any_in (is_seen C (r ∷ []) (entry C i).offset w) (entry C j.0).writes j.2 in
+      let o = seen_named (r ∷ []) (entry C i).offset w n.0.up n.0.owned n.2 in
       let same : o.name ≡ r = elim o.there [ inl q ↦ q | inr z ↦ absurd z ] in
-      record { holder = j.0; there = j.1; inside = n.0; seen = subst (λ (x : Name). Seen C (entry C i).mark w n.0 x) same o.seen; right = n.1 }
+      record { holder = j.0; there = j.1; inside = n.0; seen = subst (λ (x : Name). Seen C (entry C i).offset w n.0 x) same o.seen; right = n.1 }
 
   turned : (b : ℕ) (v : Variable) (o : Opener) → (body C b).opener ≡ o → is_turn C v o ≡ true → IsTurns C b v
   turned b v ByMain e h = absurd (cc)

@@ -26,7 +26,7 @@ told_by n (code.Call b rs os) = []
 told_by n (code.Set r e) = n ∷ []
 told_by n (code.Fill r es) = n ∷ []
 told_by n (code.Copy r) = n ∷ []
-told_by n (code.Put r i e) = n ∷ []
+told_by n (code.InsertElement r i e) = n ∷ []
 told_by n (code.Print e) = n ∷ []
 told_by n (code.Assert e) = n ∷ []
 told_by n (code.If e b d) = []
@@ -44,7 +44,7 @@ told_most n m (code.Call b rs os) = omega arith
 told_most n m (code.Set r e) = omega arith
 told_most n m (code.Fill r es) = omega arith
 told_most n m (code.Copy r) = omega arith
-told_most n m (code.Put r i e) = omega arith
+told_most n m (code.InsertElement r i e) = omega arith
 told_most n m (code.Print e) = omega arith
 told_most n m (code.Assert e) = omega arith
 told_most n m (code.If e b d) = omega arith
@@ -63,7 +63,7 @@ opens_untold m (code.Call b rs os) h = refl
 opens_untold m (code.Set r e) h = absurd h
 opens_untold m (code.Fill r es) h = absurd h
 opens_untold m (code.Copy r) h = absurd h
-opens_untold m (code.Put r i e) h = absurd h
+opens_untold m (code.InsertElement r i e) h = absurd h
 opens_untold m (code.Print e) h = absurd h
 opens_untold m (code.Assert e) h = absurd h
 
@@ -74,7 +74,7 @@ it_tells n m (code.Call b rs os) h q = absurd h
 it_tells n m (code.Set r e) h q = let z = hit_same n m q in omega arith
 it_tells n m (code.Fill r es) h q = let z = hit_same n m q in omega arith
 it_tells n m (code.Copy r) h q = let z = hit_same n m q in omega arith
-it_tells n m (code.Put r i e) h q = let z = hit_same n m q in omega arith
+it_tells n m (code.InsertElement r i e) h q = let z = hit_same n m q in omega arith
 it_tells n m (code.Print e) h q = let z = hit_same n m q in omega arith
 it_tells n m (code.Assert e) h q = let z = hit_same n m q in omega arith
 it_tells n m (code.If e b d) h q = absurd h

@@ -370,7 +370,7 @@ module _ {c : Core} {fs : List Kinds} {ds : List (ℕ × Bool)} {C : Code} (L : 
           let a = length-map bare C.entries in
           let i : bare (entry C j) ∈ L.last.entries = subst (λ (E : List Entry). bare (entry C j) ∈ E) L.entries (subst (λ (x : Entry). x ∈ map bare C.entries) (nth-map bare blank_entry C.entries j) (nth_in blank_entry (map bare C.entries) j (omega arith))) in
           let r = all_fit c l suits fs L (bare (entry C j)) f ins outs i e in
-          (r.0, r.1, record { call = r.2.call; there = r.2.there; function = r.2.function; mark = r.2.mark; fits = r.2.fits })
+          (r.0, r.1, record { call = r.2.call; there = r.2.there; function = r.2.function; offset = r.2.offset; fits = r.2.fits })
       by (inr m) = absurd (let z = m.1 in let q : entry C j ≡ blank_entry = nth_beyond blank_entry C.entries j (omega arith) in no_call (sym (ap (λ (x : Entry). x.act) q) ∙ e))
         where
           no_call : blank_entry.act ≡ code.Call (suc f) ins outs → ⊥

@@ -174,7 +174,7 @@ module _ {s : Core} {fs : List Kinds} {ds : List (ℕ × Bool)} (C : Code) (l : 
   sort t at n a j r (at_own o d) = inr (record { assigned = d; how = by_itself o })
 
   same_call : {j j' b b' : ℕ} {c c' : Call} → Calls C j c b → Calls C j' c' b' → c ≡ c' → j ≡ j'
-  same_call {j} {j'} {b} {b'} k k' e = sym (found j b k.opens) ∙ (ap (λ (z : ℕ). call_at C z) (k.mark ∙ (ap (λ (z : Call). z.at) e ∙ sym k'.mark)) ∙ found j' b' k'.opens)
+  same_call {j} {j'} {b} {b'} k k' e = sym (found j b k.opens) ∙ (ap (λ (z : ℕ). call_at C z) (k.offset ∙ (ap (λ (z : Call). z.at) e ∙ sym k'.offset)) ∙ found j' b' k'.opens)
 
   -- what a statement assigns, its block does
   lift : {at n : ℕ} {a : Action} {b : Block} {w : Owned} → stmt at n a ∈ block_list b → Assigns false (alone (stmt at n a)) w → Assigns false b w
@@ -389,7 +389,7 @@ module _ {s : Core} {fs : List Kinds} {ds : List (ℕ × Bool)} (C : Code) (l : 
           owner z = subst (λ (y : Name). OwnerOf s single (Block_of t) y.what) (sym z.is) (owner_at s single sigs type_of S g k z.variable z.visible)
 
   pub outputs : (i b : ℕ) → In {X = Way × ℕ} (Calling, b) (ways (entry C i).act) → (j j' k k' : ℕ) (r : code.Name) → In j (body C b).entries → In j' (body C b).entries → In (record { up = 0; owned = Parameter k false }) (entry C j).writes
-      → In (record { up = 0; owned = Parameter k' false }) (entry C j').writes → argument C (entry C i).mark k false ≡ Some (Named r) → argument C (entry C i).mark k' false ≡ Some (Named r) → k ≡ k'
+      → In (record { up = 0; owned = Parameter k' false }) (entry C j').writes → argument C (entry C i).offset k false ≡ Some (Named r) → argument C (entry C i).offset k' false ≡ Some (Named r) → k ≡ k'
   outputs i b way j j' k k' r h h' right right' e e' = (let o = home_of C l L i (opener_within C l L i (Calling, b) way) in let x = opens_as C l L scoped o.home i b Calling o.stands way in by o.home o.within_code Calling refl x.1)
     where
       of_call : (t at n at' : ℕ) (p : ℤ) (a : Action) (c : Call) (f : Function) {vs : List Variable} {o : code.Opener} → t < length C.bodies → stmt at n a ∈ block_list (Block_of t) → calls c ∈ own_parts a → CallAs C l (L.table.inputs_of t) (own_parts a) at' p c i → slice_get s.functions c.function ≡ Some f
@@ -407,7 +407,7 @@ module _ {s : Core} {fs : List Kinds} {ds : List (ℕ × Bool)} (C : Code) (l : 
           let z = outs_apart g at_stmt m known ca.outputs x.place y.place r u.0 v.0 u.1 in
           x.is ∙ (ap (λ (q : ℕ). f.inputs + q) z ∙ sym y.is)
         where
-          got : (ca : CallAs C l (L.table.inputs_of t) (own_parts a) at' p c i) → length ca.ins ≡ f.inputs → (kk place : ℕ) → kk ≡ f.inputs + place → argument C (entry C i).mark kk false ≡ Some (Named r) → (slice_get ca.outs place ≡ Some r) × (is_array_name r ≡ false)
+          got : (ca : CallAs C l (L.table.inputs_of t) (own_parts a) at' p c i) → length ca.ins ≡ f.inputs → (kk place : ℕ) → kk ≡ f.inputs + place → argument C (entry C i).offset kk false ≡ Some (Named r) → (slice_get ca.outs place ≡ Some r) × (is_array_name r ≡ false)
           got ca counted kk place q ar =
               let w = arg_at (ca.ins ++ map Named ca.outs) kk false (Named r) (sym (handed C l L found scoped sigs type_of S D Assigns (keeps_targets s single) b ca way kk false) ∙ ar) in
               let e1 : kk ≡ length ca.ins + place = q ∙ ap (λ (x : ℕ). x + place) (sym counted) in

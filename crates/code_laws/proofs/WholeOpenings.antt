@@ -109,7 +109,7 @@ no_simple_loop l k (wait ns b) w z h = absurd z
 module _ (s : Core) (C : Code) (l : Layout) (T : Table) where
   -- an entry of a body opens another body so
   pub data OpensAs (t i : ℕ) : Stmt → Way → ℕ → Type 0 where
-    opens_header : {at n b : ℕ} {a : Action} {c : Block} (vs : List Variable) → ((x : ℕ) → x ∈ roles_of a → In (scalar x) vs) → stmt at n a ∈ block_list (T.block_of t) → c ∈ header_blocks a → (entry C i).mark ≡ at → Stands C l T (T.inputs_of t) c vs (ByStep i) b → OpensAs t i (stmt at n a) Through b
+    opens_header : {at n b : ℕ} {a : Action} {c : Block} (vs : List Variable) → ((x : ℕ) → x ∈ roles_of a → In (scalar x) vs) → stmt at n a ∈ block_list (T.block_of t) → c ∈ header_blocks a → (entry C i).offset ≡ at → Stands C l T (T.inputs_of t) c vs (ByStep i) b → OpensAs t i (stmt at n a) Through b
     opens_wait : {at n b : ℕ} {ns : List Awaited} {d c : Block} {hs : List Header} → stmt at n (wait ns d) ∈ block_list (T.block_of t) → Headers (T.inputs_of t) (stmt at n (wait ns d)) hs c
         → Stands C l T (T.inputs_of t) c [] (ByWait i) b → OpensAs t i (stmt at n (wait ns d)) InPlace b
     opens_call : {b : ℕ} {st : Stmt} {c : Call} {f : Function} (at : ℕ) (p : ℤ) → st ∈ block_list (T.block_of t) → calls c ∈ own_of st → CallAs C l (T.inputs_of t) (own_of st) at p c i

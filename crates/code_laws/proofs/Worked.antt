@@ -67,10 +67,10 @@ module _ (fs : List Kinds) (all : List Part) where
   body_same : {b d : ℕ} {is js : List Argument} {os us : List code.Name} → code.Call b is os ≡ code.Call d js us → (b ≡ d) × (is ≡ js) × (os ≡ us)
   body_same h = (cc, cc, cc)
 
-  pub call_fit : (e : Entry) (c : Call) (ins : List Argument) (outs : List code.Name) → c ∈ part_calls all → e.mark ≡ c.at → e.act ≡ code.Call (suc c.function) ins outs → CallFits fs all c ins outs → FitsAs e
+  pub call_fit : (e : Entry) (c : Call) (ins : List Argument) (outs : List code.Name) → c ∈ part_calls all → e.offset ≡ c.at → e.act ≡ code.Call (suc c.function) ins outs → CallFits fs all c ins outs → FitsAs e
   call_fit e c ins outs m q a h f is os z =
       let s = body_same (sym a ∙ z) in
-      record { call = c; there = m; function = (let y = s.0 in omega arith); mark = q; fits = subst (λ (us : List code.Name). CallFits fs all c is us) s.2 (subst (λ (js : List Argument). CallFits fs all c js outs) s.1 h) }
+      record { call = c; there = m; function = (let y = s.0 in omega arith); offset = q; fits = subst (λ (us : List code.Name). CallFits fs all c is us) s.2 (subst (λ (js : List Argument). CallFits fs all c js outs) s.1 h) }
 
   pub fit_none : CallsFit fs all []
   fit_none e f ins outs i = absurd i
@@ -123,7 +123,7 @@ fibonacci_script =
       fit = fit_more _ _ (laid 0) [] (call_fit _ _ (laid 0) _ _ _ first refl refl (one_fits _ (here 35) _ _ false false refl refl refl)) (fit_none _ _);
       parts_as = λ l pl b st.
           one_part (plain_literal pl.0)
-          (one_part (a_call (record { ins = _; outs = _; is = calls_body (b 0) refl refl refl refl; mark_is = refl; inputs = one_input (of_literal first pl.0) no_input; outputs = one_output false no_output })) no_part refl) refl;
+          (one_part (a_call (record { ins = _; outs = _; is = calls_body (b 0) refl refl refl refl; offset_is = refl; inputs = one_input (of_literal first pl.0) no_input; outputs = one_output false no_output })) no_part refl) refl;
     })
     (λ l su. same refl refl refl refl) (refl, refl) refl refl)
     no_statement refl refl refl
@@ -170,9 +170,9 @@ fibonacci_functions =
           (fit_more _ _ (laid 7) [] (call_fit _ _ (laid 7) _ _ _ (later first) refl refl (one_fits _ (here 25) _ _ false false refl refl refl)) (fit_none _ _))));
       parts_as = λ l pl b st.
           one_part (the_cell pl.0 refl (same refl refl refl refl))
-          (one_part (a_call (record { ins = _; outs = _; is = calls_body (b 0) refl refl refl refl; mark_is = refl; inputs = one_input (of_datum {c = record { node = 19; form = _ }} first pl.0) no_input; outputs = one_output false no_output }))
+          (one_part (a_call (record { ins = _; outs = _; is = calls_body (b 0) refl refl refl refl; offset_is = refl; inputs = one_input (of_datum {c = record { node = 19; form = _ }} first pl.0) no_input; outputs = one_output false no_output }))
           (one_part (the_cell pl.1.0 refl (same refl refl refl refl))
-          (one_part (a_call (record { ins = _; outs = _; is = calls_body (b 0) refl refl refl refl; mark_is = refl; inputs = one_input (of_datum {c = record { node = 25; form = _ }} (later first) pl.1.0) no_input; outputs = one_output false no_output })) no_part refl) refl) refl) refl;
+          (one_part (a_call (record { ins = _; outs = _; is = calls_body (b 0) refl refl refl refl; offset_is = refl; inputs = one_input (of_datum {c = record { node = 25; form = _ }} (later first) pl.1.0) no_input; outputs = one_output false no_output })) no_part refl) refl) refl) refl;
     })
     (λ l su. same refl refl refl refl) (refl, refl) refl refl)
     no_statement refl refl refl)

@@ -9,7 +9,7 @@ StoresAtNode (Cell e) = Unit {0}
 StoresAtNode Read = Unit {0}
 StoresAtNode _ = ⊥
 
--- the blocks of the act are opened at the entry's mark
+-- the blocks of the act are opened at the entry's offset
 abbrev pub OpensAtMark : Act → Type 0
 OpensAtMark (Call b rs os) = Unit {0}
 OpensAtMark (If e b d) = Unit {0}
@@ -24,7 +24,7 @@ pub record DoSame (e f : Entry) : Type 0 where
   pub needs : e.needs ≡ f.needs
   pub act : e.act ≡ f.act
   pub node : StoresAtNode e.act → e.node ≡ f.node
-  pub mark : OpensAtMark e.act → e.mark ≡ f.mark
+  pub offset : OpensAtMark e.act → e.offset ≡ f.offset
 
 -- entry by entry
 abbrev pub AllDoSame : List Entry → List Entry → Type 0

@@ -39,7 +39,7 @@ module _ (C : Code) where
     pub holder : ℕ
     pub there : In holder (body C b).entries
     pub inside : Name
-    pub seen : Seen C (entry C i).mark w inside r
+    pub seen : Seen C (entry C i).offset w inside r
     pub right : In inside (entry C holder).writes
 
   -- a body that a run may reach: the script's, and those that an entry of such a body can open

@@ -9,7 +9,7 @@ use Rattle.task_code.specs.Whole.{OpenedBy}
 module _ (C : Code) where
   -- each call is found by the offset that a listing shows
   abbrev pub CallsAreFound : Type 0
-  CallsAreFound = (i b : ℕ) → In (Calling, b) (ways (entry C i).act) → call_at C (entry C i).mark ≡ i
+  CallsAreFound = (i b : ℕ) → In (Calling, b) (ways (entry C i).act) → call_at C (entry C i).offset ≡ i
 
   pub record IsStanding : Type 0 where
     pub script : (body C 0).opener ≡ ByMain

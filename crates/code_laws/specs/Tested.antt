@@ -26,7 +26,7 @@ module _ (C : Code) where
 
   -- an entry of the body that is opened this way may write the variable of the name
   abbrev pub hands_on : Entry → Name → Way × ℕ → Bool
-  hands_on e r s = list_any (λ j. list_any (is_seen C (r ∷ []) e.mark s.0) (entry C j).writes) (body C s.1).entries
+  hands_on e r s = list_any (λ j. list_any (is_seen C (r ∷ []) e.offset s.0) (entry C j).writes) (body C s.1).entries
 
   -- the entry stores the scalar, or passes on the right to it
   abbrev pub is_handed : Entry → Name → Bool

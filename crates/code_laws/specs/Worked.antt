@@ -10,7 +10,7 @@ use Rattle.values.specs.declared.value.Scalar.TheVariants.{Number}
 use Rattle.language.specs.Core.{Core}
 use Rattle.language.specs.Resolved.{core}
 use Rattle.language_laws.specs.ExampleTrees.{table_of_fibonacci, tree_of_fibonacci, table_of_filled_in_a_call, tree_of_filled_in_a_call}
-use Rattle.task_code.specs.Code.{Variable, Name, Parameter, Stored, Closed, AtKey, Expr, constant, need, operation, no_operand, operand, Named, Fixed, Cell, Read, Call, Set, Put, Print, If, Range, Entry, ByMain, ByCalls, ByStep, Code, here, scalar}
+use Rattle.task_code.specs.Code.{Variable, Name, Parameter, Stored, Closed, AtKey, Expr, constant, need, operation, no_operand, operand, Named, Fixed, Cell, Read, Call, Set, InsertElement, Print, If, Range, Entry, ByMain, ByCalls, ByStep, Code, here, scalar}
 use Rattle.code_rules.specs.Laying.{Kinds}
 
 abbrev pub two : Operation → Expr → Expr → Expr
@@ -41,16 +41,16 @@ r1 = record { up = 1; owned = Parameter 1 false }
 -- the entries of the branches before the branch's own
 abbrev pub fibonacci_entries : List Entry
 fibonacci_entries =
-    record { node = 34; at = 79; mark = 92; priority = pos 0; needs = []; act = Call 1 (Fixed (Number (pos 10)) ∷ []) (here (scalar 34) ∷ []); reads = []; writes = here (scalar 34) ∷ [] }
-    ∷ record { node = 29; at = 79; mark = 79; priority = pos 0; needs = Stored (here (scalar 34)) ∷ []; act = Print (operation (printf (digits ∷ [])) (operand (need 0) no_operand)); reads = here (scalar 34) ∷ []; writes = [] }
-    ∷ record { node = 6; at = 21; mark = 25; priority = pos 0; needs = Stored n ∷ []; act = Cell (two (compare Less) (need 0) (num 2)); reads = n ∷ []; writes = here (scalar 6) ∷ [] }
-    ∷ record { node = 10; at = 34; mark = 34; priority = pos 0; needs = Stored n1 ∷ []; act = Set r1 (need 0); reads = n1 ∷ []; writes = r1 ∷ [] }
-    ∷ record { node = 19; at = 50; mark = 58; priority = pos 0; needs = Stored n1 ∷ []; act = Cell (two (sum_of (Minus ∷ [])) (need 0) (num 1)); reads = n1 ∷ []; writes = here (scalar 19) ∷ [] }
-    ∷ record { node = 18; at = 50; mark = 54; priority = pos 0; needs = []; act = Call 1 (Named (here (scalar 19)) ∷ []) (here (scalar 18) ∷ []); reads = here (scalar 19) ∷ []; writes = here (scalar 18) ∷ [] }
-    ∷ record { node = 25; at = 50; mark = 69; priority = pos 0; needs = Stored n1 ∷ []; act = Cell (two (sum_of (Minus ∷ [])) (need 0) (num 2)); reads = n1 ∷ []; writes = here (scalar 25) ∷ [] }
-    ∷ record { node = 24; at = 50; mark = 65; priority = pos 0; needs = []; act = Call 1 (Named (here (scalar 25)) ∷ []) (here (scalar 24) ∷ []); reads = here (scalar 25) ∷ []; writes = here (scalar 24) ∷ [] }
-    ∷ record { node = 14; at = 50; mark = 50; priority = pos 0; needs = Stored (here (scalar 18)) ∷ Stored (here (scalar 24)) ∷ []; act = Set r1 (two (sum_of (Plus ∷ [])) (need 0) (need 1)); reads = here (scalar 18) ∷ here (scalar 24) ∷ []; writes = r1 ∷ [] }
-    ∷ record { node = 5; at = 21; mark = 21; priority = pos 0; needs = Stored (here (scalar 6)) ∷ []; act = If (need 0) 2 (Some 3); reads = here (scalar 6) ∷ n ∷ []; writes = r ∷ [] }
+    record { node = 34; at = 79; offset = 92; priority = pos 0; needs = []; act = Call 1 (Fixed (Number (pos 10)) ∷ []) (here (scalar 34) ∷ []); reads = []; writes = here (scalar 34) ∷ [] }
+    ∷ record { node = 29; at = 79; offset = 79; priority = pos 0; needs = Stored (here (scalar 34)) ∷ []; act = Print (operation (printf (digits ∷ [])) (operand (need 0) no_operand)); reads = here (scalar 34) ∷ []; writes = [] }
+    ∷ record { node = 6; at = 21; offset = 25; priority = pos 0; needs = Stored n ∷ []; act = Cell (two (compare Less) (need 0) (num 2)); reads = n ∷ []; writes = here (scalar 6) ∷ [] }
+    ∷ record { node = 10; at = 34; offset = 34; priority = pos 0; needs = Stored n1 ∷ []; act = Set r1 (need 0); reads = n1 ∷ []; writes = r1 ∷ [] }
+    ∷ record { node = 19; at = 50; offset = 58; priority = pos 0; needs = Stored n1 ∷ []; act = Cell (two (sum_of (Minus ∷ [])) (need 0) (num 1)); reads = n1 ∷ []; writes = here (scalar 19) ∷ [] }
+    ∷ record { node = 18; at = 50; offset = 54; priority = pos 0; needs = []; act = Call 1 (Named (here (scalar 19)) ∷ []) (here (scalar 18) ∷ []); reads = here (scalar 19) ∷ []; writes = here (scalar 18) ∷ [] }
+    ∷ record { node = 25; at = 50; offset = 69; priority = pos 0; needs = Stored n1 ∷ []; act = Cell (two (sum_of (Minus ∷ [])) (need 0) (num 2)); reads = n1 ∷ []; writes = here (scalar 25) ∷ [] }
+    ∷ record { node = 24; at = 50; offset = 65; priority = pos 0; needs = []; act = Call 1 (Named (here (scalar 25)) ∷ []) (here (scalar 24) ∷ []); reads = here (scalar 25) ∷ []; writes = here (scalar 24) ∷ [] }
+    ∷ record { node = 14; at = 50; offset = 50; priority = pos 0; needs = Stored (here (scalar 18)) ∷ Stored (here (scalar 24)) ∷ []; act = Set r1 (two (sum_of (Plus ∷ [])) (need 0) (need 1)); reads = here (scalar 18) ∷ here (scalar 24) ∷ []; writes = r1 ∷ [] }
+    ∷ record { node = 5; at = 21; offset = 21; priority = pos 0; needs = Stored (here (scalar 6)) ∷ []; act = If (need 0) 2 (Some 3); reads = here (scalar 6) ∷ n ∷ []; writes = r ∷ [] }
     ∷ []
 
 abbrev pub fibonacci_code : Code
@@ -99,13 +99,13 @@ b1 = record { up = 1; owned = Parameter 1 true }
 abbrev pub filled_code : Code
 filled_code = record {
   entries =
-      record { node = 23; at = 69; mark = 73; priority = pos 0; needs = []; act = Call 1 (Fixed (Number (pos 4)) ∷ []) (here c ∷ []); reads = []; writes = here c ∷ [] }
-      ∷ record { node = 36; at = 79; mark = 104; priority = pos 0; needs = AtKey (here c) (number_key (pos 3)) ∷ []; act = Read; reads = here c ∷ []; writes = here (scalar 36) ∷ [] }
-      ∷ record { node = 28; at = 79; mark = 79; priority = pos 0; needs = Closed (here c) ∷ Stored (here (scalar 36)) ∷ []; act = Print (operation (printf (digits ∷ Byte 32 ∷ digits ∷ [])) (operand (operation size (operand (need 0) no_operand)) (operand (need 1) no_operand))); reads = here c ∷ here (scalar 36) ∷ []; writes = [] }
-      ∷ record { node = 8; at = 21; mark = 37; priority = pos 0; needs = Stored n ∷ []; act = Cell (two (sum_of (Minus ∷ [])) (need 0) (num 1)); reads = n ∷ []; writes = here (scalar 8) ∷ [] }
-      ∷ record { node = 16; at = 44; mark = 51; priority = pos 0; needs = Stored (here (scalar 6)) ∷ []; act = Cell (two (product_of (Times ∷ [])) (need 0) (need 0)); reads = here (scalar 6) ∷ []; writes = here (scalar 16) ∷ [] }
-      ∷ record { node = 12; at = 44; mark = 44; priority = pos 0; needs = Stored (here (scalar 6)) ∷ Stored (here (scalar 16)) ∷ []; act = Put b1 (need 0) (need 1); reads = here (scalar 6) ∷ here (scalar 16) ∷ []; writes = b1 ∷ [] }
-      ∷ record { node = 5; at = 21; mark = 21; priority = pos 0; needs = Stored (here (scalar 8)) ∷ []; act = Range (num 0) (need 0) (num 1) (record { body = 2; value = 6; turn = None }); reads = here (scalar 8) ∷ []; writes = b ∷ [] }
+      record { node = 23; at = 69; offset = 73; priority = pos 0; needs = []; act = Call 1 (Fixed (Number (pos 4)) ∷ []) (here c ∷ []); reads = []; writes = here c ∷ [] }
+      ∷ record { node = 36; at = 79; offset = 104; priority = pos 0; needs = AtKey (here c) (number_key (pos 3)) ∷ []; act = Read; reads = here c ∷ []; writes = here (scalar 36) ∷ [] }
+      ∷ record { node = 28; at = 79; offset = 79; priority = pos 0; needs = Closed (here c) ∷ Stored (here (scalar 36)) ∷ []; act = Print (operation (printf (digits ∷ Byte 32 ∷ digits ∷ [])) (operand (operation size (operand (need 0) no_operand)) (operand (need 1) no_operand))); reads = here c ∷ here (scalar 36) ∷ []; writes = [] }
+      ∷ record { node = 8; at = 21; offset = 37; priority = pos 0; needs = Stored n ∷ []; act = Cell (two (sum_of (Minus ∷ [])) (need 0) (num 1)); reads = n ∷ []; writes = here (scalar 8) ∷ [] }
+      ∷ record { node = 16; at = 44; offset = 51; priority = pos 0; needs = Stored (here (scalar 6)) ∷ []; act = Cell (two (product_of (Times ∷ [])) (need 0) (need 0)); reads = here (scalar 6) ∷ []; writes = here (scalar 16) ∷ [] }
+      ∷ record { node = 12; at = 44; offset = 44; priority = pos 0; needs = Stored (here (scalar 6)) ∷ Stored (here (scalar 16)) ∷ []; act = InsertElement b1 (need 0) (need 1); reads = here (scalar 6) ∷ here (scalar 16) ∷ []; writes = b1 ∷ [] }
+      ∷ record { node = 5; at = 21; offset = 21; priority = pos 0; needs = Stored (here (scalar 8)) ∷ []; act = Range (num 0) (need 0) (num 1) (record { body = 2; value = 6; turn = None }); reads = here (scalar 8) ∷ []; writes = b ∷ [] }
       ∷ [];
   bodies =
       record { opener = ByMain; makes = c ∷ scalar 36 ∷ []; entries = 0 ∷ 1 ∷ 2 ∷ [] }

@@ -19,11 +19,11 @@ ghost use Rattle.language.specs.Resolved.{core};
 ghost use Rattle.language.specs.Table.{Table};
 ghost use Rattle.language.specs.Tree.{Tree};
 
-/// Proves that in laid code an entry that calls a function is found by its mark. The core has an offset of its own for
+/// Proves that in laid code an entry that calls a function is found by its offset. The core has an offset of its own for
 /// each call and a node of its own for each cell. The index of each read stands before it.
 pub fn calls_are_found()
     ensures { (c : Core) (fs : List Kinds) (ds : List (ℕ × Bool)) (C : Code) → LaysScript c fs ds C → CellsOnce c → ReadsStand c → CallsOnce c
-        → (i b : ℕ) → In (Calling, b) (ways (entry C i).act) → call_at C (entry C i).mark ≡ i }
+        → (i b : ℕ) → In (Calling, b) (ways (entry C i).act) → call_at C (entry C i).offset ≡ i }
 {}
 
 /// Proves bounds on the size of laid code. If the core has n functions, statements, cells and calls, the code has at

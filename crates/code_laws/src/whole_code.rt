@@ -55,7 +55,7 @@ pub fn accepted_code_is_within()
 /// Proves that laid code of a placed, well typed and singly assigned tree, with exact rights, is whole.
 ///
 /// Emission receives which inputs, outputs and variables are arrays, as the tree declares them. Each call has its own
-/// mark, each node belongs to one entry, and each entry has exactly the rights that it leads to. Then all bodies fit
+/// offset, each node belongs to one entry, and each entry has exactly the rights that it leads to. Then all bodies fit
 /// together.
 pub fn accepted_code_is_whole()
     ensures { (t : Table) (tree : Tree) (fs : List Kinds) (ds : List (ℕ × Bool)) (C : Code) (l : Layout) → IsPlaced tree → WellTyped tree t

@@ -312,11 +312,19 @@ fn add_stores<A: Allocator>(
     act: &Act,
 ) {
     match act {
-        Act::Set(name, _) | Act::Fill(name, _) | Act::Copy(name) | Act::Put(name, _, _) => {
-            add_store(page, scope, place, name);
-        }
+        Act::Set(name, _) | Act::Fill(name, _) | Act::Copy(name) | Act::InsertElement(name, _, _) =>
+            {
+                add_store(page, scope, place, name);
+            }
         Act::Call { outputs, .. } => add_outputs(page, scope, place, outputs),
-        _ => {}
+        Act::Cell(_)
+        | Act::Read
+        | Act::Print(_)
+        | Act::Assert(_)
+        | Act::If(_, _, _)
+        | Act::Range(_, _, _, _)
+        | Act::Each(_)
+        | Act::Wait(_, _) => {}
     }
 }
 
@@ -361,7 +369,14 @@ fn add_opened(page: &mut TextBuffer, places: &Vec<usize>, place: usize, k: usize
         Act::Range(_, _, _, turns) => add_body_edge(page, places, place, k, turns.body),
         Act::Each(turns) => add_body_edge(page, places, place, k, turns.body),
         Act::Wait(_, body) => add_body_edge(page, places, place, k, *body),
-        _ => {}
+        Act::Cell(_)
+        | Act::Read
+        | Act::Set(_, _)
+        | Act::Fill(_, _)
+        | Act::Copy(_)
+        | Act::InsertElement(_, _, _)
+        | Act::Print(_)
+        | Act::Assert(_) => {}
     }
 }
 

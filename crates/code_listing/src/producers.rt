@@ -57,7 +57,16 @@ impl Producers {
         match &entry.act {
             Act::Cell(_) | Act::Read => self.add(entry.node, number),
             Act::Call { outputs, .. } => self.add_outputs(outputs, number),
-            _ => Ok(()),
+            Act::Set(_, _)
+            | Act::Fill(_, _)
+            | Act::Copy(_)
+            | Act::InsertElement(_, _, _)
+            | Act::Print(_)
+            | Act::Assert(_)
+            | Act::If(_, _, _)
+            | Act::Range(_, _, _, _)
+            | Act::Each(_)
+            | Act::Wait(_, _) => Ok(()),
         }
     }
 

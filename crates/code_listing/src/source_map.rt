@@ -204,7 +204,12 @@ fn find_action<'a, A: Allocator>(found: &mut SourceMap<'a>, function: u32, actio
             ..
         } => find_loop(found, function, value, key, body),
         Action::Wait { content, .. } => find_opened(found, function, BodyKind::Wait, content),
-        _ => {}
+        Action::Call { .. }
+        | Action::Assign { .. }
+        | Action::Fill { .. }
+        | Action::Insert { .. }
+        | Action::Print { .. }
+        | Action::Assert { .. } => {}
     }
 }
 

@@ -119,10 +119,10 @@ fn add_entry<A: Allocator>(
     page.add(b"\n");
 }
 
-/// Writes the kind of an entry, its act, its mark in the script, and its priority.
+/// Writes the kind of an entry, its act, its offset in the script, and its priority.
 pub fn add_act(page: &mut TextBuffer, entry: &Entry) {
     page.add(kind_text(entry.act.kind()).as_bytes());
-    page.add_counted(act_text(&entry.act).as_bytes(), entry.mark);
+    page.add_counted(act_text(&entry.act).as_bytes(), entry.offset);
     page.add(b" ");
     page.add_priority(entry.priority);
 }
@@ -144,7 +144,7 @@ pub fn act_text(act: &Act) -> &'static str {
         Act::Set(_, _) => " set ",
         Act::Fill(_, _) => " fill ",
         Act::Copy(_) => " copy ",
-        Act::Put(_, _, _) => " put ",
+        Act::InsertElement(_, _, _) => " put ",
         Act::Print(_) => " print ",
         Act::Assert(_) => " assert ",
         Act::If(_, _, _) => " if ",
@@ -166,7 +166,14 @@ fn add_opened(page: &mut TextBuffer, places: &Vec<usize>, act: &Act) {
         Act::Range(_, _, _, turns) => add_first(page, places, turns.body),
         Act::Each(turns) => add_first(page, places, turns.body),
         Act::Wait(_, body) => add_first(page, places, *body),
-        _ => {}
+        Act::Cell(_)
+        | Act::Read
+        | Act::Set(_, _)
+        | Act::Fill(_, _)
+        | Act::Copy(_)
+        | Act::InsertElement(_, _, _)
+        | Act::Print(_)
+        | Act::Assert(_) => {}
     }
 }
 

@@ -10,7 +10,7 @@ use Rattle.language.specs.Members.{◌∈◌}
 use Rattle.language.specs.Parts.{part_cells, parts, block_list}
 use Rattle.language_laws.specs.TypedValues.{own_parts}
 use Rattle.task_code.specs.Code as code
-use Rattle.task_code.specs.Code.{Variable, Need, At, AtKey, Closed, Argument, Named, Fixed, Header, Loop, Act, Read, Set, Fill, Copy, Put, Print, Assert, If, Range, Each, Wait, Entry, Code, entry, body, constant, no_operand}
+use Rattle.task_code.specs.Code.{Variable, Need, At, AtKey, Closed, Argument, Named, Fixed, Header, Loop, Act, Read, Set, Fill, Copy, InsertElement, Print, Assert, If, Range, Each, Wait, Entry, Code, entry, body, constant, no_operand}
 use Rattle.task_code.specs.Compute.{key_of}
 use Rattle.code_rules.specs.CodeNames.{name_as, wanted, each_once, over, all_over, header}
 
@@ -79,7 +79,7 @@ module _ (l : Layout) (k : ℕ) where
   abbrev pub simple_act : List Need → Action → Act
   simple_act ns (assign x o) = Set (name_as k false x) (over k ns (own_expr o))
   simple_act ns (fill a o) = fill_act ns a (own_expr o)
-  simple_act ns (insert a i o) = Put (name_as k true a) (over k ns (seen l i.cell)) (over k ns (seen l o.cell))
+  simple_act ns (insert a i o) = InsertElement (name_as k true a) (over k ns (seen l i.cell)) (over k ns (seen l o.cell))
   simple_act ns (assert p o) = Assert (over k ns (own_expr o))
   simple_act ns (print p o) = Print (over k ns (own_expr o))
   simple_act ns a = Print (constant (Number (pos 0)))
@@ -133,7 +133,7 @@ module _ (C : Code) (l : Layout) where
     pub ins : List Argument
     pub outs : List code.Name
     pub is : IsEntry (entry C j) at p [] (code.Call (l.body_of c.function) ins outs)
-    pub mark_is : (entry C j).mark ≡ c.at
+    pub offset_is : (entry C j).offset ≡ c.at
     pub inputs : InputsAs k all c.inputs ins
     pub outputs : OutputsAs k c.outputs outs
 
@@ -174,19 +174,19 @@ module _ (C : Code) (l : Layout) where
           → IsEntry (entry C j) at (own_priority a) (own_needs l k a) (simple_act l k (own_needs l k a) a) → (entry C j).node ≡ n → es ≡ is ++ j ∷ []
           → StmtAs k (stmt at n a) es
       branch : {at n t : ℕ} (j : ℕ) {c : Outer} {b : Block} {es is : List ℕ} → PartsAs k (parts (when c b)) at (pos 0) (parts (when c b)) is
-          → IsEntry (entry C j) at (pos 0) (own_needs l k (when c b)) (If (over k (own_needs l k (when c b)) (seen l c.cell)) t None) → (entry C j).mark ≡ at → BodyAs k b t → es ≡ is ++ j ∷ []
+          → IsEntry (entry C j) at (pos 0) (own_needs l k (when c b)) (If (over k (own_needs l k (when c b)) (seen l c.cell)) t None) → (entry C j).offset ≡ at → BodyAs k b t → es ≡ is ++ j ∷ []
           → StmtAs k (stmt at n (when c b)) es
       branches : {at n t u : ℕ} (j : ℕ) {c : Outer} {b d : Block} {es is : List ℕ} → PartsAs k (parts (choose c b d)) at (pos 0) (parts (choose c b d)) is
-          → IsEntry (entry C j) at (pos 0) (own_needs l k (choose c b d)) (If (over k (own_needs l k (choose c b d)) (seen l c.cell)) t (Some u)) → (entry C j).mark ≡ at → BodyAs k b t → BodyAs k d u → es ≡ is ++ j ∷ []
+          → IsEntry (entry C j) at (pos 0) (own_needs l k (choose c b d)) (If (over k (own_needs l k (choose c b d)) (seen l c.cell)) t (Some u)) → (entry C j).offset ≡ at → BodyAs k b t → BodyAs k d u → es ≡ is ++ j ∷ []
           → StmtAs k (stmt at n (choose c b d)) es
       range_loop : {at n t x : ℕ} (j : ℕ) {lo hi : Outer} {st : Option Outer} {y : Option ℕ} {b : Block} {es is : List ℕ}
           → PartsAs k (parts (range lo hi st x y b)) at (pos 0) (parts (range lo hi st x y b)) is
           → IsEntry (entry C j) at (pos 0) (own_needs l k (range lo hi st x y b))
           (Range (over k (own_needs l k (range lo hi st x y b)) (seen l lo.cell)) (over k (own_needs l k (range lo hi st x y b)) (seen l hi.cell)) (over k (own_needs l k (range lo hi st x y b)) (step_expr l k st)) (record { body = t; value = x; turn = y }))
-          → (entry C j).mark ≡ at → BodyAs k b t → es ≡ is ++ j ∷ []
+          → (entry C j).offset ≡ at → BodyAs k b t → es ≡ is ++ j ∷ []
           → StmtAs k (stmt at n (range lo hi st x y b)) es
       array_loop : {at n t x : ℕ} (j : ℕ) {a : Name} {y : Option ℕ} {b : Block} {es : List ℕ}
-          → IsEntry (entry C j) at (pos 0) (own_needs l k (each a x y b)) (Each (record { body = t; value = x; turn = y })) → (entry C j).mark ≡ at → BodyAs k b t → es ≡ j ∷ []
+          → IsEntry (entry C j) at (pos 0) (own_needs l k (each a x y b)) (Each (record { body = t; value = x; turn = y })) → (entry C j).offset ≡ at → BodyAs k b t → es ≡ j ∷ []
           → StmtAs k (stmt at n (each a x y b)) es
       waits : {at n t : ℕ} (j : ℕ) {ns : List Awaited} {b : Block} {hs : List Header} {es : List ℕ} → WaitAs k (stmt at n (wait ns b)) hs t
           → IsEntry (entry C j) at (pos 0) (each_once (flat_map (λ h. h.needs) hs)) (Wait hs t) → es ≡ j ∷ []

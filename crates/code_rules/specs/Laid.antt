@@ -39,22 +39,22 @@ module _ (C : Code) (l : Layout) (T : Table) where
         → IsEntry (entry C j) at (own_priority a) (own_needs l k a) (simple_act l k (own_needs l k a) a) → (entry C j).node ≡ n → es ≡ is ++ j ∷ []
         → StmtLaid k (stmt at n a) es (data_of a)
     branch_laid : {at n t : ℕ} (j : ℕ) {c : Outer} {b : Block} {es is : List ℕ} → PartsAs C l k (parts (when c b)) at (pos 0) (parts (when c b)) is
-        → IsEntry (entry C j) at (pos 0) (own_needs l k (when c b)) (If (over k (own_needs l k (when c b)) (seen l c.cell)) t None) → (entry C j).mark ≡ at
+        → IsEntry (entry C j) at (pos 0) (own_needs l k (when c b)) (If (over k (own_needs l k (when c b)) (seen l c.cell)) t None) → (entry C j).offset ≡ at
         → Stands k b [] (ByStep j) t → es ≡ is ++ j ∷ []
         → StmtLaid k (stmt at n (when c b)) es (data_of (when c b))
     branches_laid : {at n t u : ℕ} (j : ℕ) {c : Outer} {b d : Block} {es is : List ℕ} → PartsAs C l k (parts (choose c b d)) at (pos 0) (parts (choose c b d)) is
-        → IsEntry (entry C j) at (pos 0) (own_needs l k (choose c b d)) (If (over k (own_needs l k (choose c b d)) (seen l c.cell)) t (Some u)) → (entry C j).mark ≡ at
+        → IsEntry (entry C j) at (pos 0) (own_needs l k (choose c b d)) (If (over k (own_needs l k (choose c b d)) (seen l c.cell)) t (Some u)) → (entry C j).offset ≡ at
         → Stands k b [] (ByStep j) t → Stands k d [] (ByStep j) u → es ≡ is ++ j ∷ []
         → StmtLaid k (stmt at n (choose c b d)) es (data_of (choose c b d))
     range_laid : {at n t x : ℕ} (j : ℕ) {lo hi : Outer} {st : Option Outer} {y : Option ℕ} {b : Block} {es is : List ℕ}
         → PartsAs C l k (parts (range lo hi st x y b)) at (pos 0) (parts (range lo hi st x y b)) is
         → IsEntry (entry C j) at (pos 0) (own_needs l k (range lo hi st x y b))
         (Range (over k (own_needs l k (range lo hi st x y b)) (seen l lo.cell)) (over k (own_needs l k (range lo hi st x y b)) (seen l hi.cell)) (over k (own_needs l k (range lo hi st x y b)) (step_expr l k st)) (record { body = t; value = x; turn = y }))
-        → (entry C j).mark ≡ at → Stands k b (loop_variables (record { body = t; value = x; turn = y })) (ByStep j) t → es ≡ is ++ j ∷ []
+        → (entry C j).offset ≡ at → Stands k b (loop_variables (record { body = t; value = x; turn = y })) (ByStep j) t → es ≡ is ++ j ∷ []
         → StmtLaid k (stmt at n (range lo hi st x y b)) es (data_of (range lo hi st x y b))
     each_laid : {at n t x : ℕ} (j : ℕ) {a : Name} {y : Option ℕ} {b : Block} {es : List ℕ}
         → IsEntry (entry C j) at (pos 0) (own_needs l k (each a x y b)) (Each (record { body = t; value = x; turn = y }))
-        → (entry C j).mark ≡ at → Stands k b (loop_variables (record { body = t; value = x; turn = y })) (ByStep j) t → es ≡ j ∷ []
+        → (entry C j).offset ≡ at → Stands k b (loop_variables (record { body = t; value = x; turn = y })) (ByStep j) t → es ≡ j ∷ []
         → StmtLaid k (stmt at n (each a x y b)) es []
     wait_laid : {at n t : ℕ} (j : ℕ) {ns : List Awaited} {c b : Block} {hs : List Header} {es : List ℕ} → Headers k (stmt at n (wait ns c)) hs b
         → IsEntry (entry C j) at (pos 0) (each_once (flat_map (λ h. h.needs) hs)) (Wait hs t) → Stands k b [] (ByWait j) t → es ≡ j ∷ []

@@ -102,7 +102,7 @@ pub record IsCallOf (fs : List Kinds) (all : List Part) (e : Entry) (f : ℕ) (i
   pub call : Call
   pub there : call ∈ part_calls all
   pub function : call.function ≡ f
-  pub mark : e.mark ≡ call.at
+  pub offset : e.offset ≡ call.at
   pub fits : CallFits fs all call ins outs
 
 abbrev pub CallsFit : List Kinds → List Part → List Entry → Type 0
@@ -184,18 +184,18 @@ module _ (fs : List Kinds) (roots : ℕ) (k : ℕ) where
           → LaysStmt (stmt at n (call_alone p ps c)) [] s t es (data_in None ps)
       simple : {at n : ℕ} {a : Action} (e : Entry) {s t u : Laying} {es is : List ℕ} → IsSimple a
           → LaysParts fs k (own_parts a) at (own_priority a) s t is
-          → IsOwnEntry e at k a (λ l. simple_act l k (own_needs l k a) a) → (e.node ≡ n) × (e.mark ≡ at)
+          → IsOwnEntry e at k a (λ l. simple_act l k (own_needs l k a) a) → (e.node ≡ n) × (e.offset ≡ at)
           → u ≡ with_entry t e → es ≡ is ++ length t.entries ∷ []
           → LaysStmt (stmt at n a) [] s u es (data_of a)
       branch : {at n : ℕ} {c : Outer} {b : Block} {ds : List (ℕ × Bool)} (e : Entry) {s t u w : Laying} {es is js : List ℕ} {vs : List Variable}
           → LaysParts fs k (parts (when c b)) at (pos 0) s t is → LaysBlock b ds t u js vs
-          → IsOwnEntry e at k (when c b) (λ l. If (over k (own_needs l k (when c b)) (seen l c.cell)) (next_body roots u) None) → e.mark ≡ at
+          → IsOwnEntry e at k (when c b) (λ l. If (over k (own_needs l k (when c b)) (seen l c.cell)) (next_body roots u) None) → e.offset ≡ at
           → w ≡ with_bodies (with_entry u e) (record { opener = ByStep (length u.entries); makes = vs; entries = js } ∷ [])
           → es ≡ is ++ length u.entries ∷ []
           → LaysStmt (stmt at n (when c b)) ds s w es (data_of (when c b))
       branches : {at n : ℕ} {c : Outer} {b d : Block} {bs cs ds : List (ℕ × Bool)} (e : Entry) {s t u v w : Laying} {es is js ks : List ℕ} {vs ws : List Variable}
           → LaysParts fs k (parts (choose c b d)) at (pos 0) s t is → LaysBlock b bs t u js vs → LaysBlock d cs u v ks ws → ds ≡ bs ++ cs
-          → IsOwnEntry e at k (choose c b d) (λ l. If (over k (own_needs l k (choose c b d)) (seen l c.cell)) (next_body roots v) (Some (suc (next_body roots v)))) → e.mark ≡ at
+          → IsOwnEntry e at k (choose c b d) (λ l. If (over k (own_needs l k (choose c b d)) (seen l c.cell)) (next_body roots v) (Some (suc (next_body roots v)))) → e.offset ≡ at
           → w ≡ with_bodies (with_entry v e) (record { opener = ByStep (length v.entries); makes = vs; entries = js } ∷ record { opener = ByStep (length v.entries); makes = ws; entries = ks } ∷ [])
           → es ≡ is ++ length v.entries ∷ []
           → LaysStmt (stmt at n (choose c b d)) ds s w es (data_of (choose c b d))
@@ -203,19 +203,19 @@ module _ (fs : List Kinds) (roots : ℕ) (k : ℕ) where
           → LaysParts fs k (parts (range lo hi st x y b)) at (pos 0) s t is → LaysBlock b ds t u js vs
           → IsOwnEntry e at k (range lo hi st x y b)
           (λ l. Range (over k (own_needs l k (range lo hi st x y b)) (seen l lo.cell)) (over k (own_needs l k (range lo hi st x y b)) (seen l hi.cell)) (over k (own_needs l k (range lo hi st x y b)) (step_expr l k st)) (record { body = next_body roots u; value = x; turn = y }))
-          → e.mark ≡ at
+          → e.offset ≡ at
           → w ≡ with_bodies (with_entry u e) (record { opener = ByStep (length u.entries); makes = loop_variables (record { body = next_body roots u; value = x; turn = y }) ++ vs; entries = js } ∷ [])
           → es ≡ is ++ length u.entries ∷ []
           → LaysStmt (stmt at n (range lo hi st x y b)) ds s w es (data_of (range lo hi st x y b))
       array_loop : {at n x : ℕ} {a : Name} {y : Option ℕ} {b : Block} {ds : List (ℕ × Bool)} (e : Entry) {s u w : Laying} {es js : List ℕ} {vs : List Variable}
           → LaysBlock b ds s u js vs
-          → IsOwnEntry e at k (each a x y b) (λ l. Each (record { body = next_body roots u; value = x; turn = y })) → e.mark ≡ at
+          → IsOwnEntry e at k (each a x y b) (λ l. Each (record { body = next_body roots u; value = x; turn = y })) → e.offset ≡ at
           → w ≡ with_bodies (with_entry u e) (record { opener = ByStep (length u.entries); makes = loop_variables (record { body = next_body roots u; value = x; turn = y }) ++ vs; entries = js } ∷ [])
           → es ≡ length u.entries ∷ []
           → LaysStmt (stmt at n (each a x y b)) ds s w es []
       waits : {at n : ℕ} {ns : List Awaited} {c b : Block} {hs : List Header} {ds : List (ℕ × Bool)} (e : Entry) {s u w : Laying} {es js : List ℕ} {vs : List Variable}
           → Headers k (stmt at n (wait ns c)) hs b → LaysBlock b ds s u js vs
-          → IsEntry e at (pos 0) (each_once (flat_map (λ h. h.needs) hs)) (Wait hs (next_body roots u)) × (e.mark ≡ at)
+          → IsEntry e at (pos 0) (each_once (flat_map (λ h. h.needs) hs)) (Wait hs (next_body roots u)) × (e.offset ≡ at)
           → w ≡ with_bodies (with_entry u e) (record { opener = ByWait (length u.entries); makes = vs; entries = js } ∷ [])
           → es ≡ length u.entries ∷ []
           → LaysStmt (stmt at n (wait ns c)) ds s w es []

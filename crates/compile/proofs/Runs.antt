@@ -55,6 +55,7 @@ use Rattle.constant_fold.proofs.Typed.{folded_typed, signatures_stay}
 use Rattle.compile.specs.Compiled.{IsCompiled, IsFoldedFlowOf, RunsAreLive, RunsGoOn}
 use Rattle.compile.specs.Accepted.{IsAccepted}
 use Rattle.compile.proofs.Sizes.{room_fold, small_fold}
+use Rattle.values.specs.Limits.{max_entries}
 
 runs_go_on : (C : Code) → IsCode C → RunsGoOn C
 runs_go_on C I = record {
@@ -113,7 +114,7 @@ module _ (src : List ℕ) (t : Table) (tree : Tree) (fs : List Kinds) (ds : List
       headline_too (core t (folded_tree tree)) (core t tree) (turned_core (folds_same src t tree a)) C
       (headline_emitted t (folded_tree tree) fs ds C (folds_placed src t tree a) (folds_typed src t tree a) (folds_single src t tree a) (kinds_stay fs tree kinds) (declared_stay ds tree declared) e)
 
-  few : length C.entries ≤ 4194304
+  few : length C.entries ≤ max_entries
   few =
       let x = laid_small (core t (folded_tree tree)) fs ds C e.laid (accepted_cells t (folded_tree tree) (folds_placed src t tree a)) (reads_stand t (folded_tree tree)) in
       let y = small_fold src t tree a.reads in
@@ -174,8 +175,8 @@ module _ {A : Type 0} (src : List ℕ) (flow : Flow A) (is : IsFoldedFlowOf src 
   pub flow_room : CoreRoom (core_of flow)
   flow_room = subst CoreRoom back (room_fold src is.0 is.1 (is.2).reads (is.2).typed)
 
-  pub flow_size : size_of (core_of flow) ≤ 4194304
-  flow_size = subst (λ (c : Core). size_of c ≤ 4194304) back (small_fold src is.0 is.1 (is.2).reads)
+  pub flow_size : size_of (core_of flow) ≤ max_entries
+  flow_size = subst (λ (c : Core). size_of c ≤ max_entries) back (small_fold src is.0 is.1 (is.2).reads)
 
   -- what it gives is the script's code
   pub compiled : (code : Code) → IsEmitted (core_of flow) (kinds_of flow) (declared_of flow) code → IsCompiled src code

@@ -18,6 +18,7 @@ use Rattle.constant_fold.specs.Folded.{folded_tree}
 use Rattle.constant_fold.proofs.Placed.{folded_placed}
 use Rattle.constant_fold.proofs.Smaller.{tree_small}
 use Rattle.constant_fold.proofs.Typed.{folded_typed}
+use Rattle.values.specs.Limits.{max_entries, max_nesting}
 
 each_same : {X : Type 0} (f : ℕ → X → X) (size : X → ℕ) → ((n : ℕ) (x : X) → size (f n x) ≡ size x) → (n : ℕ) (xs : List X) → sum_by size (numbered_each f size n xs) ≡ sum_by size xs
 each_same f size h n [] = refl
@@ -97,7 +98,7 @@ numbered_same n t = each_same numbered_part part_size part_same n t
 -- a tree that was read has at most two numbers for each byte
 pub read_fits : (src : List ℕ) (tree : Tree) → Reads src tree → tree_size tree ≤ 2097152
 read_fits src tree r =
-    let numbers = script_fits 64 r.tokens r.parsed r.is_script in
+    let numbers = script_fits max_nesting r.tokens r.parsed r.is_script in
     let tokens = tokens_fit src r.tokens r.lexed in
     let same : tree_size tree ≡ tree_size r.parsed = ap tree_size r.is_numbered ∙ numbered_same 1 r.parsed in
     let short = r.short in
@@ -107,7 +108,7 @@ read_fits src tree r =
 fold_fits : (src : List ℕ) (tree : Tree) → Reads src tree → tree_size (folded_tree tree) ≤ 2097152
 fold_fits src tree r = let a = read_fits src tree r in let b = tree_small tree in omega arith
 
-pub small_fold : (src : List ℕ) (t : Table) (tree : Tree) → Reads src tree → size_of (core t (folded_tree tree)) ≤ 4194304
+pub small_fold : (src : List ℕ) (t : Table) (tree : Tree) → Reads src tree → size_of (core t (folded_tree tree)) ≤ max_entries
 small_fold src t tree r = let a = size_within t (folded_tree tree) in let b = fold_fits src tree r in omega arith
 
 pub room_fold : (src : List ℕ) (t : Table) (tree : Tree) → Reads src tree → WellTyped tree t → CoreRoom (core t (folded_tree tree))

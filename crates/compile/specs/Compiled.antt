@@ -26,6 +26,7 @@ use Rattle.code_laws.specs.Described.{DeclaredIn, KindsOf}
 use Rattle.headline.specs.Live.{IsBounded, IsLiveItem}
 use Rattle.constant_fold.specs.Folded.{folded_tree}
 use Rattle.compile.specs.Accepted.{IsAccepted}
+use Rattle.values.specs.Limits.{max_entries}
 
 -- the flow is that of the tree, by this table of its names: its core, which variables, inputs and outputs are arrays,
 -- and no waits left to merge
@@ -91,7 +92,7 @@ pub record IsCompiled (src : List ℕ) (code : Code) : Type 0 where
   pub whole : IsCode code
   pub exact : IsExact code
   pub nodes : NodesOnce code
-  pub few : length code.entries ≤ 4194304
+  pub few : length code.entries ≤ max_entries
   pub headline : Headline (core table tree) code
   pub runs : RunsGoOn code
   pub live : Clean (core table tree) → RunsAreLive (core table tree) code code_of.layout

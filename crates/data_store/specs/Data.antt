@@ -8,10 +8,10 @@ use Rattle.data_store.specs.Arrays.{Array}
 use Rattle.data_store.specs.declared.datum.Content.{Content}
 use Rattle.data_store.specs.declared.datum.Content.TheVariants.{OfScalar, OfArray}
 use Rattle.data_store.specs.declared.datum.Datum.{Datum}
-use Rattle.data_store.specs.declared.datum.DatumKind.{DatumKind}
+use Rattle.values.specs.declared.datum_kind.DatumKind.{DatumKind}
 use Rattle.data_store.specs.declared.refusal.StoreRefusal.{StoreRefusal}
 use Rattle.data_store.specs.declared.refusal.StoreRefusal.TheVariants.{AlreadySet, ElementTwice, Closed, Memory}
-use Rattle.data_store.specs.declared.datum.DatumKind.TheVariants.{Single, Keyed}
+use Rattle.values.specs.declared.datum_kind.DatumKind.TheVariants.{Single, Keyed}
 
 -- the content of a new datum
 abbrev pub nothing : DatumKind → Content

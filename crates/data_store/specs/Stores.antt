@@ -4,7 +4,7 @@ use Rattle.values.specs.declared.value.Scalar.{Scalar}
 use Rattle.data_store.specs.Arrays.{Array}
 use Rattle.data_store.specs.declared.datum.Content.TheVariants.{OfScalar}
 use Rattle.data_store.specs.declared.datum.Datum.{Datum}
-use Rattle.data_store.specs.declared.datum.DatumKind.{DatumKind}
+use Rattle.values.specs.declared.datum_kind.DatumKind.{DatumKind}
 use Rattle.data_store.specs.Data.{shape_of, IsScalar, IsArray, array_in, value_of, nothing, kept}
 
 -- The datum under each number from 0 on, or nothing. The room is the number of further data that are sure to find

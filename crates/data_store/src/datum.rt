@@ -8,18 +8,10 @@ ghost use Rattle.data_store.specs.Data.{nothing, shape_of, IsScalar, IsArray, va
 use crate::elements::Elements;
 use crate::refusal::StoreRefusal;
 use std::alloc::{AllocError, Global};
+use values::datum_kind::DatumKind;
 use values::key::{Key, KeyRef};
 use values::map::Map;
 use values::value::Scalar;
-
-/// The kind of a datum.
-#[derive(Clone, Copy, PartialEq, Eq, Debug, Drop)]
-pub enum DatumKind {
-    /// A scalar, which is written once.
-    Single,
-    /// An array, of which each element is written once.
-    Keyed,
-}
 
 /// The content of a datum.
 #[derive(Drop)]

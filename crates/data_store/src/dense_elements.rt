@@ -13,7 +13,7 @@ use values::map::Element;
 use values::value::Scalar;
 
 // Slack of the density test: about this number of slots may exist while none is occupied.
-const FEW: usize = 64;
+const DENSITY_SLACK: usize = 64;
 
 /// Elements under keys from 0 to 2^32 - 1, in a vector of slots. The keys 0, 1, 2 and so on are adjacent, in whatever
 /// order they are inserted.
@@ -117,7 +117,7 @@ fn make_slot(slots: &mut Vec<Option<Scalar>>, taken: usize, place: usize) -> boo
     ensures few { place < 2 ^ 32 → vec_len slots.old ≤ 2 ^ 32 → vec_len slots.new ≤ 2 ^ 32 }
     ensures there { OnTrue result (place < vec_len slots.new) }
 {
-    if place / 2 > taken.saturating_add(FEW / 2) {
+    if place / 2 > taken.saturating_add(DENSITY_SLACK / 2) {
         return false;
     }
     while slots.len() <= place {

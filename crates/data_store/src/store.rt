@@ -7,12 +7,12 @@ ghost use Rattle.data_store.specs.Arrays.{with_element};
 ghost use Rattle.data_store.specs.Data.{with_value, with_array, with_holds, without_read, without_write, RefusesPut, RefusesInsert};
 ghost use Rattle.data_store.specs.Stores.{empty, live, shape_at, IsLive, IsScalarAt, IsArrayAt, datum, value_at, array_at, fresh, changed, given_up, with_bound, with_room, Adds};
 
-pub use crate::datum::DatumKind;
 use crate::datum::{Content, Datum};
 use crate::refusal::StoreRefusal;
 use slab::Slab;
 use std::alloc::{AllocError, Global};
 use std::marker::Model;
+use values::datum_kind::DatumKind;
 use values::key::{Key, KeyRef};
 use values::map::Map;
 use values::value::Scalar;

@@ -16,7 +16,7 @@ use values::text::Text;
 use values::value::Scalar;
 
 // Maximum number of elements under texts, so that the number of all elements of an array fits in 64 bits.
-const MOST: usize = 1 << 62;
+const MAX_TEXT_KEYS: usize = 1 << 62;
 
 /// The elements under texts. A sorted list of them is made when it is first requested, and is then shared.
 #[derive(Drop)]
@@ -69,7 +69,7 @@ impl TextElements {
         ensures err { OnErr result (self.new ≡ self.old) }
     {
         if self.room < n {
-            if n > MOST - self.by_text.len() {
+            if n > MAX_TEXT_KEYS - self.by_text.len() {
                 return Err(AllocError);
             }
             self.by_text.reserve(n)?;
@@ -123,7 +123,7 @@ fn has_place(len: usize, room: usize) -> bool
     ensures more { OnTrue result (len + 1 + (room - 1) ≤ 2 ^ 62) }
     ensures promised { 0 < room → IsTrue result }
 {
-    room > 0 || len < MOST
+    room > 0 || len < MAX_TEXT_KEYS
 }
 
 // Returns the elements of a table, by ascending key.

@@ -51,7 +51,7 @@ module _ {C D : Code} {l : Layout} {k : ℕ} {all : List Part} where
   part-bare same (plain_name z) = plain_name z
   part-bare same (a_cell {j = j} z nd en) = a_cell z (ap (λ (e : Entry). e.node) (same j) ∙ nd) (moved C D j (same j) en)
   part-bare same (a_read {j = j} z nd ix en) = a_read z (ap (λ (e : Entry). e.node) (same j) ∙ nd) (index-bare ix) (moved C D j (same j) en)
-  part-bare same (a_call {j = j} ca) = a_call (record { ins = ca.ins; outs = ca.outs; is = moved C D j (same j) ca.is; mark_is = ap (λ (e : Entry). e.mark) (same j) ∙ ca.mark_is; inputs = inputs-bare ca.inputs; outputs = outputs-bare ca.outputs })
+  part-bare same (a_call {j = j} ca) = a_call (record { ins = ca.ins; outs = ca.outs; is = moved C D j (same j) ca.is; offset_is = ap (λ (e : Entry). e.offset) (same j) ∙ ca.offset_is; inputs = inputs-bare ca.inputs; outputs = outputs-bare ca.outputs })
 
   parts-bare : {at : ℕ} {p : ℤ} {xs : List Part} {is : List ℕ} → ((j : ℕ) → entry D j ≡ bare (entry C j)) → PartsAs C l k all at p xs is → PartsAs D l k all at p xs is
   parts-bare same no_part = no_part
@@ -66,7 +66,7 @@ fit-bare : {fs : List Kinds} {all : List Part} (es : List Entry) → CallsFit fs
 fit-bare es fit e f ins outs i is =
     let x = in-bare e es i in
     let y = fit x.0 f ins outs x.1 (sym (ap (λ (z : Entry). z.act) x.2) ∙ is) in
-    record { call = y.call; there = y.there; function = y.function; mark = ap (λ (z : Entry). z.mark) x.2 ∙ y.mark; fits = y.fits }
+    record { call = y.call; there = y.there; function = y.function; offset = ap (λ (z : Entry). z.offset) x.2 ∙ y.offset; fits = y.fits }
 
 pub lays-parts-bare : {fs : List Kinds} {k : ℕ} {all : List Part} {at : ℕ} {p : ℤ} {s t : Laying} {es : List ℕ} → LaysParts fs k all at p s t es → LaysParts fs k all at p (bared s) (bared t) es
 lays-parts-bare {s = s} {t = t} lp = record {

@@ -59,7 +59,7 @@ branch-emits fs roots k at n c b ds E0 E1 E2 E3 B0 B2 B3 F0 F1 F2 I0 I1 body num
         numbers = p.numbers ++ length (map entry_view E2) ∷ [];
         data_are = data_in None (outer_parts (c ∷ []));
         by_rule = branch own.entry p.laid r.by_rule
-            (subst (λ (z : ℕ). IsOwnEntry own.entry at k a (λ l. If (over k (own_needs l k a) (seen l c.cell)) z None)) bodies_are own.own) own.mark_is
+            (subst (λ (z : ℕ). IsOwnEntry own.entry at k a (λ l. If (over k (own_needs l k a) (seen l c.cell)) z None)) bodies_are own.own) own.offset_is
             (ap₂ (λ (es : List Entry) (bs : List code.Body). record { entries = es; bodies = bs }) own.is opened) refl;
         entries = own-listed number E2 F0 F1 F2 p.numbers numbered p.entries number_is;
         makes = own-data number E2 F1 F2 numbered ∙ p.makes;
@@ -123,7 +123,7 @@ branches-emit fs roots k at n c b d ds es E0 E1 E2 E3 E4 B0 B2 B3 B4 B5 F0 F1 F2
         data_are = data_in None (outer_parts (c ∷ []));
         by_rule = branches own.entry p.laid r.by_rule q.by_rule refl
             (subst (λ (z : ℕ). IsOwnEntry own.entry at k a (λ l. If (over k (own_needs l k a) (seen l c.cell)) (next_body roots (laying E3 (map body_view B3))) (Some z))) others_are
-            (subst (λ (z : ℕ). IsOwnEntry own.entry at k a (λ l. If (over k (own_needs l k a) (seen l c.cell)) z (Some other))) bodies_are own.own)) own.mark_is
+            (subst (λ (z : ℕ). IsOwnEntry own.entry at k a (λ l. If (over k (own_needs l k a) (seen l c.cell)) z (Some other))) bodies_are own.own)) own.offset_is
             (ap₂ (λ (xs : List Entry) (bs : List code.Body). record { entries = xs; bodies = bs }) own.is opened) refl;
         entries = own-listed number E3 F0 F1 F2 p.numbers numbered p.entries number_is;
         makes = own-data number E3 F1 F2 numbered ∙ p.makes;

@@ -66,7 +66,7 @@ range-emits fs roots k at n lo hi st x y b ds E0 E1 E2 E3 B0 B2 B3 F0 F1 F2 I0 I
         numbers = p.numbers ++ length (map entry_view E2) ∷ [];
         data_are = data_in None (outer_parts (lo ∷ hi ∷ option_to_list st));
         by_rule = range_loop own.entry p.laid r.by_rule
-            (subst (λ (z : Loop). IsOwnEntry own.entry at k a (λ l. Range (over k (own_needs l k a) (seen l lo.cell)) (over k (own_needs l k a) (seen l hi.cell)) (over k (own_needs l k a) (step_expr l k st)) z)) turns_are own.own) own.mark_is
+            (subst (λ (z : Loop). IsOwnEntry own.entry at k a (λ l. Range (over k (own_needs l k a) (seen l lo.cell)) (over k (own_needs l k a) (seen l hi.cell)) (over k (own_needs l k a) (step_expr l k st)) z)) turns_are own.own) own.offset_is
             (ap₂ (λ (es : List Entry) (bs : List code.Body). record { entries = es; bodies = bs }) own.is opened) refl;
         entries = own-listed number E2 F0 F1 F2 p.numbers numbered p.entries number_is;
         makes = own-data number E2 F1 F2 numbered ∙ p.makes;
@@ -109,7 +109,7 @@ each-emits fs roots k at n array x y b ds E1 E2 E3 B0 B2 B3 F1 F2 I0 I1 body num
       record {
         numbers = length (map entry_view E2) ∷ [];
         data_are = [];
-        by_rule = array_loop own.entry r.by_rule (subst (λ (z : Loop). IsOwnEntry own.entry at k a (λ l. Each z)) turns_are own.own) own.mark_is
+        by_rule = array_loop own.entry r.by_rule (subst (λ (z : Loop). IsOwnEntry own.entry at k a (λ l. Each z)) turns_are own.own) own.offset_is
             (ap₂ (λ (es : List Entry) (bs : List code.Body). record { entries = es; bodies = bs }) own.is opened) refl;
         entries = own-first number E2 F1 F2 numbered number_is;
         makes = own-none number E2 F1 F2 numbered;

@@ -8,7 +8,7 @@ use Rattle.task_code.specs.declared.entry.Entry.{Entry as Made}
 use Rattle.code_rules.specs.Laying.{bare}
 use Rattle.emit_cells.specs.Marks.{MarksGrow, entry_marks, marks_of}
 
--- rights change no mark
+-- rights change no offset
 bare_marks : (es : List Entry) → marks_of (map bare es) ≡ marks_of es
 bare_marks [] = refl
 bare_marks (e ∷ es) = ap (λ (ys : List Anchor). entry_marks e ++ ys) (bare_marks es)

@@ -54,7 +54,7 @@ wait-emits fs roots k at n ns c b ds E1 E2 E3 B0 B2 B3 F1 F2 I0 I1 body number l
       record {
         numbers = length (map entry_view E2) ∷ [];
         data_are = [];
-        by_rule = waits own.entry merged r.by_rule (subst (λ (z : ℕ). IsEntry own.entry at (pos 0) (each_once (flat_map (λ h. h.needs) own.headers)) (Wait own.headers z)) bodies_are own.own, own.mark_is)
+        by_rule = waits own.entry merged r.by_rule (subst (λ (z : ℕ). IsEntry own.entry at (pos 0) (each_once (flat_map (λ h. h.needs) own.headers)) (Wait own.headers z)) bodies_are own.own, own.offset_is)
             (ap₂ (λ (es : List Entry) (bs : List code.Body). record { entries = es; bodies = bs }) own.is opened) refl;
         entries = own-first number E2 F1 F2 numbered number_is;
         makes = own-none number E2 F1 F2 numbered;

@@ -25,6 +25,7 @@ use Rattle.emit_statements.specs.declared.block_builder.BlockBuilder.{BlockBuild
 use Rattle.emit_statements.specs.declared.own.StatementAt.{StatementAt}
 use Rattle.wait_merge.specs.Merged.{all_merged, block_seen, functions_merged, statement_seen}
 use Rattle.emit.specs.declared.emitter.Emitter.{Emitter}
+use Rattle.values.specs.Limits.{max_entries}
 
 -- the code emitted so far, with the numbers and the data of the enclosing block
 pub record State : Type 0 where
@@ -104,7 +105,7 @@ pub record CanBeEmitted (c : Core) : Type 0 where
   pub cells : CellsOnce c
   pub reads : ReadsStand c
   pub room : CoreRoom c
-  pub size : size_of c ≤ 4194304
+  pub size : size_of c ≤ max_entries
 
 -- BY AN EMITTER
 

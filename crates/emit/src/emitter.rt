@@ -3,10 +3,10 @@ ghost use Rattle.std.specs.Prelude.{◌≡◌, ◌+◌, ◌<◌, ◌^◌, [], le
 ghost use Rattle.emit.specs.Emits.{roots_of};
 
 use crate::body::empty;
-use crate::body_numbers::{behind, next_number};
 use emit_statements::code_builder::CodeBuilder;
 use flow::script::Function;
 use std::alloc::{Allocator, Global};
+use task_code::body_numbers::{behind, next_number};
 use task_code::code::Body;
 
 /// Returns the number of root bodies: those of the script and of its functions, which precede the bodies of inner

@@ -3,7 +3,6 @@
 #![tactic(auto)]
 
 mod body;
-pub mod body_numbers;
 mod emitter;
 mod script;
 mod statement;

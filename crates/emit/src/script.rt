@@ -12,6 +12,7 @@ ghost use Rattle.emit_cells.specs.Marks.{marks_of};
 ghost use Rattle.emit_rights.specs.Granted.{laid_code};
 ghost use Rattle.wait_merge.specs.Merged.{IsMerged};
 ghost use Rattle.emit.specs.Emits.{AddsMarks, CanBeEmitted, EmitsAll, EmitsFunction, EmitsRoot};
+ghost use Rattle.values.specs.Limits.{max_entries};
 
 use crate::body::{body, empty};
 use crate::emitter::Emitter;
@@ -112,7 +113,7 @@ pub fn emit<A: Allocator>(alloc: Global, flow: &Flow<A>) -> Result<Draft, AllocE
     requires cells { CellsOnce (core_of flow.now) }
     requires reads { ReadsStand (core_of flow.now) }
     requires room { CoreRoom (core_of flow.now) }
-    requires size { size_of (core_of flow.now) ≤ 4194304 }
+    requires size { size_of (core_of flow.now) ≤ max_entries }
     ensures emitted { IfOk result (λ code. IsEmitted (core_of flow.now) (kinds_of flow.now) (declared_of flow.now) code) }
     ensures marks { IfOk result (λ code. AreAmong (marks_of code.entries) (anchors_of flow.now)) }
 {

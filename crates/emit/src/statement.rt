@@ -13,7 +13,6 @@ ghost use Rattle.wait_merge.specs.Merged.{action_seen, block_seen};
 ghost use Rattle.emit.specs.Emits.{AddsMarks, EmitsAction, EmitsInner, EmitsMerged, EmitsOne, EmitsOwn, EmitsStatements, state_of, state_with};
 
 use crate::body::{add_body, empty};
-use crate::body_numbers::next;
 use crate::emitter::Emitter;
 use emit_cells::entries::StatementContext;
 use emit_statements::block_builder::BlockBuilder;
@@ -25,6 +24,7 @@ use flow::script::Function;
 use flow::statement::{Action, Block, Header, Range, Statement, Variable};
 use std::alloc::{AllocError, Allocator};
 use std::mem;
+use task_code::body_numbers::next;
 use task_code::code::Opener;
 use task_code::entry;
 

@@ -151,17 +151,17 @@ call_in (calls d ∷ ps) c (later i) = later (call_in ps c i)
 
 -- the entry of a call
 pub call_added : (fs : List Kinds) (k : ℕ) (all : List Part) (s : StatementContext) (w : EntryOrigin) (c : Call) (ins : List Argument) (outs : List code.Name) (old new : List Made)
-    → OneByOne (InputPasses fs k all c.function) 0 c.inputs ins → OneByOne (OutputPasses fs k c.function) 0 c.outputs outs → calls c ∈ all → w.mark ≡ c.at
+    → OneByOne (InputPasses fs k all c.function) 0 c.inputs ins → OneByOne (OutputPasses fs k c.function) 0 c.outputs outs → calls c ∈ all → w.offset ≡ c.at
     → map entry_view new ≡ map entry_view old ++ made s w [] (code.Call (suc c.function) ins outs) ∷ []
     → Added fs k all s.at s.priority (calls c ∷ []) old new
-call_added fs k all s w c ins outs old new inputs outputs there mark is =
+call_added fs k all s w c ins outs old new inputs outputs there offset is =
     added_one _ old new e is (chunk_one (calls c) e fit
     (λ C j same l plain bodies indexes. a_call (record {
       ins = ins;
       outs = outs;
       is = subst (λ (x : Entry). IsEntry x s.at s.priority [] (code.Call (l.body_of c.function) ins outs)) (sym same)
           (record { at_is = refl; priority_is = refl; needs_is = refl; act_is = ap (λ b. code.Call b ins outs) (sym (bodies c.function)) });
-      mark_is = ap (λ (x : Entry). x.mark) same ∙ mark;
+      offset_is = ap (λ (x : Entry). x.offset) same ∙ offset;
       inputs = inputs_as inputs C l plain;
       outputs = outputs_as outputs C l;
     })))
@@ -193,7 +193,7 @@ call_added fs k all s w c ins outs old new inputs outputs there mark is =
           call = c;
           there = call_in all c there;
           function = q.0;
-          mark = ap (λ (y : Entry). y.mark) is ∙ mark;
+          offset = ap (λ (y : Entry). y.offset) is ∙ offset;
           fits = subst (λ vs. CallFits fs all c xs vs) q.2 (subst (λ ys. CallFits fs all c ys outs) q.1 fits);
         }
     fit x f xs us (inr i) act = absurd i
@@ -240,7 +240,7 @@ each_at V P (y ∷ xs) (suc i) x d below is h = each_at V P xs i x d (omega arit
 pub next_is : (n : ℕ) → n + 1 ≡ suc n
 next_is n = omega arith
 
-pub calls_added : (fs : List Kinds) (k : ℕ) (all : List Part) (s : StatementContext) (w : EntryOrigin) (c : Call) (a : code.Act) (old new : List Made) → Calls fs k all c a → calls c ∈ all → w.mark ≡ c.at
+pub calls_added : (fs : List Kinds) (k : ℕ) (all : List Part) (s : StatementContext) (w : EntryOrigin) (c : Call) (a : code.Act) (old new : List Made) → Calls fs k all c a → calls c ∈ all → w.offset ≡ c.at
     → map entry_view new ≡ map entry_view old ++ made s w [] a ∷ [] → Added fs k all s.at s.priority (calls c ∷ []) old new
-calls_added fs k all s w c a old new h there mark is =
-    call_added fs k all s w c h.ins h.outs old new h.inputs h.outputs there mark (is ∙ ap (λ y. map entry_view old ++ made s w [] y ∷ []) h.is)
+calls_added fs k all s w c a old new h there offset is =
+    call_added fs k all s w c h.ins h.outs old new h.inputs h.outputs there offset (is ∙ ap (λ y. map entry_view old ++ made s w [] y ∷ []) h.is)

@@ -7,7 +7,7 @@ use Rattle.emit_cells.specs.declared.entries.EntryOrigin.{EntryOrigin}
 use Rattle.emit_cells.specs.declared.entries.StatementContext.{StatementContext}
 
 abbrev pub made : StatementContext → EntryOrigin → List Need → Act → Entry
-made s w ns a = record { node = w.node; at = s.at; mark = w.mark; priority = s.priority; needs = ns; act = a; reads = []; writes = [] }
+made s w ns a = record { node = w.node; at = s.at; offset = w.offset; priority = s.priority; needs = ns; act = a; reads = []; writes = [] }
 
 -- the entry of a cell with a datum, which is the value of an expression
 abbrev pub made_cell : StatementContext → EntryOrigin → Expr → Entry

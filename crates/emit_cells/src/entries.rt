@@ -25,7 +25,7 @@ pub struct StatementContext {
 #[derive(Clone, Copy)]
 pub struct EntryOrigin {
     pub node: u32,
-    pub mark: usize,
+    pub offset: usize,
 }
 
 /// Creates an entry of a statement.
@@ -41,7 +41,7 @@ pub fn entry(
     Entry {
         node: shown.node,
         at: standing.at,
-        mark: shown.mark,
+        offset: shown.offset,
         priority: standing.priority,
         needs,
         act,
@@ -62,7 +62,7 @@ pub fn push_entry(
     ensures entry { OnOk result ((ns : List PureNeed) → Noted ns needs.now.keys
         → map code_view.entry_view entries.new.items
         ≡ map code_view.entry_view entries.old.items ++ made standing shown (each_once ns) (code_view.act_view act) ∷ []) }
-    ensures marks { OnOk result (MarksGrow entries.old.items entries.new.items (marked (code_view.act_view act) shown.node shown.mark)) }
+    ensures marks { OnOk result (MarksGrow entries.old.items entries.new.items (marked (code_view.act_view act) shown.node shown.offset)) }
 {
     let needs = listed(alloc, needs)?;
     entries.push(entry(alloc, standing, shown, needs, act))?;

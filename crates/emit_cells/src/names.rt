@@ -7,29 +7,8 @@ ghost use Rattle.code_rules.specs.CodeNames.{name_as};
 ghost use Rattle.code_rules.specs.Room.{NameRoom};
 
 use flow::name::{Name, NameBinding};
+use task_code::body_numbers::behind;
 use task_code::entry::{self, Owned, Variable};
-
-/// Returns the parameter index of the output at `place` after this number of inputs. Saturates at `usize::MAX`.
-fn behind(inputs: usize, place: usize) -> usize
-    ensures { inputs + place < 2 ^ 64 → result ≡ inputs + place }
-{
-    if place <= usize::MAX - inputs {
-        inputs + place
-    } else {
-        usize::MAX
-    }
-}
-
-/// Converts a number to 32 bits. Saturates at `u32::MAX`.
-pub fn small(number: usize) -> u32
-    ensures { number < 2 ^ 32 → result ≡ number }
-{
-    if number <= u32::MAX as usize {
-        number as u32
-    } else {
-        u32::MAX
-    }
-}
 
 /// Converts a name of a scalar or an array, within a function with this number of inputs. The outputs of the function
 /// follow its inputs.

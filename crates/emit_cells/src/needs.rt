@@ -6,10 +6,11 @@ ghost use Rattle.code_rules.specs.CodeNames.{each_once, name_as, wanted, wanted_
 ghost use Rattle.code_rules.specs.Room.{Each, ExprRoom, ExprsRoom};
 ghost use Rattle.emit_cells.specs.PlainNeeds.{name_of, need_of, need_named, IsPlain, IsReady, Notes};
 
-use crate::names::{named, small};
+use crate::names::named;
 use flow::expression::Expr;
 use indexmap::IndexSet;
 use std::alloc::{AllocError, Allocator, Global};
+use task_code::body_numbers::small;
 use task_code::entry::{Name, Need, Owned, Variable};
 
 /// A plain need: a scalar that must be stored, or an array that must be closed.

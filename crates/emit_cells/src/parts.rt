@@ -40,7 +40,7 @@ fn add_computed<A: Allocator>(
 ) -> Result<(), AllocError>
     ensures entry { OnOk result (FormRoom standing.inputs (core.compute (expr_view expr.now))
         → map code_view.entry_view entries.new.items ≡ map code_view.entry_view entries.old.items ++ made_cell standing shown (expr_view expr.now) ∷ []) }
-    ensures marks { OnOk result (MarksGrow entries.old.items entries.new.items (record { node = shown.node; at = shown.mark } ∷ [])) }
+    ensures marks { OnOk result (MarksGrow entries.old.items entries.new.items (record { node = shown.node; at = shown.offset } ∷ [])) }
 {
     let mut needs = IndexSet::new(alloc);
     note(&mut needs, standing.inputs, expr)?;
@@ -81,7 +81,7 @@ pub fn add_cell<A: Allocator>(
 {
     let shown = EntryOrigin {
         node: cell.node,
-        mark: cell.at,
+        offset: cell.at,
     };
     match &cell.form {
         CellForm::Compute(expr) => add_computed(alloc, entries, standing, shown, expr),
@@ -304,7 +304,7 @@ pub fn add_call<A: Allocator>(
 {
     let shown = EntryOrigin {
         node: 0,
-        mark: call.at,
+        offset: call.at,
     };
     let act = call_act(alloc, functions, standing.inputs, passed, call)?;
     put_bare(alloc, entries, standing, shown, act)?;

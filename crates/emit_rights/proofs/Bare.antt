@@ -2,7 +2,7 @@
 use Rattle.std.proofs.Common.{◌≡◌, refl, sym, ap, ◌∙◌, subst, ℕ, zero, suc, Bool, true, false, List, [], ◌∷◌, map}
 use Rattle.std.specs.Prelude.{nat_eq}
 use Rattle.dataflow.specs.System.{In}
-use Rattle.task_code.specs.Code.{Act, Cell, Read, Call, Set, Fill, Copy, Put, Print, Assert, If, Range, Each, Wait, Entry, Body, Code, Name, Argument, Way, InPlace, Through, Calling, blank_entry, nth, entry, call_from, call_at, arguments, argument_in, argument, ways}
+use Rattle.task_code.specs.Code.{Act, Cell, Read, Call, Set, Fill, Copy, InsertElement, Print, Assert, If, Range, Each, Wait, Entry, Body, Code, Name, Argument, Way, InPlace, Through, Calling, blank_entry, nth, entry, call_from, call_at, arguments, argument_in, argument, ways}
 use Rattle.task_code.specs.Exact.{Leads, itself, through}
 use Rattle.task_code.specs.Whole.{Seen, Declared}
 use Rattle.code_rules.specs.Laying.{bare}
@@ -15,11 +15,11 @@ call_step : (e : Entry) (a : Act) (i at : ℕ) (ds es : List Entry) → call_fro
     → call_from i (bare (record e { act = a }) ∷ ds) at ≡ call_from i (record e { act = a } ∷ es) at
 call_step e (Cell x) i at ds es h = h
 call_step e Read i at ds es h = h
-call_step e (Call b ins outs) i at ds es h = ap (λ (n : ℕ). elim (nat_eq e.mark at) [ true ↦ i | false ↦ n ]) h
+call_step e (Call b ins outs) i at ds es h = ap (λ (n : ℕ). elim (nat_eq e.offset at) [ true ↦ i | false ↦ n ]) h
 call_step e (Set r x) i at ds es h = h
 call_step e (Fill r xs) i at ds es h = h
 call_step e (Copy r) i at ds es h = h
-call_step e (Put r x y) i at ds es h = h
+call_step e (InsertElement r x y) i at ds es h = h
 call_step e (Print x) i at ds es h = h
 call_step e (Assert x) i at ds es h = h
 call_step e (If x b d) i at ds es h = h
@@ -40,8 +40,8 @@ module _ (C : Code) where
   entry_same : (i : ℕ) → entry (bare_code C) i ≡ bare (entry C i)
   entry_same i = nth_same C.entries i
 
-  mark_same : (i : ℕ) → (entry (bare_code C) i).mark ≡ (entry C i).mark
-  mark_same i = ap (λ e. e.mark) (entry_same i)
+  mark_same : (i : ℕ) → (entry (bare_code C) i).offset ≡ (entry C i).offset
+  mark_same i = ap (λ e. e.offset) (entry_same i)
 
   opens_same : (i : ℕ) → ways (entry (bare_code C) i).act ≡ ways (entry C i).act
   opens_same i = ap (λ e. ways e.act) (entry_same i)
@@ -75,12 +75,12 @@ module _ (C : Code) where
     pub leads_in : (i : ℕ) (r : Name) → Leads (bare_code C) own i r → Leads C own i r
     leads_in i r (itself _ _ h) = itself i r (subst (λ (ns : List Name). In r ns) (uses_same i) h)
     leads_in i r (through _ j b w _ q o s l lacks seen) =
-        through i j b w r q (subst (λ (ws : List (Way × ℕ)). In (w, b) ws) (opens_same i) o) s (leads_in j q l) (λ d. lacks (declared_out b q d)) (seen_in (entry (bare_code C) i).mark (entry C i).mark w q r (mark_same i) seen)
+        through i j b w r q (subst (λ (ws : List (Way × ℕ)). In (w, b) ws) (opens_same i) o) s (leads_in j q l) (λ d. lacks (declared_out b q d)) (seen_in (entry (bare_code C) i).offset (entry C i).offset w q r (mark_same i) seen)
 
     pub leads_out : (i : ℕ) (r : Name) → Leads C own i r → Leads (bare_code C) own i r
     leads_out i r (itself _ _ h) = itself i r (subst (λ (ns : List Name). In r ns) (sym (uses_same i)) h)
     leads_out i r (through _ j b w _ q o s l lacks seen) =
-        through i j b w r q (subst (λ (ws : List (Way × ℕ)). In (w, b) ws) (sym (opens_same i)) o) s (leads_out j q l) (λ d. lacks (declared_in b q d)) (seen_out (entry (bare_code C) i).mark (entry C i).mark w q r (mark_same i) seen)
+        through i j b w r q (subst (λ (ws : List (Way × ℕ)). In (w, b) ws) (sym (opens_same i)) o) s (leads_out j q l) (λ d. lacks (declared_in b q d)) (seen_out (entry (bare_code C) i).offset (entry C i).offset w q r (mark_same i) seen)
 
 same_code : (es ds : List Entry) (bs cs : List Body) → es ≡ ds → bs ≡ cs → ◌≡◌ {A = Code} (record { entries = es; bodies = bs }) (record { entries = ds; bodies = cs })
 same_code es ds bs cs p q = ap (λ xs. record { entries = xs; bodies = bs }) p ∙ ap (λ ys. record { entries = ds; bodies = ys }) q

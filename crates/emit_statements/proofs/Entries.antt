@@ -24,16 +24,16 @@ use Rattle.emit_statements.specs.Blocks.{OwnAddedAs, branched, ranged, seen_step
 
 -- an entry stands behind the others, whatever needs it has
 abbrev pub AddsEntry : StatementContext → ℕ → List PlainNeed → Act → List Made → List Made → Type 0
-AddsEntry s n ks act old new = (ns : List Need) → Noted ns ks → map entry_view new ≡ map entry_view old ++ made s (record { node = n; mark = s.at }) (each_once ns) act ∷ []
+AddsEntry s n ks act old new = (ns : List Need) → Noted ns ks → map entry_view new ≡ map entry_view old ++ made s (record { node = n; offset = s.at }) (each_once ns) act ∷ []
 
 own_added_as : (s : StatementContext) (n : ℕ) (a : Action) (es : List Expr) (F : List Need → List Expr → Act) (ks : List PlainNeed) (act : Act) (old new : List Made) → s.priority ≡ own_priority a
     → ((l : Layout) → Suits l a → es ≡ own_exprs l s.inputs a) → Noted (flat_map (wanted s.inputs) es) ks → act ≡ F (map need_of ks) es → AddsEntry s n ks act old new
     → OwnAddedAs s.inputs s.at a (λ l. F (own_needs l s.inputs a) (own_exprs l s.inputs a)) old new
 own_added_as s n a es F ks act old new priority seen_is noted does adds = record {
-  entry = made s (record { node = n; mark = s.at }) (each_once (flat_map (wanted s.inputs) es)) act;
+  entry = made s (record { node = n; offset = s.at }) (each_once (flat_map (wanted s.inputs) es)) act;
   is = adds (flat_map (wanted s.inputs) es) noted;
   own = own_entry s n a es F ks act priority seen_is noted does;
-  mark_is = refl;
+  offset_is = refl;
 }
 
 -- BRANCHES

@@ -40,7 +40,7 @@ own_laid fs roots node k at a bodies old mid new before after from to is_simple 
     record {
       numbers = counted (length (map entry_view old)) (length (added.more ++ own.entry ∷ []));
       data_are = data_of a;
-      laid = simple own.entry is_simple (law added.more added.is added.chunk) own.own (own.node_is, own.mark_is) (ap (λ es. record { entries = es; bodies = bodies }) own.is) (last_number old mid added.more own.entry added.is);
+      laid = simple own.entry is_simple (law added.more added.is added.chunk) own.own (own.node_is, own.offset_is) (ap (λ es. record { entries = es; bodies = bodies }) own.is) (last_number old mid added.more own.entry added.is);
       entries = added_numbers old new (added.more ++ own.entry ∷ []) from to before.entries.items after.entries.items is x y few numbers;
       makes = makes;
     }

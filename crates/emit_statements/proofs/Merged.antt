@@ -119,8 +119,8 @@ pub wait_added : {A : Type 0} (s : StatementContext) (n : ℕ) (names : List Nam
 wait_added s n names inner b body hs ks old new priority noted are adds = record {
   headers = header_of s.inputs s.at names ∷ inner_headers s.inputs inner;
   merged = λ lone. merged_headers s.inputs s.at n names inner b lone;
-  entry = made s (record { node = n; mark = s.at }) (each_once (waited s.inputs names ++ needs_in (inner_headers s.inputs inner))) (Wait hs body);
+  entry = made s (record { node = n; offset = s.at }) (each_once (waited s.inputs names ++ needs_in (inner_headers s.inputs inner))) (Wait hs body);
   is = adds (waited s.inputs names ++ needs_in (inner_headers s.inputs inner)) noted;
   own = record { at_is = refl; priority_is = priority; needs_is = refl; act_is = ap (λ l. Wait l body) are };
-  mark_is = refl;
+  offset_is = refl;
 }

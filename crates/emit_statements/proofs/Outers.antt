@@ -103,7 +103,7 @@ few_as k n false f room = omega arith
 -- the own entry of a statement, which works these expressions out
 pub own_entry : (s : StatementContext) (n : ℕ) (a : Action) (es : List Expr) (F : List Need → List Expr → Act) (ks : List PlainNeed) (act : Act) → s.priority ≡ own_priority a
     → ((l : Layout) → Suits l a → es ≡ own_exprs l s.inputs a) → Noted (flat_map (wanted s.inputs) es) ks → act ≡ F (map need_of ks) es
-    → IsOwnEntry (made s (record { node = n; mark = s.at }) (each_once (flat_map (wanted s.inputs) es)) act) s.at s.inputs a (λ l. F (own_needs l s.inputs a) (own_exprs l s.inputs a))
+    → IsOwnEntry (made s (record { node = n; offset = s.at }) (each_once (flat_map (wanted s.inputs) es)) act) s.at s.inputs a (λ l. F (own_needs l s.inputs a) (own_exprs l s.inputs a))
 own_entry s n a es F ks act priority seen_is noted does =
     λ l suits. record {
       at_is = refl;

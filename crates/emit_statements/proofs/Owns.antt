@@ -87,10 +87,10 @@ needs_done Uses.Assert l k p o = once_own k o
 -- the own entry
 pub own_added : (s : StatementContext) (n : ℕ) (d : ValueUse) (o : Outer) (ks : List PlainNeed) (act : Act) (old new : List Made) → s.priority ≡ own_priority (action_of d s.priority o)
     → Noted (wanted s.inputs (seen_as true o.cell.node o.cell.form)) ks → ((l : Layout) → act ≡ simple_act l s.inputs (map need_of ks) (action_of d s.priority o))
-    → map entry_view new ≡ map entry_view old ++ made s (record { node = n; mark = s.at }) (each_once (wanted s.inputs (seen_as true o.cell.node o.cell.form))) act ∷ []
+    → map entry_view new ≡ map entry_view old ++ made s (record { node = n; offset = s.at }) (each_once (wanted s.inputs (seen_as true o.cell.node o.cell.form))) act ∷ []
     → OwnAdded s.inputs s.at n (action_of d s.priority o) old new
 own_added s n d o ks act old new priority noted does is = record {
-  entry = made s (record { node = n; mark = s.at }) (each_once (wanted s.inputs (seen_as true o.cell.node o.cell.form))) act;
+  entry = made s (record { node = n; offset = s.at }) (each_once (wanted s.inputs (seen_as true o.cell.node o.cell.form))) act;
   is = is;
   own = λ l suits. record {
     at_is = refl;
@@ -99,5 +99,5 @@ own_added s n d o ks act old new priority noted does is = record {
     act_is = does l ∙ ap (λ ns. simple_act l s.inputs ns (action_of d s.priority o)) (noted.are ∙ needs_done d l s.inputs s.priority o);
   };
   node_is = refl;
-  mark_is = refl;
+  offset_is = refl;
 }

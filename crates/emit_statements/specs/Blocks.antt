@@ -78,7 +78,7 @@ pub record OwnAddedAs (k at : ℕ) (a : Action) (act : Layout → Act) (old new 
   pub entry : Entry
   pub is : map entry_view new ≡ map entry_view old ++ entry ∷ []
   pub own : IsOwnEntry entry at k a act
-  pub mark_is : entry.mark ≡ at
+  pub offset_is : entry.offset ≡ at
 
 -- the own entry of merged waits is appended; the innermost block b is not exactly one further `wait`
 pub record WaitAddedAs (k at node : ℕ) (a : Action) (b : Block) (body : ℕ) (old new : List Made) : Type 0 where
@@ -87,7 +87,7 @@ pub record WaitAddedAs (k at node : ℕ) (a : Action) (b : Block) (body : ℕ) (
   pub entry : Entry
   pub is : map entry_view new ≡ map entry_view old ++ entry ∷ []
   pub own : IsEntry entry at (pos 0) (each_once (flat_map (λ h. h.needs) headers)) (Wait headers body)
-  pub mark_is : entry.mark ≡ at
+  pub offset_is : entry.offset ≡ at
 
 -- the header of a wait, from its offset and its names
 abbrev pub header_of : ℕ → ℕ → List Named → code.Header

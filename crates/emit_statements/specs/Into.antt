@@ -36,7 +36,7 @@ pub record OwnAdded (k at node : ℕ) (a : Action) (old new : List Made) : Type 
   pub is : map entry_view new ≡ map entry_view old ++ entry ∷ []
   pub own : IsOwnEntry entry at k a (λ l. simple_act l k (own_needs l k a) a)
   pub node_is : entry.node ≡ node
-  pub mark_is : entry.mark ≡ at
+  pub offset_is : entry.offset ≡ at
 
 -- A STATEMENT WITH THIS ACTION, OF THE PRIORITY THAT IT THEN HAS
 

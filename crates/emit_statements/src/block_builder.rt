@@ -2,8 +2,8 @@
 ghost use Rattle.std.specs.Prelude.{◌≡◌, ◌++◌, ◌≤◌, ◌^◌, ◌-◌, OnOk};
 ghost use Rattle.code_rules.specs.Laying.{counted};
 
-use emit_cells::names::small;
 use std::alloc::AllocError;
+use task_code::body_numbers::small;
 use task_code::entry::Variable;
 
 /// The variables that a block declares, and the numbers of its entries.

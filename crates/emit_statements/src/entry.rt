@@ -11,10 +11,10 @@ ghost use Rattle.emit_statements.specs.Blocks.{Numbered};
 use crate::code_builder::CodeBuilder;
 use crate::own::StatementAt;
 use emit_cells::entries::{EntryOrigin, push_entry};
-use emit_cells::names::small;
 use emit_cells::needs::PlainNeed;
 use indexmap::IndexSet;
 use std::alloc::AllocError;
+use task_code::body_numbers::small;
 use task_code::entry::Act;
 
 impl CodeBuilder {
@@ -29,14 +29,14 @@ impl CodeBuilder {
         ensures entry { OnOk result ((ns : List Need) → Noted ns needs.now.keys
             → map code_view.entry_view self.new.entries.items
             ≡ map code_view.entry_view self.old.entries.items
-            ++ made statement.standing (record { node = statement.node; mark = statement.standing.at }) (each_once ns) (code_view.act_view act) ∷ []) }
+            ++ made statement.standing (record { node = statement.node; offset = statement.standing.at }) (each_once ns) (code_view.act_view act) ∷ []) }
         ensures marks { OnOk result (MarksGrow self.old.entries.items self.new.entries.items
             (marked (code_view.act_view act) statement.node statement.standing.at)) }
     {
         let number = small(self.entries.len());
         let shown = EntryOrigin {
             node: statement.node,
-            mark: statement.standing.at,
+            offset: statement.standing.at,
         };
         push_entry(
             self.alloc,

@@ -79,7 +79,7 @@ fn add_put<A: Allocator>(
     let inputs = standing.inputs;
     let shown = EntryOrigin {
         node: statement.node,
-        mark: standing.at,
+        offset: standing.at,
     };
     let plain_index = is_outer_plain(index);
     let plain_right = is_outer_plain(right);
@@ -88,7 +88,7 @@ fn add_put<A: Allocator>(
     note_seen(&mut needs, inputs, &right.cell, plain_right)?;
     let place = placed_seen(alloc, &needs, inputs, &index.cell, plain_index)?;
     let value = placed_seen(alloc, &needs, inputs, &right.cell, plain_right)?;
-    let act = Act::Put(named(inputs, array, true), place, value);
+    let act = Act::InsertElement(named(inputs, array, true), place, value);
     push_entry(alloc, entries, standing, shown, &needs, act)?;
     Ok(())
 }

@@ -180,7 +180,7 @@ fn add_own<A: Allocator>(
     let standing = statement.standing;
     let shown = EntryOrigin {
         node: statement.node,
-        mark: standing.at,
+        offset: standing.at,
     };
     let mut needs = IndexSet::new(alloc);
     note_seen(&mut needs, standing.inputs, &outer.cell, true)?;

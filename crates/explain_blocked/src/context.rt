@@ -2,6 +2,7 @@
 
 use crate::index::ScriptIndex;
 use crate::writers::WriterIndex;
+use explain_inputs::blocked_statement::BlockedStatement;
 use explain_text::line_index::LineIndex;
 use meaning_outcomes::knowledge::Knowledge;
 use std::alloc::{Allocator, Global};
@@ -22,4 +23,15 @@ pub struct StatementLocation {
     pub at: usize,
     pub function: Option<usize>,
     pub instance: usize,
+}
+
+/// Returns the location of a blocked statement.
+pub fn location_of<'s, 'a, A: Allocator>(
+    waiting: &BlockedStatement<'s, 'a, A>,
+) -> StatementLocation {
+    StatementLocation {
+        at: waiting.site.at(),
+        function: waiting.site.function,
+        instance: waiting.instance,
+    }
 }

@@ -6,6 +6,7 @@ use crate::context::StatementLocation;
 use crate::inputs::{missing_in_cell, write_wanted};
 use crate::list::BlockedList;
 use crate::path::write_path;
+use crate::remedies::write_cycle_remedy;
 use crate::wait_graph::input_at;
 use crate::writers::WriteTarget;
 use explain_inputs::input::StatementInput;
@@ -13,7 +14,7 @@ use explain_text::words::{write_count, write_str};
 use std::alloc::{AllocError, Allocator};
 
 /// Maximum number of variables of a cycle that are named.
-const MOST: usize = 8;
+const MAX_NAMED_VARIABLES: usize = 8;
 
 /// Returns true if a cycle is reported as one diagnostic: it contains an argument, or statements at more than one
 /// offset.
@@ -46,7 +47,7 @@ fn last_of(circle: &[usize]) -> usize {
 ///
 /// The first line is `FILE:3:1: blocked: x (3:1) waits for y (4:1) waits for x`. Each variable is followed by the
 /// position of the statement that would write it, or of the argument passed for it. The source line of the last
-/// statement, with its position marked, and its path follow.
+/// statement, with its position marked, its path and a hint follow.
 pub fn add_cycle<'l, 't, 'a, A: Allocator>(
     list: &BlockedList<'l, 't, 'a, A>,
     out: &mut Vec<u8>,
@@ -60,7 +61,8 @@ pub fn add_cycle<'l, 't, 'a, A: Allocator>(
     write_links(list, out, circle)?;
     write_str(out, "\n")?;
     lines.add_mark(out, at)?;
-    write_path(list.context, out, list.location(last).instance)
+    write_path(list.context, out, list.location(last).instance)?;
+    write_cycle_remedy(list, out, circle)
 }
 
 /// Appends the variables of a cycle. The variable that the last statement would write stands at both ends.
@@ -77,7 +79,7 @@ fn write_links<'l, 't, 'a, A: Allocator>(
         if list.waits.is_statement(circle[i]) {
             continue;
         }
-        if told >= MOST {
+        if told >= MAX_NAMED_VARIABLES {
             write_more(list, out, circle, i, end)?;
             break;
         }

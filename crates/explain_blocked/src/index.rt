@@ -212,9 +212,13 @@ impl<'a, A: Allocator> ScriptIndex<'a, A> {
 
     /// Returns the name of the variable that is declared at this node.
     pub fn variable_name(&self, node: u32) -> Option<&'a [u8]> {
-        let i = *self.tables.declaring.get(&node)?;
-        let variable = variable_of(self.sites.all.get(i)?, node)?;
+        let variable = variable_of(self.declaring_site(node)?, node)?;
         Some(variable.name.as_slice())
+    }
+
+    /// Returns the statement that declares the variable with this node.
+    pub fn declaring_site(&self, node: u32) -> Option<&Site<'a, A>> {
+        self.sites.all.get(*self.tables.declaring.get(&node)?)
     }
 
     /// Returns the source name of a variable, as seen in a function or, with `None`, in the script's own blocks.

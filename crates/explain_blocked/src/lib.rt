@@ -15,6 +15,7 @@ mod list;
 pub mod names;
 mod numbers;
 pub mod path;
+mod remedies;
 pub mod sites;
 pub mod value_text;
 mod wait_graph;

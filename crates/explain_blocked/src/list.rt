@@ -1,6 +1,6 @@
 //! The blocked statements of a listing, with their wait graph.
 
-use crate::context::{ExplainContext, StatementLocation};
+use crate::context::{ExplainContext, StatementLocation, location_of};
 use crate::index::CellSite;
 use crate::wait_graph::WaitGraph;
 use explain_inputs::blocked_statement::BlockedStatement;
@@ -20,11 +20,7 @@ impl<'l, 't, 'a, A: Allocator> BlockedList<'l, 't, 'a, A> {
     /// Returns the location of a statement of the list.
     pub fn location(&self, number: usize) -> StatementLocation {
         match self.listed.get(number) {
-            Some(waiting) => StatementLocation {
-                at: waiting.site.at(),
-                function: waiting.site.function,
-                instance: waiting.instance,
-            },
+            Some(waiting) => location_of(waiting),
             None => StatementLocation {
                 at: 0,
                 function: None,

@@ -2,6 +2,7 @@
 
 use explain_text::words::{write_bytes, write_number, write_str};
 use std::alloc::AllocError;
+use values::key::Key;
 use values::value::Scalar;
 
 /// Maximum number of bytes of a text value that are shown.
@@ -23,4 +24,12 @@ pub fn write_text(out: &mut Vec<u8>, bytes: &[u8]) -> Result<(), AllocError> {
     write_bytes(out, bytes, SHOWN)?;
     out.push(b'"')?;
     Ok(())
+}
+
+/// Appends the key of an element or of a turn.
+pub fn write_key(out: &mut Vec<u8>, key: &Key) -> Result<(), AllocError> {
+    match key {
+        Key::Number(number) => write_number(out, *number),
+        Key::Text(text) => write_text(out, text.as_bytes()),
+    }
 }

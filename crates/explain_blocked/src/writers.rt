@@ -1,8 +1,10 @@
 //! The writer index: which blocked or faulty statements would write a variable.
 
 use crate::index::ScriptIndex;
+use explain_remedies::expressions::value_within;
+use flow::cell::{Cell, CellForm};
 use flow::name::Name;
-use flow::statement::{Action, Block, Statement};
+use flow::statement::{Action, Block};
 use flow_index::site::StatementForm;
 use meaning_facts::fact_base::FactBase;
 use meaning_facts::facts::Place;
@@ -10,9 +12,10 @@ use meaning_outcomes::knowledge::Knowledge;
 use std::alloc::{AllocError, Allocator, Global};
 use std::collections::{HashMap, HashSet};
 use values::key::KeyRef;
+use values::value::Value;
 
 /// Maximum number of writers that are kept for a target.
-const MOST: usize = 4;
+const MAX_WRITERS: usize = 4;
 
 /// A statement that would write a variable or open a block that would: its offset, and whether it is blocked.
 /// Otherwise it has a fault.
@@ -126,7 +129,11 @@ impl WriterIndex {
             && self.found.contains_key(&WriteTarget::whole(array));
         WriteTarget {
             place: array,
-            mark: if is_known { Some(key.mark()) } else { None },
+            mark: if is_known {
+                Some(key.hash_code())
+            } else {
+                None
+            },
         }
     }
 
@@ -164,16 +171,12 @@ impl WriterIndex {
                 location,
                 *content,
             ),
-            StatementForm::Whole(statement) => {
-                let marked = RelativeLocation {
-                    instance: location.instance,
-                    depth: location.depth,
-                    writer: location.writer,
-                    number: location.number,
-                    mark: mark_of(&known.fact_base, location.instance, statement),
-                };
-                self.note_action(alloc, &known.fact_base, marked, &statement.action)
-            }
+            StatementForm::Whole(statement) => self.note_action(
+                alloc,
+                &known.fact_base,
+                location,
+                &statement.action,
+            ),
         }
     }
 
@@ -209,7 +212,9 @@ impl WriterIndex {
         match action {
             Action::Assign { target, .. } => self.note_name(alloc, fact_base, location, *target),
             Action::Fill { array, .. } => self.note_name(alloc, fact_base, location, *array),
-            Action::Insert { array, .. } => self.note_name(alloc, fact_base, location, *array),
+            Action::Insert { array, index, .. } => {
+                self.note_insert(alloc, fact_base, location, *array, &index.cell)
+            }
             Action::Call { call, .. } => {
                 self.note_names(alloc, fact_base, location, call.outputs.as_slice())
             }
@@ -225,6 +230,19 @@ impl WriterIndex {
             Action::Print { .. } => Ok(()),
             Action::Assert { .. } => Ok(()),
         }
+    }
+
+    /// Records a writer for an element of an array whose index is the value of a cell.
+    fn note_insert<A: Allocator>(
+        &mut self,
+        alloc: Global,
+        fact_base: &FactBase,
+        location: RelativeLocation,
+        array: Name,
+        index: &Cell<A>,
+    ) -> Result<(), AllocError> {
+        let mark = mark_within(fact_base, alloc, location, index)?;
+        self.note_name(alloc, fact_base, with_mark(location, mark), array)
     }
 
     fn note_names(
@@ -309,19 +327,41 @@ impl WriterIndex {
     }
 }
 
-/// Returns the mark of the key of the element that a statement writes. Returns `None` if it writes no element or the
-/// key is unknown.
-fn mark_of<A: Allocator>(
+fn with_mark(location: RelativeLocation, mark: Option<u64>) -> RelativeLocation {
+    RelativeLocation {
+        instance: location.instance,
+        depth: location.depth,
+        writer: location.writer,
+        number: location.number,
+        mark,
+    }
+}
+
+/// Returns the mark of the key that the cell of an index evaluates to. Returns `None` if the key is not known, or
+/// depends on a block that is not open.
+fn mark_within<A: Allocator>(
     fact_base: &FactBase,
-    instance: usize,
-    statement: &Statement<A>,
-) -> Option<u64> {
-    let Action::Insert { index, .. } = &statement.action else {
-        return None;
+    alloc: Global,
+    location: RelativeLocation,
+    index: &Cell<A>,
+) -> Result<Option<u64>, AllocError> {
+    let (instance, node) = (location.instance, index.node);
+    if location.depth == 0 {
+        if let Some(value) = fact_base.facts.value(Place { instance, node }) {
+            return Ok(mark_of(value));
+        }
+    }
+    let CellForm::Compute(expr) = &index.form else {
+        return Ok(None);
     };
-    let node = index.cell.node;
-    let value = fact_base.facts.value(Place { instance, node })?;
-    Some(KeyRef::of_value(value)?.mark())
+    match value_within(fact_base, alloc, instance, location.depth, expr)? {
+        Some(Ok(value)) => Ok(mark_of(&value)),
+        _ => Ok(None),
+    }
+}
+
+fn mark_of(value: &Value) -> Option<u64> {
+    Some(KeyRef::of_value(value)?.hash_code())
 }
 
 /// Appends a number, unless it equals the last one.
@@ -334,14 +374,15 @@ fn add_last(numbers: &mut Vec<usize>, number: usize) -> Result<(), AllocError> {
 
 /// Appends a writer, unless its offset is present or the list holds 4 writers.
 fn add_writer(writers: &mut Vec<Writer>, writer: Writer) -> Result<(), AllocError> {
-    if writers.len() >= MOST || has_offset(writers.as_slice(), writer.at) {
+    if writers.len() >= MAX_WRITERS || has_offset(writers.as_slice(), writer.at) {
         return Ok(());
     }
     writers.push(writer)?;
     Ok(())
 }
 
-fn has_offset(writers: &[Writer], at: usize) -> bool {
+/// Returns true if one of these writers has an offset.
+pub fn has_offset(writers: &[Writer], at: usize) -> bool {
     for writer in writers {
         if writer.at == at {
             return true;

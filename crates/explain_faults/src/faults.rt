@@ -1,9 +1,12 @@
 //! Diagnostics for faults.
 
-use crate::hints::write_hint_behind;
+use crate::element_hints::write_element_hint;
+use crate::hints::{has_junction, write_hint_behind};
 use crate::near_keys::write_near_key;
+use crate::number_hints::write_number_hint;
 use crate::printed::PrintedFault;
 use crate::reasons::{write_plain, write_reason};
+use crate::recursion_hints::write_missed_end;
 use explain_blocked::context::ExplainContext;
 use explain_blocked::path::{write_path, write_steps};
 use explain_inputs::blocked_statement::instance_at;
@@ -141,11 +144,33 @@ fn add_fault<'t, 'a, A: Allocator>(
     write_str(out, "\n")?;
     context.lines.add_mark(out, mark_of(context, fact))?;
     write_path(context, out, fact.place.instance)?;
-    if write_near_key(context, out, fact)? {
+    if write_known_hint(context, out, fact)? {
         return Ok(());
     }
     let steps = context.known.fact_base.instances.path(fact.place.instance);
     write_hint_behind(context, out, fact.kind, fact.at, steps)
+}
+
+/// Appends a hint that follows from the known values. Returns true if a hint was appended.
+fn write_known_hint<'t, 'a, A: Allocator>(
+    context: &ExplainContext<'t, 'a, A>,
+    out: &mut Vec<u8>,
+    fact: FaultFact,
+) -> Result<bool, AllocError> {
+    match fact.kind {
+        FaultKind::NoElement => {
+            if write_near_key(context, out, fact)? {
+                return Ok(true);
+            }
+            if has_junction(context, fact.at) {
+                return Ok(false);
+            }
+            write_element_hint(context, out, fact)
+        }
+        FaultKind::NotANumber => write_number_hint(context, out, fact),
+        FaultKind::TooDeep => write_missed_end(context, out, fact.place.instance),
+        _ => Ok(false),
+    }
 }
 
 /// Returns the offset to mark: that of the faulty cell if it is on the line of the statement, else that of the

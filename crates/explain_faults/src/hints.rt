@@ -1,20 +1,18 @@
 //! Hints for faults: what to write instead.
 
 use explain_blocked::context::ExplainContext;
+use explain_remedies::junctions::Junction;
 use explain_text::words::{write_count, write_str};
 use lexer::lexer::Lexer;
 use lexer::token::TokenKind;
-use meaning_facts::instances::MOST_STEPS;
 use paths::{FaultKind, Step};
 use std::alloc::{AllocError, Allocator};
-
-const BOTH_SIDES: &str =
-    "hint: && and || work out both of their sides: test the one in an if, and the other in an if inside of it\n";
+use values::limits::MAX_PATH_STEPS;
 
 /// Maximum number of times that a function can call itself if each call stands in a branch.
 ///
 /// Both the call and the branch are steps, and the first call is not made by the function itself.
-const CALLS: usize = MOST_STEPS / 2 - 1;
+const CALLS: usize = MAX_PATH_STEPS / 2 - 1;
 
 const ONCE: &str =
     "hint: each turn writes an element of its own, A[i] = ..; what several turns have for one key goes into an array with a key for each turn\n";
@@ -39,15 +37,30 @@ fn write_hint(
     at: usize,
 ) -> Result<(), AllocError> {
     match kind {
-        FaultKind::DivideByZero | FaultKind::NoElement if joins_conditions(text, at) => {
-            write_str(out, BOTH_SIDES)
+        FaultKind::DivideByZero => write_junction(out, text, at),
+        FaultKind::NoElement => {
+            if has_negative_key(text, at) && junction_in(text, at).is_none() {
+                write_str(out, NEGATIVE)
+            } else {
+                write_junction(out, text, at)
+            }
         }
-        FaultKind::NoElement if has_negative_key(text, at) => write_str(out, NEGATIVE),
         FaultKind::ElementTwice => write_str(out, ONCE),
         FaultKind::BadStep if has_zero_step(text, at) => write_str(out, STILL),
         FaultKind::BadStep => write_str(out, UPWARDS),
         FaultKind::TooDeep => write_depth(out),
         _ => Ok(()),
+    }
+}
+
+/// Appends a hint if an `&&` or `||` stands in the statement at an offset.
+fn write_junction(out: &mut Vec<u8>, text: &[u8], at: usize) -> Result<(), AllocError> {
+    match junction_in(text, at) {
+        Some(junction) => {
+            write_str(out, "hint: ")?;
+            write_str(out, junction.remedy())
+        }
+        None => Ok(()),
     }
 }
 
@@ -94,19 +107,25 @@ fn write_depth(out: &mut Vec<u8>) -> Result<(), AllocError> {
 }
 
 /// Returns true if an `&&` or `||` stands before the end, or the first block, of the statement at an offset.
-fn joins_conditions(text: &[u8], at: usize) -> bool {
+pub fn has_junction<'t, 'a, A: Allocator>(context: &ExplainContext<'t, 'a, A>, at: usize) -> bool {
+    junction_in(context.lines.text(), at).is_some()
+}
+
+/// Returns the first `&&` or `||` before the end, or the first block, of the statement at an offset.
+fn junction_in(text: &[u8], at: usize) -> Option<Junction> {
     let mut lexer = Lexer::behind(text, at.min(text.len()));
     for _ in at..text.len() {
         let Some(Ok(token)) = lexer.next() else {
-            return false;
+            return None;
         };
         match token.kind {
-            TokenKind::And | TokenKind::Or => return true,
-            TokenKind::Semicolon | TokenKind::OpenCurly => return false,
+            TokenKind::And => return Some(Junction::And),
+            TokenKind::Or => return Some(Junction::Or),
+            TokenKind::Semicolon | TokenKind::OpenCurly => return None,
             _ => {}
         }
     }
-    false
+    None
 }
 
 /// Returns true if a `-` directly after a `[` stands before the end, or the first block, of the statement at an

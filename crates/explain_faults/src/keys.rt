@@ -1,13 +1,13 @@
 //! The keys of an array, as they are shown in diagnostics.
 
-use explain_blocked::value_text::write_text;
-use explain_text::words::{write_count, write_number, write_str};
+use explain_blocked::value_text::write_key;
+use explain_text::words::{write_count, write_str};
 use std::alloc::AllocError;
 use values::key::Key;
 use values::map::Element;
 
 /// Maximum number of keys that are listed one by one.
-const MOST: usize = 8;
+const MAX_LISTED_KEYS: usize = 8;
 
 /// Appends the keys of elements, which are sorted. Consecutive numbers are written as a range, otherwise keys near
 /// `wanted` are listed.
@@ -57,15 +57,15 @@ fn first_shown(elements: &[Element], wanted: Option<&Key>) -> usize {
         }
         below = below.saturating_add(1);
     }
-    let last = elements.len().saturating_sub(MOST);
-    below.saturating_sub(MOST / 2).min(last)
+    let last = elements.len().saturating_sub(MAX_LISTED_KEYS);
+    below.saturating_sub(MAX_LISTED_KEYS / 2).min(last)
 }
 
 /// Appends the keys of elements from a position on, at most 8, and the number of the other keys.
 fn write_each(out: &mut Vec<u8>, elements: &[Element], first: usize) -> Result<(), AllocError> {
     let mut told: usize = 0;
     for i in first..elements.len() {
-        if told >= MOST {
+        if told >= MAX_LISTED_KEYS {
             break;
         }
         if told > 0 {
@@ -87,11 +87,4 @@ pub fn write_element(out: &mut Vec<u8>, key: &Key) -> Result<(), AllocError> {
     write_str(out, "[")?;
     write_key(out, key)?;
     write_str(out, "]")
-}
-
-fn write_key(out: &mut Vec<u8>, key: &Key) -> Result<(), AllocError> {
-    match key {
-        Key::Number(number) => write_number(out, *number),
-        Key::Text(text) => write_text(out, text.as_bytes()),
-    }
 }

@@ -14,7 +14,7 @@ use values::map::Element;
 use values::value::{Scalar, Value};
 
 /// Maximum length of a key that is compared with others, in bytes.
-const LONGEST: usize = 40;
+const MAX_COMPARED_BYTES: usize = 40;
 
 /// Appends a hint for a missing element whose text key is spelled nearly like a key of the array. Returns true if it
 /// was appended.
@@ -59,7 +59,7 @@ fn nearest_key<'e>(
     elements: &'e [Element],
 ) -> Result<Option<NearMatch<'e>>, AllocError> {
     let mut near = None;
-    if wanted.len() > LONGEST {
+    if wanted.len() > MAX_COMPARED_BYTES {
         return Ok(near);
     }
     for element in elements {

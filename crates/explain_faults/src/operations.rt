@@ -1,9 +1,10 @@
 //! The operation that has a fault, with the values of its operands, and the messages of failed assertions.
 
-use crate::parts::{faulty_part, value_of};
+use crate::parts::faulty_part;
 use explain_blocked::context::ExplainContext;
 use explain_blocked::index::CellSite;
 use explain_blocked::value_text::write_scalar;
+use explain_remedies::expressions::value_of;
 use explain_text::words::{write_bytes, write_str};
 use flow::cell::CellForm;
 use flow::expression::{Expr, Operation};

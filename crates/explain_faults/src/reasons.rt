@@ -13,10 +13,10 @@ use flow::name::Name;
 use flow::statement::{Action, Range};
 use flow_index::site::Site;
 use meaning_facts::facts::{FaultFact, Place, Write};
-use meaning_facts::instances::MOST_STEPS;
 use paths::FaultKind;
 use std::alloc::{AllocError, Allocator};
 use values::key::{Key, KeyRef};
+use values::limits::MAX_PATH_STEPS;
 use values::value::Value;
 
 /// Appends the description of a fault kind, without values.
@@ -36,7 +36,7 @@ pub fn write_plain(out: &mut Vec<u8>, kind: FaultKind) -> Result<(), AllocError>
 
 fn write_too_deep(out: &mut Vec<u8>) -> Result<(), AllocError> {
     write_str(out, "a block or a call would stand inside of ")?;
-    write_count(out, MOST_STEPS)?;
+    write_count(out, MAX_PATH_STEPS)?;
     write_str(out, " others")
 }
 
@@ -99,7 +99,7 @@ fn write_missing<'t, 'a, A: Allocator>(
 }
 
 /// Returns the key that is the value of a cell, or `None` if it has none.
-fn key_at<'t, 'a, A: Allocator>(
+pub fn key_at<'t, 'a, A: Allocator>(
     context: &ExplainContext<'t, 'a, A>,
     cell: Place,
 ) -> Result<Option<Key>, AllocError> {

@@ -5,7 +5,7 @@ use lexer::token::Span;
 /// A hint on what to write instead, with a place if it refers to another one than the refusal.
 ///
 /// If there is a place, the text is continued by ` at` and that place.
-#[derive(Clone, Copy, Debug, PartialEq, Eq)]
+#[derive(Clone, Copy)]
 pub struct Advice {
     pub words: &'static str,
     pub at: Option<Span>,
@@ -15,13 +15,5 @@ impl Advice {
     /// Creates a hint about the place of the refusal.
     pub fn here(words: &'static str) -> Option<Advice> {
         Some(Advice { words, at: None })
-    }
-
-    /// Creates a hint about another place.
-    pub fn of(words: &'static str, at: Span) -> Option<Advice> {
-        Some(Advice {
-            words,
-            at: Some(at),
-        })
     }
 }

@@ -7,18 +7,19 @@ use lexer::lexer::Lexer;
 use lexer::token::TokenKind;
 
 /// The hint about a comment within a comment.
-pub const NESTED: &str =
-    "a comment ends with the first */ behind its /*: no comment stands in another one";
+pub const NESTED: &str = "a comment ends at the first */: leave the comment within it out";
 
 /// Returns a hint if a comment has ended early because it contains another one.
 ///
 /// This is assumed under two conditions. The text before the token begins more comments than it ends, and the first
 /// lexical fault after it is the end of a comment.
-pub fn nested(text: &[u8], around: &TokenContext<'_>) -> Option<Advice> {
+pub fn nested(around: &TokenContext<'_>) -> Option<Advice> {
     if around.found.kind == TokenKind::End {
         return None;
     }
-    let (before, behind) = text.split_at(around.found.span.from.min(text.len()));
+    let (before, behind) = around
+        .text
+        .split_at(around.found.span.from.min(around.text.len()));
     if begins_more(before) && ends_comment(behind) {
         Advice::here(NESTED)
     } else {

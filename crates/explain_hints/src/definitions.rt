@@ -1,11 +1,10 @@
 //! Search for function definitions in a text that may not parse.
 
-use crate::kinds::is_type;
 use lexer::lexer::Lexer;
 use lexer::token::TokenKind;
 
 /// The prefix of a function head that precedes the current token.
-#[derive(Clone, Copy, Debug, PartialEq, Eq)]
+#[derive(Clone, Copy, PartialEq, Eq)]
 enum HeadState {
     Nothing,
     /// Up to the bracket that closes the outputs.
@@ -27,14 +26,20 @@ pub fn is_defined(text: &[u8], name: &[u8]) -> bool {
         let Some(Ok(token)) = lexer.next() else {
             return false;
         };
-        if head == HeadState::Inputs
-            && (is_type(token.kind) || token.kind == TokenKind::CloseRound)
-        {
+        if head == HeadState::Inputs && begins_inputs(token.kind) {
             return true;
         }
         head = next_head(head, token.kind, token.text == name);
     }
     false
+}
+
+/// Returns true if a token of this kind is a type, or closes an empty list of inputs.
+fn begins_inputs(kind: TokenKind) -> bool {
+    matches!(
+        kind,
+        TokenKind::Int | TokenKind::String | TokenKind::Boolean | TokenKind::CloseRound
+    )
 }
 
 /// Returns the state after one more token. `is_it`: whether the token has the text of the name.

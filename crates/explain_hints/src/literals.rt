@@ -6,15 +6,31 @@ const LEAST: &[u8] = b"9223372036854775808";
 /// Returns the hint about the malformed number that begins at offset `at`.
 pub fn on_number(text: &[u8], number: &[u8], at: usize) -> &'static str {
     if number == LEAST && is_negative(text, at) {
-        return "the least whole number is written -9223372036854775807 - 1";
+        return "write -9223372036854775807 - 1 for the least whole number";
+    }
+    if number.starts_with(b"0x") || number.starts_with(b"0X") {
+        return "write decimal digits: 31 for 0x1F";
+    }
+    if has_byte(number, b'_') {
+        return "leave the _ out: 1000000 for 1_000_000";
     }
     if has_others(number) {
-        return "a name begins with a letter or _, and a number has decimal digits alone, as 1000 for 1e3";
+        return "a name begins with a letter or _, and a number has only the digits 0 to 9: 1000 for 1e3";
     }
     match number {
-        [b'0', ..] => "leave out the 0 in front",
+        [b'0', ..] => "leave the 0 before the number out",
         _ => "9223372036854775807 is the largest whole number",
     }
+}
+
+/// Returns true if a byte occurs in a number.
+fn has_byte(number: &[u8], wanted: u8) -> bool {
+    for byte in number {
+        if *byte == wanted {
+            return true;
+        }
+    }
+    false
 }
 
 /// Returns true if a number has other bytes than digits.
@@ -34,7 +50,7 @@ fn is_negative(text: &[u8], at: usize) -> bool {
 }
 
 /// Returns the last byte of a text that is not a space, or a space if there is none.
-pub fn last_sign(text: &[u8]) -> u8 {
+fn last_sign(text: &[u8]) -> u8 {
     let mut last = b' ';
     for byte in text {
         if *byte != b' ' {
@@ -47,19 +63,17 @@ pub fn last_sign(text: &[u8]) -> u8 {
 /// Returns the hint about a string that is not closed on its line. `to`: the offset up to which the lexer read it.
 pub fn on_string(text: &[u8], to: usize) -> &'static str {
     match text.get(to) {
-        Some(b'\t') => "a tab in a string is written \\t",
-        _ => {
-            "a string ends on its line with a \": \\n in it ends a line, and strings are joined by +"
-        }
+        Some(b'\t') => "write \\t for a tab in a string",
+        _ => { "close the string by a \" on its line: \\n in it ends a line, and + joins strings" }
     }
 }
 
 /// Returns the hint about an unknown escape.
 pub fn on_escape(escape: &[u8]) -> &'static str {
     match escape {
-        [b'\\', b'%'] => "a % is written %% in a format",
-        [b'\\', b'\''] => "a ' stands for itself",
-        [b'\\', b'r'] => "an end of line is \\n alone",
-        _ => "a \\ itself is written \\\\",
+        [b'\\', b'%'] => "write %% for a % in a format",
+        [b'\\', b'\''] => "write ' without the \\",
+        [b'\\', b'r'] => "write \\n for the end of a line",
+        _ => "write \\\\ for a \\",
     }
 }

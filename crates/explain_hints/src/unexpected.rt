@@ -4,9 +4,13 @@
 //! then operators and missing tokens.
 
 use crate::advice::Advice;
+use crate::comments::nested;
+use crate::form_rules::FORM_RULES;
 use crate::keywords::near_keyword;
+use crate::rules::first_hint;
+use crate::sign_rules::{END_RULES, SIGN_RULES};
 use crate::token_context::TokenContext;
-use crate::{brackets, comments, endings, headers, marks, missing, words};
+use crate::word_rules::WORD_RULES;
 use std::alloc::{AllocError, Global};
 
 /// Returns a hint about the token that begins at an offset, or about a token that is missing at the end of the text.
@@ -16,40 +20,12 @@ use std::alloc::{AllocError, Global};
 /// Returns `AllocError` if an allocation fails.
 pub fn on_unexpected(alloc: Global, text: &[u8], at: usize) -> Result<Option<Advice>, AllocError> {
     let around = TokenContext::new(alloc, text, at)?;
-    if let Some(advice) = by_words(text, &around) {
+    if let Some(advice) = nested(&around).or(first_hint(WORD_RULES, &around)) {
         return Ok(Some(advice));
     }
-    match near_keyword(alloc, text, &around)? {
-        Some(advice) => Ok(Some(advice)),
-        None => Ok(by_form(&around).or(by_signs(&around))),
+    if let Some(advice) = near_keyword(alloc, &around)? {
+        return Ok(Some(advice));
     }
-}
-
-/// Tries the rules about words.
-fn by_words(text: &[u8], around: &TokenContext<'_>) -> Option<Advice> {
-    comments::nested(text, around)
-        .or(headers::declared_output(text, around))
-        .or(words::first_word(text, around))
-        .or(headers::import(around))
-        .or(words::other_operator(around))
-        .or(words::other_type(around))
-        .or(headers::word_as_name(around))
-}
-
-/// Tries the rules about the form of the statement.
-fn by_form(around: &TokenContext<'_>) -> Option<Advice> {
-    words::two_names(around)
-        .or(headers::form(around))
-        .or(headers::block(around))
-        .or(headers::function(around))
-}
-
-/// Tries the rules about operators, brackets and missing tokens.
-fn by_signs(around: &TokenContext<'_>) -> Option<Advice> {
-    marks::sign(around)
-        .or(brackets::bracket(around))
-        .or(endings::ending(around))
-        .or(missing::bracket(around))
-        .or(missing::sign(around))
-        .or(endings::value(around))
+    let by_form = first_hint(FORM_RULES, &around).or(first_hint(SIGN_RULES, &around));
+    Ok(by_form.or(first_hint(END_RULES, &around)))
 }

@@ -1,125 +1,17 @@
-//! Table of variables and constants that other languages have, with what to write instead.
+//! Variables and constants that other languages have, with what to write instead.
 
-use crate::functions::OUTSIDE;
-use crate::replacements::{Replacement, row_of};
+use crate::rules::entry_of;
 
-const NONE: &str = "every variable has a value: take one that stands for none, as -1 or \"\"";
+/// Variables that do not exist in the language. A line is `WORDS -> HINT`.
+static VARIABLES: &str = r#"
+True TRUE yes on ture treu tru -> write true
+False FALSE no off flase fasle fals -> write false
+null NULL nil None undefined nan NaN -> every variable has a value: choose one that means none, -1 or ""
+argc argv args stdin -> a script reads no files and no arguments: write the value into it, int n = 10;
+PI pi -> there are only whole numbers: scale them, 31416 for 3.1416
+"#;
 
-const SCALED: &str = "there are whole numbers alone: scale them, as 31416 for 3.1416";
-
-/// Variables that do not exist in the language, with what to write instead.
-static VARIABLES: [Replacement; 27] = [
-    Replacement {
-        word: "True",
-        words: "write true",
-    },
-    Replacement {
-        word: "TRUE",
-        words: "write true",
-    },
-    Replacement {
-        word: "False",
-        words: "write false",
-    },
-    Replacement {
-        word: "FALSE",
-        words: "write false",
-    },
-    Replacement {
-        word: "null",
-        words: NONE,
-    },
-    Replacement {
-        word: "NULL",
-        words: NONE,
-    },
-    Replacement {
-        word: "nil",
-        words: NONE,
-    },
-    Replacement {
-        word: "None",
-        words: NONE,
-    },
-    Replacement {
-        word: "yes",
-        words: "write true",
-    },
-    Replacement {
-        word: "on",
-        words: "write true",
-    },
-    Replacement {
-        word: "no",
-        words: "write false",
-    },
-    Replacement {
-        word: "off",
-        words: "write false",
-    },
-    Replacement {
-        word: "undefined",
-        words: NONE,
-    },
-    Replacement {
-        word: "nan",
-        words: NONE,
-    },
-    Replacement {
-        word: "NaN",
-        words: NONE,
-    },
-    Replacement {
-        word: "argc",
-        words: OUTSIDE,
-    },
-    Replacement {
-        word: "argv",
-        words: OUTSIDE,
-    },
-    Replacement {
-        word: "args",
-        words: OUTSIDE,
-    },
-    Replacement {
-        word: "stdin",
-        words: OUTSIDE,
-    },
-    Replacement {
-        word: "PI",
-        words: SCALED,
-    },
-    Replacement {
-        word: "pi",
-        words: SCALED,
-    },
-    Replacement {
-        word: "ture",
-        words: "write true",
-    },
-    Replacement {
-        word: "treu",
-        words: "write true",
-    },
-    Replacement {
-        word: "tru",
-        words: "write true",
-    },
-    Replacement {
-        word: "flase",
-        words: "write false",
-    },
-    Replacement {
-        word: "fasle",
-        words: "write false",
-    },
-    Replacement {
-        word: "fals",
-        words: "write false",
-    },
-];
-
-/// Returns the hint about a variable of another language, or `None` if the table has no such name.
+/// Returns the hint about a variable of another language, or `None` if there is no such name among them.
 pub fn on_variable(name: &[u8]) -> Option<&'static str> {
-    row_of(&VARIABLES, name)
+    entry_of(VARIABLES, name)
 }

@@ -5,7 +5,7 @@ use explain_refusals::explanation::{Hint, Note};
 use explain_text::line_index::LineIndex;
 use explain_text::position::{Position, position_of};
 use explain_text::words::write_place;
-use explain_warnings::render::{hint_of, name_of, sentence, warnings_of};
+use explain_warnings::render::{code_of, hint_of, name_of, sentence, warnings_of};
 use explain_warnings::warning::Warning;
 use lexer::token::Span;
 use serde_json::{Value, json};
@@ -154,7 +154,7 @@ fn place_value(
 
 /// Returns the warnings of an accepted text as JSON objects, each on a line of its own.
 ///
-/// The members are those of a refusal, with `warning` as the code.
+/// The members are those of a refusal, with the code and the name of the kind of warning.
 ///
 /// # Errors
 ///
@@ -194,6 +194,7 @@ fn warning_value(
     let from = position_in(lines, warning.at.from);
     let end = position_in(lines, warning.at.to);
     let end = json!(in alloc; {"line": end.line as u64, "column": end.column as u64})?;
+    let code = code_of(warning.warning_kind);
     let name = name_of(warning.warning_kind);
     let hint = hint_of(warning.warning_kind);
     let related = Value::Array(Vec::new(alloc));
@@ -202,7 +203,7 @@ fn warning_value(
         "line": from.line as u64,
         "column": from.column as u64,
         "end": end,
-        "code": "warning",
+        "code": code,
         "name": name,
         "message": message,
         "hint": hint,

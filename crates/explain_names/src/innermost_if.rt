@@ -6,7 +6,7 @@ use std::alloc::Allocator;
 use syntax_trees::tree::{Block, Stmt, StmtKind};
 
 /// Maximum number of nested `if` statements that are entered.
-const MOST: usize = 64;
+const MAX_NESTED_IFS: usize = 64;
 
 /// The span of the first token of an `if`, and its branches.
 #[derive(Drop)]
@@ -25,7 +25,7 @@ pub fn innermost_partial<'a, A: Allocator>(
     outer: IfBranches<'a, A>,
 ) -> IfBranches<'a, A> {
     let mut found = outer;
-    for _ in 0..MOST {
+    for _ in 0..MAX_NESTED_IFS {
         match partial_inside(name, &found) {
             Some(inside) => found = inside,
             None => break,
@@ -66,7 +66,13 @@ fn branches_of<'a, A: Allocator>(statement: &'a Stmt<A>) -> Option<IfBranches<'a
             then,
             other,
         }),
-        _ => None,
+        StmtKind::Declare(_, _)
+        | StmtKind::Assign(_, _)
+        | StmtKind::Write(_, _, _)
+        | StmtKind::AssignAll(_, _)
+        | StmtKind::Call(_, _)
+        | StmtKind::Foreach(_, _)
+        | StmtKind::Wait(_, _) => None,
     }
 }
 

@@ -79,7 +79,11 @@ fn in_command<A: Allocator>(
             }
         }
         StmtKind::Foreach(_, body) | StmtKind::Wait(_, body) => { in_block(search, body, found) }
-        _ => Ok(()),
+        StmtKind::Declare(_, _)
+        | StmtKind::Assign(_, _)
+        | StmtKind::Write(_, _, _)
+        | StmtKind::AssignAll(_, _)
+        | StmtKind::Call(_, _) => Ok(()),
     }
 }
 

@@ -1,15 +1,20 @@
 //! Explanations of faults of single assignment.
 
-use crate::calls::is_read_behind;
+use crate::branch_hints::{hint_of_partly, is_declared_at};
 use crate::explanation::{Explanation, Hint, Note, note_of};
+use crate::loop_hints::hint_of_loop;
 use assign_check::fault::AssignFault;
-use explain_names::lookup::{LookupKind, bytes_at, kind_at, last_before, place_before};
-use explain_names::occurrence::{Occurrence, OccurrenceKind};
+use explain_names::lookup::{LookupKind, bytes_at, kind_at, last_before};
+use explain_names::occurrence::{DisplayType, Occurrence, OccurrenceKind};
 use explain_names::occurrences::{function_around, mentions_around};
 use explain_names::partial_assignment::{PartialAssignment, partly_assigned};
 use explain_names::refused_script::RefusedScript;
+use explain_searches::calls::is_read_behind;
+use explain_searches::declared::{rest_of_statement, type_of};
+use explain_searches::scopes::occurs_between;
 use lexer::token::Span;
 use std::alloc::{AllocError, Allocator};
+use syntax_trees::tree::Shape;
 
 /// Returns the explanation of a script that is not singly assigned.
 pub fn told_of_assignments<A: Allocator>(
@@ -32,19 +37,34 @@ fn told_of_never<A: Allocator>(
     at: Span,
 ) -> Result<Explanation, AllocError> {
     let name = bytes_at(refused.text, at);
-    let told = Explanation::of(refused.alloc, name, "is read and never assigned", None)?;
-    Ok(told.with(Hint::named(refused.alloc, "assign it once: ", name, " = ..;")?))
+    let told = Explanation::of(refused.alloc, "`$0` is read but never assigned", name, None)?;
+    Ok(told.with(Hint::filled(refused.alloc, "assign it once: $0 = ..;", &[name])?))
 }
 
 fn told_of_outer<A: Allocator>(
     refused: &RefusedScript<'_, A>,
     at: Span,
 ) -> Result<Explanation, AllocError> {
-    let declared = place_before(refused, at, LookupKind::Declaration, at.from)?;
     let name = bytes_at(refused.text, at);
-    let words = "is assigned in each turn of a loop, and declared outside of it";
-    let told = Explanation::of(refused.alloc, name, words, note_of("declared at", declared))?;
-    Ok(told.with(hint_of_loop(refused, name, at)?))
+    let occurrences = mentions_around(refused.alloc, at.from, refused.script)?;
+    let declared = last_before(
+        refused.text,
+        occurrences.as_slice(),
+        LookupKind::Declaration,
+        name,
+        at.from,
+    );
+    let template = "`$0` is assigned in each turn of a loop, but declared outside it";
+    let note = note_of("declared at", place_of(declared));
+    let told = Explanation::of(refused.alloc, template, name, note)?;
+    match declared {
+        None => Ok(told),
+        Some(declared) => {
+            let listed = occurrences.as_slice();
+            let hint = hint_of_loop(refused.alloc, refused.text, listed, declared, at)?;
+            Ok(told.with(hint))
+        }
+    }
 }
 
 fn told_of_twice<A: Allocator>(
@@ -60,104 +80,115 @@ fn told_of_twice<A: Allocator>(
         name,
         at.from,
     );
-    let hint = match first {
-        None => None,
-        Some(first) if first.kind == OccurrenceKind::Given => hint_of_given(
-            refused, name, first.at,
-        )?,
-        Some(first) => hint_of_twice(refused, occurrences.as_slice(), name, first)?,
-    };
-    let words = "is assigned a second time";
-    Ok(Explanation::of(refused.alloc, name, words, first_assigned(first))?.with(hint))
+    match first {
+        Some(first) if first.kind == OccurrenceKind::Given => {
+            told_of_read_only(refused, name, first.at)
+        }
+        _ => {
+            let note = note_of("first assigned at", place_of(first));
+            let told = Explanation::of(refused.alloc, "`$0` is assigned twice", name, note)?;
+            Ok(told.with(hint_of_twice(refused, occurrences.as_slice(), first, at)?))
+        }
+    }
 }
 
 /// Returns the hint about a second assignment.
 fn hint_of_twice<A: Allocator>(
     refused: &RefusedScript<'_, A>,
     occurrences: &[Occurrence],
-    name: &[u8],
-    first: Occurrence,
+    first: Option<Occurrence>,
+    at: Span,
 ) -> Result<Option<Hint>, AllocError> {
-    let behind = if is_declared_at(occurrences, first.at) {
-        " without a value, or give the new value another name"
-    } else {
-        ""
+    let name = bytes_at(refused.text, at);
+    if is_read_behind(refused.text, at.to, name) {
+        let next = hint_of_next(refused, occurrences, at)?;
+        if next.is_some() {
+            return Ok(next);
+        }
+    }
+    let is_movable = match first {
+        Some(first) => {
+            is_declared_at(occurrences, first.at)
+                && !occurs_between(refused.text, first.at.to, at.from, name)
+        }
+        None => false,
     };
-    let before = if behind.is_empty() {
-        "a variable has one value: give the new one another name than "
+    let template = if is_movable {
+        "declare $0 without a value, or give the new value another name"
     } else {
-        "a variable has one value: declare "
+        "give the new value another name than $0"
     };
-    Hint::named(refused.alloc, before, name, behind)
+    Hint::filled(refused.alloc, template, &[name])
 }
 
-/// Returns the hint about an assignment to an input or to a loop variable. `declared`: the place of its declaration.
-fn hint_of_given<A: Allocator>(
+/// Returns the hint that declares a new variable for a value that is computed from the old one, or `None` if the
+/// statement is not such an assignment or that name is taken.
+fn hint_of_next<A: Allocator>(
+    refused: &RefusedScript<'_, A>,
+    occurrences: &[Occurrence],
+    at: Span,
+) -> Result<Option<Hint>, AllocError> {
+    let text = refused.text;
+    let name = bytes_at(text, at);
+    let rest = rest_of_statement(text, at.to);
+    let mut next = Vec::from_slice(refused.alloc, b"next_")?;
+    next.extend_from_slice(name)?;
+    let to = text.len();
+    let declaration = LookupKind::Declaration;
+    let is_taken = last_before(text, occurrences, declaration, next.as_slice(), to).is_some();
+    match scalar_of(text, occurrences, name, at.from) {
+        Some(sort) if !is_taken && rest.starts_with(b" =") => {
+            let template = "give the new value another name: $0$1$2";
+            let declared = type_of(sort.base).as_bytes();
+            Hint::of_parts(
+                refused.alloc,
+                template,
+                declared,
+                next.as_slice(),
+                rest,
+                rest,
+            )
+        }
+        _ => Ok(None),
+    }
+}
+
+/// Returns the type of the variable with this name that is declared last before an offset, if it is a scalar.
+fn scalar_of(
+    text: &[u8],
+    occurrences: &[Occurrence],
+    name: &[u8],
+    before: usize,
+) -> Option<DisplayType> {
+    let declared = last_before(text, occurrences, LookupKind::Declaration, name, before)?;
+    let sort = declared.sort?;
+    if sort.shape == Shape::Scalar {
+        Some(sort)
+    } else {
+        None
+    }
+}
+
+/// Returns the explanation of an assignment to an input or to a loop variable. `declared`: the place of its declaration.
+fn told_of_read_only<A: Allocator>(
     refused: &RefusedScript<'_, A>,
     name: &[u8],
     declared: Span,
-) -> Result<Option<Hint>, AllocError> {
+) -> Result<Explanation, AllocError> {
     let mut is_input = false;
     if let Some(function) = function_around(declared.from, refused.script) {
         for input in &function.inputs {
             is_input = is_input || input.name.span == declared;
         }
     }
-    let behind = if is_input {
-        " is an input, which has its value already: give the new value another name"
+    let template = if is_input {
+        "`$0` is an input, and inputs are read-only"
     } else {
-        " is the variable of a loop, which has its value in each turn: give the new value another name"
+        "`$0` is a loop variable, and loop variables are read-only"
     };
-    Hint::named(refused.alloc, "", name, behind)
-}
-
-/// Returns true if a place is that of a declaration.
-fn is_declared_at(occurrences: &[Occurrence], at: Span) -> bool {
-    for occurrence in occurrences {
-        if occurrence.at == at && occurrence.kind == OccurrenceKind::Declared {
-            return true;
-        }
-    }
-    false
-}
-
-/// Returns the hint about an assignment in each turn of a loop. If it reads the variable, an array of successive values
-/// is suggested.
-fn hint_of_loop<A: Allocator>(
-    refused: &RefusedScript<'_, A>,
-    name: &[u8],
-    at: Span,
-) -> Result<Option<Hint>, AllocError> {
-    if is_read_behind(refused.text, at.to, name) {
-        let mut words = Vec::from_slice(
-            refused.alloc,
-            b"keep each turn's value in an array, which goes on from the turn before: ",
-        )?;
-        words.extend_from_slice(name)?;
-        words.extend_from_slice(b"[i] = ")?;
-        words.extend_from_slice(name)?;
-        words.extend_from_slice(b"[i - 1] + .., with the first one written before the loop")?;
-        return Ok(Some(Hint { words, at: None }));
-    }
-    Hint::named(
-        refused.alloc,
-        "declare it in the loop, or make it an array with an element for each turn: ",
-        name,
-        "[i] = ..",
-    )
-}
-
-/// Returns the note on the place of the first assignment.
-fn first_assigned(first: Option<Occurrence>) -> Option<Note> {
-    let first = first?;
-    let words = match first.kind {
-        OccurrenceKind::Given => "it has its value from its declaration at",
-        _ => "first assigned at",
-    };
-    Some(Note {
-        words,
-        at: first.at,
-    })
+    let note = note_of("declared at", Some(declared));
+    let told = Explanation::of(refused.alloc, template, name, note)?;
+    Ok(told.with(Hint::plain(refused.alloc, "give the new value another name")?))
 }
 
 /// Returns the explanation of an `if` whose branches assign a variable different numbers of times.
@@ -175,8 +206,7 @@ fn told_of_partly<A: Allocator>(
 fn told_of_branches<A: Allocator>(
     refused: &RefusedScript<'_, A>,
 ) -> Result<Explanation, AllocError> {
-    let words =
-        "one branch of this if assigns a variable that the other branch does not assign as often";
+    let words = "the branches of this `if` assign a variable different numbers of times";
     let told = Explanation::plain(refused.alloc, words)?;
     Ok(told.with(Hint::plain(
         refused.alloc,
@@ -191,49 +221,17 @@ fn told_of_branch<A: Allocator>(
     at: Span,
 ) -> Result<Explanation, AllocError> {
     let name = bytes_at(refused.text, partly.occurrence.at);
-    let note = Some(Note {
-        words: "assigned at",
-        at: partly.occurrence.at,
-    });
-    let words = "is assigned by one branch of this if, and not as often by the other";
-    let told = Explanation::of(refused.alloc, name, words, note)?;
-    Ok(told.with(hint_of_partly(refused, partly, name, at)?))
-}
-
-/// Returns the hint about an `if` that leaves a variable out, which may be nested in the one at the place.
-fn hint_of_partly<A: Allocator>(
-    refused: &RefusedScript<'_, A>,
-    partly: PartialAssignment,
-    name: &[u8],
-    at: Span,
-) -> Result<Option<Hint>, AllocError> {
+    let note = note_of("assigned at", Some(partly.occurrence.at));
+    let template = "`$0` is assigned on only some paths through this `if`";
+    let told = Explanation::of(refused.alloc, template, name, note)?;
     let occurrences = mentions_around(refused.alloc, at.from, refused.script)?;
-    let before = last_before(
+    Ok(told.with(hint_of_partly(
+        refused.alloc,
         refused.text,
         occurrences.as_slice(),
-        LookupKind::Assignment,
-        name,
-        at.from,
-    );
-    if before.is_some() {
-        let words = " has a value before this if: give the new value another name";
-        return Hint::named(refused.alloc, "", name, words);
-    }
-    let inner = if partly.inner == at {
-        None
-    } else {
-        Some(partly.inner)
-    };
-    let behind = match (partly.has_else, inner.is_some()) {
-        (false, false) => " in an else of this if too",
-        (false, true) => " in an else too, of the if",
-        (true, false) => " in both branches of this if",
-        (true, true) => " in both branches of the if",
-    };
-    match Hint::named(refused.alloc, "assign ", name, behind)? {
-        None => Ok(None),
-        Some(hint) => Ok(Some(hint.placed(inner))),
-    }
+        partly,
+        at,
+    )?))
 }
 
 /// Returns the explanation of an array that is assigned both whole and by elements.
@@ -269,13 +267,13 @@ fn told_of_input<A: Allocator>(
     name: &[u8],
     declared: Span,
 ) -> Result<Explanation, AllocError> {
-    let words = "is an input, and has all of its elements already";
     let note = note_of("declared at", Some(declared));
     let hint = Hint::plain(
         refused.alloc,
-        "an input is read alone: a function gives the array that it writes as an output, (int B[]) f(int A[]) { foreach v, i in A { B[i] = v; } }",
+        "write to an output instead, as in (int B[]) f(int A[]) { foreach v, i in A { B[i] = v; } }",
     )?;
-    Ok(Explanation::of(refused.alloc, name, words, note)?.with(hint))
+    let template = "`$0` is an input, and inputs are read-only";
+    Ok(Explanation::of(refused.alloc, template, name, note)?.with(hint))
 }
 
 /// Returns the explanation of an array that is assigned here in one form and elsewhere in the other. `first`: the place
@@ -286,39 +284,48 @@ fn told_of_forms<A: Allocator>(
     is_element: bool,
     first: Option<Span>,
 ) -> Result<Explanation, AllocError> {
-    let (words, note) = if is_element {
+    let (template, note) = if is_element {
         (
-            "is assigned whole already, and has no further elements",
-            "assigned whole at",
+            "`$0` is already assigned as a whole",
+            "assigned as a whole at",
         )
     } else {
         (
-            "is assigned whole here, and elsewhere by elements",
+            "`$0` is assigned as a whole here, and by elements elsewhere",
             "an element is written at",
         )
     };
-    let hint = Hint::named(
+    let told = Explanation::of(refused.alloc, template, name, note_of(note, first))?;
+    Ok(told.with(Hint::filled(
         refused.alloc,
-        "an array is written whole, or by its elements alone: ",
-        name,
-        "[0] = ..;",
-    )?;
-    Ok(Explanation::of(refused.alloc, name, words, note_of(note, first))?.with(hint))
+        "write all of it at once, $0 = [..];, or each element by its key, $0[0] = ..;",
+        &[name],
+    )?))
 }
 
 fn told_of_output<A: Allocator>(
     refused: &RefusedScript<'_, A>,
     at: Span,
 ) -> Result<Explanation, AllocError> {
-    let note = match function_around(at.from, refused.script) {
-        None => None,
-        Some(function) => Some(Note {
+    let mut is_array = false;
+    let mut note = None;
+    if let Some(function) = function_around(at.from, refused.script) {
+        note = Some(Note {
             words: "its function is defined at",
             at: function.name.span,
-        }),
-    };
+        });
+        for output in &function.outputs {
+            if output.name.span == at && output.shape != Shape::Scalar {
+                is_array = true;
+            }
+        }
+    }
     let name = bytes_at(refused.text, at);
-    let words = "is an output, and is never assigned";
-    let hint = Hint::named(refused.alloc, "assign it in its function: ", name, " = ..;")?;
-    Ok(Explanation::of(refused.alloc, name, words, note)?.with(hint))
+    let told = Explanation::of(refused.alloc, "output `$0` is never assigned", name, note)?;
+    let template = if is_array {
+        "assign it in its function, $0 = [..];, or write its elements, $0[0] = ..;"
+    } else {
+        "assign it in its function: $0 = ..;"
+    };
+    Ok(told.with(Hint::filled(refused.alloc, template, &[name])?))
 }

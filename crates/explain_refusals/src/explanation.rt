@@ -35,20 +35,31 @@ impl Hint {
 
     /// Creates a hint with this text and without a place.
     pub fn plain(alloc: Global, words: &str) -> Result<Option<Hint>, AllocError> {
-        Hint::named(alloc, words, b"", "")
+        let words = Vec::from_slice(alloc, words.as_bytes())?;
+        Ok(Some(Hint { words, at: None }))
     }
 
-    /// Creates a hint with a name between two parts of its text.
-    pub fn named(
+    /// Creates a hint from a template, in which `$0`, `$1` .. are replaced by these parts.
+    pub fn filled(
         alloc: Global,
-        before: &str,
-        name: &[u8],
-        behind: &str,
+        template: &str,
+        parts: &[&[u8]],
     ) -> Result<Option<Hint>, AllocError> {
-        let mut words = Vec::from_slice(alloc, before.as_bytes())?;
-        words.extend_from_slice(name)?;
-        words.extend_from_slice(behind.as_bytes())?;
+        let mut words = Vec::new(alloc);
+        fill(&mut words, template, parts)?;
         Ok(Some(Hint { words, at: None }))
+    }
+
+    /// Creates a hint from a template, in which `$0` to `$3` are replaced by these parts.
+    pub fn of_parts<'p>(
+        alloc: Global,
+        template: &str,
+        first: &'p [u8],
+        second: &'p [u8],
+        third: &'p [u8],
+        fourth: &'p [u8],
+    ) -> Result<Option<Hint>, AllocError> {
+        Hint::filled(alloc, template, &[first, second, third, fourth])
     }
 
     /// Converts an optional piece of advice to an optional hint.
@@ -109,21 +120,44 @@ impl Explanation {
         }
     }
 
-    /// Creates an explanation whose sentence is a name followed by these words.
+    /// Creates an explanation from a template of its sentence, in which `$0` is replaced by a name.
     pub fn of(
         alloc: Global,
+        template: &str,
         name: &[u8],
-        words: &str,
         note: Option<Note>,
     ) -> Result<Explanation, AllocError> {
-        let mut sentence = Vec::from_slice(alloc, name)?;
-        sentence.push(b' ')?;
-        sentence.extend_from_slice(words.as_bytes())?;
+        let mut sentence = Vec::new(alloc);
+        fill(&mut sentence, template, &[name])?;
         Ok(Explanation {
             sentence,
             note,
             hint: None,
         })
+    }
+}
+
+/// Appends a template, in which `$0`, `$1` .. are replaced by these parts.
+pub fn fill(out: &mut Vec<u8>, template: &str, parts: &[&[u8]]) -> Result<(), AllocError> {
+    let mut is_part = false;
+    for byte in template.as_bytes() {
+        if is_part {
+            out.extend_from_slice(part_of(parts, *byte))?;
+            is_part = false;
+        } else if *byte == b'$' {
+            is_part = true;
+        } else {
+            out.push(*byte)?;
+        }
+    }
+    Ok(())
+}
+
+/// Returns the part with this digit as its number, or no bytes if there is none.
+fn part_of<'p>(parts: &[&'p [u8]], digit: u8) -> &'p [u8] {
+    match parts.get(digit.saturating_sub(b'0') as usize) {
+        Some(part) => *part,
+        None => &[],
     }
 }
 

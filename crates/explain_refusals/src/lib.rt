@@ -5,13 +5,15 @@
 //! columns.
 #![tactic(auto)]
 
-mod calls;
-mod declared;
+mod array_hints;
+mod branch_hints;
 pub mod diagnostic;
 mod explain_assignments;
 mod explain_counts;
+mod explain_formats;
 mod explain_names_unknown;
 mod explain_types;
 pub mod explanation;
+mod loop_hints;
 mod texts;
-mod type_mismatch;
+mod type_hints;

@@ -60,10 +60,10 @@ fn sentence_of_text(
     match fault {
         ParseFault::Lex(fault) => told_of_token(alloc, text, fault),
         ParseFault::Unexpected(at) => told_of_unexpected(alloc, text, at),
-        ParseFault::TooNested(_) => Explanation::plain(alloc, "this nests deeper than 64 levels"),
+        ParseFault::TooNested(_) => Explanation::plain(alloc, "nesting deeper than 64 levels"),
         ParseFault::TooLong(_) => Explanation::plain(
             alloc,
-            "the script has more than 1048576 bytes",
+            "the script is larger than 1048576 bytes",
         ),
         ParseFault::Memory => Explanation::plain(alloc, "no memory"),
     }
@@ -72,35 +72,45 @@ fn sentence_of_text(
 fn told_of_unexpected(alloc: Global, text: &[u8], at: Span) -> Result<Explanation, AllocError> {
     let token = bytes_at(text, at);
     if token.is_empty() {
-        Explanation::plain(
-            alloc,
-            "the script ends here, before its last statement does",
-        )
+        Explanation::plain(alloc, "unexpected end of the script")
     } else {
-        Explanation::of(alloc, token, "can not stand here", None)
+        Explanation::of(alloc, "unexpected `$0`", token, None)
     }
 }
 
 fn told_of_token(alloc: Global, text: &[u8], fault: LexFault) -> Result<Explanation, AllocError> {
     match fault {
         LexFault::BadByte(at) => told_of_byte(alloc, text, at),
-        LexFault::BadNumber(_) => {
-            Explanation::plain(
-                alloc,
-                "a number has digits alone, no 0 before others, and is at most 9223372036854775807",
-            )
-        }
+        LexFault::BadNumber(at) => Explanation::plain(alloc, words_of_number(bytes_at(text, at))),
+        LexFault::OpenString(at) if text.get(at.to) == Some(&b'\t') => Explanation::plain(
+            alloc,
+            "unexpected tab in a string",
+        ),
         LexFault::OpenString(_) => Explanation::plain(
             alloc,
-            "this string is not closed on its line",
+            "unterminated string: there is no closing \" on its line",
         ),
-        LexFault::OpenComment(_) => Explanation::plain(alloc, "this comment is not closed by */"),
-        LexFault::BadEscape(_) => {
-            Explanation::plain(
-                alloc,
-                "this is no escape: a string has \\n, \\t, \\\\ and \\\"",
-            )
+        LexFault::OpenComment(_) => Explanation::plain(
+            alloc,
+            "unterminated comment: there is no closing */",
+        ),
+        LexFault::BadEscape(at) => {
+            let template = "unknown escape `$0`: strings have \\n, \\t, \\\\ and \\\"";
+            Explanation::of(alloc, template, bytes_at(text, at), None)
         }
+    }
+}
+
+/// Returns the sentence about a malformed number.
+fn words_of_number(number: &[u8]) -> &'static str {
+    for byte in number {
+        if !byte.is_ascii_digit() {
+            return "invalid number: numbers consist of digits";
+        }
+    }
+    match number {
+        [b'0', ..] => "invalid number: there is a leading 0",
+        _ => "number too large: the largest is 9223372036854775807",
     }
 }
 
@@ -109,8 +119,9 @@ fn told_of_byte(alloc: Global, text: &[u8], at: Span) -> Result<Explanation, All
     match bytes_at(text, at) {
         [byte, ..] if *byte == b'"' || *byte < b' ' || *byte > b'~' => {
             let mut buffer = Buffer::new();
-            Explanation::of(alloc, b"byte", buffer.format(*byte), None)
+            let digits = buffer.format(*byte).as_bytes();
+            Explanation::of(alloc, "unexpected byte $0", digits, None)
         }
-        _ => Explanation::plain(alloc, "no token begins with this byte"),
+        character => Explanation::of(alloc, "unexpected character `$0`", character, None),
     }
 }

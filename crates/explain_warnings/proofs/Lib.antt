@@ -1,4 +1,6 @@
 mod Added
+mod First
 mod Marking
+mod Needing
 mod Texts
 mod Views

@@ -1,4 +1,6 @@
+pub mod Forms
 pub mod Marks
 pub mod Mentions
-pub mod OddityNames
+pub mod View
+pub mod WarningNames
 pub mod Warnings

@@ -33,7 +33,7 @@ fn mark(marks: &mut Vec<bool>, number: usize) -> Result<(), AllocError>
 }
 
 /// Marks a number if there is one.
-fn mark_some(marks: &mut Vec<bool>, number: Option<usize>) -> Result<(), AllocError>
+pub fn mark_some(marks: &mut Vec<bool>, number: Option<usize>) -> Result<(), AllocError>
     ensures { OnOk result ((k : ℕ) → is_marked marks.new.items k ≡ (is_number k number || is_marked marks.old.items k)) }
 {
     match number {

@@ -1,14 +1,17 @@
-//! Collection of the occurrences of variables in statements, and of empty ranges, in the order of the text.
+//! Collection of the occurrences in statements, in the order of the text.
 ghost use Rattle.std.specs.Prelude.{◌≡◌, ◌++◌, OnOk, IfOk, map, option_map};
-ghost use Rattle.syntax_trees.specs.View.{word_of, words_view, expression_view, form_view, declaration_of, right_of, calling_of, over_of, range_of, statement_view, command_view, body_view, part_of, tree_of};
+ghost use Rattle.syntax_trees.specs.View.{word_of, words_view, expression_view, expressions_view, declaration_of, right_of, calling_of, over_of, range_of, statement_view, command_view, body_view, part_of, tree_of};
 ghost use Rattle.language.specs.Tree as trees;
 ghost use Rattle.explain_warnings.specs.Mentions as specs;
 
+use crate::forms::{always_holds, below_one, is_empty, is_extra_line};
 use crate::name_use::{NameUse, NameUseKind};
-use crate::reads::{add, add_all, read, read_call, read_initial, read_right, read_step};
+use crate::needs::right_needs;
+use crate::reads::{add, add_all, read, read_call, read_right};
+use lexer::token::Span;
 use std::alloc::{AllocError, Allocator, Global};
 use syntax_trees::tree::{
-    Block, Call, Decl, Expr, ExprKind, Item, Name, Range, Right, Script, Source, Stmt, StmtKind,
+    Block, Call, Decl, Expr, Item, Name, Range, Right, Script, Shape, Source, Stmt, StmtKind,
 };
 
 /// Collects the occurrences in all statements of a script, including those in functions.
@@ -26,14 +29,24 @@ pub fn tree_mentions<A: Allocator>(
 }
 
 /// Appends the occurrences in a part.
-fn part<A: Allocator>(item: &Item<A>, name_uses: &mut Vec<NameUse>) -> Result<(), AllocError>
+pub fn part<A: Allocator>(item: &Item<A>, name_uses: &mut Vec<NameUse>) -> Result<(), AllocError>
     ensures { OnOk result (name_uses.new.items ≡ name_uses.old.items ++ specs.part_mentions (part_of item.now)) }
 {
     match item {
         Item::Import(_) => Ok(()),
-        Item::Function(one) => block(&one.body, name_uses),
+        Item::Function(one) => function_body(&one.body, name_uses),
         Item::Statement(one) => statement(one, name_uses),
     }
+}
+
+/// Appends the occurrences in the statements of a function.
+pub fn function_body<A: Allocator>(
+    body: &Block<A>,
+    name_uses: &mut Vec<NameUse>,
+) -> Result<(), AllocError>
+    ensures { OnOk result (name_uses.new.items ≡ name_uses.old.items ++ specs.function_mentions (body_view body.now)) }
+{
+    each(&body.statements, name_uses)
 }
 
 /// Returns true if a name begins with `_`, which marks a variable as unused on purpose.
@@ -46,17 +59,80 @@ pub fn is_spared(name: &[u8]) -> bool
     }
 }
 
+/// Appends an occurrence, if the condition holds.
+fn note(holds: bool, name_use: NameUse, name_uses: &mut Vec<NameUse>) -> Result<(), AllocError>
+    ensures { OnOk result (name_uses.new.items ≡ name_uses.old.items ++ specs.noted holds name_use) }
+{
+    if holds {
+        name_uses.push(name_use)?;
+    }
+    Ok(())
+}
+
+/// Returns the occurrence of an expression.
+fn at_expression<A: Allocator>(kind: NameUseKind, expr: &Expr<A>) -> NameUse
+    ensures { result ≡ specs.at_expression kind (expression_view expr.now) }
+{
+    NameUse {
+        kind,
+        number: expr.number,
+        at: expr.first,
+    }
+}
+
+/// Returns the kind of the occurrence of a declared name.
+fn declared_kind<A: Allocator>(decl: &Decl<A>, right: &Option<Right<A>>) -> NameUseKind
+    ensures { result ≡ specs.declared_kind (declaration_of decl.now) (option_map right_of right.now) }
+{
+    match right {
+        Some(_) => NameUseKind::Declared,
+        None => match decl.shape {
+            Shape::Scalar => NameUseKind::Declared,
+            Shape::Array(_) => NameUseKind::DeclaredArray,
+        },
+    }
+}
+
 /// Appends the occurrence of a declared name, unless the name begins with `_`.
 fn add_declared<A: Allocator>(
+    kind: NameUseKind,
     name: &Name<A>,
     name_uses: &mut Vec<NameUse>,
 ) -> Result<(), AllocError>
-    ensures { OnOk result (name_uses.new.items ≡ name_uses.old.items ++ specs.declared (word_of name.now)) }
+    ensures { OnOk result (name_uses.new.items ≡ name_uses.old.items ++ specs.declared kind (word_of name.now)) }
 {
     if is_spared(name.text.as_slice()) {
         Ok(())
     } else {
-        add(NameUseKind::Declared, name, name_uses)
+        add(kind, name, name_uses)
+    }
+}
+
+/// Appends the occurrences in the right side of an assignment to a name.
+fn assigned<A: Allocator>(
+    name: &Name<A>,
+    right: &Right<A>,
+    name_uses: &mut Vec<NameUse>,
+) -> Result<(), AllocError>
+    ensures { OnOk result (name_uses.new.items ≡ name_uses.old.items ++ specs.assigned_reads (word_of name.now) (right_of right.now)) }
+{
+    if right_needs(right, name.text.as_slice()) {
+        add(NameUseKind::WaitsForItself, name, name_uses)?;
+    }
+    read_right(right, name_uses)
+}
+
+/// Appends the occurrences in the right side of the declaration of a name, if it has one.
+fn initial<A: Allocator>(
+    name: &Name<A>,
+    right: &Option<Right<A>>,
+    name_uses: &mut Vec<NameUse>,
+) -> Result<(), AllocError>
+    ensures { OnOk result (name_uses.new.items ≡ name_uses.old.items ++ specs.initial_reads (word_of name.now) (option_map right_of right.now)) }
+{
+    match right {
+        None => Ok(()),
+        Some(right) => assigned(name, right, name_uses),
     }
 }
 
@@ -69,8 +145,8 @@ fn declaration<A: Allocator>(
     ensures { OnOk result (name_uses.new.items
         ≡ name_uses.old.items ++ specs.command_mentions (trees.declare (declaration_of decl.now) (option_map right_of right.now))) }
 {
-    add_declared(&decl.name, name_uses)?;
-    read_initial(right, name_uses)
+    add_declared(declared_kind(decl, right), &decl.name, name_uses)?;
+    initial(&decl.name, right, name_uses)
 }
 
 /// Appends the occurrences in an assignment.
@@ -82,7 +158,7 @@ fn assignment<A: Allocator>(
     ensures { OnOk result (name_uses.new.items ≡ name_uses.old.items ++ specs.command_mentions (trees.assign (word_of name.now) (right_of right.now))) }
 {
     add(NameUseKind::Written, name, name_uses)?;
-    read_right(right, name_uses)
+    assigned(name, right, name_uses)
 }
 
 /// Appends the occurrences in the write of an element.
@@ -112,45 +188,48 @@ fn several<A: Allocator>(
     read_call(call, name_uses)
 }
 
-/// Returns the value of a number literal, or `None` for any other expression.
-fn literal<A: Allocator>(expr: &Expr<A>) -> Option<i64>
-    ensures { result ≡ specs.literal (expression_view expr.now) }
+/// Appends the mistakes of a call by its first argument.
+fn argument_mistakes<A: Allocator>(
+    function: &Name<A>,
+    arguments: &Vec<Expr<A>, A>,
+    name_uses: &mut Vec<NameUse>,
+) -> Result<(), AllocError>
+    ensures { OnOk result (name_uses.new.items ≡ name_uses.old.items ++ specs.argument_mistakes (word_of function.now).text (expressions_view arguments.now)) }
 {
-    form_literal(&expr.kind)
-}
-
-fn form_literal<A: Allocator>(kind: &ExprKind<A>) -> Option<i64>
-    ensures { result ≡ specs.form_literal (form_view kind.now) }
-{
-    match kind {
-        ExprKind::Number(number) => Some(*number),
-        ExprKind::Text(_) | ExprKind::Truth(_) | ExprKind::Variable(_) => None,
-        ExprKind::Element(_, _) | ExprKind::Call(_, _) => None,
-        ExprKind::Prefixed(_, _) | ExprKind::Chain(_, _) => None,
+    match arguments.as_slice() {
+        [] => Ok(()),
+        [argument, ..] => first_mistakes(function.text.as_slice(), argument, name_uses),
     }
 }
 
-/// Returns true if both values are present and the first one is less.
-fn is_below(high: Option<i64>, low: Option<i64>) -> bool
-    ensures { result ≡ specs.is_below high low }
+/// Appends the mistakes of a call of the function with this name by its first argument.
+fn first_mistakes<A: Allocator>(
+    function: &[u8],
+    argument: &Expr<A>,
+    name_uses: &mut Vec<NameUse>,
+) -> Result<(), AllocError>
+    ensures { OnOk result (name_uses.new.items ≡ name_uses.old.items ++ specs.first_mistakes function.now (expression_view argument.now)) }
 {
-    match high {
-        None => false,
-        Some(high) => match low {
-            None => false,
-            Some(low) => high < low,
-        },
-    }
+    let is_extra = is_extra_line(function, argument);
+    note(
+        is_extra,
+        at_expression(NameUseKind::ExtraLine, argument),
+        name_uses,
+    )?;
+    let holds = always_holds(function, argument);
+    note(
+        holds,
+        at_expression(NameUseKind::AlwaysHolds, argument),
+        name_uses,
+    )
 }
 
-/// Returns true if a step is missing, or is a number literal above 0.
-fn goes_up<A: Allocator>(step: &Option<Expr<A>>) -> bool
-    ensures { result ≡ specs.goes_up (option_map expression_view step.now) }
+/// Appends the occurrences in a call that is a statement.
+fn call<A: Allocator>(call: &Call<A>, name_uses: &mut Vec<NameUse>) -> Result<(), AllocError>
+    ensures { OnOk result (name_uses.new.items ≡ name_uses.old.items ++ specs.call_mentions (calling_of call.now)) }
 {
-    match step {
-        None => true,
-        Some(step) => is_below(Some(0), literal(step)),
-    }
+    argument_mistakes(&call.name, &call.arguments, name_uses)?;
+    read_call(call, name_uses)
 }
 
 /// Appends an occurrence for a range that is empty by its literals.
@@ -158,14 +237,32 @@ fn emptiness<A: Allocator>(range: &Range<A>, name_uses: &mut Vec<NameUse>) -> Re
     ensures { OnOk result (name_uses.new.items ≡ name_uses.old.items ++ specs.emptiness (expression_view range.now.low)
         (expression_view range.now.high) (option_map expression_view range.now.step)) }
 {
-    if is_below(literal(&range.high), literal(&range.low)) && goes_up(&range.step) {
-        name_uses.push(NameUse {
-            kind: NameUseKind::EmptyRange,
-            number: range.low.number,
-            at: range.low.first,
-        })?;
+    let has_no_turn = is_empty(&range.low, &range.high, &range.step);
+    note(
+        has_no_turn,
+        at_expression(NameUseKind::EmptyRange, &range.low),
+        name_uses,
+    )
+}
+
+/// Appends the occurrences in the step of a range, if it has one.
+fn add_step<A: Allocator>(
+    step: &Option<Expr<A>>,
+    name_uses: &mut Vec<NameUse>,
+) -> Result<(), AllocError>
+    ensures { OnOk result (name_uses.new.items ≡ name_uses.old.items ++ specs.step_reads (option_map expression_view step.now)) }
+{
+    match step {
+        None => Ok(()),
+        Some(step) => {
+            note(
+                below_one(step),
+                at_expression(NameUseKind::StepBelowOne, step),
+                name_uses,
+            )?;
+            read(step, name_uses)
+        }
     }
-    Ok(())
 }
 
 fn add_range<A: Allocator>(range: &Range<A>, name_uses: &mut Vec<NameUse>) -> Result<(), AllocError>
@@ -174,7 +271,7 @@ fn add_range<A: Allocator>(range: &Range<A>, name_uses: &mut Vec<NameUse>) -> Re
     emptiness(range, name_uses)?;
     read(&range.low, name_uses)?;
     read(&range.high, name_uses)?;
-    read_step(&range.step, name_uses)
+    add_step(&range.step, name_uses)
 }
 
 /// Appends the occurrences in the source of a loop.
@@ -208,7 +305,7 @@ fn command<A: Allocator>(kind: &StmtKind<A>, name_uses: &mut Vec<NameUse>) -> Re
         StmtKind::Assign(name, right) => assignment(name, right, name_uses),
         StmtKind::Write(name, index, value) => write(name, index, value, name_uses),
         StmtKind::AssignAll(names, call) => several(names, call, name_uses),
-        StmtKind::Call(_, call) => read_call(call, name_uses),
+        StmtKind::Call(_, one) => call(one, name_uses),
         StmtKind::If(test, then, other) => {
             read(test, name_uses)?;
             block(then, name_uses)?;
@@ -228,11 +325,32 @@ fn command<A: Allocator>(kind: &StmtKind<A>, name_uses: &mut Vec<NameUse>) -> Re
     }
 }
 
+/// Appends an occurrence for a block without statements, at its brace.
+fn block_mistakes<A: Allocator>(
+    body: &Block<A>,
+    name_uses: &mut Vec<NameUse>,
+) -> Result<(), AllocError>
+    ensures { OnOk result (name_uses.new.items ≡ name_uses.old.items
+        ++ specs.block_mistakes (body_view body.now)) }
+{
+    let brace = Span {
+        from: body.from,
+        to: body.from.saturating_add(1),
+    };
+    let name_use = NameUse {
+        kind: NameUseKind::EmptyBlock,
+        number: 0,
+        at: brace,
+    };
+    note(body.statements.is_empty(), name_use, name_uses)
+}
+
 /// Appends the occurrences in a block.
 #[cycle(stmt)]
-pub fn block<A: Allocator>(body: &Block<A>, name_uses: &mut Vec<NameUse>) -> Result<(), AllocError>
+fn block<A: Allocator>(body: &Block<A>, name_uses: &mut Vec<NameUse>) -> Result<(), AllocError>
     ensures { OnOk result (name_uses.new.items ≡ name_uses.old.items ++ specs.body_mentions (body_view body.now)) }
 {
+    block_mistakes(body, name_uses)?;
     each(&body.statements, name_uses)
 }
 

@@ -1,5 +1,5 @@
-//! Collection of the variables that expressions read, in the order of the text.
-ghost use Rattle.std.specs.Prelude.{◌≡◌, ◌++◌, ◌∷◌, [], OnOk, map, option_map};
+//! Collection of the variables that expressions read and of the functions that they call, in the order of the text.
+ghost use Rattle.std.specs.Prelude.{◌≡◌, ◌++◌, ◌∷◌, [], OnOk, map};
 ghost use Rattle.syntax_trees.specs.View.{word_of, words_view, expression_view, form_view, right_of, calling_of};
 ghost use Rattle.language.specs.Tree.{expressions_of};
 ghost use Rattle.explain_warnings.specs.Mentions as specs;
@@ -38,7 +38,16 @@ pub fn add_all<A: Allocator>(
     Ok(())
 }
 
-/// Appends the reads of an expression.
+/// Appends the occurrences of an array of which an element is read.
+fn add_element<A: Allocator>(name: &Name<A>, name_uses: &mut Vec<NameUse>) -> Result<(), AllocError>
+    ensures { OnOk result (name_uses.new.items ≡ name_uses.old.items
+        ++ specs.name_use NameUseKind.Read (word_of name.now) ∷ specs.name_use NameUseKind.ReadElement (word_of name.now) ∷ []) }
+{
+    add(NameUseKind::Read, name, name_uses)?;
+    add(NameUseKind::ReadElement, name, name_uses)
+}
+
+/// Appends the reads of an expression, and the functions that it calls.
 #[cycle(read)]
 pub fn read<A: Allocator>(expr: &Expr<A>, name_uses: &mut Vec<NameUse>) -> Result<(), AllocError>
     ensures { OnOk result (name_uses.new.items ≡ name_uses.old.items ++ specs.reads_of (expression_view expr.now)) }
@@ -57,10 +66,13 @@ fn read_form<A: Allocator>(
         ExprKind::Number(_) | ExprKind::Text(_) | ExprKind::Truth(_) => Ok(()),
         ExprKind::Variable(name) => add(NameUseKind::Read, name, name_uses),
         ExprKind::Element(name, index) => {
-            add(NameUseKind::Read, name, name_uses)?;
+            add_element(name, name_uses)?;
             read(index, name_uses)
         }
-        ExprKind::Call(_, arguments) => read_all(arguments, name_uses),
+        ExprKind::Call(function, arguments) => {
+            add(NameUseKind::Called, function, name_uses)?;
+            read_all(arguments, name_uses)
+        }
         ExprKind::Prefixed(_, operand) => read(operand, name_uses),
         ExprKind::Chain(_, operands) => read_all(operands, name_uses),
     }
@@ -93,38 +105,13 @@ pub fn read_right<A: Allocator>(
     }
 }
 
-/// Appends the reads of the right side of a declaration, if it has one.
-pub fn read_initial<A: Allocator>(
-    right: &Option<Right<A>>,
-    name_uses: &mut Vec<NameUse>,
-) -> Result<(), AllocError>
-    ensures { OnOk result (name_uses.new.items ≡ name_uses.old.items ++ specs.initial_reads (option_map right_of right.now)) }
-{
-    match right {
-        None => Ok(()),
-        Some(right) => read_right(right, name_uses),
-    }
-}
-
-/// Appends the reads of the arguments of a call.
+/// Appends the called function and the reads of the arguments of a call.
 pub fn read_call<A: Allocator>(
     call: &Call<A>,
     name_uses: &mut Vec<NameUse>,
 ) -> Result<(), AllocError>
     ensures { OnOk result (name_uses.new.items ≡ name_uses.old.items ++ specs.calling_reads (calling_of call.now)) }
 {
+    add(NameUseKind::Called, &call.name, name_uses)?;
     read_all(&call.arguments, name_uses)
-}
-
-/// Appends the reads of the step of a range, if it has one.
-pub fn read_step<A: Allocator>(
-    step: &Option<Expr<A>>,
-    name_uses: &mut Vec<NameUse>,
-) -> Result<(), AllocError>
-    ensures { OnOk result (name_uses.new.items ≡ name_uses.old.items ++ specs.step_reads (option_map expression_view step.now)) }
-{
-    match step {
-        None => Ok(()),
-        Some(step) => read(step, name_uses),
-    }
 }

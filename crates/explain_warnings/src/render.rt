@@ -1,6 +1,6 @@
 //! Texts of warnings, and the warnings of a text.
 ghost use Rattle.std.specs.Prelude.{◌≡◌, [], IfOk, IsErr, IsOkAnd, MatchOption};
-ghost use Rattle.explain_warnings.specs.OddityNames.{oddity_name};
+ghost use Rattle.explain_warnings.specs.WarningNames.{warning_code, warning_name};
 ghost use Rattle.explain_warnings.specs.Warnings.{AreWarnings};
 
 use crate::warning::{Warning, WarningKind, warnings};
@@ -47,12 +47,22 @@ fn none_at(alloc: Global, at: Option<Span>) -> Result<Vec<Warning>, AllocError>
 /// Returns `AllocError` if an allocation fails.
 pub fn sentence(alloc: Global, text: &[u8], warning: Warning) -> Result<Vec<u8>, AllocError> {
     let mut words = Vec::new(alloc);
-    if warning.warning_kind != WarningKind::EmptyRange {
+    if begins_with_name(warning.warning_kind) {
         words.extend_from_slice(bytes_at(text, warning.at))?;
         words.push(b' ')?;
     }
     write_str(&mut words, words_of(warning.warning_kind))?;
     Ok(words)
+}
+
+/// Returns true if the sentence begins with the name at the place of the warning.
+fn begins_with_name(warning_kind: WarningKind) -> bool {
+    match warning_kind {
+        WarningKind::NeverUsed | WarningKind::NeverRead | WarningKind::IdleInput => true,
+        WarningKind::NeverWritten | WarningKind::NeverCalled | WarningKind::WaitsForItself => true,
+        WarningKind::EmptyRange | WarningKind::ExtraLine | WarningKind::EmptyBlock => false,
+        WarningKind::StepBelowOne | WarningKind::AlwaysHolds => false,
+    }
 }
 
 fn words_of(warning_kind: WarningKind) -> &'static str {
@@ -61,6 +71,13 @@ fn words_of(warning_kind: WarningKind) -> &'static str {
         WarningKind::NeverRead => "is written and never read",
         WarningKind::IdleInput => "is an input that is never read",
         WarningKind::EmptyRange => "this range is empty, so the loop has no turn",
+        WarningKind::ExtraLine => "this printf prints an empty line after its line",
+        WarningKind::NeverWritten => "is never written, and an element of it is read",
+        WarningKind::NeverCalled => "is a function that nothing else calls",
+        WarningKind::EmptyBlock => "this block is empty",
+        WarningKind::StepBelowOne => "a step below 1 is a fault",
+        WarningKind::AlwaysHolds => "this assertion always holds",
+        WarningKind::WaitsForItself => "waits for itself: its value is computed from itself",
     }
 }
 
@@ -73,25 +90,62 @@ pub fn hint_of(warning_kind: WarningKind) -> &'static str {
         WarningKind::EmptyRange => {
             "a range goes upwards: downwards go the values 9 - i in the turns of foreach i in [0:9]"
         }
+        WarningKind::ExtraLine => "leave out the \\n at its end: printf ends each line itself",
+        WarningKind::NeverWritten => "write its elements, or give it a value: int A[] = [1, 2, 3];",
+        WarningKind::NeverCalled => "call it or leave it out, or let its name begin with _",
+        WarningKind::EmptyBlock => "leave it out, or write the statements that are missing",
+        WarningKind::StepBelowOne => {
+            "a range goes upwards: downwards go the values 9 - i in the turns of foreach i in [0:9]"
+        }
+        WarningKind::AlwaysHolds => "assert what should hold, as assert(x > 0, \"x is too small\")",
+        WarningKind::WaitsForItself => {
+            "a variable has one value: give the new value a name of its own, as int y = x + 1;"
+        }
+    }
+}
+
+/// Returns the code of a kind of warning, as `V1`.
+pub fn code_of(warning_kind: WarningKind) -> &'static str
+    ensures { result.now ≡ warning_code warning_kind }
+{
+    match warning_kind {
+        WarningKind::NeverUsed => "V1",
+        WarningKind::NeverRead => "V2",
+        WarningKind::IdleInput => "V3",
+        WarningKind::EmptyRange => "V4",
+        WarningKind::ExtraLine => "V5",
+        WarningKind::NeverWritten => "V6",
+        WarningKind::NeverCalled => "V7",
+        WarningKind::EmptyBlock => "V8",
+        WarningKind::StepBelowOne => "V9",
+        WarningKind::AlwaysHolds => "V10",
+        WarningKind::WaitsForItself => "V11",
     }
 }
 
 /// Returns the name of a kind of warning, in one word.
 pub fn name_of(warning_kind: WarningKind) -> &'static str
-    ensures { result.now ≡ oddity_name warning_kind }
+    ensures { result.now ≡ warning_name warning_kind }
 {
     match warning_kind {
         WarningKind::NeverUsed => "NeverUsed",
         WarningKind::NeverRead => "NeverRead",
         WarningKind::IdleInput => "IdleInput",
         WarningKind::EmptyRange => "EmptyRange",
+        WarningKind::ExtraLine => "ExtraLine",
+        WarningKind::NeverWritten => "NeverWritten",
+        WarningKind::NeverCalled => "NeverCalled",
+        WarningKind::EmptyBlock => "EmptyBlock",
+        WarningKind::StepBelowOne => "StepBelowOne",
+        WarningKind::AlwaysHolds => "AlwaysHolds",
+        WarningKind::WaitsForItself => "WaitsForItself",
     }
 }
 
 /// Formats the warnings of a text, or returns an empty text if there are none.
 ///
-/// The first line of each is `FILE:LINE:COLUMN: warning: x is declared and never used`. The source line with the place
-/// marked and a hint follow.
+/// The first line of each is `FILE:LINE:COLUMN: warning: V1 NeverUsed: x is declared and never used`. The source line
+/// with the place marked and a hint follow.
 ///
 /// # Errors
 ///
@@ -115,13 +169,22 @@ fn add_warning(
 ) -> Result<(), AllocError> {
     let words = sentence(alloc, lines.text(), warning)?;
     lines.say_start(out, file, warning.at.from)?;
-    write_str(out, "warning: ")?;
+    write_head(out, warning.warning_kind)?;
     out.extend_from_slice(words.as_slice())?;
     out.push(b'\n')?;
     lines.add_mark(out, warning.at.from)?;
     write_str(out, "hint: ")?;
     write_str(out, hint_of(warning.warning_kind))?;
     write_str(out, "\n")
+}
+
+/// Appends what precedes the sentence of a warning, as `warning: V1 NeverUsed: `.
+fn write_head(out: &mut Vec<u8>, warning_kind: WarningKind) -> Result<(), AllocError> {
+    write_str(out, "warning: ")?;
+    write_str(out, code_of(warning_kind))?;
+    out.push(b' ')?;
+    write_str(out, name_of(warning_kind))?;
+    write_str(out, ": ")
 }
 
 /// Returns the bytes of a place, or an empty slice if the text has no such place.

@@ -1,19 +1,21 @@
 //! Computation of the warnings of a script.
 //!
-//! A first pass over the script collects all occurrences, and marks the variables that are read or written. A second
-//! pass emits the warnings in the order of the text.
+//! A first pass over the script collects all occurrences, and marks the variables that are read or written and the
+//! functions that are called. A second pass emits the warnings in the order of the text.
 ghost use Rattle.std.specs.Prelude.{◌≡◌, ◌++◌, OnOk, IfOk};
-ghost use Rattle.syntax_trees.specs.View.{declaration_of, declarations_view, composite_of, part_of, tree_of};
+ghost use Rattle.syntax_trees.specs.View.{word_of, declaration_of, declarations_view, composite_of, part_of, tree_of};
 ghost use Rattle.types.specs.Typed.{table_of};
 ghost use Rattle.explain_warnings.specs.Marks.{is_marked};
+ghost use Rattle.explain_warnings.specs.View.{uses_of};
 ghost use Rattle.explain_warnings.specs.Warnings as specs;
 
+use crate::calls::{called_marks, is_function};
 use crate::marks::{input_marks, is_marked, local_marks};
 use crate::name_use::{NameUse, NameUseKind};
-use crate::name_uses::{block, is_spared, statement, tree_mentions};
+use crate::name_uses::{function_body, is_spared, statement, tree_mentions};
 use lexer::token::Span;
 use std::alloc::{AllocError, Allocator, Global};
-use syntax_trees::tree::{Decl, Function, Item, Script};
+use syntax_trees::tree::{Decl, Function, Item, Name, Script};
 use types::typed::Typed;
 
 /// The kind of a warning.
@@ -27,25 +29,42 @@ pub enum WarningKind {
     IdleInput,
     /// A loop over an empty range.
     EmptyRange,
+    /// A `printf` that prints an empty line after its line.
+    ExtraLine,
+    /// An array of which an element is read and none is written.
+    NeverWritten,
+    /// A function that is not called outside of its own body.
+    NeverCalled,
+    /// A branch, a loop or a `wait` without statements.
+    EmptyBlock,
+    /// A range whose step is below 1.
+    StepBelowOne,
+    /// An assertion that always holds.
+    AlwaysHolds,
+    /// An assignment that needs the variable that it assigns.
+    WaitsForItself,
 }
 
-/// A warning with its place: the declared name of a variable, or the beginning of a range.
+/// A warning with its place: a name, the beginning of an expression, or a brace.
 #[derive(Clone, Copy, Debug, PartialEq, Eq)]
 pub struct Warning {
     pub warning_kind: WarningKind,
     pub at: Span,
 }
 
-/// The sets of local variables that are read and written, by number.
+/// The sets of local variables that are read, that are written, and of which an element is read, by number, and the set
+/// of functions that are called, by position.
 #[derive(Clone, Copy)]
-struct UsedVariables<'a> {
+struct NamesInUse<'a> {
     read: &'a [bool],
     written: &'a [bool],
+    element_read: &'a [bool],
+    called: &'a [bool],
 }
 
 /// Returns the warnings of a well typed script in the order of its text. `typed`: the table of its names.
 ///
-/// Variables whose name begins with `_` and loop variables have no warnings.
+/// Names that begin with `_` and loop variables count as used.
 ///
 /// # Errors
 ///
@@ -60,9 +79,13 @@ pub fn warnings<A: Allocator>(
     let name_uses = tree_mentions(alloc, script)?;
     let read = local_marks(alloc, typed, NameUseKind::Read, name_uses.as_slice())?;
     let written = local_marks(alloc, typed, NameUseKind::Written, name_uses.as_slice())?;
-    let uses = UsedVariables {
+    let element_read = local_marks(alloc, typed, NameUseKind::ReadElement, name_uses.as_slice())?;
+    let called = called_marks(alloc, typed, script)?;
+    let uses = NamesInUse {
         read: read.as_slice(),
         written: written.as_slice(),
+        element_read: element_read.as_slice(),
+        called: called.as_slice(),
     };
     parts(alloc, typed, &uses, script)
 }
@@ -70,33 +93,37 @@ pub fn warnings<A: Allocator>(
 fn parts<A: Allocator>(
     alloc: Global,
     typed: &Typed,
-    uses: &UsedVariables<'_>,
+    uses: &NamesInUse<'_>,
     script: &Script<A>,
 ) -> Result<Vec<Warning>, AllocError>
-    ensures { IfOk result (λ found. found.items
-        ≡ specs.parts_warnings (table_of typed.now) (is_marked uses.now.read.now) (is_marked uses.now.written.now) (tree_of script.now)) }
+    ensures { IfOk result (λ found. found.items ≡ specs.parts_warnings (table_of typed.now) (uses_of uses.now) 0 (tree_of script.now)) }
 {
     let mut found = Vec::new(alloc);
+    let mut position = 0;
     for item in &script.items {
-        part(alloc, typed, uses, item, &mut found)?;
+        part(alloc, typed, uses, position, item, &mut found)?;
+        if is_function(item) {
+            position += 1;
+        }
     }
     Ok(found)
 }
 
-/// Appends the warnings of a part.
+/// Appends the warnings of a part. `position`: the number of functions before it.
 fn part<A: Allocator>(
     alloc: Global,
     typed: &Typed,
-    uses: &UsedVariables<'_>,
+    uses: &NamesInUse<'_>,
+    position: usize,
     item: &Item<A>,
     found: &mut Vec<Warning>,
 ) -> Result<(), AllocError>
     ensures { OnOk result (found.new.items
-        ≡ found.old.items ++ specs.part_warnings (table_of typed.now) (is_marked uses.now.read.now) (is_marked uses.now.written.now) (part_of item.now)) }
+        ≡ found.old.items ++ specs.part_warnings (table_of typed.now) (uses_of uses.now) position (part_of item.now)) }
 {
     match item {
         Item::Import(_) => Ok(()),
-        Item::Function(one) => function(alloc, typed, uses, one, found),
+        Item::Function(one) => function(alloc, typed, uses, position, one, found),
         Item::Statement(one) => {
             let mut name_uses = Vec::new(alloc);
             statement(one, &mut name_uses)?;
@@ -105,22 +132,41 @@ fn part<A: Allocator>(
     }
 }
 
-/// Appends the warnings of a function: those of its inputs, then those of its block.
+/// Appends the warnings of a function: that of its name, those of its inputs, then those of its block.
 fn function<A: Allocator>(
     alloc: Global,
     typed: &Typed,
-    uses: &UsedVariables<'_>,
+    uses: &NamesInUse<'_>,
+    position: usize,
     function: &Function<A>,
     found: &mut Vec<Warning>,
 ) -> Result<(), AllocError>
-    ensures { OnOk result (found.new.items ≡ found.old.items
-        ++ specs.function_warnings (table_of typed.now) (is_marked uses.now.read.now) (is_marked uses.now.written.now) (composite_of function.now)) }
+    ensures { OnOk result (found.new.items
+        ≡ found.old.items ++ specs.function_warnings (table_of typed.now) (uses_of uses.now) position (composite_of function.now)) }
 {
+    uncalled(is_marked(uses.called, position), &function.name, found)?;
     let mut name_uses = Vec::new(alloc);
-    block(&function.body, &mut name_uses)?;
+    function_body(&function.body, &mut name_uses)?;
     let read = input_marks(alloc, typed, NameUseKind::Read, name_uses.as_slice())?;
     idle_inputs(read.as_slice(), &function.inputs, found)?;
     write_all(uses, name_uses.as_slice(), found)
+}
+
+/// Appends a warning for a function unless it is called or its name begins with `_`.
+fn uncalled<A: Allocator>(
+    is_called: bool,
+    name: &Name<A>,
+    found: &mut Vec<Warning>,
+) -> Result<(), AllocError>
+    ensures { OnOk result (found.new.items ≡ found.old.items ++ specs.uncalled is_called (word_of name.now)) }
+{
+    if !is_called && !is_spared(name.text.as_slice()) {
+        found.push(Warning {
+            warning_kind: WarningKind::NeverCalled,
+            at: name.span,
+        })?;
+    }
+    Ok(())
 }
 
 /// Appends a warning for each input that is not read.
@@ -156,42 +202,66 @@ fn idle_input<A: Allocator>(
 
 /// Appends the warnings at these occurrences.
 fn write_all(
-    uses: &UsedVariables<'_>,
+    uses: &NamesInUse<'_>,
     name_uses: &[NameUse],
     found: &mut Vec<Warning>,
 ) -> Result<(), AllocError>
-    ensures { OnOk result (found.new.items ≡ found.old.items ++ specs.all_said (is_marked uses.now.read.now) (is_marked uses.now.written.now) name_uses.now) }
+    ensures { OnOk result (found.new.items ≡ found.old.items ++ specs.warnings_at (uses_of uses.now) name_uses.now) }
 {
     for name_use in name_uses {
-        let odd = oddity_at(uses, *name_use);
-        add(odd, name_use.at, found)?;
+        let kind = warning_at(uses, *name_use);
+        add(kind, name_use.at, found)?;
     }
     Ok(())
 }
 
-fn add(odd: Option<WarningKind>, at: Span, found: &mut Vec<Warning>) -> Result<(), AllocError>
-    ensures { OnOk result (found.new.items ≡ found.old.items ++ specs.warned odd at) }
+fn add(kind: Option<WarningKind>, at: Span, found: &mut Vec<Warning>) -> Result<(), AllocError>
+    ensures { OnOk result (found.new.items ≡ found.old.items ++ specs.warned kind at) }
 {
-    if let Some(warning_kind) = odd {
+    if let Some(warning_kind) = kind {
         found.push(Warning { warning_kind, at })?;
     }
     Ok(())
 }
 
 /// Returns the kind of the warning at an occurrence, or `None`.
-fn oddity_at(uses: &UsedVariables<'_>, name_use: NameUse) -> Option<WarningKind>
-    ensures { result ≡ specs.oddity_at (is_marked uses.now.read.now) (is_marked uses.now.written.now) name_use }
+fn warning_at(uses: &NamesInUse<'_>, name_use: NameUse) -> Option<WarningKind>
+    ensures { result ≡ specs.warning_at (uses_of uses.now) name_use }
 {
+    let number = name_use.number as usize;
     match name_use.kind {
-        NameUseKind::Read | NameUseKind::Written => None,
+        NameUseKind::Declared => declared(uses, number),
+        NameUseKind::DeclaredArray => declared_array(uses, number),
+        NameUseKind::Read | NameUseKind::ReadElement => None,
+        NameUseKind::Written | NameUseKind::Called => None,
         NameUseKind::EmptyRange => Some(WarningKind::EmptyRange),
-        NameUseKind::Declared => {
-            let number = name_use.number as usize;
-            unread(
-                is_marked(uses.read, number),
-                is_marked(uses.written, number),
-            )
-        }
+        NameUseKind::ExtraLine => Some(WarningKind::ExtraLine),
+        NameUseKind::EmptyBlock => Some(WarningKind::EmptyBlock),
+        NameUseKind::StepBelowOne => Some(WarningKind::StepBelowOne),
+        NameUseKind::AlwaysHolds => Some(WarningKind::AlwaysHolds),
+        NameUseKind::WaitsForItself => Some(WarningKind::WaitsForItself),
+    }
+}
+
+/// Returns the kind of the warning for the variable that is declared at a node, or `None` if it is read.
+fn declared(uses: &NamesInUse<'_>, number: usize) -> Option<WarningKind>
+    ensures { result ≡ specs.unread ((uses_of uses.now).read number) ((uses_of uses.now).written number) }
+{
+    unread(
+        is_marked(uses.read, number),
+        is_marked(uses.written, number),
+    )
+}
+
+/// Returns the kind of the warning for the array that is declared without a value at a node, or `None`.
+fn declared_array(uses: &NamesInUse<'_>, number: usize) -> Option<WarningKind>
+    ensures { result ≡ specs.unfilled ((uses_of uses.now).element_read number) ((uses_of uses.now).written number)
+        (specs.unread ((uses_of uses.now).read number) ((uses_of uses.now).written number)) }
+{
+    if is_marked(uses.element_read, number) && !is_marked(uses.written, number) {
+        Some(WarningKind::NeverWritten)
+    } else {
+        declared(uses, number)
     }
 }
 

@@ -96,7 +96,13 @@ fn are_blocks_fit<'a, A: Allocator>(
         Action::Wait { inner, content, .. } => {
             are_headers_fit(scopes, inner) && is_block_fit(scopes, functions, content)
         }
-        _ => true,
+        Action::Declare(_)
+        | Action::Call { .. }
+        | Action::Assign { .. }
+        | Action::Fill { .. }
+        | Action::Insert { .. }
+        | Action::Print { .. }
+        | Action::Assert { .. } => true,
     }
 }
 

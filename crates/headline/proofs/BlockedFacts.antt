@@ -16,7 +16,7 @@ use Rattle.language.specs.Members.{◌∈◌}
 use Rattle.language.specs.Openings.{Opens, Branches}
 use Rattle.language.specs.Outcomes.{Faults, OwnFact, IsReady}
 use Rattle.language.specs.Parts.{cells, block_list}
-use Rattle.language.specs.Places.{Path, Place, most_steps}
+use Rattle.language.specs.Places.{Path, Place, max_path_steps}
 use Rattle.language.specs.WellFormed.{WellFormed}
 use Rattle.language_laws.proofs.Declared.{stmt_in, place_here}
 use Rattle.language_laws.proofs.Sources.{outer_in, cell_gives}
@@ -61,7 +61,7 @@ prints_node code.Read x v h = tt
 prints_node (code.Set r e) x v h = tt
 prints_node (code.Fill r es) x v h = tt
 prints_node (code.Copy r) x v h = tt
-prints_node (code.Put r i e) x v h = tt
+prints_node (code.InsertElement r i e) x v h = tt
 prints_node (code.Assert e) x v h = tt
 prints_node (code.Call b rs os) x v h = absurd h
 prints_node (code.If e b d) x v h = absurd h
@@ -72,12 +72,12 @@ prints_node (code.Wait hs b) x v h = absurd h
 pub item_parts : {i j c c' : ℕ} {p q : List Step} → Item i p c ≡ Item j q c' → (i ≡ j) × (p ≡ q) × (c ≡ c')
 item_parts h = (cc (h), cc (h), cc (h))
 
-at_most : (n : ℕ) → n ≤ most_steps → (n < most_steps) ⊎ (n ≡ most_steps)
+at_most : (n : ℕ) → n ≤ max_path_steps → (n < max_path_steps) ⊎ (n ≡ max_path_steps)
 at_most n h = grind arith
 
 module _ (s : Core) (C : Code) (w : IsCodeOf s C) (K : Knowledge) (wf : WellFormed s) (kn : Knows s K) (I : IsCode C) (sc : Scoped s) (ty : TypedValues s K) (nodes : NodesOnce C) (sound : (f : Fault) (at : ℕ) (path : Path) → Faults K f at path → ⊥) where
   -- no path of a live block is longer than the limit
-  chain_bound : {p : List Step} {t k : ℕ} {b : Block} → Chain s C w.layout K p t k b → length (script_path p) ≤ most_steps
+  chain_bound : {p : List Step} {t k : ℕ} {b : Block} → Chain s C w.layout K p t k b → length (script_path p) ≤ max_path_steps
   chain_bound (at_script h) = omega arith
   chain_bound (by_header j ch m i mk wy h r o dp) = omega arith
   chain_bound (by_wait j ch m i wy h r) = chain_bound ch
@@ -157,7 +157,7 @@ module _ (s : Core) (C : Code) (w : IsCodeOf s C) (K : Knowledge) (wf : WellForm
     simple_reading at n (Co.wait o d) z m en nd h = absurd z
 
     -- HEADERS
-    shallow_so : (at n : ℕ) (a : Action) (vs : List Value) → stmt at n a ∈ block_list b → Ready s K (script_path p) a vs → (key : Key) (c : Block) → Opens a vs key c → length (script_path p) < most_steps
+    shallow_so : (at n : ℕ) (a : Action) (vs : List Value) → stmt at n a ∈ block_list b → Ready s K (script_path p) a vs → (key : Key) (c : Block) → Opens a vs key c → length (script_path p) < max_path_steps
     shallow_so at n a vs m r key c o =
         elim (at_most (length (script_path p)) (chain_bound ch)) [
           | inl lt ↦ lt

@@ -19,7 +19,7 @@ use Rattle.language.specs.Members.{◌∈◌, first, later}
 use Rattle.language.specs.Openings.{Opens, then_alone, then_first, else_second, turn, item}
 use Rattle.language.specs.Outcomes.{Blocked, OwnFact, Counts}
 use Rattle.language.specs.Parts.{stmt_calls, block_list}
-use Rattle.language.specs.Places.{Path, most_steps}
+use Rattle.language.specs.Places.{Path, max_path_steps}
 use Rattle.language.specs.Single.{SinglyAssigned}
 use Rattle.language.specs.WellFormed.{WellFormed}
 use Rattle.language_laws.proofs.Declared.{stmt_in}
@@ -168,22 +168,22 @@ module _ (s : Core) (C : Code) (w : IsCodeOf s C) (K : Knowledge) (wf : WellForm
     at_body : {p : List Step} {t k : ℕ} → script_path p ≡ path → Chain s C w.layout K p t k b → AllAlive p t → Spot path b
     between : Between path b → Spot path b
 
-  opens_alive : {j c : ℕ} {p : List Step} (x : Computed) → IsAlive (Item j p c) → ReadsAs j p c x → (q : ℕ × List Step) → In q (instances (entry C j).act (entry C j).mark p c x) → (i : ℕ) → In i (body C q.0).entries → IsAlive (Item i q.1 0)
+  opens_alive : {j c : ℕ} {p : List Step} (x : Computed) → IsAlive (Item j p c) → ReadsAs j p c x → (q : ℕ × List Step) → In q (instances (entry C j).act (entry C j).offset p c x) → (i : ℕ) → In i (body C q.0).entries → IsAlive (Item i q.1 0)
   opens_alive {j} {c} {p} x lv f q h i m =
       live_opened (Item j p c) (Item i q.1 0) (effect_at C j p c x) (block C q) lv f
-      (in_left (block C q) (map (block C) (instances (entry C j).act (entry C j).mark p c x)) _ (in_map (block C) q (instances (entry C j).act (entry C j).mark p c x) h))
+      (in_left (block C q) (map (block C) (instances (entry C j).act (entry C j).offset p c x)) _ (in_map (block C) q (instances (entry C j).act (entry C j).offset p c x) h))
       (in_map (λ (i : ℕ). Item i q.1 0) i (body C q.0).entries m)
 
   module _ {p : List Step} {t k : ℕ} {b : Block} (ch : Chain s C w.layout K p t k b) (alive : AllAlive p t) where
     -- A BLOCK UNDER A KEY
-    under : {at n u : ℕ} {a : Action} {d : Block} {vs : List Value} {key : Key} (j : ℕ) → In j (body C t).entries → (c : ℕ) (x : Computed) → stmt at n a ∈ block_list b → (entry C j).mark ≡ at → In (Through, u) (ways (entry C j).act)
-        → BodyAs C w.layout k d u → Ready s K (script_path p) a vs → Opens a vs key d → length (script_path p) < most_steps → IsAlive (Item j p c) → ReadsAs j p c x → In (u, step_at (entry C j).mark key p) (instances (entry C j).act (entry C j).mark p c x)
+    under : {at n u : ℕ} {a : Action} {d : Block} {vs : List Value} {key : Key} (j : ℕ) → In j (body C t).entries → (c : ℕ) (x : Computed) → stmt at n a ∈ block_list b → (entry C j).offset ≡ at → In (Through, u) (ways (entry C j).act)
+        → BodyAs C w.layout k d u → Ready s K (script_path p) a vs → Opens a vs key d → length (script_path p) < max_path_steps → IsAlive (Item j p c) → ReadsAs j p c x → In (u, step_at (entry C j).offset key p) (instances (entry C j).act (entry C j).offset p c x)
         → Spot ((at, key) ∷ script_path p) d
     under {at} {u = u} {key = key} j there c x m mk wy ba r o dp lv f h =
-        at_body refl (by_header j ch m there mk wy ba r o dp) (λ i m'. subst (λ (z : ℕ). IsAlive (Item i (step_at z key p) 0)) mk (opens_alive x lv f (u, step_at (entry C j).mark key p) h i m'))
+        at_body refl (by_header j ch m there mk wy ba r o dp) (λ i m'. subst (λ (z : ℕ). IsAlive (Item i (step_at z key p) 0)) mk (opens_alive x lv f (u, step_at (entry C j).offset key p) h i m'))
 
     when_under : {at n : ℕ} {o : Outer} {d : Block} {js : List ℕ} → stmt at n (when o d) ∈ block_list b → StmtAs C w.layout k (stmt at n (when o d)) js → ((j : ℕ) → In j js → In j (body C t).entries)
-        → Ready s K (script_path p) (when o d) (One (Truth true) ∷ []) → length (script_path p) < most_steps → Spot ((at, Key.Number (pos 0)) ∷ script_path p) d
+        → Ready s K (script_path p) (when o d) (One (Truth true) ∷ []) → length (script_path p) < max_path_steps → Spot ((at, Key.Number (pos 0)) ∷ script_path p) d
     when_under m (simple j z op as' e nd q) sub r dp = absurd z
     when_under {o = o} m (branch {t = u} j {is = is} as' en mk ba q) sub r dp =
         let there = sub j (subst (λ (z : List ℕ). In j z) (sym q) (in_right j is (j ∷ []) (inl refl))) in
@@ -191,10 +191,10 @@ module _ (s : Core) (C : Code) (w : IsCodeOf s C) (K : Knowledge) (wf : WellForm
         let z = branch_works s C w K wf (backs s K kn) I sc ch j there o true m (outer_in o.parts o.cell) kv en in
         under j there 0 (Takes true) m mk (subst (λ (a : Act). In (Through, u) (ways a)) (sym en.act_is) (inl refl)) ba r then_alone dp (alive j there)
         (fact_of s C w K wf (backs s K kn) I sc ch j there z.answers 0 (Takes true) z.computed tt (not_too_deep _ p _ dp))
-        (subst (λ (a : Act). In (u, step_at (entry C j).mark (Key.Number (pos 0)) p) (instances a (entry C j).mark p 0 (Takes true))) (sym en.act_is) (inl refl))
+        (subst (λ (a : Act). In (u, step_at (entry C j).offset (Key.Number (pos 0)) p) (instances a (entry C j).offset p 0 (Takes true))) (sym en.act_is) (inl refl))
 
     choose_under : {at n : ℕ} {o : Outer} {d d' : Block} {js : List ℕ} (x : Bool) → stmt at n (choose o d d') ∈ block_list b → StmtAs C w.layout k (stmt at n (choose o d d')) js → ((j : ℕ) → In j js → In j (body C t).entries)
-        → Ready s K (script_path p) (choose o d d') (One (Truth x) ∷ []) → length (script_path p) < most_steps → Spot ((at, branch_key x) ∷ script_path p) (taken x d d')
+        → Ready s K (script_path p) (choose o d d') (One (Truth x) ∷ []) → length (script_path p) < max_path_steps → Spot ((at, branch_key x) ∷ script_path p) (taken x d d')
     choose_under x m (simple j z op as' e nd q) sub r dp = absurd z
     choose_under {at = at} {o = o} {d = d} {d' = d'} x m (branches {t = u} {u = u'} j {is = is} as' en mk ba bb q) sub r dp = by x r f
       where
@@ -209,19 +209,19 @@ module _ (s : Core) (C : Code) (w : IsCodeOf s C) (K : Knowledge) (wf : WellForm
 
         by : (x : Bool) → Ready s K (script_path p) (choose o d d') (One (Truth x) ∷ []) → ReadsAs j p 0 (Takes x) → Spot ((at, branch_key x) ∷ script_path p) (taken x d d')
         by true r g = under j there 0 (Takes true) m mk (subst (λ (a : Act). In (Through, u) (ways a)) (sym en.act_is) (inl refl)) ba r then_first dp (alive j there) g
-            (subst (λ (a : Act). In (u, step_at (entry C j).mark (Key.Number (pos 0)) p) (instances a (entry C j).mark p 0 (Takes true))) (sym en.act_is) (inl refl))
+            (subst (λ (a : Act). In (u, step_at (entry C j).offset (Key.Number (pos 0)) p) (instances a (entry C j).offset p 0 (Takes true))) (sym en.act_is) (inl refl))
         by false r g = under j there 0 (Takes false) m mk (subst (λ (a : Act). In (Through, u') (ways a)) (sym en.act_is) (inr (inl refl))) bb r else_second dp (alive j there) g
-            (subst (λ (a : Act). In (u', step_at (entry C j).mark (Key.Number (pos 1)) p) (instances a (entry C j).mark p 0 (Takes false))) (sym en.act_is) (inl refl))
+            (subst (λ (a : Act). In (u', step_at (entry C j).offset (Key.Number (pos 1)) p) (instances a (entry C j).offset p 0 (Takes false))) (sym en.act_is) (inl refl))
 
     turn_under : {at n x : ℕ} {y : Option ℕ} {d : Block} {a : Action} {vs : List Value} (u : Key × Scalar) → LoopRun s C w K wf (backs s K kn) I sc (by_answers s C w K wf (backs s K kn) I sc) p t k at x y d u → stmt at n a ∈ block_list b → Ready s K (script_path p) a vs → Opens a vs u.0 d
-        → length (script_path p) < most_steps → Spot ((at, u.0) ∷ script_path p) d
+        → length (script_path p) < max_path_steps → Spot ((at, u.0) ∷ script_path p) d
     turn_under u run m r o dp =
-        under run.number run.there run.chunk_number (Turns run.turns) m run.mark_is run.way run.stands r o dp run.alive run.fact
-        (subst (λ (l : List (ℕ × List Step)). In (run.content, step_at (entry C run.number).mark u.0 p) l) (sym (loop_instances C (entry C run.number).act _ (entry C run.number).mark p run.chunk_number (Turns run.turns) run.loops))
-        (in_map (λ (z : Key × Scalar). (run.content, step_at (entry C run.number).mark z.0 p)) u _ run.in_chunk))
+        under run.number run.there run.chunk_number (Turns run.turns) m run.offset_is run.way run.stands r o dp run.alive run.fact
+        (subst (λ (l : List (ℕ × List Step)). In (run.content, step_at (entry C run.number).offset u.0 p) l) (sym (loop_instances C (entry C run.number).act _ (entry C run.number).offset p run.chunk_number (Turns run.turns) run.loops))
+        (in_map (λ (z : Key × Scalar). (run.content, step_at (entry C run.number).offset z.0 p)) u _ run.in_chunk))
 
     header_under : {at n : ℕ} {a : Action} {vs : List Value} {key : Key} {d : Block} {js : List ℕ} → stmt at n a ∈ block_list b → StmtAs C w.layout k (stmt at n a) js → ((j : ℕ) → In j js → In j (body C t).entries) → Ready s K (script_path p) a vs → Opens a vs key d
-        → length (script_path p) < most_steps → Spot ((at, key) ∷ script_path p) d
+        → length (script_path p) < max_path_steps → Spot ((at, key) ∷ script_path p) d
     header_under m sa sub r then_alone dp = when_under m sa sub r dp
     header_under m sa sub r then_first dp = choose_under true m sa sub r dp
     header_under m sa sub r else_second dp = choose_under false m sa sub r dp
@@ -230,14 +230,14 @@ module _ (s : Core) (C : Code) (w : IsCodeOf s C) (K : Knowledge) (wf : WellForm
 
     -- A CALL
     call_under : {st : Stmt} {c : Call} {f : Function} {js : List ℕ} → st ∈ block_list b → c ∈ stmt_calls st → CallFound C w.layout k st c js → ((j : ℕ) → In j js → In j (body C t).entries) → slice_get s.functions c.function ≡ Some f → length c.inputs ≡ f.inputs
-        → length (script_path p) < most_steps → Spot ((c.at, Key.Number (pos 0)) ∷ script_path p) f.body
+        → length (script_path p) < max_path_steps → Spot ((c.at, Key.Number (pos 0)) ∷ script_path p) f.body
     call_under {c = c} {f = f} m n cf sub fq len dp =
         let j = cf.number in
         let there = sub cf.number cf.there in
         let fact = (facts_from s C w K wf (backs s K kn) I sc (knows_full s K kn wf)).called p t k b ch cf.number there c cf.all cf.at cf.priority cf.as_call dp in
-        let opens = subst (λ (a : Act). In (w.layout.body_of c.function, step_at (entry C cf.number).mark (Key.Number (pos 0)) p) (instances a (entry C cf.number).mark p 0 OpensIt)) (sym (cf.as_call).is.act_is) (inl refl) in
+        let opens = subst (λ (a : Act). In (w.layout.body_of c.function, step_at (entry C cf.number).offset (Key.Number (pos 0)) p) (instances a (entry C cf.number).offset p 0 OpensIt)) (sym (cf.as_call).is.act_is) (inl refl) in
         at_body refl (by_call cf.number ch m n there cf.as_call cf.cells_in fq len (w.functions c.function f fq) dp)
-        (λ i m'. subst (λ (z : ℕ). IsAlive (Item i (step_at z (Key.Number (pos 0)) p) 0)) (cf.as_call).mark_is (opens_alive OpensIt (alive j there) fact (w.layout.body_of c.function, step_at (entry C cf.number).mark (Key.Number (pos 0)) p) opens i m'))
+        (λ i m'. subst (λ (z : ℕ). IsAlive (Item i (step_at z (Key.Number (pos 0)) p) 0)) (cf.as_call).offset_is (opens_alive OpensIt (alive j there) fact (w.layout.body_of c.function, step_at (entry C cf.number).offset (Key.Number (pos 0)) p) opens i m'))
 
     -- WAITS
     content : (st0 : Stmt) → st0 ∈ block_list b → (j : ℕ) (there : In j (body C t).entries) (hs : List Header) (t' : ℕ) → (entry C j).needs ≡ each_once (flat_map (λ h. h.needs) hs) → (entry C j).act ≡ code.Wait hs t'
@@ -248,7 +248,7 @@ module _ (s : Core) (C : Code) (w : IsCodeOf s C) (K : Knowledge) (wf : WellForm
     content st0 m0 j there hs t' nq aq sp mm (one_wait ba q) r wrap wr sub bf =
         let fact = (facts_from s C w K wf (backs s K kn) I sc (knows_full s K kn wf)).waited p t k b ch j there st0 hs t' m0 nq aq (wr (last_ready r q)) in
         at_body refl (by_wait j ch m0 there (subst (λ (a : Act). In (InPlace, t') (ways a)) (sym aq) (inl refl)) ba (wrap _ (one_ready r)))
-        (λ i m'. opens_alive OpensIt (alive j there) fact (t', p) (subst (λ (a : Act). In (t', p) (instances a (entry C j).mark p 0 OpensIt)) (sym aq) (inl refl)) i m')
+        (λ i m'. opens_alive OpensIt (alive j there) fact (t', p) (subst (λ (a : Act). In (t', p) (instances a (entry C j).offset p 0 OpensIt)) (sym aq) (inl refl)) i m')
     content st0 m0 j there hs t' nq aq {bb = bb} sp mm (merged {at = at} {n = n} {ns = ns} {st = st'} {gs = gs'} wa q) r wrap wr sub bf =
         between (record {
           p = p;
@@ -309,7 +309,7 @@ module _ (s : Core) (C : Code) (w : IsCodeOf s C) (K : Knowledge) (wf : WellForm
       by : Spot path b → Spot ((at, key) ∷ path) c
       by (at_body {p = p} e ch alive) =
           let f = found (chain_body s C w.layout K wf.names I sc ch) m in
-          subst (λ (z : Path). Spot ((at, key) ∷ z) c) e (header_under ch alive m f.as_stmt f.among (subst (λ (z : Path). Ready s K z header vs) (sym e) r) o (subst (λ (z : Path). length z < most_steps) (sym e) dp))
+          subst (λ (z : Path). Spot ((at, key) ∷ z) c) e (header_under ch alive m f.as_stmt f.among (subst (λ (z : Path). Ready s K z header vs) (sym e) r) o (subst (λ (z : Path). length z < max_path_steps) (sym e) dp))
       by (between x) = absurd (opens_no_wait (subst (λ (z : Stmt). WaitAs C w.layout x.k z x.below x.content) (sym (only_stmt s C w K wf (backs s K kn) I sc m x.block_is)) x.as_wait) o)
   spot (Mn.waited {path = path} {b = b} {c = c} {at = at} {n = n} {ns = ns} lv m r) = by (spot lv)
     where
@@ -330,7 +330,7 @@ module _ (s : Core) (C : Code) (w : IsCodeOf s C) (K : Knowledge) (wf : WellForm
           let fs = found (chain_body s C w.layout K wf.names I sc ch) m in
           let g = sc.calls st c (stmt_in s (in_block (chain_live s C w.layout K wf.names I sc ch) m)) n in
           subst (λ (z : Path). Spot ((c.at, Key.Number (pos 0)) ∷ z) f.body) e
-          (call_under ch alive m n (find_call C w.layout c fs.as_stmt n) fs.among fq (g.2 ∙ ap (λ (z : Function). z.inputs) (some_same (sym g.1 ∙ fq))) (subst (λ (z : Path). length z < most_steps) (sym e) dp))
+          (call_under ch alive m n (find_call C w.layout c fs.as_stmt n) fs.among fq (g.2 ∙ ap (λ (z : Function). z.inputs) (some_same (sym g.1 ∙ fq))) (subst (λ (z : Path). length z < max_path_steps) (sym e) dp))
       by (between x) = absurd (calls_no_wait (subst (λ (z : Stmt). WaitAs C w.layout x.k z x.below x.content) (sym (only_stmt s C w K wf (backs s K kn) I sc m x.block_is)) x.as_wait) n)
 
   -- THE ITEM OF A BLOCKED STATEMENT

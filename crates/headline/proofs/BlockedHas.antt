@@ -26,7 +26,7 @@ use Rattle.language_laws.specs.Scoped.{FormIn, Scoped}
 use Rattle.language_laws.specs.TypedValues.{TypedValues}
 use Rattle.task_code.specs.Code as code
 use Rattle.task_code.specs.Code.{Need, Act, Code, entry, body}
-use Rattle.task_code.specs.Compute.{EntryFault, InOperation, Computed, Fails, eval, branched, given, filled, put, compute as work_out}
+use Rattle.task_code.specs.Compute.{EntryFault, InOperation, Computed, Fails, eval, branched, given, filled, insert_element, compute as work_out}
 use Rattle.task_code.specs.Effects.{Task, Item, effect_at, instances, outcome_of, is_too_deep}
 use Rattle.task_code.specs.Places as CodePlaces
 use Rattle.task_code.specs.Places.{Step}
@@ -64,7 +64,7 @@ module _ (s : Core) (C : Code) (w : IsCodeOf s C) (K : Knowledge) (wf : WellForm
   X = work_out (entry C i).act (answered C p (entry C i).needs f.answers)
 
   fails : (g : EntryFault) → X ≡ Fails g → ⊥
-  fails g q = bad_good (sym (ap (λ (z : Computed). outcome_of z (is_too_deep (entry C i).act p (instances (entry C i).act (entry C i).mark p c X)) (effect_at C i p c X)) q) ∙ f.is)
+  fails g q = bad_good (sym (ap (λ (z : Computed). outcome_of z (is_too_deep (entry C i).act p (instances (entry C i).act (entry C i).offset p c X)) (effect_at C i p c X)) q) ∙ f.is)
 
   live : {st : Stmt} → st ∈ block_list b → LiveStmt s K (script_path p) st
   live m = in_block (chain_live s C w.layout K wf.names I sc ch) m
@@ -114,10 +114,10 @@ module _ (s : Core) (C : Code) (w : IsCodeOf s C) (K : Knowledge) (wf : WellForm
 
   -- ONE ELEMENT
   insert_has : {at n : ℕ} {x : Name} (j o : Outer) → stmt at n (insert x j o) ∈ block_list b → (ms : List Need) → own_needs w.layout k (insert x j o) ≡ ms → (entry C i).needs ≡ ms
-      → (entry C i).act ≡ code.Put (name_as k true x) (over k ms (seen w.layout j.cell)) (over k ms (seen w.layout o.cell)) → Has n (insert x j o)
+      → (entry C i).act ≡ code.InsertElement (name_as k true x) (over k ms (seen w.layout j.cell)) (over k ms (seen w.layout o.cell)) → Has n (insert x j o)
   insert_has {at} {n} {x} j o m ms mq nq aq = by (eval ys (over k ms (seen w.layout j.cell))) (eval ys (over k ms (seen w.layout o.cell))) refl refl
     where
-      x_is : X ≡ put (eval ys (over k ms (seen w.layout j.cell))) (eval ys (over k ms (seen w.layout o.cell)))
+      x_is : X ≡ insert_element (eval ys (over k ms (seen w.layout j.cell))) (eval ys (over k ms (seen w.layout o.cell)))
       x_is = ap (λ (z : Act). work_out z ys) aq
 
       e1 : List Need
@@ -127,8 +127,8 @@ module _ (s : Core) (C : Code) (w : IsCodeOf s C) (K : Knowledge) (wf : WellForm
       e2 = wanted k (seen w.layout o.cell)
 
       by : (r r' : Result Value OpFault) → eval ys (over k ms (seen w.layout j.cell)) ≡ r → eval ys (over k ms (seen w.layout o.cell)) ≡ r' → Has n (insert x j o)
-      by (Err g) r' q q' = absurd (fails (InOperation g) (x_is ∙ ap (λ (z : Result Value OpFault). put z (eval ys (over k ms (seen w.layout o.cell)))) q))
-      by (Ok v) (Err g) q q' = absurd (fails (InOperation g) (x_is ∙ (λ z. put (q z) (q' z))))
+      by (Err g) r' q q' = absurd (fails (InOperation g) (x_is ∙ ap (λ (z : Result Value OpFault). insert_element z (eval ys (over k ms (seen w.layout o.cell)))) q))
+      by (Ok v) (Err g) q q' = absurd (fails (InOperation g) (x_is ∙ (λ z. insert_element (q z) (q' z))))
       by (Ok v) (Ok u) q q' =
           let kj = cell_known_by s C w K wf kn I sc ty ch i c there e f at n (insert x j o) j.cell m (index_in j o) ms nq (λ z h. subst (λ (l : List Need). In z l) mq (in_once z _ (in_left z e1 _ h))) v q in
           let ko = cell_known_by s C w K wf kn I sc ty ch i c there e f at n (insert x j o) o.cell m (right_in j o) ms nq (λ z h. subst (λ (l : List Need). In z l) mq (in_once z _ (in_right z e1 _ (in_left z e2 _ h)))) u q' in

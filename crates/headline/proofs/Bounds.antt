@@ -128,10 +128,10 @@ module _ (script s : Core) (same : SameCore script s) (C : Code) (w : IsCodeOf s
     left : is_some_list (left_at (suc c) (turns_of (compute (entry C i).act (answered C p (entry C i).needs fact.answers)))) ≡ true
 
   rest_before : (j d : ℕ) (q : List Step) (e : Effect Task Place Key Scalar) (lv : Alive (Item j q d)) (f : FactOf (Item j q d) e) (o : Opening Task Place) (u : Task)
-      → In o (map (block C) (instances (entry C j).act (entry C j).mark q d (compute (entry C j).act (answered C q (entry C j).needs f.answers)))) ⊎ In o (rest (loop_of (entry C j).act) j q d (compute (entry C j).act (answered C q (entry C j).needs f.answers)))
+      → In o (map (block C) (instances (entry C j).act (entry C j).offset q d (compute (entry C j).act (answered C q (entry C j).needs f.answers)))) ⊎ In o (rest (loop_of (entry C j).act) j q d (compute (entry C j).act (answered C q (entry C j).needs f.answers)))
       → In u o.tasks → (i c : ℕ) (p : List Step) → u ≡ Item i p (suc c) → Before i c p
   rest_before j d q e lv f o u (inl g) iu i c p same =
-      let r = in_unmap (block C) o (instances (entry C j).act (entry C j).mark q d (compute (entry C j).act (answered C q (entry C j).needs f.answers))) g in
+      let r = in_unmap (block C) o (instances (entry C j).act (entry C j).offset q d (compute (entry C j).act (answered C q (entry C j).needs f.answers))) g in
       let m = Op.in_block C r.0 o u (sym r.2) iu in
       let z : suc c ≡ 0 = (item_parts (sym same ∙ m.2)).2 in
       absurd (omega arith)
@@ -164,7 +164,7 @@ module _ (script s : Core) (same : SameCore script s) (C : Code) (w : IsCodeOf s
       by (Item j r d) lv f =
           let can : Can (code_system C) (Item j r d) e = record { answers = f.answers; is = f.is; valid = reading_valid (code_system C) (code_laws C I) (Answers s (Meaning s)) lv } in
           let io' = subst (λ (x : Effect Task Place Key Scalar). In o x.opens) (sym (effect_is C j d r e can)) io in
-          rest_before j d r e lv f o u' (in_split o (map (block C) (instances (entry C j).act (entry C j).mark r d (found C can))) (rest (loop_of (entry C j).act) j r d (found C can)) io') iu i c p q
+          rest_before j d r e lv f o u' (in_split o (map (block C) (instances (entry C j).act (entry C j).offset r d (found C can))) (rest (loop_of (entry C j).act) j r d (found C can)) io') iu i c p q
 
   -- BODIES AND LOOPS FOR ITEMS
 

@@ -21,7 +21,7 @@ use Rattle.language.specs.Meaning.{IsTarget, Ready}
 use Rattle.language.specs.Members.{◌∈◌, first}
 use Rattle.language.specs.Openings.{Opens, Branches}
 use Rattle.language.specs.Parts.{stmt_calls, block_list, blocks_below, script_blocks, targets, function_body, stmts_of, owners, call_at, input_name, output_name}
-use Rattle.language.specs.Places.{Path, Place, place, place_of, most_steps}
+use Rattle.language.specs.Places.{Path, Place, place, place_of, max_path_steps}
 use Rattle.language.specs.Single.{SinglyAssigned}
 use Rattle.language.specs.WellFormed.{Declares, Uses, own, inside, in_wait, IsAlone, IsHidden, header_blocks, WellFormed}
 use Rattle.language.proofs.Blocks.{header_inner, inner_below, below_below, inner_block, among_script}
@@ -151,21 +151,21 @@ fewer_left zero (x ∷ xs) h = (let z = drop_shorter 63 xs in omega arith)
 fewer_left (suc c) xs h = fewer_left c (drop chunk_size xs) h
 
 -- an entry that opens bodies has a way to them
-pub instance_way : (a : Act) (mark : ℕ) (p : List Step) (c : ℕ) (x : Computed) (q : ℕ × List Step) → In q (instances a mark p c x) → (y : Way × ℕ) × In y (ways a)
-instance_way (code.Cell e) mark p c x q h = absurd h
-instance_way code.Read mark p c x q h = absurd h
-instance_way (code.Call b rs os) mark p c x q h = ((Calling, b), inl refl)
-instance_way (code.Set r e) mark p c x q h = absurd h
-instance_way (code.Fill r es) mark p c x q h = absurd h
-instance_way (code.Copy r) mark p c x q h = absurd h
-instance_way (code.Put r j e) mark p c x q h = absurd h
-instance_way (code.Print e) mark p c x q h = absurd h
-instance_way (code.Assert e) mark p c x q h = absurd h
-instance_way (code.If e b None) mark p c x q h = ((Through, b), inl refl)
-instance_way (code.If e b (Some d)) mark p c x q h = ((Through, b), inl refl)
-instance_way (code.Range l g st lp) mark p c x q h = ((Through, lp.body), inl refl)
-instance_way (code.Each lp) mark p c x q h = ((Through, lp.body), inl refl)
-instance_way (code.Wait hs b) mark p c x q h = ((InPlace, b), inl refl)
+pub instance_way : (a : Act) (offset : ℕ) (p : List Step) (c : ℕ) (x : Computed) (q : ℕ × List Step) → In q (instances a offset p c x) → (y : Way × ℕ) × In y (ways a)
+instance_way (code.Cell e) offset p c x q h = absurd h
+instance_way code.Read offset p c x q h = absurd h
+instance_way (code.Call b rs os) offset p c x q h = ((Calling, b), inl refl)
+instance_way (code.Set r e) offset p c x q h = absurd h
+instance_way (code.Fill r es) offset p c x q h = absurd h
+instance_way (code.Copy r) offset p c x q h = absurd h
+instance_way (code.InsertElement r j e) offset p c x q h = absurd h
+instance_way (code.Print e) offset p c x q h = absurd h
+instance_way (code.Assert e) offset p c x q h = absurd h
+instance_way (code.If e b None) offset p c x q h = ((Through, b), inl refl)
+instance_way (code.If e b (Some d)) offset p c x q h = ((Through, b), inl refl)
+instance_way (code.Range l g st lp) offset p c x q h = ((Through, lp.body), inl refl)
+instance_way (code.Each lp) offset p c x q h = ((Through, lp.body), inl refl)
+instance_way (code.Wait hs b) offset p c x q h = ((InPlace, b), inl refl)
 
 -- the values of the index and of the right side of an element that is written
 pub record WrittenCells (K : Knowledge) (path : Path) (i o : Outer) (key : Key) (v : Scalar) : Type 0 where
@@ -199,28 +199,28 @@ own_way (own_range {t = t} en mk ba) hb = ((Through, t), subst (λ (a : Act). In
 own_way (own_each {t = t} en mk ba) hb = ((Through, t), subst (λ (a : Act). In (Through, t) (ways a)) (sym en.act_is) (inl refl))
 own_way (own_wait wa en) hb = absurd hb
 
-turn_write : (C : Code) (lp : Loop) (mark : ℕ) (p : List Step) (ts : List (Key × Scalar)) (q : List Step) (v : Variable) (key : Key) (u : Scalar) → v.array ≡ true → In (record { place = Datum q v; key = key; value = u }) (flat_map (bound lp mark p) ts) → ⊥
-turn_write C lp mark p ts q v key u va i =
-    let r = in_gather C (bound lp mark p) ts _ i in
-    let z = bound_place lp mark p r.0 _ r.2 in
+turn_write : (C : Code) (lp : Loop) (offset : ℕ) (p : List Step) (ts : List (Key × Scalar)) (q : List Step) (v : Variable) (key : Key) (u : Scalar) → v.array ≡ true → In (record { place = Datum q v; key = key; value = u }) (flat_map (bound lp offset p) ts) → ⊥
+turn_write C lp offset p ts q v key u va i =
+    let r = in_gather C (bound lp offset p) ts _ i in
+    let z = bound_place lp offset p r.0 _ r.2 in
     let e : true ≡ false = sym va ∙ ap (λ (x : Variable). x.array) (spot_variable z.2) ∙ z.3 in
     absurd (cc (e))
 
 -- an entry that opens bodies writes no array
-way_writes : (C : Code) (a : Act) (node mark : ℕ) (p : List Step) (c : ℕ) (x : Computed) (y : Way × ℕ) → In y (ways a) → (q : List Step) (v : Variable) (key : Key) (u : Scalar) → v.array ≡ true → In (record { place = Datum q v; key = key; value = u }) (stores C a node mark p c x) → ⊥
-way_writes C (code.Cell e) node mark p c x y h q v key u va i = h
-way_writes C code.Read node mark p c x y h q v key u va i = h
-way_writes C (code.Call b rs os) node mark p c x y h q v key u va i = i
-way_writes C (code.Set r e) node mark p c x y h q v key u va i = h
-way_writes C (code.Fill r es) node mark p c x y h q v key u va i = h
-way_writes C (code.Copy r) node mark p c x y h q v key u va i = h
-way_writes C (code.Put r j e) node mark p c x y h q v key u va i = h
-way_writes C (code.Print e) node mark p c x y h q v key u va i = h
-way_writes C (code.Assert e) node mark p c x y h q v key u va i = h
-way_writes C (code.If e b d) node mark p c x y h q v key u va i = i
-way_writes C (code.Range l g st lp) node mark p c x y h q v key u va i = turn_write C lp mark p (chunk c (turns_of x)) q v key u va i
-way_writes C (code.Each lp) node mark p c x y h q v key u va i = turn_write C lp mark p (chunk c (turns_of x)) q v key u va i
-way_writes C (code.Wait hs b) node mark p c x y h q v key u va i = i
+way_writes : (C : Code) (a : Act) (node offset : ℕ) (p : List Step) (c : ℕ) (x : Computed) (y : Way × ℕ) → In y (ways a) → (q : List Step) (v : Variable) (key : Key) (u : Scalar) → v.array ≡ true → In (record { place = Datum q v; key = key; value = u }) (stores C a node offset p c x) → ⊥
+way_writes C (code.Cell e) node offset p c x y h q v key u va i = h
+way_writes C code.Read node offset p c x y h q v key u va i = h
+way_writes C (code.Call b rs os) node offset p c x y h q v key u va i = i
+way_writes C (code.Set r e) node offset p c x y h q v key u va i = h
+way_writes C (code.Fill r es) node offset p c x y h q v key u va i = h
+way_writes C (code.Copy r) node offset p c x y h q v key u va i = h
+way_writes C (code.InsertElement r j e) node offset p c x y h q v key u va i = h
+way_writes C (code.Print e) node offset p c x y h q v key u va i = h
+way_writes C (code.Assert e) node offset p c x y h q v key u va i = h
+way_writes C (code.If e b d) node offset p c x y h q v key u va i = i
+way_writes C (code.Range l g st lp) node offset p c x y h q v key u va i = turn_write C lp offset p (chunk c (turns_of x)) q v key u va i
+way_writes C (code.Each lp) node offset p c x y h q v key u va i = turn_write C lp offset p (chunk c (turns_of x)) q v key u va i
+way_writes C (code.Wait hs b) node offset p c x y h q v key u va i = i
 
 module _ (s : Core) (C : Code) (w : IsCodeOf s C) (K : Knowledge) (wf : WellFormed s) (kn : Backs s K) (I : IsCode C) (sc : Scoped s) where
   abbrev pub ReadsAs : ℕ → List Step → ℕ → Computed → Type 0
@@ -228,7 +228,7 @@ module _ (s : Core) (C : Code) (w : IsCodeOf s C) (K : Knowledge) (wf : WellForm
 
   -- the elements that an item writes are known
   abbrev pub KnownWrites : ℕ → List Step → ℕ → Computed → Type 0
-  KnownWrites j p c x = (q : List Step) (v : Variable) (key : Key) (y : Scalar) → v.array ≡ true → In (record { place = Datum q v; key = key; value = y }) (stores C (entry C j).act (entry C j).node (entry C j).mark p c x) → (u : Place) × K (element (script_place q v) key u y)
+  KnownWrites j p c x = (q : List Step) (v : Variable) (key : Key) (y : Scalar) → v.array ≡ true → In (record { place = Datum q v; key = key; value = y }) (stores C (entry C j).act (entry C j).node (entry C j).offset p c x) → (u : Place) × K (element (script_place q v) key u y)
 
   -- a block that a header's item opens, as the script opens it
   pub record OpenedAs (j k : ℕ) (p : List Step) (a : Action) (vs : List Value) (q : ℕ × List Step) : Type 0 where
@@ -238,13 +238,13 @@ module _ (s : Core) (C : Code) (w : IsCodeOf s C) (K : Knowledge) (wf : WellForm
     pub way : In (Through, number) (ways (entry C j).act)
     pub stands : BodyAs C w.layout k content number
     pub opens : Opens a vs key content
-    pub is : ◌≡◌ {A = ℕ × List Step} q (number, step_at (entry C j).mark key p)
+    pub is : ◌≡◌ {A = ℕ × List Step} q (number, step_at (entry C j).offset key p)
 
   pub record HeaderFact (j k at : ℕ) (p : List Step) (a : Action) (vs : List Value) : Type 0 where
     pub computed : Computed
-    pub mark_is : (entry C j).mark ≡ at
+    pub offset_is : (entry C j).offset ≡ at
     pub fact : (c : ℕ) → ReadsAs j p c computed
-    pub opens : (c : ℕ) (q : ℕ × List Step) → In q (instances (entry C j).act (entry C j).mark p c computed) → OpenedAs j k p a vs q
+    pub opens : (c : ℕ) (q : ℕ × List Step) → In q (instances (entry C j).act (entry C j).offset p c computed) → OpenedAs j k p a vs q
 
   -- all headers of merged waits are ready
   pub data AllReady (k : ℕ) (path : Path) : Stmt → List Header → Type 0 where
@@ -258,14 +258,14 @@ module _ (s : Core) (C : Code) (w : IsCodeOf s C) (K : Knowledge) (wf : WellForm
     pub inserted : (p : List Step) (t k : ℕ) (b : Block) → Chain s C w.layout K p t k b → (j : ℕ) → In j (body C t).entries → (at n : ℕ) (x : Name) (i o : Outer) (key : Key) (v : Scalar) → stmt at n (insert x i o) ∈ block_list b
         → IsEntry (entry C j) at (pos 0) (own_needs w.layout k (insert x i o)) (simple_act w.layout k (own_needs w.layout k (insert x i o)) (insert x i o)) → K (element (place s (script_path p) x) key (script_path p, n) v) → (c : Computed) × ReadsAs j p 0 c × KnownWrites j p 0 c
     pub header : (p : List Step) (t k : ℕ) (b : Block) → Chain s C w.layout K p t k b → (j : ℕ) → In j (body C t).entries → (at n : ℕ) (a : Action) (vs : List Value) → stmt at n a ∈ block_list b → OwnAs C w.layout k (stmt at n a) j → Branches a
-        → Ready s K (script_path p) a vs → ((key : Key) (c : Block) → Opens a vs key c → length (script_path p) < most_steps) → HeaderFact j k at p a vs
+        → Ready s K (script_path p) a vs → ((key : Key) (c : Block) → Opens a vs key c → length (script_path p) < max_path_steps) → HeaderFact j k at p a vs
     pub waited : (p : List Step) (t k : ℕ) (b : Block) → Chain s C w.layout K p t k b → (j : ℕ) → In j (body C t).entries → (st : Stmt) (hs : List Header) (u : ℕ) → st ∈ block_list b → (entry C j).needs ≡ each_once (flat_map (λ h. h.needs) hs) → (entry C j).act ≡ code.Wait hs u
         → AllReady k (script_path p) st hs → ReadsAs j p 0 OpensIt
-    pub called : (p : List Step) (t k : ℕ) (b : Block) → Chain s C w.layout K p t k b → (j : ℕ) → In j (body C t).entries → (c : Call) (all : List Part) (at : ℕ) (pr : ℤ) → CallAs C w.layout k all at pr c j → length (script_path p) < most_steps → ReadsAs j p 0 OpensIt
+    pub called : (p : List Step) (t k : ℕ) (b : Block) → Chain s C w.layout K p t k b → (j : ℕ) → In j (body C t).entries → (c : Call) (all : List Part) (at : ℕ) (pr : ℤ) → CallAs C w.layout k all at pr c j → length (script_path p) < max_path_steps → ReadsAs j p 0 OpensIt
 
   -- what opens bodies writes no array
   pub no_writes : (j c : ℕ) (p : List Step) (x : Computed) → (y : Way × ℕ) × In y (ways (entry C j).act) → KnownWrites j p c x
-  no_writes j c p x h q v key u va i = absurd (way_writes C (entry C j).act (entry C j).node (entry C j).mark p c x h.0 h.1 q v key u va i)
+  no_writes j c p x h q v key u va i = absurd (way_writes C (entry C j).act (entry C j).node (entry C j).offset p c x h.0 h.1 q v key u va i)
 
   -- what counts for the end of an array: facts whose writes to it are known
   pub record Ends (fd : Feed s C w K wf kn I sc) : Type 1 where
@@ -343,22 +343,22 @@ module _ (s : Core) (C : Code) (w : IsCodeOf s C) (K : Knowledge) (wf : WellForm
     AllFed j p = (z : Need) → In z (entry C j).needs → fd.Fed p z
 
     item_done : (j c : ℕ) (p : List Step) (x : Computed) → IsLive (Item j p c) → AllFed j p → ReadsAs j p c x → KnownWrites j p c x
-        → ((q : ℕ × List Step) → In q (instances (entry C j).act (entry C j).mark p c x) → (i : ℕ) → In i (body C q.0).entries → IsLive (Item i q.1 0) → Fin (Item i q.1 0))
+        → ((q : ℕ × List Step) → In q (instances (entry C j).act (entry C j).offset p c x) → (i : ℕ) → In i (body C q.0).entries → IsLive (Item i q.1 0) → Fin (Item i q.1 0))
         → ((lp : Loop) → loop_of (entry C j).act ≡ Some lp → is_some_list (left_at (suc c) (turns_of x)) ≡ true → IsLive (Item j p (suc c)) → Fin (Item j p (suc c))) → Fin (Item j p c)
     item_done j c p x lv nd rd kw f g = done (ends.counts p0 v0 j c p x ar.array lv fact kw) (λ o u io iu. by o u io iu (live_opened (Item j p c) u (effect_at C j p c x) o lv fact io iu))
       where
         fact : fd.Fact (Item j p c) (effect_at C j p c x)
         fact = fd.yields j c p (effect_at C j p c x) lv nd rd
 
-        in_block_tasks : (q : ℕ × List Step) (u : Task) → In u (map (λ (i : ℕ). Item i q.1 0) (body C q.0).entries) → In q (instances (entry C j).act (entry C j).mark p c x) → IsLive u → Fin u
+        in_block_tasks : (q : ℕ × List Step) (u : Task) → In u (map (λ (i : ℕ). Item i q.1 0) (body C q.0).entries) → In q (instances (entry C j).act (entry C j).offset p c x) → IsLive u → Fin u
         in_block_tasks q u iu h lu =
             let r = in_unmap (λ (i : ℕ). Item i q.1 0) u (body C q.0).entries iu in
             subst Fin r.2 (f q h r.0 r.1 (subst IsLive (sym r.2) lu))
 
-        by : (o : Opening Task CodePlaces.Place) (u : Task) → In o (map (block C) (instances (entry C j).act (entry C j).mark p c x) ++ rest (loop_of (entry C j).act) j p c x) → In u o.tasks → IsLive u → Fin u
+        by : (o : Opening Task CodePlaces.Place) (u : Task) → In o (map (block C) (instances (entry C j).act (entry C j).offset p c x) ++ rest (loop_of (entry C j).act) j p c x) → In u o.tasks → IsLive u → Fin u
         by o u io iu lu =
-            elim (in_split o (map (block C) (instances (entry C j).act (entry C j).mark p c x)) _ io) [
-              | inl h ↦ (let r = in_unmap (block C) o (instances (entry C j).act (entry C j).mark p c x) h in in_block_tasks r.0 u (subst (λ (z : Opening Task CodePlaces.Place). In u z.tasks) (sym r.2) iu) r.1 lu)
+            elim (in_split o (map (block C) (instances (entry C j).act (entry C j).offset p c x)) _ io) [
+              | inl h ↦ (let r = in_unmap (block C) o (instances (entry C j).act (entry C j).offset p c x) h in in_block_tasks r.0 u (subst (λ (z : Opening Task CodePlaces.Place). In u z.tasks) (sym r.2) iu) r.1 lu)
               | inr h ↦ (let r = rest_in j p c x o (loop_of (entry C j).act) h in
                   let ue : u ≡ Item j p (suc c) = one (subst (λ (z : Opening Task CodePlaces.Place). In u z.tasks) r.1 iu) in
                   subst Fin (sym ue) (g r.2.0 r.2.1 r.0 (subst IsLive ue lu)))
@@ -369,7 +369,7 @@ module _ (s : Core) (C : Code) (w : IsCodeOf s C) (K : Knowledge) (wf : WellForm
             one (inr z) = absurd z
 
     loop_done : (fuel j c : ℕ) (p : List Step) (x : Computed) → length (left_at c (turns_of x)) ≤ fuel → IsLive (Item j p c) → AllFed j p → ((c : ℕ) → ReadsAs j p c x) → ((c : ℕ) → KnownWrites j p c x)
-        → ((c : ℕ) (q : ℕ × List Step) → In q (instances (entry C j).act (entry C j).mark p c x) → (i : ℕ) → In i (body C q.0).entries → IsLive (Item i q.1 0) → Fin (Item i q.1 0)) → Fin (Item j p c)
+        → ((c : ℕ) (q : ℕ × List Step) → In q (instances (entry C j).act (entry C j).offset p c x) → (i : ℕ) → In i (body C q.0).entries → IsLive (Item i q.1 0) → Fin (Item i q.1 0)) → Fin (Item j p c)
     loop_done zero j c p x le lv nd rd kw f = item_done j c p x lv nd (rd c) (kw c) (f c) (λ lp q h l. (let z = fewer_left c (turns_of x) h in absurd (omega arith)))
     loop_done (suc fuel) j c p x le lv nd rd kw f = item_done j c p x lv nd (rd c) (kw c) (f c) (λ lp q h l. loop_done fuel j (suc c) p x (let z = fewer_left c (turns_of x) h in omega arith) l nd rd kw f)
 
@@ -427,7 +427,7 @@ module _ (s : Core) (C : Code) (w : IsCodeOf s C) (K : Knowledge) (wf : WellForm
     pub idle_item : {p : List Step} (j : ℕ) → (In (Datum p0 v0) (map (place_at C p) (entry C j).writes) → ⊥) → Fin (Item j p 0)
     idle_item j h = idle h
 
-    pub header_done : {what : Owned} {p : List Step} {at n : ℕ} {a : Action} {vs : List Value} → Branches a → Ready s K (script_path p) a vs → ReadyFed s C w K wf kn I sc fd (script_path p) a → ((key : Key) (b : Block) → Opens a vs key b → length (script_path p) < most_steps)
+    pub header_done : {what : Owned} {p : List Step} {at n : ℕ} {a : Action} {vs : List Value} → Branches a → Ready s K (script_path p) a vs → ReadyFed s C w K wf kn I sc fd (script_path p) a → ((key : Key) (b : Block) → Opens a vs key b → length (script_path p) < max_path_steps)
         → ((key : Key) (b : Block) → Opens a vs key b → (st : Stmt) → st ∈ block_list b → Concl what (step_at at key p) st) → Concl what p (stmt at n a)
     header_done {what} {p} {at} {n} {a} {vs} hb r rf dp rec t k b ch m up inv j there lv (inl po) = idle_item j (part_no_right ch j there (stmt at n a) m po (λ c al. by a hb al.is))
       where
@@ -452,9 +452,9 @@ module _ (s : Core) (C : Code) (w : IsCodeOf s C) (K : Knowledge) (wf : WellForm
 
         by : (q : ℕ × List Step) → OpenedAs j k p a vs q → (i : ℕ) → In i (body C q.0).entries → IsLive (Item i q.1 0) → Fin (Item i q.1 0)
         by q z i im li =
-            let e : ◌≡◌ {A = ℕ × List Step} q (z.number, step_at at z.key p) = z.is ∙ ap (λ (y : ℕ). (z.number, step_at y z.key p)) hf.mark_is in
+            let e : ◌≡◌ {A = ℕ × List Step} q (z.number, step_at at z.key p) = z.is ∙ ap (λ (y : ℕ). (z.number, step_at y z.key p)) hf.offset_is in
             subst (λ (y : ℕ × List Step). Fin (Item i y.1 0)) (sym e)
-            (in_block_done (by_header j ch m there hf.mark_is z.way z.stands r z.opens (dp z.key z.content z.opens)) (suc up) (in_header_block z.key (in_script ch) inv m (header_of z.opens)) (λ st' m'. rec z.key z.content z.opens st' m') i
+            (in_block_done (by_header j ch m there hf.offset_is z.way z.stands r z.opens (dp z.key z.content z.opens)) (suc up) (in_header_block z.key (in_script ch) inv m (header_of z.opens)) (λ st' m'. rec z.key z.content z.opens st' m') i
             (subst (λ (y : ℕ × List Step). In i (body C y.0).entries) e im) (subst (λ (y : ℕ × List Step). IsLive (Item i y.1 0)) e li))
 
     -- the content of waits, innermost of those merged
@@ -469,7 +469,7 @@ module _ (s : Core) (C : Code) (w : IsCodeOf s C) (K : Knowledge) (wf : WellForm
 
     pub wait_done : {what : Owned} {p : List Step} (st : Stmt) {t k : ℕ} {b : Block} (ch : Chain s C w.layout K p t k b) → st ∈ block_list b → (j : ℕ) → In j (body C t).entries → IsLive (Item j p 0) → {hs : List Header} {u : ℕ} → (entry C j).needs ≡ each_once (flat_map (λ h. h.needs) hs) → (entry C j).act ≡ code.Wait hs u → (up : ℕ) → WaitEnd what p k u up st hs → Fin (Item j p 0)
     wait_done {what} {p} st {t} {k} {b} ch m j there lv {hs} {u} nq aq up z =
-        item_done j 0 p OpensIt lv (λ y h. z.fed t b ch j there into y (once_in y _ (subst (λ (l : List Need). In y l) nq h))) (ff.waited p t k b ch j there st hs u m nq aq z.ready) (no_writes j 0 p OpensIt ((InPlace, u), subst (λ (a : Act). In (InPlace, u) (ways a)) (sym aq) (inl refl))) (λ q h i im li. by q (one (subst (λ (a : Act). In q (instances a (entry C j).mark p 0 OpensIt)) aq h)) i im li) (λ lp q h l. absurd (cc (h)))
+        item_done j 0 p OpensIt lv (λ y h. z.fed t b ch j there into y (once_in y _ (subst (λ (l : List Need). In y l) nq h))) (ff.waited p t k b ch j there st hs u m nq aq z.ready) (no_writes j 0 p OpensIt ((InPlace, u), subst (λ (a : Act). In (InPlace, u) (ways a)) (sym aq) (inl refl))) (λ q h i im li. by q (one (subst (λ (a : Act). In q (instances a (entry C j).offset p 0 OpensIt)) aq h)) i im li) (λ lp q h l. absurd (cc (h)))
       where
         into : (y : Need) → In y (flat_map (λ h. h.needs) hs) → In y (entry C j).needs
         into y h = subst (λ (l : List Need). In y l) (sym nq) (in_once y _ h)
@@ -487,7 +487,7 @@ module _ (s : Core) (C : Code) (w : IsCodeOf s C) (K : Knowledge) (wf : WellForm
     -- SIMPLE STATEMENTS
     target_done : {p : List Step} (j : ℕ) (r : code.Name) (x : Computed) → IsLive (Item j p 0) → AllFed j p → ReadsAs j p 0 x → KnownWrites j p 0 x → In r (stored_of (entry C j).node (entry C j).act) → Fin (Item j p 0)
     target_done {p = p} j r x lv nd rd kw h =
-        item_done j 0 p x lv nd rd kw (λ q g i im li. absurd (target_opens_none C (entry C j).act (entry C j).node (entry C j).mark p 0 x r q h g))
+        item_done j 0 p x lv nd rd kw (λ q g i im li. absurd (target_opens_none C (entry C j).act (entry C j).node (entry C j).offset p 0 x r q h g))
         (λ lp q g l. absurd (none_some (sym (target_no_loop C (entry C j).act (entry C j).node r h) ∙ q)))
       where
         none_some : {lp : Loop} → ◌≡◌ {A = Option Loop} None (Some lp) → ⊥
@@ -516,7 +516,7 @@ module _ (s : Core) (C : Code) (w : IsCodeOf s C) (K : Knowledge) (wf : WellForm
 
     -- CALLS ALONE
     cell_no_right : {p : List Step} {t k : ℕ} {b : Block} (ch : Chain s C w.layout K p t k b) (j : ℕ) → In j (body C t).entries → (act : Act) → (entry C j).act ≡ act → ways act ≡ []
-        → ((j : ℕ) → code_targets (record { node = (entry C j).node; at = 0; mark = 0; priority = pos 0; needs = []; act = act; reads = []; writes = [] }) ≡ code.here (code.scalar (entry C j).node) ∷ []) → In (Datum p0 v0) (map (place_at C p) (entry C j).writes) → ⊥
+        → ((j : ℕ) → code_targets (record { node = (entry C j).node; at = 0; offset = 0; priority = pos 0; needs = []; act = act; reads = []; writes = [] }) ≡ code.here (code.scalar (entry C j).node) ∷ []) → In (Datum p0 v0) (map (place_at C p) (entry C j).writes) → ⊥
     cell_no_right {k = k} ch j there act e wz tz i = (let z = hit ch j there i in by (ex.writes j z.right z.led) z.name z.is e)
       where
         by : {j' : ℕ} {r : code.Name} → Leads C code_targets j' r → (x : Name) → name_as k true x ≡ r → (entry C j').act ≡ act → ⊥
@@ -560,7 +560,7 @@ module _ (s : Core) (C : Code) (w : IsCodeOf s C) (K : Knowledge) (wf : WellForm
                   o.1 ∙ ap output (outputs_apart s single inv.owner m o.0 j x'.0 x x'.1 e w' q))
             ]
 
-    pub call_done : {what : Owned} {p : List Step} {at n : ℕ} {pr : ℤ} {ps : List Part} {c : Call} → length (script_path p) < most_steps
+    pub call_done : {what : Owned} {p : List Step} {at n : ℕ} {pr : ℤ} {ps : List Part} {c : Call} → length (script_path p) < max_path_steps
         → ((j : ℕ) (x : Name) (st : Stmt) → slice_get c.outputs j ≡ Some x → x.what ≡ what → st ∈ function_body s c.function → Concl (output j) (step_at c.at (Key.Number (pos 0)) p) st) → Concl what p (stmt at n (call_alone pr ps c))
     call_done dp rec t k b ch m up inv j there lv (inr (own_simple z en nd)) = absurd z
     call_done {what} {p} {at} {n} {pr} {ps} {c} dp rec t k b ch m up inv j there lv (inl po) = by po.as_part po.there po.in_stmt refl
@@ -585,10 +585,10 @@ module _ (s : Core) (C : Code) (w : IsCodeOf s C) (K : Knowledge) (wf : WellForm
                 one (inl e) = e
                 one (inr z) = absurd z
 
-                opened : (u : ℕ × List Step) → In u (instances (entry C j).act (entry C j).mark p 0 OpensIt) → (i' : ℕ) → In i' (body C u.0).entries → IsLive (Item i' u.1 0) → Fin (Item i' u.1 0)
+                opened : (u : ℕ × List Step) → In u (instances (entry C j).act (entry C j).offset p 0 OpensIt) → (i' : ℕ) → In i' (body C u.0).entries → IsLive (Item i' u.1 0) → Fin (Item i' u.1 0)
                 opened u h i' im li =
-                    let h' : In u ((w.layout.body_of c.function, step_at (entry C j).mark (Key.Number (pos 0)) p) ∷ []) = subst (λ (a : Act). In u (instances a (entry C j).mark p 0 OpensIt)) (ca').is.act_is h in
-                    let ue : ◌≡◌ {A = ℕ × List Step} u (w.layout.body_of c.function, step_at c.at (Key.Number (pos 0)) p) = one h' ∙ ap (λ (y : ℕ). (w.layout.body_of c.function, step_at y (Key.Number (pos 0)) p)) (ca').mark_is in
+                    let h' : In u ((w.layout.body_of c.function, step_at (entry C j).offset (Key.Number (pos 0)) p) ∷ []) = subst (λ (a : Act). In u (instances a (entry C j).offset p 0 OpensIt)) (ca').is.act_is h in
+                    let ue : ◌≡◌ {A = ℕ × List Step} u (w.layout.body_of c.function, step_at c.at (Key.Number (pos 0)) p) = one h' ∙ ap (λ (y : ℕ). (w.layout.body_of c.function, step_at y (Key.Number (pos 0)) p)) (ca').offset_is in
                     subst (λ (y : ℕ × List Step). Fin (Item i' y.1 0)) (sym ue)
                     (in_block_done (by_call j ch m cm' there ca' po.cells_in g.1 g.2 (w.functions c.function g.0 g.1) dp) 0 (call_body ch m cm' up inv g.0 g.1 i x e q)
                     (λ st' m'. rec i x st' e q (subst (λ (o : Option Function). st' ∈ stmts_of o) (sym g.1) m')) i'

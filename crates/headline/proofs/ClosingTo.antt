@@ -20,7 +20,7 @@ use Rattle.language.specs.Meaning.{IsTarget, Finished, no_target, value_known, w
 use Rattle.language.specs.Members.{◌∈◌, first, later}
 use Rattle.language.specs.Openings.{Bounds, bounds, in_turns, one_way, two_ways, Opens, then_alone, then_first, else_second, turn, item, Branches}
 use Rattle.language.specs.Parts.{stmt_at, part_cells, cells, stmt_calls, block_list, script_blocks, stmts_of, output_name}
-use Rattle.language.specs.Places.{Place, place, place_of, most_steps}
+use Rattle.language.specs.Places.{Place, place, place_of, max_path_steps}
 use Rattle.language.specs.WellFormed.{Declares, Uses, IsMany, a_list, a_copy, own, WellFormed}
 use Rattle.language.proofs.Blocks.{header_inner, inner_block}
 use Rattle.language_laws.proofs.Declared.{local_same, stmt_in, live_block, header_of, output_found, output_in, place_here}
@@ -28,7 +28,7 @@ use Rattle.language.proofs.Members.{to_right}
 use Rattle.language_laws.proofs.Sources.{outer_in, index_in, right_in}
 use Rattle.task_code.specs.Code as code
 use Rattle.task_code.specs.Code.{Variable, Need, Header, Act, If, Wait, InPlace, Through, Loop, Code, entry, body, ways, loop_of}
-use Rattle.task_code.specs.Compute.{EntryFault, InOperation, Computed, Fails, Takes, Turns, Elements, eval, branched, range_turns, content, answer_at, filled, put, elements, compute as work_out}
+use Rattle.task_code.specs.Compute.{EntryFault, InOperation, Computed, Fails, Takes, Turns, Elements, eval, branched, range_turns, content, answer_at, filled, insert_element, elements, compute as work_out}
 use Rattle.task_code.specs.Effects.{Task, Item, block, effect_at, instances, turns_of, chunk, step_at, steps_on, outcome_of, is_too_deep}
 use Rattle.task_code.specs.Places as CodePlaces
 use Rattle.task_code.specs.Places.{Step, Datum, place_at}
@@ -117,9 +117,9 @@ module _ (s : Core) (C : Code) (w : IsCodeOf s C) (K : Knowledge) (wf : WellForm
     X = computes_by s C K kn I d.fact.reading
 
     fails : (g : EntryFault) → X ≡ Fails g → ⊥
-    fails g q = bad_good (sym (ap (λ (z : Computed). outcome_of z (is_too_deep (entry C i).act p (instances (entry C i).act (entry C i).mark p 0 X)) (effect_at C i p 0 X)) q) ∙ d.fact.reading.is)
+    fails g q = bad_good (sym (ap (λ (z : Computed). outcome_of z (is_too_deep (entry C i).act p (instances (entry C i).act (entry C i).offset p 0 X)) (effect_at C i p 0 X)) q) ∙ d.fact.reading.is)
 
-    depth_at : (q : ℕ × List Step) → steps_on (entry C i).act ≡ true → In q (instances (entry C i).act (entry C i).mark p 0 X) → length (script_path p) < most_steps
+    depth_at : (q : ℕ × List Step) → steps_on (entry C i).act ≡ true → In q (instances (entry C i).act (entry C i).offset p 0 X) → length (script_path p) < max_path_steps
     depth_at q st h = depth_below (entry C i).act p q _ st h (shallow _ _ _ _ d.fact.reading.is)
 
     live : {st : Stmt} → st ∈ block_list b → LiveStmt s K (script_path p) st
@@ -133,11 +133,11 @@ module _ (s : Core) (C : Code) (w : IsCodeOf s C) (K : Knowledge) (wf : WellForm
       number : ℕ
       way : In (Through, number) (ways (entry C i).act)
       stands : BodyAs C w.layout k c number
-      all : InAll (entry C i).act (entry C i).mark p 0 X (number, step_at (entry C i).mark key p)
+      all : InAll (entry C i).act (entry C i).offset p 0 X (number, step_at (entry C i).offset key p)
       some : ℕ × List Step
-      some_in : In some (instances (entry C i).act (entry C i).mark p 0 X)
+      some_in : In some (instances (entry C i).act (entry C i).offset p 0 X)
 
-    header_finished : {at n : ℕ} {a : Action} {vs : List Value} → stmt at n a ∈ block_list b → (entry C i).mark ≡ at → steps_on (entry C i).act ≡ true → Branches a → Ready s K (script_path p) a vs
+    header_finished : {at n : ℕ} {a : Action} {vs : List Value} → stmt at n a ∈ block_list b → (entry C i).offset ≡ at → steps_on (entry C i).act ≡ true → Branches a → Ready s K (script_path p) a vs
         → ((key : Key) (c : Block) → Opens a vs key c → OpensAt key c) → Finished s K what (script_path p) (stmt at n a)
     header_finished {at} {n} {a} {vs} m mk so hb r opens =
         blocks_finished hb r (λ key c o. (let z = opens key c o in depth_at z.some so z.some_in)) (λ key c st' o m'. by key c o st' m')
@@ -146,27 +146,27 @@ module _ (s : Core) (C : Code) (w : IsCodeOf s C) (K : Knowledge) (wf : WellForm
         by key c o st' m' =
             let z = opens key c o in
             inner (by_header i ch m there mk z.way z.stands r o (depth_at z.some so z.some_in))
-            (λ j jm. subst (λ (y : ℕ). G j (step_at y key p)) mk (d.below (z.number, step_at (entry C i).mark key p) z.all j jm))
+            (λ j jm. subst (λ (y : ℕ). G j (step_at y key p)) mk (d.below (z.number, step_at (entry C i).offset key p) z.all j jm))
             (suc up) what
             (record { place_is = inv.place_is; no_input = inv.no_input; only = only_header s wf.names what script_block inv.none m (header_of o) inv.only; none = none_inner b inv.none m (header_inner a (header_of o)) })
             st' m'
 
     -- an instance that stands in the first chunk
-    at_once : {act : Act} {x : Computed} (q : ℕ × List Step) → (entry C i).act ≡ act → X ≡ x → In q (instances act (entry C i).mark p 0 x) → In q (instances (entry C i).act (entry C i).mark p 0 X)
-    at_once {act} {x} q e h m = subst (λ (z : Act). In q (instances z (entry C i).mark p 0 X)) (sym e) (subst (λ (z : Computed). In q (instances act (entry C i).mark p 0 z)) (sym h) m)
+    at_once : {act : Act} {x : Computed} (q : ℕ × List Step) → (entry C i).act ≡ act → X ≡ x → In q (instances act (entry C i).offset p 0 x) → In q (instances (entry C i).act (entry C i).offset p 0 X)
+    at_once {act} {x} q e h m = subst (λ (z : Act). In q (instances z (entry C i).offset p 0 X)) (sym e) (subst (λ (z : Computed). In q (instances act (entry C i).offset p 0 z)) (sym h) m)
 
-    a_turn : (lp : Loop) → loop_of (entry C i).act ≡ Some lp → (y : Key × Scalar) → In y (turns_of X) → (q : ℕ × List Step) × In q (instances (entry C i).act (entry C i).mark p 0 X)
+    a_turn : (lp : Loop) → loop_of (entry C i).act ≡ Some lp → (y : Key × Scalar) → In y (turns_of X) → (q : ℕ × List Step) × In q (instances (entry C i).act (entry C i).offset p 0 X)
     a_turn lp q y h =
         let z = first_turn (turns_of X) y h in
-        ((lp.body, step_at (entry C i).mark z.0.0 p), subst (λ (l : List (ℕ × List Step)). In (lp.body, step_at (entry C i).mark z.0.0 p) l) (sym (loop_instances C (entry C i).act lp (entry C i).mark p 0 X q)) (in_map (λ (u : Key × Scalar). (lp.body, step_at (entry C i).mark u.0 p)) z.0 (chunk 0 (turns_of X)) z.1))
+        ((lp.body, step_at (entry C i).offset z.0.0 p), subst (λ (l : List (ℕ × List Step)). In (lp.body, step_at (entry C i).offset z.0.0 p) l) (sym (loop_instances C (entry C i).act lp (entry C i).offset p 0 X q)) (in_map (λ (u : Key × Scalar). (lp.body, step_at (entry C i).offset u.0 p)) z.0 (chunk 0 (turns_of X)) z.1))
 
     turn_opens : {key : Key} {c : Block} (u : Scalar) (lp : Loop) → loop_of (entry C i).act ≡ Some lp → In (Through, lp.body) (ways (entry C i).act) → BodyAs C w.layout k c lp.body → In (key, u) (turns_of X) → OpensAt key c
     turn_opens {key} u lp q wy ba h =
         let z = a_turn lp q (key, u) h in
-        record { number = lp.body; way = wy; stands = ba; all = turn_in_all C (entry C i).act (entry C i).mark p X lp q (key, u) h; some = z.0; some_in = z.1 }
+        record { number = lp.body; way = wy; stands = ba; all = turn_in_all C (entry C i).act (entry C i).offset p X lp q (key, u) h; some = z.0; some_in = z.1 }
 
     when_finished : {at n t' : ℕ} {o : Outer} {c : Block} → stmt at n (when o c) ∈ block_list b → IsEntry (entry C i) at (pos 0) (own_needs w.layout k (when o c)) (If (over k (own_needs w.layout k (when o c)) (seen w.layout o.cell)) t' None)
-        → (entry C i).mark ≡ at → BodyAs C w.layout k c t' → Finished s K what (script_path p) (stmt at n (when o c))
+        → (entry C i).offset ≡ at → BodyAs C w.layout k c t' → Finished s K what (script_path p) (stmt at n (when o c))
     when_finished {at} {n} {t'} {o} {c} m en mk ba = by_value (eval ys (over k (own_needs w.layout k (when o c)) (seen w.layout o.cell))) refl
       where
         x_is : X ≡ branched (eval ys (over k (own_needs w.layout k (when o c)) (seen w.layout o.cell)))
@@ -177,8 +177,8 @@ module _ (s : Core) (C : Code) (w : IsCodeOf s C) (K : Knowledge) (wf : WellForm
           where
             opens : (key : Key) (c' : Block) → Opens (when o c) (One (Truth true) ∷ []) key c' → OpensAt key c'
             opens key c' then_alone =
-                let h = at_once (t', step_at (entry C i).mark (Key.Number (pos 0)) p) en.act_is q (inl refl) in
-                record { number = t'; way = subst (λ (z : Act). In (Through, t') (ways z)) (sym en.act_is) (inl refl); stands = ba; all = now_opened h; some = (t', step_at (entry C i).mark (Key.Number (pos 0)) p); some_in = h }
+                let h = at_once (t', step_at (entry C i).offset (Key.Number (pos 0)) p) en.act_is q (inl refl) in
+                record { number = t'; way = subst (λ (z : Act). In (Through, t') (ways z)) (sym en.act_is) (inl refl); stands = ba; all = now_opened h; some = (t', step_at (entry C i).offset (Key.Number (pos 0)) p); some_in = h }
         finish false kv q = header_finished m mk (ap steps_on en.act_is) tt (cells_known (next_cell kv no_cell) one_way) (λ key c' z. elim z [ ])
 
         by_value : (r : Result Value OpFault) → eval ys (over k (own_needs w.layout k (when o c)) (seen w.layout o.cell)) ≡ r → Finished s K what (script_path p) (stmt at n (when o c))
@@ -189,7 +189,7 @@ module _ (s : Core) (C : Code) (w : IsCodeOf s C) (K : Knowledge) (wf : WellForm
             finish tr.0 (subst (λ (u : Value). K (value (script_path p, o.cell.node) u)) tr.1 z.1) (x_is ∙ ap branched q ∙ ap (λ (u : Value). Takes (truth_of u)) tr.1)
 
     choose_finished : {at n t' u' : ℕ} {o : Outer} {c c2 : Block} → stmt at n (choose o c c2) ∈ block_list b → IsEntry (entry C i) at (pos 0) (own_needs w.layout k (choose o c c2)) (If (over k (own_needs w.layout k (choose o c c2)) (seen w.layout o.cell)) t' (Some u'))
-        → (entry C i).mark ≡ at → BodyAs C w.layout k c t' → BodyAs C w.layout k c2 u' → Finished s K what (script_path p) (stmt at n (choose o c c2))
+        → (entry C i).offset ≡ at → BodyAs C w.layout k c t' → BodyAs C w.layout k c2 u' → Finished s K what (script_path p) (stmt at n (choose o c c2))
     choose_finished {at} {n} {t'} {u'} {o} {c} {c2} m en mk ba bb = by_value (eval ys (over k (own_needs w.layout k (choose o c c2)) (seen w.layout o.cell))) refl
       where
         x_is : X ≡ branched (eval ys (over k (own_needs w.layout k (choose o c c2)) (seen w.layout o.cell)))
@@ -200,14 +200,14 @@ module _ (s : Core) (C : Code) (w : IsCodeOf s C) (K : Knowledge) (wf : WellForm
           where
             opens : (key : Key) (c' : Block) → Opens (choose o c c2) (One (Truth true) ∷ []) key c' → OpensAt key c'
             opens key c' then_first =
-                let h = at_once (t', step_at (entry C i).mark (Key.Number (pos 0)) p) en.act_is q (inl refl) in
-                record { number = t'; way = subst (λ (z : Act). In (Through, t') (ways z)) (sym en.act_is) (inl refl); stands = ba; all = now_opened h; some = (t', step_at (entry C i).mark (Key.Number (pos 0)) p); some_in = h }
+                let h = at_once (t', step_at (entry C i).offset (Key.Number (pos 0)) p) en.act_is q (inl refl) in
+                record { number = t'; way = subst (λ (z : Act). In (Through, t') (ways z)) (sym en.act_is) (inl refl); stands = ba; all = now_opened h; some = (t', step_at (entry C i).offset (Key.Number (pos 0)) p); some_in = h }
         finish false kv q = header_finished m mk (ap steps_on en.act_is) tt (cells_known (next_cell kv no_cell) two_ways) opens
           where
             opens : (key : Key) (c' : Block) → Opens (choose o c c2) (One (Truth false) ∷ []) key c' → OpensAt key c'
             opens key c' else_second =
-                let h = at_once (u', step_at (entry C i).mark (Key.Number (pos 1)) p) en.act_is q (inl refl) in
-                record { number = u'; way = subst (λ (z : Act). In (Through, u') (ways z)) (sym en.act_is) (inr (inl refl)); stands = bb; all = now_opened h; some = (u', step_at (entry C i).mark (Key.Number (pos 1)) p); some_in = h }
+                let h = at_once (u', step_at (entry C i).offset (Key.Number (pos 1)) p) en.act_is q (inl refl) in
+                record { number = u'; way = subst (λ (z : Act). In (Through, u') (ways z)) (sym en.act_is) (inr (inl refl)); stands = bb; all = now_opened h; some = (u', step_at (entry C i).offset (Key.Number (pos 1)) p); some_in = h }
 
         by_value : (r : Result Value OpFault) → eval ys (over k (own_needs w.layout k (choose o c c2)) (seen w.layout o.cell)) ≡ r → Finished s K what (script_path p) (stmt at n (choose o c c2))
         by_value (Err g) q = absurd (fails (InOperation g) (x_is ∙ ap branched q))
@@ -218,7 +218,7 @@ module _ (s : Core) (C : Code) (w : IsCodeOf s C) (K : Knowledge) (wf : WellForm
 
     -- LOOPS
     each_finished : {at n x t' : ℕ} {a : Name} {y : Option ℕ} {c : Block} → stmt at n (each a x y c) ∈ block_list b → IsEntry (entry C i) at (pos 0) (own_needs w.layout k (each a x y c)) (code.Each (record { body = t'; value = x; turn = y }))
-        → (entry C i).mark ≡ at → BodyAs C w.layout k c t' → Finished s K what (script_path p) (stmt at n (each a x y c))
+        → (entry C i).offset ≡ at → BodyAs C w.layout k c t' → Finished s K what (script_path p) (stmt at n (each a x y c))
     each_finished {at} {n} {x} {t'} {a} {y} {c} m en mk ba = by ys refl (subst (λ (l : List Need). AnsAll s C K p l ys) en.needs_is (answers_all s C w K wf kn I sc ty ch i 0 there d.effect d.fact.reading))
       where
         by : (zs : List Got) → ys ≡ zs → AnsAll s C K p (code.Closed (name_as k true a) ∷ []) zs → Finished s K what (script_path p) (stmt at n (each a x y c))
@@ -245,7 +245,7 @@ module _ (s : Core) (C : Code) (w : IsCodeOf s C) (K : Knowledge) (wf : WellForm
 
     range_finished : {at n x t' : ℕ} {lo hi : Outer} (st : Option Outer) {y : Option ℕ} {c : Block} → stmt at n (range lo hi st x y c) ∈ block_list b → (ms : List Need) → own_needs w.layout k (range lo hi st x y c) ≡ ms
         → IsEntry (entry C i) at (pos 0) ms (code.Range (over k ms (seen w.layout lo.cell)) (over k ms (seen w.layout hi.cell)) (over k ms (step_expr w.layout k st)) (record { body = t'; value = x; turn = y }))
-        → (entry C i).mark ≡ at → BodyAs C w.layout k c t' → RangeAll (eval ys (over k ms (seen w.layout lo.cell))) (eval ys (over k ms (seen w.layout hi.cell))) (eval ys (over k ms (step_expr w.layout k st)))
+        → (entry C i).offset ≡ at → BodyAs C w.layout k c t' → RangeAll (eval ys (over k ms (seen w.layout lo.cell))) (eval ys (over k ms (seen w.layout hi.cell))) (eval ys (over k ms (step_expr w.layout k st)))
         → Finished s K what (script_path p) (stmt at n (range lo hi st x y c))
     range_finished {at} {n} {x} {t'} {lo} {hi} None {y} {c} m ms mq en mk ba r =
         let known = range_known s C w K wf kn I sc ty ch i 0 there d.effect d.fact.reading at n x lo hi None y c m ms mq en.needs_is in
@@ -277,7 +277,7 @@ module _ (s : Core) (C : Code) (w : IsCodeOf s C) (K : Knowledge) (wf : WellForm
 
     any_range : {at n x t' : ℕ} {lo hi : Outer} {st : Option Outer} {y : Option ℕ} {c : Block} → stmt at n (range lo hi st x y c) ∈ block_list b → (ms : List Need) → own_needs w.layout k (range lo hi st x y c) ≡ ms
         → IsEntry (entry C i) at (pos 0) ms (code.Range (over k ms (seen w.layout lo.cell)) (over k ms (seen w.layout hi.cell)) (over k ms (step_expr w.layout k st)) (record { body = t'; value = x; turn = y }))
-        → (entry C i).mark ≡ at → BodyAs C w.layout k c t' → Finished s K what (script_path p) (stmt at n (range lo hi st x y c))
+        → (entry C i).offset ≡ at → BodyAs C w.layout k c t' → Finished s K what (script_path p) (stmt at n (range lo hi st x y c))
     any_range {st = st} m ms mq en mk ba =
         range_finished st m ms mq en mk ba (range_all _ _ _ (λ g q. fails g (ap (λ (z : Act). work_out z ys) en.act_is ∙ q)))
 
@@ -314,16 +314,16 @@ module _ (s : Core) (C : Code) (w : IsCodeOf s C) (K : Knowledge) (wf : WellForm
         fq : slice_get s.functions c.function ≡ Some g.0
         fq = g.1
 
-        h : In (w.layout.body_of c.function, step_at (entry C i).mark (Key.Number (pos 0)) p) (instances (entry C i).act (entry C i).mark p 0 X)
+        h : In (w.layout.body_of c.function, step_at (entry C i).offset (Key.Number (pos 0)) p) (instances (entry C i).act (entry C i).offset p 0 X)
         h = at_once _ ca.is.act_is (ap (λ (z : Act). work_out z ys) ca.is.act_is) (inl refl)
 
-        deep : length (script_path p) < most_steps
+        deep : length (script_path p) < max_path_steps
         deep = depth_at _ (ap steps_on ca.is.act_is) h
 
         by : (j : ℕ) (x : Name) (st' : Stmt) → slice_get c.outputs j ≡ Some x → x.what ≡ what → st' ∈ block_list (g.0).body → Finished s K (output j) ((c.at, Key.Number (pos 0)) ∷ script_path p) st'
         by j x st' e q m' =
             inner (by_call i ch m cm there ca cs fq g.2 (w.functions c.function g.0 fq) deep)
-            (λ z jm. subst (λ (y : ℕ). G z (step_at y (Key.Number (pos 0)) p)) ca.mark_is (d.below (w.layout.body_of c.function, step_at (entry C i).mark (Key.Number (pos 0)) p) (now_opened h) z jm))
+            (λ z jm. subst (λ (y : ℕ). G z (step_at y (Key.Number (pos 0)) p)) ca.offset_is (d.below (w.layout.body_of c.function, step_at (entry C i).offset (Key.Number (pos 0)) p) (now_opened h) z jm))
             0 (output j)
             (record { place_is = place_out; no_input = λ z y. absurd (cc (y)); only = only_output s wf.names (output j) c.function g.0 fq; none = none_output (g.0).body j })
             st' m'
@@ -369,10 +369,10 @@ module _ (s : Core) (C : Code) (w : IsCodeOf s C) (K : Knowledge) (wf : WellForm
             value_known (kn.shut _ (cell_value (live m) cm (subst (λ (y : Form). Mn.Gives s K (script_path p) y (Ok r.0)) (sym q) (computed u))))
 
     insert_finished : {at n : ℕ} {x : Name} {j o : Outer} → stmt at n (insert x j o) ∈ block_list b → (ms : List Need) → own_needs w.layout k (insert x j o) ≡ ms → (entry C i).needs ≡ ms
-        → (entry C i).act ≡ code.Put (name_as k true x) (over k ms (seen w.layout j.cell)) (over k ms (seen w.layout o.cell)) → Finished s K what (script_path p) (stmt at n (insert x j o))
+        → (entry C i).act ≡ code.InsertElement (name_as k true x) (over k ms (seen w.layout j.cell)) (over k ms (seen w.layout o.cell)) → Finished s K what (script_path p) (stmt at n (insert x j o))
     insert_finished {at} {n} {x} {j} {o} m ms mq nq aq = by (eval ys (over k ms (seen w.layout j.cell))) (eval ys (over k ms (seen w.layout o.cell))) refl refl
       where
-        x_is : X ≡ put (eval ys (over k ms (seen w.layout j.cell))) (eval ys (over k ms (seen w.layout o.cell)))
+        x_is : X ≡ insert_element (eval ys (over k ms (seen w.layout j.cell))) (eval ys (over k ms (seen w.layout o.cell)))
         x_is = ap (λ (z : Act). work_out z ys) aq
 
         e1 : List Need
@@ -382,8 +382,8 @@ module _ (s : Core) (C : Code) (w : IsCodeOf s C) (K : Knowledge) (wf : WellForm
         e2 = wanted k (seen w.layout o.cell)
 
         by : (r r' : Result Value OpFault) → eval ys (over k ms (seen w.layout j.cell)) ≡ r → eval ys (over k ms (seen w.layout o.cell)) ≡ r' → Finished s K what (script_path p) (stmt at n (insert x j o))
-        by (Err g) r' q q' = absurd (fails (InOperation g) (x_is ∙ ap (λ (z : Result Value OpFault). put z (eval ys (over k ms (seen w.layout o.cell)))) q))
-        by (Ok v) (Err g) q q' = absurd (fails (InOperation g) (x_is ∙ (λ z. put (q z) (q' z))))
+        by (Err g) r' q q' = absurd (fails (InOperation g) (x_is ∙ ap (λ (z : Result Value OpFault). insert_element z (eval ys (over k ms (seen w.layout o.cell)))) q))
+        by (Ok v) (Err g) q q' = absurd (fails (InOperation g) (x_is ∙ (λ z. insert_element (q z) (q' z))))
         by (Ok v) (Ok u) q q' =
             let kj = cell_known_by s C w K wf kn I sc ty ch i 0 there d.effect d.fact.reading at n (insert x j o) j.cell m (index_in j o) ms nq (λ z h. subst (λ (l : List Need). In z l) mq (in_once z _ (in_left z e1 _ h))) v q in
             let ko = cell_known_by s C w K wf kn I sc ty ch i 0 there d.effect d.fact.reading at n (insert x j o) o.cell m (right_in j o) ms nq (λ z h. subst (λ (l : List Need). In z l) mq (in_once z _ (in_right z e1 _ (in_left z e2 _ h)))) u q' in

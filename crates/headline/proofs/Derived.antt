@@ -17,7 +17,7 @@ use Rattle.language.specs.Meaning.{IsTarget, Finished, no_target, value_known, w
 use Rattle.language.specs.Members.{◌∈◌, first}
 use Rattle.language.specs.Openings.{one_way, two_ways, in_turns}
 use Rattle.language.specs.Parts.{block_list, script_blocks}
-use Rattle.language.specs.Places.{Path, Place, place, most_steps}
+use Rattle.language.specs.Places.{Path, Place, place, max_path_steps}
 use Rattle.language.specs.Single.{SinglyAssigned}
 use Rattle.language.specs.WellFormed.{Declares, WellFormed}
 use Rattle.language.proofs.Blocks.{inner_block}
@@ -77,8 +77,8 @@ module _ (s : Core) (C : Code) (w : IsCodeOf s C) (K : Knowledge) (wf : WellForm
       task = Item j q c;
       effect = effect_at C j q c x;
       opening = block C (t, p);
-      fact = ends.counts p v j c q x va lv f (no_writes s C w K wf kn I sc j c q x (instance_way (entry C j).act (entry C j).mark q c x (t, p) h));
-      opens = in_left (block C (t, p)) (map (block C) (instances (entry C j).act (entry C j).mark q c x)) _ (in_map (block C) (t, p) (instances (entry C j).act (entry C j).mark q c x) h);
+      fact = ends.counts p v j c q x va lv f (no_writes s C w K wf kn I sc j c q x (instance_way (entry C j).act (entry C j).offset q c x (t, p) h));
+      opens = in_left (block C (t, p)) (map (block C) (instances (entry C j).act (entry C j).offset q c x)) _ (in_map (block C) (t, p) (instances (entry C j).act (entry C j).offset q c x) h);
       makes = in_map (Datum p) v (body C t).makes vm;
     };
     opening_is = refl;
@@ -179,9 +179,9 @@ module _ (s : Core) (C : Code) (w : IsCodeOf s C) (K : Knowledge) (wf : WellForm
       finish_by {what} (write_known {n = n} {x = x} {k = key} {v = v} kv) p0 v0 ar db dbs dd p e t k b ch m up inv j there lv role =
           insert_done s C w K wf kn I sc fd ends ex single ff p0 v0 ar db dbs dd {what = what} {p = p} {x = x} {key = key} (subst (λ (z : Path). K (element (place s z x) key (z, n) v)) (sym e) kv) t k b ch m up inv j there lv role
       finish_by {what} (body_finished {c = c} dp f) p0 v0 ar db dbs dd p e t k b ch m up inv j there lv role =
-          call_done s C w K wf kn I sc fd ends ex single ff p0 v0 ar db dbs dd {what = what} {p = p} (subst (λ (z : Path). length z < most_steps) (sym e) dp) (λ j x st' e' q m'. finish_by (f j x st' e' q m') p0 v0 ar db dbs dd (step_at c.at (Key.Number (pos 0)) p) (λ z. (c.at, Key.Number (pos 0)) ∷ e z)) t k b ch m up inv j there lv role
+          call_done s C w K wf kn I sc fd ends ex single ff p0 v0 ar db dbs dd {what = what} {p = p} (subst (λ (z : Path). length z < max_path_steps) (sym e) dp) (λ j x st' e' q m'. finish_by (f j x st' e' q m') p0 v0 ar db dbs dd (step_at c.at (Key.Number (pos 0)) p) (λ z. (c.at, Key.Number (pos 0)) ∷ e z)) t k b ch m up inv j there lv role
       finish_by {what} (blocks_finished {at = at} {header = header} {vs = vs} hb r dp f) p0 v0 ar db dbs dd p e t k b ch m up inv j there lv role =
-          header_done s C w K wf kn I sc fd ends ex single ff p0 v0 ar db dbs dd {what = what} {p = p} hb (subst (λ (z : Path). Ready s K z header vs) (sym e) r) (subst (λ (z : Path). ReadyFed s C w K wf kn I sc fd z header) (sym e) (ready_by r)) (λ key c o. subst (λ (z : Path). length z < most_steps) (sym e) (dp key c o))
+          header_done s C w K wf kn I sc fd ends ex single ff p0 v0 ar db dbs dd {what = what} {p = p} hb (subst (λ (z : Path). Ready s K z header vs) (sym e) r) (subst (λ (z : Path). ReadyFed s C w K wf kn I sc fd z header) (sym e) (ready_by r)) (λ key c o. subst (λ (z : Path). length z < max_path_steps) (sym e) (dp key c o))
           (λ key c o st' m'. finish_by (f key c st' o m') p0 v0 ar db dbs dd (step_at at key p) (λ z. (at, key) ∷ e z)) t k b ch m up inv j there lv role
       finish_by (content_finished {at = at} {n = n} {ns = ns} {b = c} r f) p0 v0 ar db dbs dd p e t k b ch m up inv j there lv (inl po) = idle_item s C w K wf kn I sc fd ends ex single ff p0 v0 ar db dbs dd j (part_no_right s C w K wf kn I sc fd ends ex single ff p0 v0 ar db dbs dd ch j there (stmt at n (wait ns c)) m po (λ c' al. wait_not_alone s C w K wf kn I sc fd ends ex single ff p0 v0 ar db dbs dd al.is))
       finish_by (content_finished r f) p0 v0 ar db dbs dd p e t k b ch m up inv j there lv (inr (own_simple z en nd)) = absurd z

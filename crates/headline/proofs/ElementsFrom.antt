@@ -25,7 +25,7 @@ use Rattle.language.proofs.Members.{split_in}
 use Rattle.language_laws.proofs.Sources.{outer_in, index_in, right_in, cell_gives, FillElement, InsertElement}
 use Rattle.task_code.specs.Code as code
 use Rattle.task_code.specs.Code.{Variable, Need, Act, Code, entry, body}
-use Rattle.task_code.specs.Compute.{Computed, Inserts, filled, put, content, answer_at, in_key_order, key_of, pairs, eval}
+use Rattle.task_code.specs.Compute.{Computed, Inserts, filled, insert_element, content, answer_at, in_key_order, key_of, pairs, eval}
 use Rattle.task_code.specs.Compute as Compute
 use Rattle.task_code.specs.Effects.{Item, effect_at, stores, inserted_at, steps_on}
 use Rattle.task_code.specs.Places.{Step, Datum, place_at}
@@ -92,7 +92,7 @@ module _ (s : Core) (C : Code) (w : IsCodeOf s C) (K : Knowledge) (wf : WellForm
   module _ {p : List Step} {t k : ℕ} {b : Block} (ch : Chain s C w.layout K p t k b) (j : ℕ) (there : In j (body C t).entries) where
     -- what a write of one element works out
     pub put_works : {y : Name} {ix o : Outer} {at at' n : ℕ} {pr : ℤ} {z x : Scalar} → stmt at' n (insert y ix o) ∈ block_list b
-        → (ms : List Need) → own_needs w.layout k (insert y ix o) ≡ ms → IsEntry (entry C j) at pr ms (code.Put (name_as k true y) (over k ms (seen w.layout ix.cell)) (over k ms (seen w.layout o.cell)))
+        → (ms : List Need) → own_needs w.layout k (insert y ix o) ≡ ms → IsEntry (entry C j) at pr ms (code.InsertElement (name_as k true y) (over k ms (seen w.layout ix.cell)) (over k ms (seen w.layout o.cell)))
         → K (value (script_path p, ix.cell.node) (One z)) → K (value (script_path p, o.cell.node) (One x)) → Works s C w K wf kn I sc ch j there (Inserts ((key_of z, x) ∷ []))
     put_works {y} {ix} {o} {z = key} {x = x} m ms mq en ki ko =
         let vi = cell_seen s C w K wf kn I sc ch j there ix.cell m (index_in ix o) ki in
@@ -111,7 +111,7 @@ module _ (s : Core) (C : Code) (w : IsCodeOf s C) (K : Knowledge) (wf : WellForm
         ])) in
         let ei = computes_so s C w K wf kn I sc ch j there kz vi.0 vi.1 ms en.needs_is (into _ first) in
         let eo = computes_so s C w K wf kn I sc ch j there kz vo.0 vo.1 ms en.needs_is (into _ (later first)) in
-        record { answers = kz; computed = ap (λ (act : Act). Compute.compute act (answered C p (entry C j).needs kz.answers)) en.act_is ∙ (λ i. put (ei i) (eo i)) }
+        record { answers = kz; computed = ap (λ (act : Act). Compute.compute act (answered C p (entry C j).needs kz.answers)) en.act_is ∙ (λ i. insert_element (ei i) (eo i)) }
 
   module _ {p : List Step} {t k : ℕ} {b : Block} (ch : Chain s C w.layout K p t k b) (alive : (j : ℕ) → In j (body C t).entries → Alive s C w K wf kn I sc (Item j p 0)) (j : ℕ) (there : In j (body C t).entries) where
     abbrev Ys : Known s C w K wf kn I sc ch j there → List Got
@@ -119,7 +119,7 @@ module _ (s : Core) (C : Code) (w : IsCodeOf s C) (K : Knowledge) (wf : WellForm
 
     -- an element that an item inserts
     insert_out : (y : Name) → IsIn k y → In (name_as k true y) (entry C j).writes → (xs : List (Key × Scalar)) → Reading (code_system C) (Answers s K) (Item j p 0) (effect_at C j p 0 (Inserts xs))
-        → stores C (entry C j).act (entry C j).node (entry C j).mark p 0 (Inserts xs) ≡ inserted_at (place_at C p (name_as k true y)) (Inserts xs)
+        → stores C (entry C j).act (entry C j).node (entry C j).offset p 0 (Inserts xs) ≡ inserted_at (place_at C p (name_as k true y)) (Inserts xs)
         → (q : List Step) (v : Variable) (key : Key) (x : Scalar) → v.array ≡ true → place s (script_path p) y ≡ script_place q v → In (key, x) xs → By j p q v key x
     insert_out y g right xs f se q v key x va pq i =
         let z = same_array s wf K (means s C w.layout K wf.names I sc (λ z. z.writes) (covering_writes s C w.layout K wf.names I sc) ch j there true y right g) refl in
@@ -139,8 +139,8 @@ module _ (s : Core) (C : Code) (w : IsCodeOf s C) (K : Knowledge) (wf : WellForm
           refl,
         )
 
-    stores_as : {a : Act} (x : Computed) (ws : List (Write CodePlaces.Place Key Scalar)) → (entry C j).act ≡ a → stores C a (entry C j).node (entry C j).mark p 0 x ≡ ws → stores C (entry C j).act (entry C j).node (entry C j).mark p 0 x ≡ ws
-    stores_as x ws e h = ap (λ (z : Act). stores C z (entry C j).node (entry C j).mark p 0 x) e ∙ h
+    stores_as : {a : Act} (x : Computed) (ws : List (Write CodePlaces.Place Key Scalar)) → (entry C j).act ≡ a → stores C a (entry C j).node (entry C j).offset p 0 x ≡ ws → stores C (entry C j).act (entry C j).node (entry C j).offset p 0 x ≡ ws
+    stores_as x ws e h = ap (λ (z : Act). stores C z (entry C j).node (entry C j).offset p 0 x) e ∙ h
 
     -- A LITERAL'S ELEMENTS
     list_out : (y : Name) (o : Outer) {at : ℕ} {pr : ℤ} {es : List Element} (exs : Exprs) → own_expr o ≡ operator literal exs → IsIn k y → AreIn k (operator literal exs)
@@ -197,7 +197,7 @@ module _ (s : Core) (C : Code) (w : IsCodeOf s C) (K : Knowledge) (wf : WellForm
 
     -- ONE ELEMENT
     put_out : {y : Name} {ix o : Outer} {at at' n : ℕ} {pr : ℤ} {z x : Scalar} → stmt at' n (insert y ix o) ∈ block_list b → IsIn k y
-        → (ms : List Need) → own_needs w.layout k (insert y ix o) ≡ ms → IsEntry (entry C j) at pr ms (code.Put (name_as k true y) (over k ms (seen w.layout ix.cell)) (over k ms (seen w.layout o.cell)))
+        → (ms : List Need) → own_needs w.layout k (insert y ix o) ≡ ms → IsEntry (entry C j) at pr ms (code.InsertElement (name_as k true y) (over k ms (seen w.layout ix.cell)) (over k ms (seen w.layout o.cell)))
         → K (value (script_path p, ix.cell.node) (One z)) → K (value (script_path p, o.cell.node) (One x))
         → (q : List Step) (v : Variable) → v.array ≡ true → place s (script_path p) y ≡ script_place q v → By j p q v (key_of z) x
     put_out {y} {ix} {o} {z = index} {x = x} m gy ms mq en ki ko q v va pq =

@@ -125,12 +125,12 @@ module _ (s : Core) (C : Code) (w : IsCodeOf s C) (wf : WellFormed s) (I : IsCod
     calls_it : In (Calling, w.layout.body_of c.function) (ways (entry C j).act)
     calls_it = subst (λ (y : Act). In (Calling, w.layout.body_of c.function) (ways y)) (sym ca.is.act_is) (inl refl)
 
-    argument_is : (n : ℕ) (d : Bool) → argument C (entry C j).mark n d ≡ argument_in (ca.ins ++ map Named ca.outs) n d
+    argument_is : (n : ℕ) (d : Bool) → argument C (entry C j).offset n d ≡ argument_in (ca.ins ++ map Named ca.outs) n d
     argument_is n d =
         ap (λ (z : ℕ). argument_in (arguments (entry C z).act) n d) (I.fits j Calling (w.layout.body_of c.function) calls_it).opened.1
         ∙ ap (λ (y : Act). argument_in (arguments y) n d) ca.is.act_is
 
-    call_through : (j' u : ℕ) (r q : code.Name) → u ≡ w.layout.body_of c.function → In j' (body C u).entries → Led j' q → Seen C (entry C j).mark Calling q r → name_as k true x ≡ r → AloneOut st x (Co.calls c)
+    call_through : (j' u : ℕ) (r q : code.Name) → u ≡ w.layout.body_of c.function → In j' (body C u).entries → Led j' q → Seen C (entry C j).offset Calling q r → name_as k true x ≡ r → AloneOut st x (Co.calls c)
     call_through j' u r q uq h led sn e = by (below sn.0 (length c.inputs))
       where
         arg : argument_in (ca.ins ++ map Named ca.outs) sn.0 sn.1 ≡ Some (Named r)
@@ -168,7 +168,7 @@ module _ (s : Core) (C : Code) (w : IsCodeOf s C) (wf : WellFormed s) (I : IsCod
   pub no_way : (j : ℕ) {act : Act} (y : Way × ℕ) → (entry C j).act ≡ act → ways act ≡ [] → In y (ways (entry C j).act) → ⊥
   no_way j y e z h = subst (λ (l : List (Way × ℕ)). In y l) (ap ways e ∙ z) h
 
-  pub scalar_target : (k j : ℕ) (x : Name) (r : code.Name) (act : Act) → (entry C j).act ≡ act → targets (record { node = (entry C j).node; at = 0; mark = 0; priority = pos 0; needs = []; act = act; reads = []; writes = [] }) ≡ code.here (scalar (entry C j).node) ∷ [] → name_as k true x ≡ r → In r (targets (entry C j)) → ⊥
+  pub scalar_target : (k j : ℕ) (x : Name) (r : code.Name) (act : Act) → (entry C j).act ≡ act → targets (record { node = (entry C j).node; at = 0; offset = 0; priority = pos 0; needs = []; act = act; reads = []; writes = [] }) ≡ code.here (scalar (entry C j).node) ∷ [] → name_as k true x ≡ r → In r (targets (entry C j)) → ⊥
   scalar_target k j x r act e z q h =
       let h' : In r (targets_of (entry C j).node act) = subst (λ (y : Act). In r (targets_of (entry C j).node y)) e h in
       let o : r ≡ code.here (scalar (entry C j).node) = one_way (subst (λ (l : List code.Name). In r l) z h') in
@@ -185,7 +185,7 @@ module _ (s : Core) (C : Code) (w : IsCodeOf s C) (wf : WellFormed s) (I : IsCod
       by (a_call {c = c} {j = j'} ca) n v = call_itself k b st m g bs x i a (call_of st c v) (subst (λ (z : ℕ). CallAs C w.layout k po.all po.at po.priority c z) (sym (one_way n)) ca) r e h
 
   part_through : (k : ℕ) (b : Block) (st : Stmt) → st ∈ block_list b → InScope s k b → b ∈ script_blocks s → (j : ℕ) (po : PartOf C w.layout k st j) → (x : Name) (r : code.Name) → name_as k true x ≡ r → IsIn k x → IsArr x
-      → (wy : Way) (u j' : ℕ) (q : code.Name) → In (wy, u) (ways (entry C j).act) → In j' (body C u).entries → Led j' q → Seen C (entry C j).mark wy q r → AloneOut st x po.part
+      → (wy : Way) (u j' : ℕ) (q : code.Name) → In (wy, u) (ways (entry C j).act) → In j' (body C u).entries → Led j' q → Seen C (entry C j).offset wy q r → AloneOut st x po.part
   part_through k b st m g bs j po x r e i a wy u j' q wi ij led sn = by po.as_part po.there po.in_stmt
     where
       by : {y : Part} {js : List ℕ} → PartAs C w.layout k po.all po.at po.priority y js → In j js → y ∈ parts_of st → AloneOut st x y
@@ -196,7 +196,7 @@ module _ (s : Core) (C : Code) (w : IsCodeOf s C) (wf : WellFormed s) (I : IsCod
       by (a_call {c = c} {j = j''} ca) n v =
           let ca' = subst (λ (z : ℕ). CallAs C w.layout k po.all po.at po.priority c z) (sym (one_way n)) ca in
           let e' : ◌≡◌ {A = Way × ℕ} (wy, u) (Calling, w.layout.body_of c.function) = one_way (subst (λ (z : Act). In (wy, u) (ways z)) ca'.is.act_is wi) in
-          call_through k b st m g bs x i a (call_of st c v) ca' j' u r q (ap (λ (z : Way × ℕ). z.1) e') ij led (subst (λ (z : Way). Seen C (entry C j).mark z q r) (ap (λ (z : Way × ℕ). z.0) e') sn) e
+          call_through k b st m g bs x i a (call_of st c v) ca' j' u r q (ap (λ (z : Way × ℕ). z.1) e') ij led (subst (λ (z : Way). Seen C (entry C j).offset z q r) (ap (λ (z : Way × ℕ). z.0) e') sn) e
 
   alone_uses : {st : Stmt} {x : Name} {part : Part} → AloneOut st x part → UsesIn st x.up x.what
   alone_uses {st} {x} o = subst (λ (z : Stmt). UsesIn z x.up x.what) (sym (o.alone).is) (own_target (inl o.out))
@@ -245,12 +245,12 @@ module _ (s : Core) (C : Code) (w : IsCodeOf s C) (wf : WellFormed s) (I : IsCod
       no_declare (merged wa q) d = (let e = only_one d.there in absurd (cc (e)))
 
   own_through : (k : ℕ) (b : Block) (st : Stmt) → st ∈ block_list b → InScope s k b → b ∈ script_blocks s → (j : ℕ) → OwnAs C w.layout k st j → (x : Name) (r : code.Name) → name_as k true x ≡ r → IsIn k x → IsArr x
-      → (wy : Way) (u j' : ℕ) (q : code.Name) → In (wy, u) (ways (entry C j).act) → In j' (body C u).entries → Led j' q → (Declared C u q → ⊥) → Seen C (entry C j).mark wy q r → UsesIn st x.up x.what
+      → (wy : Way) (u j' : ℕ) (q : code.Name) → In (wy, u) (ways (entry C j).act) → In j' (body C u).entries → Led j' q → (Declared C u q → ⊥) → Seen C (entry C j).offset wy q r → UsesIn st x.up x.what
   own_through k b st m g bs j ow x r e i a wy u j' q wi ij led nd sn = by ow m
     where
       header : {at n t : ℕ} {act : Action} {c : Block} → stmt at n act ∈ block_list b → ◌≡◌ {A = Way × ℕ} (wy, u) (Through, t) → BodyAs C w.layout k c t → c ∈ header_blocks act → UsesIn (stmt at n act) x.up x.what
       header {t = t} {c = c} m e' ba cm =
-          let sn' : q ≡ record { up = suc r.up; owned = r.owned } = subst (λ (z : Way). Seen C (entry C j).mark z q r) (ap (λ (z : Way × ℕ). z.0) e') sn in
+          let sn' : q ≡ record { up = suc r.up; owned = r.owned } = subst (λ (z : Way). Seen C (entry C j).offset z q r) (ap (λ (z : Way × ℕ). z.0) e') sn in
           let qe : name_as k true (record { up = suc x.up; what = x.what }) ≡ q = (λ z. record { up = suc (e z).up; owned = (e z).owned }) ∙ sym sn' in
           in_header cm (in_body led k c u (subst (λ (z : ℕ). BodyAs C w.layout k c z) (sym (ap (λ (z : Way × ℕ). z.1) e')) ba) ij (inside g m cm) (inner_block s bs m (header_inner _ cm)) (record { up = suc x.up; what = x.what }) qe i
           (record { of_layout = a.of_layout; declared = a.declared }))
@@ -270,7 +270,7 @@ module _ (s : Core) (C : Code) (w : IsCodeOf s C) (wf : WellFormed s) (I : IsCod
           e' = one_of en.act_is refl
 
           qe : name_as k true x ≡ q
-          qe = e ∙ sym (subst (λ (z : Way). Seen C (entry C j).mark z q r) (ap (λ (z : Way × ℕ). z.0) e') sn)
+          qe = e ∙ sym (subst (λ (z : Way). Seen C (entry C j).offset z q r) (ap (λ (z : Way × ℕ). z.0) e') sn)
 
           content : (c : Block) → BodyAs C w.layout k c t → InScope s k c → c ∈ script_blocks s → Uses c x.up x.what × (Declares c x.what → ⊥)
           content c ba g' cs = (us, undeclared)

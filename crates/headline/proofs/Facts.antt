@@ -13,7 +13,7 @@ use Rattle.language.specs.Facts.{value, Knowledge}
 use Rattle.language.specs.Meaning.{ValueUnder, of_literal, of_name, of_array, of_operator, ValuesUnder, no_operand, operand, LiveStmt, HasValue, stored}
 use Rattle.language.specs.Members.{◌∈◌}
 use Rattle.language.specs.Parts.{cells}
-use Rattle.language.specs.Places.{Path, most_steps}
+use Rattle.language.specs.Places.{Path, max_path_steps}
 use Rattle.language.specs.WellFormed.{WellFormed}
 use Rattle.language_laws.proofs.Declared.{stmt_in, place_here}
 use Rattle.language_laws.proofs.Sources.{cell_gives}
@@ -59,11 +59,11 @@ path_length : (p : List Step) → length (script_path p) ≡ length p
 path_length [] = refl
 path_length (t ∷ p) = ap suc (path_length p)
 
-below_so : (n : ℕ) → n < most_steps → nat_le most_steps n ≡ false
+below_so : (n : ℕ) → n < max_path_steps → nat_le max_path_steps n ≡ false
 below_so n h = grind arith
 
-pub not_too_deep : (a : code.Act) (p : List Step) (ss : List (ℕ × List Step)) → length (script_path p) < most_steps → is_too_deep a p ss ≡ false
-not_too_deep a p ss h = ap (λ (b : Bool). b && (steps_on a && is_some_list ss)) (below_so (length p) (subst (λ (n : ℕ). n < most_steps) (path_length p) h))
+pub not_too_deep : (a : code.Act) (p : List Step) (ss : List (ℕ × List Step)) → length (script_path p) < max_path_steps → is_too_deep a p ss ≡ false
+not_too_deep a p ss h = ap (λ (b : Bool). b && (steps_on a && is_some_list ss)) (below_so (length p) (subst (λ (n : ℕ). n < max_path_steps) (path_length p) h))
 
 module _ (s : Core) (C : Code) (w : IsCodeOf s C) (K : Knowledge) (wf : WellFormed s) (kn : Backs s K) (I : IsCode C) (sc : Scoped s) where
   -- a known cell has its value as it is seen
@@ -128,10 +128,10 @@ module _ (s : Core) (C : Code) (w : IsCodeOf s C) (K : Knowledge) (wf : WellForm
         (computed s C K p k (entry C i).needs (answered C p (entry C i).needs z.answers) z.says (says_code s wf K kn C w.layout I sc ch i there) u g (λ n j. subst (λ (l : List Need). In n l) (sym q) (sub n j)))
 
     -- and its fact
-    pub fact_of : (z : Known) (c : ℕ) (x : Computed) → Compute.compute (entry C i).act (answered C p (entry C i).needs z.answers) ≡ x → IsGood x → is_too_deep (entry C i).act p (instances (entry C i).act (entry C i).mark p c x) ≡ false
+    pub fact_of : (z : Known) (c : ℕ) (x : Computed) → Compute.compute (entry C i).act (answered C p (entry C i).needs z.answers) ≡ x → IsGood x → is_too_deep (entry C i).act p (instances (entry C i).act (entry C i).offset p c x) ≡ false
         → Reading (code_system C) (Answers s K) (Item i p c) (effect_at C i p c x)
     fact_of z c x q g d = record {
       answers = z.answers;
       read = z.read;
-      is = ap (λ (y : Computed). outcome_of y (is_too_deep (entry C i).act p (instances (entry C i).act (entry C i).mark p c y)) (effect_at C i p c y)) q ∙ good_outcome x _ (effect_at C i p c x) g d;
+      is = ap (λ (y : Computed). outcome_of y (is_too_deep (entry C i).act p (instances (entry C i).act (entry C i).offset p c y)) (effect_at C i p c y)) q ∙ good_outcome x _ (effect_at C i p c x) g d;
     }

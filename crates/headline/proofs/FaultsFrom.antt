@@ -22,7 +22,7 @@ use Rattle.language.specs.Members.{◌∈◌, first, later}
 use Rattle.language.specs.Openings.{Bounds, bounds, Opens, then_alone, then_first, else_second, turn, item}
 use Rattle.language.specs.Outcomes.{Faults}
 use Rattle.language.specs.Parts.{outers, outer_cells, outer_parts, cells, block_list}
-use Rattle.language.specs.Places.{Path, Place, place, most_steps}
+use Rattle.language.specs.Places.{Path, Place, place, max_path_steps}
 use Rattle.language.specs.WellFormed.{WellFormed, IsMany, a_list, a_copy}
 use Rattle.language.proofs.Members.{to_right}
 use Rattle.language_laws.proofs.Declared.{stmt_in}
@@ -63,7 +63,7 @@ path_length : (p : List Step) → length (script_path p) ≡ length p
 path_length [] = refl
 path_length (t ∷ p) = ap suc (path_length p)
 
-past : (n : ℕ) → n ≡ most_steps → nat_le most_steps n ≡ true
+past : (n : ℕ) → n ≡ max_path_steps → nat_le max_path_steps n ≡ true
 past n h = grind arith
 
 -- no effect where the path would be too long
@@ -115,15 +115,15 @@ module _ (s : Core) (C : Code) (w : IsCodeOf s C) (K : Knowledge) (wf : WellForm
   module _ {p : List Step} {t k : ℕ} {b : Block} (ch : Chain s C w.layout K p t k b) (alive : (j : ℕ) → In j (body C t).entries → Alive s C w K wf (backs s K kn) I sc (Item j p 0)) (j : ℕ) (there : In j (body C t).entries) where
     -- no item fails, and none lies too deep
     no_fail : (z : Known s C w K wf (backs s K kn) I sc ch j there) (f : EntryFault) → Compute.compute (entry C j).act (answered C p (entry C j).needs z.answers) ≡ Fails f → ⊥
-    no_fail z f e = never (Item j p 0) f (alive j there) z.answers z.read (ap (λ (x : Computed). outcome_of x (is_too_deep (entry C j).act p (instances (entry C j).act (entry C j).mark p 0 x)) (effect_at C j p 0 x)) e)
+    no_fail z f e = never (Item j p 0) f (alive j there) z.answers z.read (ap (λ (x : Computed). outcome_of x (is_too_deep (entry C j).act p (instances (entry C j).act (entry C j).offset p 0 x)) (effect_at C j p 0 x)) e)
 
-    not_deep : (z : Known s C w K wf (backs s K kn) I sc ch j there) (x : Computed) → Compute.compute (entry C j).act (answered C p (entry C j).needs z.answers) ≡ x → IsGood x → (q : ℕ × List Step) → In q (instances (entry C j).act (entry C j).mark p 0 x) → steps_on (entry C j).act ≡ true → length (script_path p) ≡ most_steps → ⊥
+    not_deep : (z : Known s C w K wf (backs s K kn) I sc ch j there) (x : Computed) → Compute.compute (entry C j).act (answered C p (entry C j).needs z.answers) ≡ x → IsGood x → (q : ℕ × List Step) → In q (instances (entry C j).act (entry C j).offset p 0 x) → steps_on (entry C j).act ≡ true → length (script_path p) ≡ max_path_steps → ⊥
     not_deep z x e g q i st dp =
-        let ss = instances (entry C j).act (entry C j).mark p 0 x in
-        let d : is_too_deep (entry C j).act p (instances (entry C j).act (entry C j).mark p 0 x) ≡ true =
+        let ss = instances (entry C j).act (entry C j).offset p 0 x in
+        let d : is_too_deep (entry C j).act p (instances (entry C j).act (entry C j).offset p 0 x) ≡ true =
         (λ y. past (length p) (sym (path_length p) ∙ dp) y && (st y && some_of ss q i y)) in
         never (Item j p 0) TooDeep (alive j there) z.answers z.read
-        (ap (λ (y : Computed). outcome_of y (is_too_deep (entry C j).act p (instances (entry C j).act (entry C j).mark p 0 y)) (effect_at C j p 0 y)) e ∙ deep_outcome x _ (effect_at C j p 0 x) g d)
+        (ap (λ (y : Computed). outcome_of y (is_too_deep (entry C j).act p (instances (entry C j).act (entry C j).offset p 0 y)) (effect_at C j p 0 y)) e ∙ deep_outcome x _ (effect_at C j p 0 x) g d)
 
     -- an entry that works out one expression
     one_fails : {ex : Expr} {o : OpFault} {at : ℕ} {pr : ℤ} {ms : List Need} (act : code.Expr → Act) (by : Result Value OpFault → Computed) → ((x : code.Expr) (ys : List Got) → Compute.compute (act x) ys ≡ by (eval ys x)) → by (Err o) ≡ Fails (InOperation o)
@@ -266,33 +266,33 @@ module _ (s : Core) (C : Code) (w : IsCodeOf s C) (K : Knowledge) (wf : WellForm
 
     -- HEADERS AT THE LIMIT
     loop_deep : {x t' : ℕ} {y : Option ℕ} (j : ℕ) (there : In j (body C t).entries) (z : Known s C w K wf (backs s K kn) I sc ch j there) (ts : Elements) → Compute.compute (entry C j).act (answered C p (entry C j).needs z.answers) ≡ Turns ts → loop_of (entry C j).act ≡ Some (record { body = t'; value = x; turn = y })
-        → steps_on (entry C j).act ≡ true → (u : Key × Scalar) → In u ts → length (script_path p) ≡ most_steps → ⊥
+        → steps_on (entry C j).act ≡ true → (u : Key × Scalar) → In u ts → length (script_path p) ≡ max_path_steps → ⊥
     loop_deep {x} {t'} {y} j there z ts e lq st u i dp =
         let r = in_first_chunk ts u i in
-        not_deep ch alive j there z (Turns ts) e tt (t', step_at (entry C j).mark (r.0).0 p)
-        (subst (λ (l : List (ℕ × List Step)). In (t', step_at (entry C j).mark (r.0).0 p) l) (sym (loop_instances C (entry C j).act (record { body = t'; value = x; turn = y }) (entry C j).mark p 0 (Turns ts) lq))
-        (in_map (λ (v : Key × Scalar). (t', step_at (entry C j).mark v.0 p)) r.0 (chunk 0 ts) r.1)) st dp
+        not_deep ch alive j there z (Turns ts) e tt (t', step_at (entry C j).offset (r.0).0 p)
+        (subst (λ (l : List (ℕ × List Step)). In (t', step_at (entry C j).offset (r.0).0 p) l) (sym (loop_instances C (entry C j).act (record { body = t'; value = x; turn = y }) (entry C j).offset p 0 (Turns ts) lq))
+        (in_map (λ (v : Key × Scalar). (t', step_at (entry C j).offset v.0 p)) r.0 (chunk 0 ts) r.1)) st dp
 
-    when_good : {at n : ℕ} {o : Outer} {d : Block} {js : List ℕ} → stmt at n (when o d) ∈ block_list b → StmtAs C w.layout k (stmt at n (when o d)) js → ((j : ℕ) → In j js → In j (body C t).entries) → K (value (script_path p, o.cell.node) (One (Truth true))) → length (script_path p) ≡ most_steps → ⊥
+    when_good : {at n : ℕ} {o : Outer} {d : Block} {js : List ℕ} → stmt at n (when o d) ∈ block_list b → StmtAs C w.layout k (stmt at n (when o d)) js → ((j : ℕ) → In j js → In j (body C t).entries) → K (value (script_path p, o.cell.node) (One (Truth true))) → length (script_path p) ≡ max_path_steps → ⊥
     when_good m (simple j z op as' e nd q) sub kv dp = absurd z
     when_good {o = o} m (branch {t = u} j {is = is} as' en mk ba q) sub kv dp =
         let there = sub j (subst (λ (l : List ℕ). In j l) (sym q) (in_right j is (j ∷ []) (inl refl))) in
         let z = branch_works s C w K wf (backs s K kn) I sc ch j there o true m (outer_in o.parts o.cell) kv en in
-        not_deep ch alive j there z.answers (Compute.Takes true) z.computed tt (u, step_at (entry C j).mark (Key.Number (pos 0)) p) (subst (λ (a : Act). In (u, step_at (entry C j).mark (Key.Number (pos 0)) p) (instances a (entry C j).mark p 0 (Compute.Takes true))) (sym en.act_is) (inl refl)) (ap steps_on en.act_is) dp
+        not_deep ch alive j there z.answers (Compute.Takes true) z.computed tt (u, step_at (entry C j).offset (Key.Number (pos 0)) p) (subst (λ (a : Act). In (u, step_at (entry C j).offset (Key.Number (pos 0)) p) (instances a (entry C j).offset p 0 (Compute.Takes true))) (sym en.act_is) (inl refl)) (ap steps_on en.act_is) dp
 
-    choose_good : {at n : ℕ} {o : Outer} {d d' : Block} {js : List ℕ} (x : Bool) → stmt at n (choose o d d') ∈ block_list b → StmtAs C w.layout k (stmt at n (choose o d d')) js → ((j : ℕ) → In j js → In j (body C t).entries) → K (value (script_path p, o.cell.node) (One (Truth x))) → length (script_path p) ≡ most_steps → ⊥
+    choose_good : {at n : ℕ} {o : Outer} {d d' : Block} {js : List ℕ} (x : Bool) → stmt at n (choose o d d') ∈ block_list b → StmtAs C w.layout k (stmt at n (choose o d d')) js → ((j : ℕ) → In j js → In j (body C t).entries) → K (value (script_path p, o.cell.node) (One (Truth x))) → length (script_path p) ≡ max_path_steps → ⊥
     choose_good x m (simple j z op as' e nd q) sub kv dp = absurd z
     choose_good {o = o} true m (branches {t = u} {u = u'} j {is = is} as' en mk ba bb q) sub kv dp =
         let there = sub j (subst (λ (l : List ℕ). In j l) (sym q) (in_right j is (j ∷ []) (inl refl))) in
         let z = branch_works s C w K wf (backs s K kn) I sc ch j there o true m (outer_in o.parts o.cell) kv en in
-        not_deep ch alive j there z.answers (Compute.Takes true) z.computed tt (u, step_at (entry C j).mark (Key.Number (pos 0)) p) (subst (λ (a : Act). In (u, step_at (entry C j).mark (Key.Number (pos 0)) p) (instances a (entry C j).mark p 0 (Compute.Takes true))) (sym en.act_is) (inl refl)) (ap steps_on en.act_is) dp
+        not_deep ch alive j there z.answers (Compute.Takes true) z.computed tt (u, step_at (entry C j).offset (Key.Number (pos 0)) p) (subst (λ (a : Act). In (u, step_at (entry C j).offset (Key.Number (pos 0)) p) (instances a (entry C j).offset p 0 (Compute.Takes true))) (sym en.act_is) (inl refl)) (ap steps_on en.act_is) dp
     choose_good {o = o} false m (branches {t = u} {u = u'} j {is = is} as' en mk ba bb q) sub kv dp =
         let there = sub j (subst (λ (l : List ℕ). In j l) (sym q) (in_right j is (j ∷ []) (inl refl))) in
         let z = branch_works s C w K wf (backs s K kn) I sc ch j there o false m (outer_in o.parts o.cell) kv en in
-        not_deep ch alive j there z.answers (Compute.Takes false) z.computed tt (u', step_at (entry C j).mark (Key.Number (pos 1)) p) (subst (λ (a : Act). In (u', step_at (entry C j).mark (Key.Number (pos 1)) p) (instances a (entry C j).mark p 0 (Compute.Takes false))) (sym en.act_is) (inl refl)) (ap steps_on en.act_is) dp
+        not_deep ch alive j there z.answers (Compute.Takes false) z.computed tt (u', step_at (entry C j).offset (Key.Number (pos 1)) p) (subst (λ (a : Act). In (u', step_at (entry C j).offset (Key.Number (pos 1)) p) (instances a (entry C j).offset p 0 (Compute.Takes false))) (sym en.act_is) (inl refl)) (ap steps_on en.act_is) dp
 
     turn_good : {at n x : ℕ} {lo hi : Outer} {st : Option Outer} {y : Option ℕ} {d : Block} {js : List ℕ} {vs : List Value} {r : Bounds} {many i : ℕ} → stmt at n (range lo hi st x y d) ∈ block_list b → StmtAs C w.layout k (stmt at n (range lo hi st x y d)) js → ((j : ℕ) → In j js → In j (body C t).entries)
-        → KnownAll K (script_path p) (outer_cells (range lo hi st x y d)) vs → bounds vs ≡ Some r → range_count r.low r.high r.step ≡ Ok many → i < many → length (script_path p) ≡ most_steps → ⊥
+        → KnownAll K (script_path p) (outer_cells (range lo hi st x y d)) vs → bounds vs ≡ Some r → range_count r.low r.high r.step ≡ Ok many → i < many → length (script_path p) ≡ max_path_steps → ⊥
     turn_good m (simple j z op as' e nd q) sub ks bq rc lt dp = absurd z
     turn_good {lo = lo} {hi = hi} {st = st} {d = d} {r = r} {many = many} {i = i} m (range_loop j {is = is} as' en mk ba q) sub ks bq rc lt dp =
         let there = sub j (subst (λ (l : List ℕ). In j l) (sym q) (in_right j is (j ∷ []) (inl refl))) in
@@ -300,28 +300,28 @@ module _ (s : Core) (C : Code) (w : IsCodeOf s C) (K : Knowledge) (wf : WellForm
         loop_deep j there z.answers (range_turns r.low r.step 0 many) (z.computed ∙ ap (λ (c : Result ℕ OpFault). turns_or c r.low r.step) rc) (ap loop_of en.act_is) (ap steps_on en.act_is)
         (Key.Number (pos i), Number (value_in r.low r.step i)) (turn_there r.low r.step 0 many i (omega arith) (omega arith)) dp
 
-    item_good : {at n x : ℕ} {a : Name} {y : Option ℕ} {d : Block} {js : List ℕ} {es : List Element} {key : Key} {v : Scalar} → stmt at n (each a x y d) ∈ block_list b → StmtAs C w.layout k (stmt at n (each a x y d)) js → ((j : ℕ) → In j js → In j (body C t).entries) → Ready s K (script_path p) (each a x y d) (Many es ∷ []) → element_of key v ∈ es → length (script_path p) ≡ most_steps → ⊥
+    item_good : {at n x : ℕ} {a : Name} {y : Option ℕ} {d : Block} {js : List ℕ} {es : List Element} {key : Key} {v : Scalar} → stmt at n (each a x y d) ∈ block_list b → StmtAs C w.layout k (stmt at n (each a x y d)) js → ((j : ℕ) → In j js → In j (body C t).entries) → Ready s K (script_path p) (each a x y d) (Many es ∷ []) → element_of key v ∈ es → length (script_path p) ≡ max_path_steps → ⊥
     item_good m (simple j z op as' e nd q) sub r i dp = absurd z
     item_good {at} {n} {x} {a} {y} {d} {es = es} {key = key} {v = v} m (array_loop j en mk ba q) sub r i dp =
         let there = sub j (subst (λ (l : List ℕ). In j l) (sym q) (inl refl)) in
         let o = each_turns s C w K wf (backs s K kn) I sc ch j there (sc.loops k b at n x a y d (chain_scope s C w.layout K wf.names I sc ch) m) en r in
         loop_deep j there o.answers o.turns o.computed (ap loop_of en.act_is) (ap steps_on en.act_is) (key, v) (in_element o.turns (element_of key v) (subst (λ (l : List Element). element_of key v ∈ l) (sym o.all) i)) dp
 
-    call_good : {st : Stmt} {c : Call} {js : List ℕ} → CallFound C w.layout k st c js → ((j : ℕ) → In j js → In j (body C t).entries) → length (script_path p) ≡ most_steps → ⊥
+    call_good : {st : Stmt} {c : Call} {js : List ℕ} → CallFound C w.layout k st c js → ((j : ℕ) → In j js → In j (body C t).entries) → length (script_path p) ≡ max_path_steps → ⊥
     call_good {c = c} cf sub dp =
         let j = cf.number in
         let there = sub cf.number cf.there in
         let is = (cf.as_call).is in
         let z = known s C w K wf (backs s K kn) I sc ch cf.number there (λ n h. absurd (subst (λ (l : List Need). In n l) is.needs_is h)) in
-        not_deep ch alive cf.number there z Compute.Opens (ap (λ (a : Act). Compute.compute a (answered C p (entry C cf.number).needs z.answers)) is.act_is) tt (w.layout.body_of c.function, step_at (entry C cf.number).mark (Key.Number (pos 0)) p)
-        (subst (λ (a : Act). In (w.layout.body_of c.function, step_at (entry C cf.number).mark (Key.Number (pos 0)) p) (instances a (entry C cf.number).mark p 0 Compute.Opens)) (sym is.act_is) (inl refl)) (ap steps_on is.act_is) dp
+        not_deep ch alive cf.number there z Compute.Opens (ap (λ (a : Act). Compute.compute a (answered C p (entry C cf.number).needs z.answers)) is.act_is) tt (w.layout.body_of c.function, step_at (entry C cf.number).offset (Key.Number (pos 0)) p)
+        (subst (λ (a : Act). In (w.layout.body_of c.function, step_at (entry C cf.number).offset (Key.Number (pos 0)) p) (instances a (entry C cf.number).offset p 0 Compute.Opens)) (sym is.act_is) (inl refl)) (ap steps_on is.act_is) dp
 
     -- the values of a condition and of bounds
     condition_is : {path : Path} {o : Cell} {v : Value} → KnownAll K path (o ∷ []) (v ∷ []) → K (value (path, o.node) v)
     condition_is (next_cell kv no_cell) = kv
 
     of_header : {at n : ℕ} {a : Action} {vs : List Value} {key : Key} {d : Block} {js : List ℕ} → stmt at n a ∈ block_list b → StmtAs C w.layout k (stmt at n a) js → ((j : ℕ) → In j js → In j (body C t).entries) → LiveStmt s K (script_path p) (stmt at n a) → Opens a vs key d
-        → ComeAll s K (script_path p) (outer_cells a) vs ⊎ Ready s K (script_path p) a vs → length (script_path p) ≡ most_steps → ⊥
+        → ComeAll s K (script_path p) (outer_cells a) vs ⊎ Ready s K (script_path p) a vs → length (script_path p) ≡ max_path_steps → ⊥
     of_header m sa sub live (then_alone {c = o} {b = d}) (inl g) dp = when_good m sa sub (condition_is (known_all live (λ c i. cell_among _ (outer_cell_in (o ∷ []) c i)) g)) dp
     of_header m sa sub live then_alone (inr (cells_known ks x)) dp = when_good m sa sub (condition_is ks) dp
     of_header m sa sub live (then_first {c = o}) (inl g) dp = choose_good true m sa sub (condition_is (known_all live (λ c i. cell_among _ (outer_cell_in (o ∷ []) c i)) g)) dp
@@ -334,7 +334,7 @@ module _ (s : Core) (C : Code) (w : IsCodeOf s C) (K : Knowledge) (wf : WellForm
     of_header m sa sub live (item i) (inr r) dp = item_good m sa sub r i dp
 
   -- WHAT IS NEW IS NO FAULT
-  header_good : {path : Path} {at n : ℕ} {a : Action} {vs : List Value} {key : Key} {d : Block} → LiveStmt s K path (stmt at n a) → ComeAll s K path (outer_cells a) vs ⊎ Ready s K path a vs → Opens a vs key d → length path ≡ most_steps → ⊥
+  header_good : {path : Path} {at n : ℕ} {a : Action} {vs : List Value} {key : Key} {d : Block} → LiveStmt s K path (stmt at n a) → ComeAll s K path (outer_cells a) vs ⊎ Ready s K path a vs → Opens a vs key d → length path ≡ max_path_steps → ⊥
   header_good {path} {at} {n} {a} {vs} {key} {d} live come o dp =
       let sa = stands_at live (λ k t gs wa. opens_no_wait s C w K wf (backs s K kn) I sc wa o) in
       of_header sa.chain sa.alive sa.there (sa.entries).as_stmt (sa.entries).among (subst (λ (z : Path). LiveStmt s K z (stmt at n a)) (sym sa.path_is) live) o

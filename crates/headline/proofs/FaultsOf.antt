@@ -16,9 +16,9 @@ use Rattle.language.specs.Places.{Path}
 use Rattle.language.specs.WellFormed.{WellFormed}
 use Rattle.language_laws.proofs.Sources.{outer_in, index_in, right_in}
 use Rattle.task_code.specs.Code as code
-use Rattle.task_code.specs.Code.{Need, Act, Set, Put, Print, Assert, If, Code, entry, body}
+use Rattle.task_code.specs.Code.{Need, Act, Set, InsertElement, Print, Assert, If, Code, entry, body}
 use Rattle.task_code.specs.Compute as Compute
-use Rattle.task_code.specs.Compute.{InOperation, Fails, given, branched, put, eval}
+use Rattle.task_code.specs.Compute.{InOperation, Fails, given, branched, insert_element, eval}
 use Rattle.task_code.specs.Effects.{Item}
 use Rattle.task_code.specs.Places.{Step}
 use Rattle.task_code.specs.System.{answered, code_system}
@@ -45,7 +45,7 @@ pub branched_fails : {f : OpFault} (r : Result Value OpFault) → branched r ≡
 branched_fails (Ok v) h = absurd (cc (h))
 branched_fails (Err g) h = cc
 
-pub put_fails : {f : OpFault} (i r : Result Value OpFault) → put i r ≡ Fails (InOperation f) → (i ≡ Err f) ⊎ (r ≡ Err f)
+pub put_fails : {f : OpFault} (i r : Result Value OpFault) → insert_element i r ≡ Fails (InOperation f) → (i ≡ Err f) ⊎ (r ≡ Err f)
 put_fails (Err g) r h = inl (cc)
 put_fails (Ok v) (Err g) h = inr (cc)
 put_fails (Ok v) (Ok u) h = absurd (cc (h))
@@ -135,7 +135,7 @@ module _ (s : Core) (C : Code) (w : IsCodeOf s C) (K : Knowledge) (wf : WellForm
     choose_fails {o = o} sm en h = seen_fails o.cell sm (outer_in o.parts o.cell) en.at_is _ en.needs_is (λ m j. in_once m _ (in_left m _ [] j)) (branched_fails _ (sym (ap (λ (z : Act). Compute.compute z (answered C p (entry C i).needs xs)) en.act_is) ∙ h))
 
     pub insert_fails : {at n : ℕ} {pr : ℤ} {y : Name} (x o : Outer) {f : OpFault} → stmt at n (insert y x o) ∈ block_list b
-        → IsEntry (entry C i) at pr (own_needs w.layout k (insert y x o)) (Put (name_as k true y) (over k (own_needs w.layout k (insert y x o)) (seen w.layout x.cell)) (over k (own_needs w.layout k (insert y x o)) (seen w.layout o.cell))) → Fails_as f → IsFault f
+        → IsEntry (entry C i) at pr (own_needs w.layout k (insert y x o)) (InsertElement (name_as k true y) (over k (own_needs w.layout k (insert y x o)) (seen w.layout x.cell)) (over k (own_needs w.layout k (insert y x o)) (seen w.layout o.cell))) → Fails_as f → IsFault f
     insert_fails x o sm en h =
         elim (put_fails _ _ (sym (ap (λ (z : Act). Compute.compute z (answered C p (entry C i).needs xs)) en.act_is) ∙ h)) [
           | inl e ↦ seen_fails x.cell sm (index_in x o) en.at_is _ en.needs_is (λ m j. in_once m _ (in_left m (wanted k (seen w.layout x.cell)) _ j)) e

@@ -23,14 +23,14 @@ use Rattle.language.specs.Members.{◌∈◌, first, later}
 use Rattle.language.specs.Openings.{Bounds, bounds, one_way, two_ways, in_turns, Opens, then_alone, then_first, else_second, turn, item}
 use Rattle.language.specs.Outcomes.{Faults}
 use Rattle.language.specs.Parts.{stmt_node, cells, part_cells, block_list, outer_cells}
-use Rattle.language.specs.Places.{Place, place, most_steps}
+use Rattle.language.specs.Places.{Place, place, max_path_steps}
 use Rattle.language.specs.WellFormed.{WellFormed, IsMany, a_list, a_copy}
 use Rattle.language_laws.proofs.Declared.{stmt_in, place_here}
 use Rattle.language_laws.proofs.Sources.{outer_in}
 use Rattle.task_code.specs.Code as code
 use Rattle.task_code.specs.Code.{Need, Act, Code, entry, body, ways, loop_of}
 use Rattle.task_code.specs.Compute as Compute
-use Rattle.task_code.specs.Compute.{Computed, EntryFault, InOperation, NoElement, TooDeep, Fails, given, put, branched, ranged, turns_or, filled, eval, answer_at, content, key_of, elements}
+use Rattle.task_code.specs.Compute.{Computed, EntryFault, InOperation, NoElement, TooDeep, Fails, given, insert_element, branched, ranged, turns_or, filled, eval, answer_at, content, key_of, elements}
 use Rattle.task_code.specs.Effects as Eff
 use Rattle.task_code.specs.Effects.{Task, Main, Item, instances, is_too_deep, steps_on, is_some_list, outcome_of, effect_at, step_at, turns_of}
 use Rattle.task_code.specs.Places.{Step, place_at}
@@ -76,7 +76,7 @@ filled_op : (r : Result Value OpFault) → OpOnly (filled r)
 filled_op (Ok v) = tt
 filled_op (Err f) = tt
 
-put_op : (i r : Result Value OpFault) → OpOnly (put i r)
+put_op : (i r : Result Value OpFault) → OpOnly (insert_element i r)
 put_op (Err f) r = tt
 put_op (Ok i) (Err f) = tt
 put_op (Ok i) (Ok v) = tt
@@ -102,7 +102,7 @@ op_only (code.Call b rs os) ys n = tt
 op_only (code.Set r e) ys n = given_op (eval ys e)
 op_only (code.Fill r es) ys n = filled_op (evaluated literal (Compute.evals ys es))
 op_only (code.Copy r) ys n = tt
-op_only (code.Put r i e) ys n = put_op (eval ys i) (eval ys e)
+op_only (code.InsertElement r i e) ys n = put_op (eval ys i) (eval ys e)
 op_only (code.Print e) ys n = given_op (eval ys e)
 op_only (code.Assert e) ys n = given_op (eval ys e)
 op_only (code.If e b d) ys n = branched_op (eval ys e)
@@ -169,7 +169,7 @@ path_length : (p : List Step) → length (script_path p) ≡ length p
 path_length [] = refl
 path_length (t ∷ p) = ap suc (path_length p)
 
-at_least : (n : ℕ) → nat_le most_steps n ≡ true → most_steps ≤ n
+at_least : (n : ℕ) → nat_le max_path_steps n ≡ true → max_path_steps ≤ n
 at_least n h = grind arith
 
 member : {X : Type 0} (xs : List X) → is_some_list xs ≡ true → (x : X) × In x xs
@@ -178,7 +178,7 @@ member (x ∷ xs) h = (x, inl refl)
 
 module _ (s : Core) (C : Code) (w : IsCodeOf s C) (K : Knowledge) (wf : WellFormed s) (kn : Knows s K) (I : IsCode C) (sc : Scoped s) (ty : TypedValues s K) where
   -- no path of a live block is longer than the limit
-  chain_bound : {p : List Step} {t k : ℕ} {b : Block} → Chain s C w.layout K p t k b → length (script_path p) ≤ most_steps
+  chain_bound : {p : List Step} {t k : ℕ} {b : Block} → Chain s C w.layout K p t k b → length (script_path p) ≤ max_path_steps
   chain_bound (at_script h) = omega arith
   chain_bound (by_header j ch m i mk wy h r o dp) = omega arith
   chain_bound (by_wait j ch m i wy h r) = chain_bound ch
@@ -358,16 +358,16 @@ module _ (s : Core) (C : Code) (w : IsCodeOf s C) (K : Knowledge) (wf : WellForm
 
     -- A PATH THAT WOULD BE TOO LONG
     record Deep : Type 0 where
-      at_limit : length (script_path p) ≡ most_steps
+      at_limit : length (script_path p) ≡ max_path_steps
       steps : steps_on (entry C i).act ≡ true
       instance : ℕ × List Step
-      opens : In instance (instances (entry C i).act (entry C i).mark p c X)
+      opens : In instance (instances (entry C i).act (entry C i).offset p c X)
 
-    deep_here : is_too_deep (entry C i).act p (instances (entry C i).act (entry C i).mark p c X) ≡ true → Deep
+    deep_here : is_too_deep (entry C i).act p (instances (entry C i).act (entry C i).offset p c X) ≡ true → Deep
     deep_here h =
-        let a = and_parts (nat_le most_steps (length p)) _ h in
+        let a = and_parts (nat_le max_path_steps (length p)) _ h in
         let d = and_parts (steps_on (entry C i).act) _ a.1 in
-        let q = member (instances (entry C i).act (entry C i).mark p c X) d.1 in
+        let q = member (instances (entry C i).act (entry C i).offset p c X) d.1 in
         let le = at_least (length p) a.0 in
         let b' = chain_bound ch in
         let e = path_length p in
@@ -376,8 +376,8 @@ module _ (s : Core) (C : Code) (w : IsCodeOf s C) (K : Knowledge) (wf : WellForm
     deep_header : {at n : ℕ} {a : Action} {vs : List Value} {key : Key} {d : Block} → Deep → stmt at n a ∈ block_list b → (entry C i).at ≡ at → Ready s K (script_path p) a vs → Opens a vs key d → IsIt TooDeep
     deep_header {n = n} z sm e r o = put_at TooDeep n e (kn.shut _ (too_deep_header (live sm) (inr r) o z.at_limit))
 
-    opens_as : (z : Deep) {a : Act} → (entry C i).act ≡ a → In z.instance (instances a (entry C i).mark p c (Compute.compute a ys))
-    opens_as z e = subst (λ (y : Act). In z.instance (instances y (entry C i).mark p c (Compute.compute y ys))) e z.opens
+    opens_as : (z : Deep) {a : Act} → (entry C i).act ≡ a → In z.instance (instances a (entry C i).offset p c (Compute.compute a ys))
+    opens_as z e = subst (λ (y : Act). In z.instance (instances y (entry C i).offset p c (Compute.compute y ys))) e z.opens
 
     no_steps : {a : Act} → Deep → (entry C i).act ≡ a → steps_on a ≡ false → IsIt TooDeep
     no_steps z e q = absurd (no_both (sym (sym (ap steps_on e) ∙ z.steps) ∙ q))
@@ -389,10 +389,10 @@ module _ (s : Core) (C : Code) (w : IsCodeOf s C) (K : Knowledge) (wf : WellForm
     truth_as e q h = (let z = sym (ap truth_of q) ∙ h in q ∙ ap (λ (x : Bool). One (Truth x)) z)
 
     own_deep : (st : Stmt) → st ∈ block_list b → OwnAs C w.layout k st i → Deep → IsIt TooDeep
-    own_deep st m (own_simple {a = a} z en nd) d = absurd (subst (λ (l : List (ℕ × List Step)). In d.instance l) (simple_opens_none w.layout k c (entry C i).mark p ys a z) (opens_as d en.act_is))
+    own_deep st m (own_simple {a = a} z en nd) d = absurd (subst (λ (l : List (ℕ × List Step)). In d.instance l) (simple_opens_none w.layout k c (entry C i).offset p ys a z) (opens_as d en.act_is))
     own_deep st m (own_branch {at = at} {n = n} {t = t'} {c = o} {b = d} en mk ba) z =
         let ms = own_needs w.layout k (when o d) in
-        let r = branch_of c (eval ys (over k ms (seen w.layout o.cell))) t' None (entry C i).mark p z.instance (opens_as z en.act_is) in
+        let r = branch_of c (eval ys (over k ms (seen w.layout o.cell))) t' None (entry C i).offset p z.instance (opens_as z en.act_is) in
         let kv = seen_is o.cell m (outer_in o.parts o.cell) ms en.needs_is (λ x j. in_once x _ (in_left x _ [] j)) r.is in
         let tr = ty.when_truth (script_path p) at n o d r.condition (stmt_in s (live m)) kv in
         elim r.taken [
@@ -401,7 +401,7 @@ module _ (s : Core) (C : Code) (w : IsCodeOf s C) (K : Knowledge) (wf : WellForm
         ]
     own_deep st m (own_branches {at = at} {n = n} {t = t'} {u = u'} {c = o} {b = d} {d = d'} en mk ba bb) z =
         let ms = own_needs w.layout k (choose o d d') in
-        let r = branch_of c (eval ys (over k ms (seen w.layout o.cell))) t' (Some u') (entry C i).mark p z.instance (opens_as z en.act_is) in
+        let r = branch_of c (eval ys (over k ms (seen w.layout o.cell))) t' (Some u') (entry C i).offset p z.instance (opens_as z en.act_is) in
         let kv = seen_is o.cell m (outer_in o.parts o.cell) ms en.needs_is (λ x j. in_once x _ (in_left x _ [] j)) r.is in
         let tr = ty.choose_truth (script_path p) at n o d d' r.condition (stmt_in s (live m)) kv in
         elim r.taken [
@@ -413,13 +413,13 @@ module _ (s : Core) (C : Code) (w : IsCodeOf s C) (K : Knowledge) (wf : WellForm
         let rl = eval ys (over k ms (seen w.layout lo.cell)) in
         let rh = eval ys (over k ms (seen w.layout hi.cell)) in
         let rs = eval ys (over k ms (step_expr w.layout k so)) in
-        let u = in_unmap (λ (v : Key × Scalar). (t', step_at (entry C i).mark v.0 p)) z.instance (Eff.chunk c (turns_of (ranged rl rh rs))) (opens_as z en.act_is) in
+        let u = in_unmap (λ (v : Key × Scalar). (t', step_at (entry C i).offset v.0 p)) z.instance (Eff.chunk c (turns_of (ranged rl rh rs))) (opens_as z en.act_is) in
         let r = ranged_of rl rh rs u.0 (in_chunk c (turns_of (ranged rl rh rs)) u.0 u.1) in
         let kb = bounds_known so m ms refl en.needs_is r.low r.high r.step r.low_is r.high_is r.step_is in
         deep_header z m en.at_is (cells_known kb.2 (in_turns kb.3 (kb.4 ∙ r.count))) (turn kb.3 (kb.4 ∙ r.count) r.below)
     own_deep st m (own_each {at = at} {n = n} {t = t'} {x = x} {a = a} {y = y} {b = d} en mk ba) z =
         by (answered C p (entry C i).needs xs) (subst (λ (l : List Need). AnsAll s C K p l (answered C p (entry C i).needs xs)) en.needs_is all_said)
-        (let u = in_unmap (λ (v : Key × Scalar). (t', step_at (entry C i).mark v.0 p)) z.instance (Eff.chunk c (content (answer_at ys 0))) (opens_as z en.act_is) in (u.0, in_chunk c (content (answer_at ys 0)) u.0 u.1))
+        (let u = in_unmap (λ (v : Key × Scalar). (t', step_at (entry C i).offset v.0 p)) z.instance (Eff.chunk c (content (answer_at ys 0))) (opens_as z en.act_is) in (u.0, in_chunk c (content (answer_at ys 0)) u.0 u.1))
       where
         g : IsIn k a
         g = sc.loops k b at n x a y d (chain_scope s C w.layout K wf.names I sc ch) m
@@ -498,7 +498,7 @@ module _ (s : Core) (C : Code) (w : IsCodeOf s C) (K : Knowledge) (wf : WellForm
       where
         by_role : RoleIn C w.layout k b i → IsIt f
         by_role r =
-            elim (bad_outcome X (is_too_deep (entry C i).act p (instances (entry C i).act (entry C i).mark p c X)) (effect_at C i p c X) f q) [
+            elim (bad_outcome X (is_too_deep (entry C i).act p (instances (entry C i).act (entry C i).offset p c X)) (effect_at C i p c X) f q) [
               | inl h ↦ elim r.role [ inl po ↦ part_failed r.st r.there po h | inr ow ↦ own_failed r.st r.there ow h ]
               | inr h ↦ subst IsIt (sym h.1) (elim r.role [ inl po ↦ part_deep r.st r.there po (deep_here h.0) | inr ow ↦ own_deep r.st r.there ow (deep_here h.0) ])
             ]

@@ -20,7 +20,7 @@ use Rattle.language.specs.Meaning.{ValueUnder, LiveStmt, in_block, Ready, cells_
 use Rattle.language.specs.Members.{◌∈◌, first, later}
 use Rattle.language.specs.Openings.{Branches, Bounds, bounds, Decides, one_way, two_ways, in_turns, Opens}
 use Rattle.language.specs.Parts.{outer_cells, outer_parts, parts, part_cells, cells, stmt_calls, block_list}
-use Rattle.language.specs.Places.{Path, place, most_steps}
+use Rattle.language.specs.Places.{Path, place, max_path_steps}
 use Rattle.language.specs.WellFormed.{WellFormed}
 use Rattle.language.proofs.Members.{split_in, to_left, to_right, either}
 use Rattle.task_code.specs.Code as code
@@ -256,7 +256,7 @@ module _ (s : Core) (C : Code) (w : IsCodeOf s C) (K : Knowledge) (wf : WellForm
 
     pub branch_takes : {at n : ℕ} {a : Action} (o : Outer) (d : Bool) {t' : ℕ} {u' : Option ℕ} → stmt at n a ∈ block_list b → o.cell ∈ cells (stmt at n a) → K (value (script_path p, o.cell.node) (One (Truth d)))
         → IsEntry (entry C j) at (pos 0) (each_once (flat_map (wanted k) (seen w.layout o.cell ∷ []))) (If (over k (each_once (flat_map (wanted k) (seen w.layout o.cell ∷ []))) (seen w.layout o.cell)) t' u')
-        → length (script_path p) < most_steps → Reading (code_system C) (Answers s K) (Item j p 0) (effect_at C j p 0 (Takes d))
+        → length (script_path p) < max_path_steps → Reading (code_system C) (Answers s K) (Item j p 0) (effect_at C j p 0 (Takes d))
     branch_takes o d m cm kv en dp = (let z = branch_works o d m cm kv en in fact_of s C w K wf kn I sc ch j there z.answers 0 (Takes d) z.computed tt (not_too_deep _ p _ dp))
 
     pub condition_value : {a : Action} {o : Cell} {vs : List Value} {v : Value} → Ready s K (script_path p) a vs → outer_cells a ≡ o ∷ [] → vs ≡ v ∷ [] → ((ns : List Awaited) (c : Block) → a ≡ wait ns c → ⊥) → ((x : Name) (y : ℕ) (z : Option ℕ) (c : Block) → a ≡ each x y z c → ⊥) → K (value (script_path p, o.node) v)

@@ -64,13 +64,13 @@ module _ (s : Core) (C : Code) (w : IsCodeOf s C) (K : Knowledge) (wf : WellForm
     right_kind {p} (at_script h) j i r m q v e = declared_kind h p r (cov.in_script j r i m) q v e
     right_kind {p} {t} (by_header {p = p'} {at = at} j' {key = key} ch m' i' mk wy h o' o dp) j i r m q v e = by (cov.in_body j' Through t wy j r i m) (right_kind ch j' i')
       where
-        by : ((Declared C t r ⊎ SeenFrom C rights j' Through r) ⊎ Fixes C (entry C j').mark Through r) → Kinds p' j' → Kind r v
+        by : ((Declared C t r ⊎ SeenFrom C rights j' Through r) ⊎ Fixes C (entry C j').offset Through r) → Kinds p' j' → Kind r v
         by (inl (inl d)) rec = declared_kind h p r d q v e
-        by (inl (inr sf)) rec = outside_kind p p' j' Through r sf (seen_place C Through (entry C j').mark p' key p r sf.outside (λ i. record { offset = sym mk i; key = key } ∷ p') sf.seen) rec q v e
+        by (inl (inr sf)) rec = outside_kind p p' j' Through r sf (seen_place C Through (entry C j').offset p' key p r sf.outside (λ i. record { offset = sym mk i; key = key } ∷ p') sf.seen) rec q v e
         by (inr fx) rec = absurd fx
     right_kind {p} {t} (by_wait j' ch m' i' wy h o) j i r m q v e = by (cov.in_body j' InPlace t wy j r i m) (right_kind ch j' i')
       where
-        by : ((Declared C t r ⊎ SeenFrom C rights j' InPlace r) ⊎ Fixes C (entry C j').mark InPlace r) → Kinds p j' → Kind r v
+        by : ((Declared C t r ⊎ SeenFrom C rights j' InPlace r) ⊎ Fixes C (entry C j').offset InPlace r) → Kinds p j' → Kind r v
         by (inl (inl d)) rec = declared_kind h p r d q v e
         by (inl (inr sf)) rec = outside_kind p p j' InPlace r sf (ap (λ (z : code.Name). place_at C p z) sf.seen) rec q v e
         by (inr fx) rec = absurd fx
@@ -79,11 +79,11 @@ module _ (s : Core) (C : Code) (w : IsCodeOf s C) (K : Knowledge) (wf : WellForm
         calls_it : In (Calling, t) (ways (entry C j').act)
         calls_it = subst (λ (a : code.Act). In (Calling, t) (ways a)) (sym ca.is.act_is) (inl refl)
 
-        by : ((Declared C t r ⊎ SeenFrom C rights j' Calling r) ⊎ Fixes C (entry C j').mark Calling r) → Kinds p' j' → Kind r v
+        by : ((Declared C t r ⊎ SeenFrom C rights j' Calling r) ⊎ Fixes C (entry C j').offset Calling r) → Kinds p' j' → Kind r v
         by (inl (inl d)) rec = declared_kind h p r d q v e
-        by (inl (inr sf)) rec = outside_kind p p' j' Calling r sf (seen_place C Calling (entry C j').mark p' (Key.Number (pos 0)) p r sf.outside (λ i. record { offset = sym ca.mark_is i; key = Key.Number (pos 0) } ∷ p') sf.seen) rec q v e
+        by (inl (inr sf)) rec = outside_kind p p' j' Calling r sf (seen_place C Calling (entry C j').offset p' (Key.Number (pos 0)) p r sf.outside (λ i. record { offset = sym ca.offset_is i; key = Key.Number (pos 0) } ∷ p') sf.seen) rec q v e
         by (inr fx) rec =
-            let place_is : place_at C p r ≡ Constant fx.2 = (λ i. place_at C (record { offset = sym ca.mark_is i; key = Key.Number (pos 0) } ∷ p') (fx.3 i)) ∙ ap (argued C p') fx.4 in
+            let place_is : place_at C p r ≡ Constant fx.2 = (λ i. place_at C (record { offset = sym ca.offset_is i; key = Key.Number (pos 0) } ∷ p') (fx.3 i)) ∙ ap (argued C p') fx.4 in
             absurd (not_constant (sym place_is ∙ e))
 
   -- A GIVEN ARRAY

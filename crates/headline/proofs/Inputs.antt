@@ -68,13 +68,13 @@ module _ (s : Core) (C : Code) (w : IsCodeOf s C) (K : Knowledge) (wf : WellForm
   reads_fit {p} {t} (at_script h) j i r m = declared_fits h p r (I.script_reads j r i m)
   reads_fit {p} {t} {k} {b} (by_header {p = p'} {at = at} j' {key = key} ch m' i' mk wy h o' o dp) j i r m = by ((I.fits j' Through t wy).reads j r i m) (reads_fit ch j' i')
     where
-      by : ((Declared C t r ⊎ SeenFrom C (λ e. e.reads) j' Through r) ⊎ Fixes C (entry C j').mark Through r) → Reads p' j' → Fit w.layout (is_array_name r) (place_at C p r)
+      by : ((Declared C t r ⊎ SeenFrom C (λ e. e.reads) j' Through r) ⊎ Fixes C (entry C j').offset Through r) → Reads p' j' → Fit w.layout (is_array_name r) (place_at C p r)
       by (inl (inl d)) rec = declared_fits h p r d
-      by (inl (inr sf)) rec = moved (seen_kind j' Through r sf) (sym (seen_place C Through (entry C j').mark p' key p r sf.outside (λ i. record { offset = sym mk i; key = key } ∷ p') sf.seen)) (rec sf.outside sf.right)
+      by (inl (inr sf)) rec = moved (seen_kind j' Through r sf) (sym (seen_place C Through (entry C j').offset p' key p r sf.outside (λ i. record { offset = sym mk i; key = key } ∷ p') sf.seen)) (rec sf.outside sf.right)
       by (inr fx) rec = absurd fx
   reads_fit {p} {t} {k} {b} (by_wait j' ch m' i' wy h o) j i r m = by ((I.fits j' InPlace t wy).reads j r i m) (reads_fit ch j' i')
     where
-      by : ((Declared C t r ⊎ SeenFrom C (λ e. e.reads) j' InPlace r) ⊎ Fixes C (entry C j').mark InPlace r) → Reads p j' → Fit w.layout (is_array_name r) (place_at C p r)
+      by : ((Declared C t r ⊎ SeenFrom C (λ e. e.reads) j' InPlace r) ⊎ Fixes C (entry C j').offset InPlace r) → Reads p j' → Fit w.layout (is_array_name r) (place_at C p r)
       by (inl (inl d)) rec = declared_fits h p r d
       by (inl (inr sf)) rec = moved (seen_kind j' InPlace r sf) (ap (λ (z : code.Name). place_at C p z) (sym sf.seen)) (rec sf.outside sf.right)
       by (inr fx) rec = absurd fx
@@ -83,11 +83,11 @@ module _ (s : Core) (C : Code) (w : IsCodeOf s C) (K : Knowledge) (wf : WellForm
       calls_it : In (Calling, t) (ways (entry C j').act)
       calls_it = subst (λ (a : code.Act). In (Calling, t) (ways a)) (sym ca.is.act_is) (inl refl)
 
-      by : ((Declared C t r ⊎ SeenFrom C (λ e. e.reads) j' Calling r) ⊎ Fixes C (entry C j').mark Calling r) → Reads p' j' → Fit w.layout (is_array_name r) (place_at C p r)
+      by : ((Declared C t r ⊎ SeenFrom C (λ e. e.reads) j' Calling r) ⊎ Fixes C (entry C j').offset Calling r) → Reads p' j' → Fit w.layout (is_array_name r) (place_at C p r)
       by (inl (inl d)) rec = declared_fits h p r d
-      by (inl (inr sf)) rec = moved (seen_kind j' Calling r sf) (sym (seen_place C Calling (entry C j').mark p' (Key.Number (pos 0)) p r sf.outside (λ i. record { offset = sym ca.mark_is i; key = Key.Number (pos 0) } ∷ p') sf.seen)) (rec sf.outside sf.right)
+      by (inl (inr sf)) rec = moved (seen_kind j' Calling r sf) (sym (seen_place C Calling (entry C j').offset p' (Key.Number (pos 0)) p r sf.outside (λ i. record { offset = sym ca.offset_is i; key = Key.Number (pos 0) } ∷ p') sf.seen)) (rec sf.outside sf.right)
       by (inr fx) rec =
-          let place_is : place_at C p r ≡ Constant fx.2 = (λ i. place_at C (record { offset = sym ca.mark_is i; key = Key.Number (pos 0) } ∷ p') (fx.3 i)) ∙ ap (argued C p') fx.4 in
+          let place_is : place_at C p r ≡ Constant fx.2 = (λ i. place_at C (record { offset = sym ca.offset_is i; key = Key.Number (pos 0) } ∷ p') (fx.3 i)) ∙ ap (argued C p') fx.4 in
           moved refl (sym place_is) (a_literal (false_from_ne_true (is_array_name r) (λ e. kind_fixed (arguments (entry C _).act) fx.0 fx.1 fx.2 fx.4 (sym (ap is_array_name fx.3) ∙ e))))
 
   -- INPUTS

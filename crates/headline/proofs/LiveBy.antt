@@ -21,7 +21,7 @@ use Rattle.language.specs.Meaning.{in_block, Ready, cells_known, source_closed, 
 use Rattle.language.specs.Members.{◌∈◌, first, later}
 use Rattle.language.specs.Openings.{Branches, Bounds, bounds, one_way, two_ways, in_turns, Opens, then_alone, then_first, else_second, turn, item}
 use Rattle.language.specs.Parts.{stmt_at, outer_cells, cells, stmt_calls, block_list}
-use Rattle.language.specs.Places.{Path, Place, place, most_steps}
+use Rattle.language.specs.Places.{Path, Place, place, max_path_steps}
 use Rattle.language.specs.WellFormed.{WellFormed}
 use Rattle.language.proofs.Members.{split_in}
 use Rattle.language_laws.proofs.Declared.{stmt_in}
@@ -95,17 +95,17 @@ module _ (s : Core) (C : Code) (w : IsCodeOf s C) (K : Knowledge) (wf : WellForm
 
     -- what the fact of a live item opens is live
     opens_alive : {j c : ℕ} {p : List Step} (x : Computed) → Alive (Item j p c) → fd.Fact (Item j p c) (effect_at C j p c x)
-        → (q : ℕ × List Step) → In q (instances (entry C j).act (entry C j).mark p c x) → (i : ℕ) → In i (body C q.0).entries → Alive (Item i q.1 0)
+        → (q : ℕ × List Step) → In q (instances (entry C j).act (entry C j).offset p c x) → (i : ℕ) → In i (body C q.0).entries → Alive (Item i q.1 0)
     opens_alive {j} {c} {p} x lv f q h i m =
         live_opened (Item j p c) (Item i q.1 0) (effect_at C j p c x) (block C q) lv f
-        (in_left (block C q) (map (block C) (instances (entry C j).act (entry C j).mark p c x)) _ (in_map (block C) q (instances (entry C j).act (entry C j).mark p c x) h))
+        (in_left (block C q) (map (block C) (instances (entry C j).act (entry C j).offset p c x)) _ (in_map (block C) q (instances (entry C j).act (entry C j).offset p c x) h))
         (in_map (λ (i : ℕ). Item i q.1 0) i (body C q.0).entries m)
 
     rest_alive : {j c : ℕ} {p : List Step} (ts : Elements) {lp : Loop} → Alive (Item j p c) → fd.Fact (Item j p c) (effect_at C j p c (Turns ts)) → loop_of (entry C j).act ≡ Some lp
         → is_some_list (left_at (suc c) ts) ≡ true → Alive (Item j p (suc c))
     rest_alive {j} {c} {p} ts lv f q h =
         live_opened (Item j p c) (Item j p (suc c)) (effect_at C j p c (Turns ts)) (record { makes = []; tasks = Item j p (suc c) ∷ [] }) lv f
-        (in_right _ (map (block C) (instances (entry C j).act (entry C j).mark p c (Turns ts))) _
+        (in_right _ (map (block C) (instances (entry C j).act (entry C j).offset p c (Turns ts))) _
         (subst (λ (o : Option Loop). In (record { makes = []; tasks = Item j p (suc c) ∷ [] }) (rest o j p c (Turns ts))) (sym q)
         (subst (λ (b : Bool). In (record { makes = []; tasks = Item j p (suc c) ∷ [] }) (rest_if b j p c)) (sym h) (inl refl))))
         (inl refl)
@@ -113,7 +113,7 @@ module _ (s : Core) (C : Code) (w : IsCodeOf s C) (K : Knowledge) (wf : WellForm
     -- who opened the body at that path
     pub data Opener (t : ℕ) (p : List Step) : Type 0 where
       of_main : t ≡ 0 → p ≡ [] → Opener t p
-      of_item : {j c : ℕ} {q : List Step} (x : Computed) → Alive (Item j q c) → fd.Fact (Item j q c) (effect_at C j q c x) → In (t, p) (instances (entry C j).act (entry C j).mark q c x) → Opener t p
+      of_item : {j c : ℕ} {q : List Step} (x : Computed) → Alive (Item j q c) → fd.Fact (Item j q c) (effect_at C j q c x) → In (t, p) (instances (entry C j).act (entry C j).offset q c x) → Opener t p
 
     -- WHERE A LIVE BLOCK'S ITEMS ARE
     -- between the headers of merged waits no body stands for the block; the entry is that of the outermost one
@@ -146,12 +146,12 @@ module _ (s : Core) (C : Code) (w : IsCodeOf s C) (K : Knowledge) (wf : WellForm
 
     module _ {p : List Step} {t k : ℕ} {b : Block} (ch : Chained p t k b) (j : ℕ) (there : In j (body C t).entries) where
       -- a block under a key, once the item of its chunk has the fact that opens it
-      header_where : {at n u : ℕ} {a : Action} {c : Block} {vs : List Value} {key : Key} (chunk_no : ℕ) (x : Computed) → stmt at n a ∈ block_list b → (entry C j).mark ≡ at → In (Through, u) (ways (entry C j).act)
-          → BodyAs C w.layout k c u → Ready s K (script_path p) a vs → Opens a vs key c → length (script_path p) < most_steps
-          → Alive (Item j p chunk_no) → fd.Fact (Item j p chunk_no) (effect_at C j p chunk_no x) → In (u, step_at (entry C j).mark key p) (instances (entry C j).act (entry C j).mark p chunk_no x)
+      header_where : {at n u : ℕ} {a : Action} {c : Block} {vs : List Value} {key : Key} (chunk_no : ℕ) (x : Computed) → stmt at n a ∈ block_list b → (entry C j).offset ≡ at → In (Through, u) (ways (entry C j).act)
+          → BodyAs C w.layout k c u → Ready s K (script_path p) a vs → Opens a vs key c → length (script_path p) < max_path_steps
+          → Alive (Item j p chunk_no) → fd.Fact (Item j p chunk_no) (effect_at C j p chunk_no x) → In (u, step_at (entry C j).offset key p) (instances (entry C j).act (entry C j).offset p chunk_no x)
           → Where ((at, key) ∷ script_path p) c
       header_where {at} {u = u} {key = key} cn x m mk wy ba r o d lv f h =
-          at_body refl (by_header j ch m there mk wy ba r o d) (λ i m'. subst (λ (z : ℕ). Alive (Item i (step_at z key p) 0)) mk (opens_alive x lv f (u, step_at (entry C j).mark key p) h i m'))
+          at_body refl (by_header j ch m there mk wy ba r o d) (λ i m'. subst (λ (z : ℕ). Alive (Item i (step_at z key p) 0)) mk (opens_alive x lv f (u, step_at (entry C j).offset key p) h i m'))
           (subst (λ (z : ℕ). Opener u (step_at z key p)) mk (of_item x lv f h))
 
       -- THE NEEDS OF A HEADER ARE FED
@@ -215,17 +215,17 @@ module _ (s : Core) (C : Code) (w : IsCodeOf s C) (K : Knowledge) (wf : WellForm
 
     -- a branch that a header opens
     when_where : {p : List Step} {t k : ℕ} {b : Block} (ch : Chained p t k b) → AllAlive p t → {at n : ℕ} {o : Outer} {d : Block} {js : List ℕ} → stmt at n (when o d) ∈ block_list b → StmtAs C w.layout k (stmt at n (when o d)) js → ((j : ℕ) → In j js → In j (body C t).entries)
-        → Ready s K (script_path p) (when o d) (One (Truth true) ∷ []) → length (script_path p) < most_steps → Where ((at, Key.Number (pos 0)) ∷ script_path p) d
+        → Ready s K (script_path p) (when o d) (One (Truth true) ∷ []) → length (script_path p) < max_path_steps → Where ((at, Key.Number (pos 0)) ∷ script_path p) d
     when_where ch alive m (simple j z op as' e nd q) sub r dp = absurd z
     when_where {p} {t} {k} ch alive {at = at} {n = n} {o = o} {d = d} m (branch {t = u} j {is = is} as' en mk ba q) sub r dp =
         let there = sub j (subst (λ (z : List ℕ). In j z) (sym q) (in_right j is (j ∷ []) (inl refl))) in
         let kv = condition_value s C w K wf kn I sc ch j there r refl refl (λ ns c e. absurd (cc (e))) (λ x y z c e. absurd (cc (e))) in
         let f = fd.yields j 0 p _ (alive j there) (header_fed ch j there at n (when o d) _ m (own_branch en mk ba) tt r tt) (branch_takes s C w K wf kn I sc ch j there o true m (outer_in o.parts o.cell) kv en dp) in
         header_where ch j there 0 (Takes true) m mk (subst (λ (a : Act). In (Through, u) (ways a)) (sym en.act_is) (inl refl)) ba r then_alone dp (alive j there) f
-        (subst (λ (a : Act). In (u, step_at (entry C j).mark (Key.Number (pos 0)) p) (instances a (entry C j).mark p 0 (Takes true))) (sym en.act_is) (inl refl))
+        (subst (λ (a : Act). In (u, step_at (entry C j).offset (Key.Number (pos 0)) p) (instances a (entry C j).offset p 0 (Takes true))) (sym en.act_is) (inl refl))
 
     choose_where : {p : List Step} {t k : ℕ} {b : Block} (ch : Chained p t k b) → AllAlive p t → {at n : ℕ} {o : Outer} {d d' : Block} {js : List ℕ} (x : Bool) → stmt at n (choose o d d') ∈ block_list b → StmtAs C w.layout k (stmt at n (choose o d d')) js → ((j : ℕ) → In j js → In j (body C t).entries)
-        → Ready s K (script_path p) (choose o d d') (One (Truth x) ∷ []) → length (script_path p) < most_steps → Where ((at, branch_key x) ∷ script_path p) (taken x d d')
+        → Ready s K (script_path p) (choose o d d') (One (Truth x) ∷ []) → length (script_path p) < max_path_steps → Where ((at, branch_key x) ∷ script_path p) (taken x d d')
     choose_where ch alive x m (simple j z op as' e nd q) sub r dp = absurd z
     choose_where {p} {t} {k} ch alive {at = at} {n = n} {o = o} {d = d} {d' = d'} x m (branches {t = u} {u = u'} j {is = is} as' en mk ba bb q) sub r dp =
         by x r f
@@ -238,17 +238,17 @@ module _ (s : Core) (C : Code) (w : IsCodeOf s C) (K : Knowledge) (wf : WellForm
 
         by : (x : Bool) → Ready s K (script_path p) (choose o d d') (One (Truth x) ∷ []) → fd.Fact (Item j p 0) (effect_at C j p 0 (Takes x)) → Where ((at, branch_key x) ∷ script_path p) (taken x d d')
         by true r g = header_where ch j there 0 (Takes true) m mk (subst (λ (a : Act). In (Through, u) (ways a)) (sym en.act_is) (inl refl)) ba r then_first dp (alive j there) g
-            (subst (λ (a : Act). In (u, step_at (entry C j).mark (Key.Number (pos 0)) p) (instances a (entry C j).mark p 0 (Takes true))) (sym en.act_is) (inl refl))
+            (subst (λ (a : Act). In (u, step_at (entry C j).offset (Key.Number (pos 0)) p) (instances a (entry C j).offset p 0 (Takes true))) (sym en.act_is) (inl refl))
         by false r g = header_where ch j there 0 (Takes false) m mk (subst (λ (a : Act). In (Through, u') (ways a)) (sym en.act_is) (inr (inl refl))) bb r else_second dp (alive j there) g
-            (subst (λ (a : Act). In (u', step_at (entry C j).mark (Key.Number (pos 1)) p) (instances a (entry C j).mark p 0 (Takes false))) (sym en.act_is) (inl refl))
+            (subst (λ (a : Act). In (u', step_at (entry C j).offset (Key.Number (pos 1)) p) (instances a (entry C j).offset p 0 (Takes false))) (sym en.act_is) (inl refl))
 
     -- CALLS
     call_where : {p : List Step} {t k : ℕ} {b : Block} (ch : Chained p t k b) → AllAlive p t → {st : Stmt} {c : Call} {f : Function} {js : List ℕ} → st ∈ block_list b → c ∈ stmt_calls st → CallFound C w.layout k st c js → ((j : ℕ) → In j js → In j (body C t).entries)
-        → slice_get s.functions c.function ≡ Some f → length c.inputs ≡ f.inputs → length (script_path p) < most_steps → Where ((c.at, Key.Number (pos 0)) ∷ script_path p) f.body
+        → slice_get s.functions c.function ≡ Some f → length c.inputs ≡ f.inputs → length (script_path p) < max_path_steps → Where ((c.at, Key.Number (pos 0)) ∷ script_path p) f.body
     call_where {p} {t} {k} ch alive {c = c} {f = f} m n cf sub fq len dp =
         at_body refl (by_call j ch m n there ca cf.cells_in fq len (w.functions c.function f fq) dp)
-        (λ i m'. subst (λ (z : ℕ). Alive (Item i (step_at z (Key.Number (pos 0)) p) 0)) ca.mark_is (opens_alive OpensIt (alive j there) fact (w.layout.body_of c.function, step_at (entry C j).mark (Key.Number (pos 0)) p) opens i m'))
-        (subst (λ (z : ℕ). Opener (w.layout.body_of c.function) (step_at z (Key.Number (pos 0)) p)) ca.mark_is (of_item OpensIt (alive j there) fact opens))
+        (λ i m'. subst (λ (z : ℕ). Alive (Item i (step_at z (Key.Number (pos 0)) p) 0)) ca.offset_is (opens_alive OpensIt (alive j there) fact (w.layout.body_of c.function, step_at (entry C j).offset (Key.Number (pos 0)) p) opens i m'))
+        (subst (λ (z : ℕ). Opener (w.layout.body_of c.function) (step_at z (Key.Number (pos 0)) p)) ca.offset_is (of_item OpensIt (alive j there) fact opens))
       where
         j : ℕ
         j = cf.number
@@ -266,8 +266,8 @@ module _ (s : Core) (C : Code) (w : IsCodeOf s C) (K : Knowledge) (wf : WellForm
         fact = fd.yields cf.number 0 p _ (alive cf.number there) (λ n h. absurd (subst (λ (l : List Need). In n l) (cf.as_call).is.needs_is h))
             (fact_of s C w K wf kn I sc ch cf.number (sub cf.number cf.there) z 0 OpensIt (ap (λ (a : Act). compute a (answered C p (entry C cf.number).needs z.answers)) (cf.as_call).is.act_is) tt (not_too_deep _ p _ dp))
 
-        opens : In (w.layout.body_of c.function, step_at (entry C cf.number).mark (Key.Number (pos 0)) p) (instances (entry C cf.number).act (entry C cf.number).mark p 0 OpensIt)
-        opens = subst (λ (a : Act). In (w.layout.body_of c.function, step_at (entry C cf.number).mark (Key.Number (pos 0)) p) (instances a (entry C cf.number).mark p 0 OpensIt)) (sym (cf.as_call).is.act_is) (inl refl)
+        opens : In (w.layout.body_of c.function, step_at (entry C cf.number).offset (Key.Number (pos 0)) p) (instances (entry C cf.number).act (entry C cf.number).offset p 0 OpensIt)
+        opens = subst (λ (a : Act). In (w.layout.body_of c.function, step_at (entry C cf.number).offset (Key.Number (pos 0)) p) (instances a (entry C cf.number).offset p 0 OpensIt)) (sym (cf.as_call).is.act_is) (inl refl)
 
     -- a ready wait, innermost of those merged so far: its content is live, or the content is one more of them
     module _ {p : List Step} {t k : ℕ} {b0 : Block} (ch : Chained p t k b0) (alive : AllAlive p t) (st0 : Stmt) (m0 : st0 ∈ block_list b0) (j : ℕ) (there : In j (body C t).entries) (hs : List Header) (t' : ℕ)
@@ -301,8 +301,8 @@ module _ (s : Core) (C : Code) (w : IsCodeOf s C) (K : Knowledge) (wf : WellForm
                 | inr m ↦ elim (header_answers at ns [] (λ z u. sc.waits k bb at n ns c z sp mm u) (ready_names s C w K wf kn I sc r ns c refl) rf x i (subst (λ (l : List Header). In x (flat_map (λ h. h.needs) l)) q m)) [ inl y ↦ y | inr z ↦ absurd z ]
               ]
 
-          opens : In (t', p) (instances (entry C j).act (entry C j).mark p 0 OpensIt)
-          opens = subst (λ (a : Act). In (t', p) (instances a (entry C j).mark p 0 OpensIt)) (sym en.act_is) (inl refl)
+          opens : In (t', p) (instances (entry C j).act (entry C j).offset p 0 OpensIt)
+          opens = subst (λ (a : Act). In (t', p) (instances a (entry C j).offset p 0 OpensIt)) (sym en.act_is) (inl refl)
 
           z : Known s C w K wf kn I sc ch j there
           z = known s C w K wf kn I sc ch j there (λ x h. (all x h).0)
@@ -310,7 +310,7 @@ module _ (s : Core) (C : Code) (w : IsCodeOf s C) (K : Knowledge) (wf : WellForm
           fact : fd.Fact (Item j p 0) (effect_at C j p 0 OpensIt)
           fact = fd.yields j 0 p _ (alive j there) (λ x h. (all x h).1)
               (fact_of s C w K wf kn I sc ch j there z 0 OpensIt (ap (λ (a : Act). compute a (answered C p (entry C j).needs z.answers)) en.act_is) tt
-              (subst (λ (a : Act). is_too_deep a p (instances a (entry C j).mark p 0 OpensIt) ≡ false) (sym en.act_is) (no_step (nat_le most_steps (length p)))))
+              (subst (λ (a : Act). is_too_deep a p (instances a (entry C j).offset p 0 OpensIt) ≡ false) (sym en.act_is) (no_step (nat_le max_path_steps (length p)))))
             where
               no_step : (b : Bool) → (b && false) ≡ false
               no_step true = refl
@@ -348,7 +348,7 @@ module _ (s : Core) (C : Code) (w : IsCodeOf s C) (K : Knowledge) (wf : WellForm
     pub record LoopRun (p : List Step) (t k at x : ℕ) (y : Option ℕ) (d : Block) (u : Key × Scalar) : Type 0 where
       pub number : ℕ
       pub there : In number (body C t).entries
-      pub mark_is : (entry C number).mark ≡ at
+      pub offset_is : (entry C number).offset ≡ at
       pub content : ℕ
       pub stands : BodyAs C w.layout k d content
       pub loops : loop_of (entry C number).act ≡ Some (record { body = content; value = x; turn = y })
@@ -359,7 +359,7 @@ module _ (s : Core) (C : Code) (w : IsCodeOf s C) (K : Knowledge) (wf : WellForm
       pub fact : fd.Fact (Item number p chunk_number) (effect_at C number p chunk_number (Turns turns))
       pub in_chunk : In u (chunk chunk_number turns)
 
-    module _ {p : List Step} {t k : ℕ} {b : Block} (ch : Chained p t k b) (alive : AllAlive p t) (j : ℕ) (there : In j (body C t).entries) (fed : (x : Need) → In x (entry C j).needs → fd.Fed p x) (dp : length (script_path p) < most_steps) where
+    module _ {p : List Step} {t k : ℕ} {b : Block} (ch : Chained p t k b) (alive : AllAlive p t) (j : ℕ) (there : In j (body C t).entries) (fed : (x : Need) → In x (entry C j).needs → fd.Fed p x) (dp : length (script_path p) < max_path_steps) where
       turns_fact : (z : Known s C w K wf kn I sc ch j there) (ts : Elements) → compute (entry C j).act (answered C p (entry C j).needs z.answers) ≡ Turns ts → (c : ℕ) → Reading (code_system C) (Answers s K) (Item j p c) (effect_at C j p c (Turns ts))
       turns_fact z ts e c = fact_of s C w K wf kn I sc ch j there z c (Turns ts) e tt (not_too_deep _ p _ dp)
 
@@ -369,14 +369,14 @@ module _ (s : Core) (C : Code) (w : IsCodeOf s C) (K : Knowledge) (wf : WellForm
       chunk_alive z ts lp e q (suc c) h = (let lv = chunk_alive z ts lp e q c (left_before c ts h) in rest_alive ts lv (fd.yields j c p _ lv fed (turns_fact z ts e c)) q h)
 
       turns_run : {at x t' : ℕ} {y : Option ℕ} {d : Block} (z : Known s C w K wf kn I sc ch j there) (ts : Elements) → compute (entry C j).act (answered C p (entry C j).needs z.answers) ≡ Turns ts
-          → loop_of (entry C j).act ≡ Some (record { body = t'; value = x; turn = y }) → (entry C j).mark ≡ at → In (Through, t') (ways (entry C j).act) → BodyAs C w.layout k d t' → (u : Key × Scalar) → In u ts → LoopRun p t k at x y d u
+          → loop_of (entry C j).act ≡ Some (record { body = t'; value = x; turn = y }) → (entry C j).offset ≡ at → In (Through, t') (ways (entry C j).act) → BodyAs C w.layout k d t' → (u : Key × Scalar) → In u ts → LoopRun p t k at x y d u
       turns_run {t' = t'} z ts e q mk wy ba u i =
           let f = in_some_chunk (length ts) ts u (omega arith) i in
           let lv = chunk_alive z ts _ e q f.0 (some_of (left_at f.0 ts) u (none_taken chunk_size (left_at f.0 ts) u f.1)) in
           record {
             number = j;
             there = there;
-            mark_is = mk;
+            offset_is = mk;
             content = t';
             stands = ba;
             loops = q;
@@ -389,14 +389,14 @@ module _ (s : Core) (C : Code) (w : IsCodeOf s C) (K : Knowledge) (wf : WellForm
           }
 
     run_where : {p : List Step} {t k : ℕ} {b : Block} (ch : Chained p t k b) → AllAlive p t → {at n x : ℕ} {y : Option ℕ} {d : Block} {a : Action} {vs : List Value} (u : Key × Scalar) → LoopRun p t k at x y d u → stmt at n a ∈ block_list b → Ready s K (script_path p) a vs → Opens a vs u.0 d
-        → length (script_path p) < most_steps → Where ((at, u.0) ∷ script_path p) d
+        → length (script_path p) < max_path_steps → Where ((at, u.0) ∷ script_path p) d
     run_where {p} ch alive u run m r o dp =
-        header_where ch run.number run.there run.chunk_number (Turns run.turns) m run.mark_is run.way run.stands r o dp run.alive run.fact
-        (subst (λ (l : List (ℕ × List Step)). In (run.content, step_at (entry C run.number).mark u.0 p) l) (sym (loop_instances C (entry C run.number).act _ (entry C run.number).mark p run.chunk_number (Turns run.turns) run.loops))
-        (in_map (λ (z : Key × Scalar). (run.content, step_at (entry C run.number).mark z.0 p)) u (chunk run.chunk_number run.turns) run.in_chunk))
+        header_where ch run.number run.there run.chunk_number (Turns run.turns) m run.offset_is run.way run.stands r o dp run.alive run.fact
+        (subst (λ (l : List (ℕ × List Step)). In (run.content, step_at (entry C run.number).offset u.0 p) l) (sym (loop_instances C (entry C run.number).act _ (entry C run.number).offset p run.chunk_number (Turns run.turns) run.loops))
+        (in_map (λ (z : Key × Scalar). (run.content, step_at (entry C run.number).offset z.0 p)) u (chunk run.chunk_number run.turns) run.in_chunk))
 
     pub each_run : {p : List Step} {t k : ℕ} {b : Block} (ch : Chained p t k b) → AllAlive p t → {at n x : ℕ} {a : Name} {y : Option ℕ} {d : Block} {js : List ℕ} {es : List Element} {key : Key} {v : Scalar} → stmt at n (each a x y d) ∈ block_list b
-        → StmtAs C w.layout k (stmt at n (each a x y d)) js → ((j : ℕ) → In j js → In j (body C t).entries) → Ready s K (script_path p) (each a x y d) (Many es ∷ []) → fd.ArrayFed (place s (script_path p) a) → element_of key v ∈ es → length (script_path p) < most_steps → LoopRun p t k at x y d (key, v)
+        → StmtAs C w.layout k (stmt at n (each a x y d)) js → ((j : ℕ) → In j js → In j (body C t).entries) → Ready s K (script_path p) (each a x y d) (Many es ∷ []) → fd.ArrayFed (place s (script_path p) a) → element_of key v ∈ es → length (script_path p) < max_path_steps → LoopRun p t k at x y d (key, v)
     each_run ch alive m (simple j z op as' e nd q) sub r rf i dp = absurd z
     each_run {p} {t} {k} {b} ch alive {at} {n} {x} {a} {y} {d} {js} {es} {key} {v} m (array_loop {t = t'} j en mk ba q) sub r rf i dp =
         let there = sub j (subst (λ (l : List ℕ). In j l) (sym q) (inl refl)) in
@@ -404,7 +404,7 @@ module _ (s : Core) (C : Code) (w : IsCodeOf s C) (K : Knowledge) (wf : WellForm
         turns_run ch alive j there (header_fed ch j there at n (each a x y d) _ m (own_each en mk ba) tt r rf) dp o.answers o.turns o.computed (ap loop_of en.act_is) mk (subst (λ (act : Act). In (Through, t') (ways act)) (sym en.act_is) (inl refl)) ba (key, v) (in_element o.turns (element_of key v) (subst (λ (l : List Element). element_of key v ∈ l) (sym o.all) i))
 
     pub range_run : {p : List Step} {t k : ℕ} {b : Block} (ch : Chained p t k b) → AllAlive p t → {at n x : ℕ} {lo hi : Outer} (st : Option Outer) {y : Option ℕ} {d : Block} {js : List ℕ} {vs : List Value} {rr : Bounds} {many i : ℕ} → stmt at n (range lo hi st x y d) ∈ block_list b
-        → StmtAs C w.layout k (stmt at n (range lo hi st x y d)) js → ((j : ℕ) → In j js → In j (body C t).entries) → Ready s K (script_path p) (range lo hi st x y d) vs → bounds vs ≡ Some rr → range_count rr.low rr.high rr.step ≡ Ok many → i < many → length (script_path p) < most_steps
+        → StmtAs C w.layout k (stmt at n (range lo hi st x y d)) js → ((j : ℕ) → In j js → In j (body C t).entries) → Ready s K (script_path p) (range lo hi st x y d) vs → bounds vs ≡ Some rr → range_count rr.low rr.high rr.step ≡ Ok many → i < many → length (script_path p) < max_path_steps
         → LoopRun p t k at x y d (Key.Number (pos i), Number (value_in rr.low rr.step i))
     range_run ch alive st m (simple j z op as' e nd q) sub r bq rc lt dp = absurd z
     range_run {p} ch alive {at = at} {n = n} {x = x} {lo = lo} {hi = hi} st {y = y} {d = d} {vs = vs} {rr = rr} {many = many} {i = i} m (range_loop {t = t'} j {is = is} as' en mk ba q) sub r bq rc lt dp =
@@ -415,7 +415,7 @@ module _ (s : Core) (C : Code) (w : IsCodeOf s C) (K : Knowledge) (wf : WellForm
 
     abbrev pub LoopsAlive : Type 0
     LoopsAlive = (p : List Step) (t k : ℕ) (b : Block) (ch : Chained p t k b) → AllAlive p t → (at n : ℕ) (a : Action) (vs : List Value) (key : Key) (c : Block) (js : List ℕ) → IsLoop s C w K wf kn I sc a → stmt at n a ∈ block_list b
-        → StmtAs C w.layout k (stmt at n a) js → ((j : ℕ) → In j js → In j (body C t).entries) → Ready s K (script_path p) a vs → ReadyFed (script_path p) a → Opens a vs key c → length (script_path p) < most_steps → Where ((at, key) ∷ script_path p) c
+        → StmtAs C w.layout k (stmt at n a) js → ((j : ℕ) → In j js → In j (body C t).entries) → Ready s K (script_path p) a vs → ReadyFed (script_path p) a → Opens a vs key c → length (script_path p) < max_path_steps → Where ((at, key) ∷ script_path p) c
 
     wait_stmt : {p : List Step} {t k : ℕ} {b : Block} (ch : Chained p t k b) → AllAlive p t → {at n : ℕ} {ns : List Awaited} {c : Block} {js : List ℕ} → stmt at n (wait ns c) ∈ block_list b → StmtAs C w.layout k (stmt at n (wait ns c)) js → ((j : ℕ) → In j js → In j (body C t).entries)
         → Ready s K (script_path p) (wait ns c) [] → ReadyFed (script_path p) (wait ns c) → Where (script_path p) c
@@ -439,7 +439,7 @@ module _ (s : Core) (C : Code) (w : IsCodeOf s C) (K : Knowledge) (wf : WellForm
 
     -- WHAT IS LIVE IN THE SCRIPT IS LIVE IN THE CODE
     header_step : {p : List Step} {t k : ℕ} {b : Block} (ch : Chained p t k b) → AllAlive p t → {at n : ℕ} {a : Action} {vs : List Value} {key : Key} {c : Block} {js : List ℕ} → stmt at n a ∈ block_list b
-        → StmtAs C w.layout k (stmt at n a) js → ((j : ℕ) → In j js → In j (body C t).entries) → Ready s K (script_path p) a vs → ReadyFed (script_path p) a → Opens a vs key c → length (script_path p) < most_steps → Where ((at, key) ∷ script_path p) c
+        → StmtAs C w.layout k (stmt at n a) js → ((j : ℕ) → In j js → In j (body C t).entries) → Ready s K (script_path p) a vs → ReadyFed (script_path p) a → Opens a vs key c → length (script_path p) < max_path_steps → Where ((at, key) ∷ script_path p) c
     header_step ch alive m sa sub r rf then_alone dp = when_where ch alive m sa sub r dp
     header_step ch alive m sa sub r rf then_first dp = choose_where ch alive true m sa sub r dp
     header_step ch alive m sa sub r rf else_second dp = choose_where ch alive false m sa sub r dp
@@ -450,11 +450,11 @@ module _ (s : Core) (C : Code) (w : IsCodeOf s C) (K : Knowledge) (wf : WellForm
     live_script =
         at_body refl (at_script w.script) (λ j m. live_opened Main (Item j [] 0) _ (block C (0, [])) live_main fd.main (inl refl) (in_map (λ (j : ℕ). Item j [] 0) j (body C 0).entries m)) (of_main refl refl)
 
-    pub opened_from : {path : Path} {b c : Block} {at n : ℕ} {header : Action} {vs : List Value} {key : Key} → Where path b → stmt at n header ∈ block_list b → Ready s K path header vs → ReadyFed path header → Opens header vs key c → length path < most_steps → Where ((at, key) ∷ path) c
+    pub opened_from : {path : Path} {b c : Block} {at n : ℕ} {header : Action} {vs : List Value} {key : Key} → Where path b → stmt at n header ∈ block_list b → Ready s K path header vs → ReadyFed path header → Opens header vs key c → length path < max_path_steps → Where ((at, key) ∷ path) c
     opened_from {c = c} {at = at} {header = header} {vs = vs} {key = key} (at_body {p = p} e ch alive op) m r rf o dp =
         let f = found_body s C w K wf kn I sc (chain_body s C w.layout K wf.names I sc ch) m in
         subst (λ (z : Path). Where ((at, key) ∷ z) c) e
-        (header_step ch alive m f.as_stmt f.among (subst (λ (z : Path). Ready s K z header vs) (sym e) r) (subst (λ (z : Path). ReadyFed z header) (sym e) rf) o (subst (λ (z : Path). length z < most_steps) (sym e) dp))
+        (header_step ch alive m f.as_stmt f.among (subst (λ (z : Path). Ready s K z header vs) (sym e) r) (subst (λ (z : Path). ReadyFed z header) (sym e) rf) o (subst (λ (z : Path). length z < max_path_steps) (sym e) dp))
     opened_from (between x) m r rf o dp = absurd (opens_no_wait s C w K wf kn I sc (subst (λ (z : Stmt). WaitAs C w.layout x.k z x.below x.content) (sym (only_stmt s C w K wf kn I sc m x.block_is)) x.as_wait) o)
 
     pub waited_from : {path : Path} {b c : Block} {at n : ℕ} {ns : List Awaited} → Where path b → stmt at n (wait ns c) ∈ block_list b → Ready s K path (wait ns c) [] → ReadyFed path (wait ns c) → Where path c
@@ -467,10 +467,10 @@ module _ (s : Core) (C : Code) (w : IsCodeOf s C) (K : Knowledge) (wf : WellForm
         (wait_where x.chain x.alive x.outermost x.in_block x.number x.there x.headers x.content x.as_entry x.scope m (subst (λ (z : Stmt). WaitAs C w.layout x.k z x.below x.content) (sym q) x.as_wait)
         (subst (λ (z : Path). Ready s K z (wait ns c) []) (sym x.path_is) r) (subst (λ (z : Path). ReadyFed z (wait ns c)) (sym x.path_is) rf) (λ d y. x.wrap d (subst (λ (z : Stmt). Waited s C w.layout K (script_path x.p) z d) q y)) x.answers)
 
-    pub called_from : {path : Path} {b : Block} {f : Function} {st : Stmt} {c : Call} → Where path b → st ∈ block_list b → c ∈ stmt_calls st → slice_get s.functions c.function ≡ Some f → length path < most_steps → Where ((c.at, Key.Number (pos 0)) ∷ path) f.body
+    pub called_from : {path : Path} {b : Block} {f : Function} {st : Stmt} {c : Call} → Where path b → st ∈ block_list b → c ∈ stmt_calls st → slice_get s.functions c.function ≡ Some f → length path < max_path_steps → Where ((c.at, Key.Number (pos 0)) ∷ path) f.body
     called_from {f = f} {st = st} {c = c} (at_body {p = p} e ch alive op) m n fq dp =
         let fs = found_body s C w K wf kn I sc (chain_body s C w.layout K wf.names I sc ch) m in
         let g = sc.calls st c (stmt_in s (in_block (chain_live s C w.layout K wf.names I sc ch) m)) n in
         subst (λ (z : Path). Where ((c.at, Key.Number (pos 0)) ∷ z) f.body) e
-        (call_where ch alive m n (find_call C w.layout c fs.as_stmt n) fs.among fq (g.2 ∙ ap (λ (z : Function). z.inputs) (some_same (sym g.1 ∙ fq))) (subst (λ (z : Path). length z < most_steps) (sym e) dp))
+        (call_where ch alive m n (find_call C w.layout c fs.as_stmt n) fs.among fq (g.2 ∙ ap (λ (z : Function). z.inputs) (some_same (sym g.1 ∙ fq))) (subst (λ (z : Path). length z < max_path_steps) (sym e) dp))
     called_from (between x) m n fq dp = absurd (calls_no_wait s C w K wf kn I sc (subst (λ (z : Stmt). WaitAs C w.layout x.k z x.below x.content) (sym (only_stmt s C w K wf kn I sc m x.block_is)) x.as_wait) n)

@@ -105,20 +105,20 @@ module _ (s : Core) (C : Code) (w : IsCodeOf s C) (K : Knowledge) (wf : WellForm
     pub there : In number (body C body_number).entries
     pub kinds : ReadKinds path number
 
-  not_fixed : (mark : ℕ) (p q : List Step) (key : Key) (wy : Way) (r : code.Name) → PathBy wy mark p key q → Fixes C mark wy r → (d : List Step) (v : Variable) → place_at C q r ≡ Datum d v → ⊥
-  not_fixed mark p q key InPlace r pb fx d v e = fx
-  not_fixed mark p q key Through r pb fx d v e = fx
-  not_fixed mark p q key Calling r pb fx d v e =
+  not_fixed : (offset : ℕ) (p q : List Step) (key : Key) (wy : Way) (r : code.Name) → PathBy wy offset p key q → Fixes C offset wy r → (d : List Step) (v : Variable) → place_at C q r ≡ Datum d v → ⊥
+  not_fixed offset p q key InPlace r pb fx d v e = fx
+  not_fixed offset p q key Through r pb fx d v e = fx
+  not_fixed offset p q key Calling r pb fx d v e =
       let place_is : place_at C q r ≡ Constant fx.2 = (λ i. place_at C (pb i) (fx.3 i)) ∙ ap (argued C p) fx.4 in
       not_constant (sym place_is ∙ e)
 
-  kinds_below : {u : ℕ} (p q : List Step) (key : Key) (j : ℕ) (wy : Way) → In (wy, u) (ways (entry C j).act) → PathBy wy (entry C j).mark p key q → Standing u → ReadKinds p j → (i : ℕ) → In i (body C u).entries → ReadKinds q i
+  kinds_below : {u : ℕ} (p q : List Step) (key : Key) (j : ℕ) (wy : Way) → In (wy, u) (ways (entry C j).act) → PathBy wy (entry C j).offset p key q → Standing u → ReadKinds p j → (i : ℕ) → In i (body C u).entries → ReadKinds q i
   kinds_below {u} p q key j wy wi pb sd rec i im r rm d v e = by ((I.fits j wy u wi).reads i r im rm)
     where
-      by : ((Declared C u r ⊎ SeenFrom C (λ e. e.reads) j wy r) ⊎ Fixes C (entry C j).mark wy r) → Kind s C w K wf I sc r v
+      by : ((Declared C u r ⊎ SeenFrom C (λ e. e.reads) j wy r) ⊎ Fixes C (entry C j).offset wy r) → Kind s C w K wf I sc r v
       by (inl (inl dc)) = declared_kind s C w K wf I sc sd.stands q r dc d v e
-      by (inl (inr sf)) = outside_kind s C w K wf I sc (λ e. e.reads) (covering_reads s C w.layout K wf.names I sc) q p j wy r sf (seen_place C wy (entry C j).mark p key q r sf.outside pb sf.seen) rec d v e
-      by (inr fx) = absurd (not_fixed (entry C j).mark p q key wy r pb fx d v e)
+      by (inl (inr sf)) = outside_kind s C w K wf I sc (λ e. e.reads) (covering_reads s C w.layout K wf.names I sc) q p j wy r sf (seen_place C wy (entry C j).offset p key q r sf.outside pb sf.seen) rec d v e
+      by (inr fx) = absurd (not_fixed (entry C j).offset p q key wy r pb fx d v e)
 
   module _ (F : Task → TaskEffect → Type 0) (can : (t : Task) (e : TaskEffect) → Live (code_system C) F t → F t e → Can (code_system C) t e) where
     script_item : {t u : Task} (e : TaskEffect) (o : Opening Task CodePlaces.Place) → t ≡ Main → Can (code_system C) t e → In o e.opens → In u o.tasks → StandingItem u

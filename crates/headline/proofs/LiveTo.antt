@@ -22,7 +22,7 @@ use Rattle.language.specs.Meaning.{ValueUnder, LiveStmt, in_block, Ready, cells_
 use Rattle.language.specs.Members.{◌∈◌, first, later}
 use Rattle.language.specs.Openings.{Bounds, bounds, in_turns, turn, one_way, two_ways, then_alone, then_first, else_second, item}
 use Rattle.language.specs.Parts.{parts, outers, outer_parts, part_cells, cells, stmt_calls, block_list}
-use Rattle.language.specs.Places.{most_steps}
+use Rattle.language.specs.Places.{max_path_steps}
 use Rattle.language.specs.WellFormed.{WellFormed}
 use Rattle.language_laws.proofs.Declared.{stmt_in}
 use Rattle.language.proofs.Members.{to_right}
@@ -56,21 +56,21 @@ use Rattle.headline.proofs.Roles.{parts_of, PartOf, OwnAs, own_simple, own_branc
 use Rattle.headline.proofs.Transfer.{reading_valid}
 
 -- a condition that opens a block
-pub record Branched (r : Result Value OpFault) (t : ℕ) (d : Option ℕ) (mark : ℕ) (p : List Step) (s : ℕ × List Step) : Type 0 where
+pub record Branched (r : Result Value OpFault) (t : ℕ) (d : Option ℕ) (offset : ℕ) (p : List Step) (s : ℕ × List Step) : Type 0 where
   pub condition : Value
   pub is : r ≡ Ok condition
-  pub taken : ((truth_of condition ≡ true) × (s ≡ (t, step_at mark (Key.Number (pos 0)) p))) ⊎ ((truth_of condition ≡ false) × ((u : ℕ) × (d ≡ Some u) × (s ≡ (u, step_at mark (Key.Number (pos 1)) p))))
+  pub taken : ((truth_of condition ≡ true) × (s ≡ (t, step_at offset (Key.Number (pos 0)) p))) ⊎ ((truth_of condition ≡ false) × ((u : ℕ) × (d ≡ Some u) × (s ≡ (u, step_at offset (Key.Number (pos 1)) p))))
 
 pub in_one : {X : Type 0} (x y : X) → In x (y ∷ []) → x ≡ y
 in_one x y (inl e) = e
 in_one x y (inr z) = absurd z
 
-pub branch_of : (c : ℕ) (r : Result Value OpFault) (t : ℕ) (d : Option ℕ) (mark : ℕ) (p : List Step) (s : ℕ × List Step) → In s (at_first c (branch_instances (branched r) t d mark p)) → Branched r t d mark p s
-branch_of (suc c) r t d mark p s h = absurd h
-branch_of zero (Err f) t d mark p s h = absurd h
-branch_of zero (Ok v) t d mark p s h = by (truth_of v) refl d h
+pub branch_of : (c : ℕ) (r : Result Value OpFault) (t : ℕ) (d : Option ℕ) (offset : ℕ) (p : List Step) (s : ℕ × List Step) → In s (at_first c (branch_instances (branched r) t d offset p)) → Branched r t d offset p s
+branch_of (suc c) r t d offset p s h = absurd h
+branch_of zero (Err f) t d offset p s h = absurd h
+branch_of zero (Ok v) t d offset p s h = by (truth_of v) refl d h
   where
-    by : (b : Bool) → truth_of v ≡ b → (d : Option ℕ) → In s (branch_instances (Takes b) t d mark p) → Branched (Ok v) t d mark p s
+    by : (b : Bool) → truth_of v ≡ b → (d : Option ℕ) → In s (branch_instances (Takes b) t d offset p) → Branched (Ok v) t d offset p s
     by true q d h = record { condition = v; is = refl; taken = inl (q, in_one s _ h) }
     by false q None h = absurd h
     by false q (Some u) h = record { condition = v; is = refl; taken = inr (q, (u, refl, in_one s _ h)) }
@@ -152,25 +152,25 @@ outer_among (x ∷ os) o (later h) = to_right x.parts _ (later (outer_among os o
 pub call_of : (st : Stmt) (x : Call) → Co.calls x ∈ parts_of st → x ∈ stmt_calls st
 call_of (stmt at n a) x h = call_among (parts a) h
 
-pub simple_opens_none : (l : Layout) (k c mark : ℕ) (p : List Step) (ys : List Got) (a : Action) → IsSimple a → instances (simple_act l k (own_needs l k a) a) mark p c (compute (simple_act l k (own_needs l k a) a) ys) ≡ []
-simple_opens_none l k c mark p ys (Co.assign x o) z = refl
-simple_opens_none l k c mark p ys (Co.fill x o) z = by (own_expr o)
+pub simple_opens_none : (l : Layout) (k c offset : ℕ) (p : List Step) (ys : List Got) (a : Action) → IsSimple a → instances (simple_act l k (own_needs l k a) a) offset p c (compute (simple_act l k (own_needs l k a) a) ys) ≡ []
+simple_opens_none l k c offset p ys (Co.assign x o) z = refl
+simple_opens_none l k c offset p ys (Co.fill x o) z = by (own_expr o)
   where
-    by : (e : Expr) → instances (fill_act l k (own_needs l k (Co.fill x o)) x e) mark p c (compute (fill_act l k (own_needs l k (Co.fill x o)) x e) ys) ≡ []
+    by : (e : Expr) → instances (fill_act l k (own_needs l k (Co.fill x o)) x e) offset p c (compute (fill_act l k (own_needs l k (Co.fill x o)) x e) ys) ≡ []
     by (Co.whole y) = refl
     by (Co.literal y) = refl
     by (Co.name y) = refl
     by (Co.operator y es) = refl
-simple_opens_none l k c mark p ys (Co.insert x i o) z = refl
-simple_opens_none l k c mark p ys (Co.print x o) z = refl
-simple_opens_none l k c mark p ys (Co.assert x o) z = refl
-simple_opens_none l k c mark p ys (Co.declare v) z = absurd z
-simple_opens_none l k c mark p ys (Co.call_alone x y o) z = absurd z
-simple_opens_none l k c mark p ys (when o d) z = absurd z
-simple_opens_none l k c mark p ys (choose o d e) z = absurd z
-simple_opens_none l k c mark p ys (range o d e f g h) z = absurd z
-simple_opens_none l k c mark p ys (each o d e f) z = absurd z
-simple_opens_none l k c mark p ys (wait o d) z = absurd z
+simple_opens_none l k c offset p ys (Co.insert x i o) z = refl
+simple_opens_none l k c offset p ys (Co.print x o) z = refl
+simple_opens_none l k c offset p ys (Co.assert x o) z = refl
+simple_opens_none l k c offset p ys (Co.declare v) z = absurd z
+simple_opens_none l k c offset p ys (Co.call_alone x y o) z = absurd z
+simple_opens_none l k c offset p ys (when o d) z = absurd z
+simple_opens_none l k c offset p ys (choose o d e) z = absurd z
+simple_opens_none l k c offset p ys (range o d e f g h) z = absurd z
+simple_opens_none l k c offset p ys (each o d e f) z = absurd z
+simple_opens_none l k c offset p ys (wait o d) z = absurd z
 
 pub good_in : {x y : Effect Task CodePlaces.Place Key Scalar} → ◌≡◌ {A = Outcome Task CodePlaces.Place Key Scalar EntryFault} (Good x) (Good y) → x ≡ y
 good_in h = cc
@@ -207,22 +207,22 @@ module _ (s : Core) (C : Code) (w : IsCodeOf s C) (K : Knowledge) (wf : WellForm
         subst (λ (l : List Need). ValueUnder s K (script_path p) x (eval (answered C p (entry C i).needs f.answers) (over k l x))) q
         (computes s C K p k (entry C i).needs (answered C p (entry C i).needs f.answers) answers_all says x g (λ n m. subst (λ (l : List Need). In n l) (sym q) (h n m)))
 
-    pub not_deep : is_too_deep (entry C i).act p (instances (entry C i).act (entry C i).mark p c (compute (entry C i).act (answered C p (entry C i).needs f.answers))) ≡ false
+    pub not_deep : is_too_deep (entry C i).act p (instances (entry C i).act (entry C i).offset p c (compute (entry C i).act (answered C p (entry C i).needs f.answers))) ≡ false
     not_deep = shallow _ _ _ _ f.is
 
-    pub depth : (q : ℕ × List Step) → steps_on (entry C i).act ≡ true → In q (instances (entry C i).act (entry C i).mark p c (compute (entry C i).act (answered C p (entry C i).needs f.answers))) → length (script_path p) < most_steps
+    pub depth : (q : ℕ × List Step) → steps_on (entry C i).act ≡ true → In q (instances (entry C i).act (entry C i).offset p c (compute (entry C i).act (answered C p (entry C i).needs f.answers))) → length (script_path p) < max_path_steps
     depth q st h = depth_below (entry C i).act p q _ st h not_deep
 
     abbrev Opened : ℕ × List Step → Type 0
-    Opened q = In q (instances (entry C i).act (entry C i).mark p c (compute (entry C i).act (answered C p (entry C i).needs f.answers)))
+    Opened q = In q (instances (entry C i).act (entry C i).offset p c (compute (entry C i).act (answered C p (entry C i).needs f.answers)))
 
     -- CALLS
     call_opened : (q : ℕ × List Step) → Opened q → (st : Stmt) → st ∈ block_list b → (x : Call) → x ∈ stmt_calls st → {all : List Co.Part} {at : ℕ} {pr : ℤ} → CallAs C w.layout k all at pr x i → ((d : Cell) → d ∈ part_cells all → d ∈ cells st) → OpenedBlock q
     call_opened q h st m x n ca cs =
         let g = sc.calls st x (stmt_in s (in_block (chain_live s C w.layout K wf.names I sc ch) m)) n in
-        let h' = subst (λ (a : Act). In q (instances a (entry C i).mark p c (compute a (answered C p (entry C i).needs f.answers)))) ca.is.act_is h in
+        let h' = subst (λ (a : Act). In q (instances a (entry C i).offset p c (compute a (answered C p (entry C i).needs f.answers)))) ca.is.act_is h in
         let q' : (w.layout.body_of x.function, step_at x.at (Key.Number (pos 0)) p) ≡ q =
-        ap (λ (z : ℕ). (w.layout.body_of x.function, step_at z (Key.Number (pos 0)) p)) (sym ca.mark_is) ∙ sym (first_one c q _ h') in
+        ap (λ (z : ℕ). (w.layout.body_of x.function, step_at z (Key.Number (pos 0)) p)) (sym ca.offset_is) ∙ sym (first_one c q _ h') in
         subst OpenedBlock q' (record {
           inputs = g.0.inputs;
           inner_block = g.0.body;
@@ -241,21 +241,21 @@ module _ (s : Core) (C : Code) (w : IsCodeOf s C) (K : Knowledge) (wf : WellForm
     pub truth_is : (v : Value) (d : Bool) → v ≡ One (Truth d) → (e : Bool) → truth_of v ≡ e → v ≡ One (Truth e)
     truth_is v d q e h = let z : d ≡ e = sym (ap truth_of q) ∙ h in q ∙ ap (λ (x : Bool). One (Truth x)) z
 
-    moved_to : {at u : ℕ} {key : Key} {kk : ℕ} {bb : Block} (q : ℕ × List Step) → (entry C i).mark ≡ at → q ≡ (u, step_at (entry C i).mark key p) → Chain s C w.layout K (step_at at key p) u kk bb → OpenedBlock q
+    moved_to : {at u : ℕ} {key : Key} {kk : ℕ} {bb : Block} (q : ℕ × List Step) → (entry C i).offset ≡ at → q ≡ (u, step_at (entry C i).offset key p) → Chain s C w.layout K (step_at at key p) u kk bb → OpenedBlock q
     moved_to {at} {u} {key} {kk} {bb} q mk e h =
         let e' : (u, step_at at key p) ≡ q = ap (λ (z : ℕ). (u, step_at z key p)) (sym mk) ∙ sym e in
         subst OpenedBlock e' (record { inputs = kk; inner_block = bb; chain = h })
 
     when_opened : (q : ℕ × List Step) → Opened q → {at n t' : ℕ} {o : Outer} {d : Block} → stmt at n (when o d) ∈ block_list b
-        → IsEntry (entry C i) at (pos 0) (own_needs w.layout k (when o d)) (If (over k (own_needs w.layout k (when o d)) (seen w.layout o.cell)) t' None) → (entry C i).mark ≡ at → BodyAs C w.layout k d t' → OpenedBlock q
+        → IsEntry (entry C i) at (pos 0) (own_needs w.layout k (when o d)) (If (over k (own_needs w.layout k (when o d)) (seen w.layout o.cell)) t' None) → (entry C i).offset ≡ at → BodyAs C w.layout k d t' → OpenedBlock q
     when_opened q h {at} {n} {t'} {o} {d} m en mk ba =
         by r.taken
       where
         E : code.Expr
         E = over k (own_needs w.layout k (when o d)) (seen w.layout o.cell)
 
-        r : Branched (eval (answered C p (entry C i).needs f.answers) (over k (own_needs w.layout k (when o d)) (seen w.layout o.cell))) t' None (entry C i).mark p q
-        r = branch_of c _ t' None (entry C i).mark p q (subst (λ (a : Act). In q (instances a (entry C i).mark p c (compute a (answered C p (entry C i).needs f.answers)))) en.act_is h)
+        r : Branched (eval (answered C p (entry C i).needs f.answers) (over k (own_needs w.layout k (when o d)) (seen w.layout o.cell))) t' None (entry C i).offset p q
+        r = branch_of c _ t' None (entry C i).offset p q (subst (λ (a : Act). In q (instances a (entry C i).offset p c (compute a (answered C p (entry C i).needs f.answers)))) en.act_is h)
 
         z : Mn.LiveStmt s K (script_path p) (stmt at n (when o d)) × K (value (script_path p, o.cell.node) r.condition)
         z = condition_known at n (when o d) o m (outer_in o.parts o.cell) en.needs_is r.condition r.is
@@ -263,19 +263,19 @@ module _ (s : Core) (C : Code) (w : IsCodeOf s C) (K : Knowledge) (wf : WellForm
         ty' : (x : Bool) × (r.condition ≡ One (Truth x))
         ty' = ty.when_truth (script_path p) at n o d r.condition (stmt_in s z.0) z.1
 
-        by : ((truth_of r.condition ≡ true) × (q ≡ (t', step_at (entry C i).mark (Key.Number (pos 0)) p))) ⊎ ((truth_of r.condition ≡ false) × ((u : ℕ) × (None ≡ Some u) × (q ≡ (u, step_at (entry C i).mark (Key.Number (pos 1)) p)))) → OpenedBlock q
+        by : ((truth_of r.condition ≡ true) × (q ≡ (t', step_at (entry C i).offset (Key.Number (pos 0)) p))) ⊎ ((truth_of r.condition ≡ false) × ((u : ℕ) × (None ≡ Some u) × (q ≡ (u, step_at (entry C i).offset (Key.Number (pos 1)) p)))) → OpenedBlock q
         by (inl g) =
             let kv : K (value (script_path p, o.cell.node) (One (Truth true))) = subst (λ (v : Value). K (value (script_path p, o.cell.node) v)) (truth_is r.condition ty'.0 ty'.1 true g.0) z.1 in
             moved_to q mk g.1 (by_header i ch m there mk (subst (λ (a : Act). In (Through, t') (ways a)) (sym en.act_is) (inl refl)) ba (cells_known (next_cell kv no_cell) one_way) then_alone (depth q (ap steps_on en.act_is) h))
         by (inr g) = absurd (cc (g.1.1))
 
     choose_opened : (q : ℕ × List Step) → Opened q → {at n t' u' : ℕ} {o : Outer} {d d' : Block} → stmt at n (choose o d d') ∈ block_list b
-        → IsEntry (entry C i) at (pos 0) (own_needs w.layout k (choose o d d')) (If (over k (own_needs w.layout k (choose o d d')) (seen w.layout o.cell)) t' (Some u')) → (entry C i).mark ≡ at → BodyAs C w.layout k d t' → BodyAs C w.layout k d' u' → OpenedBlock q
+        → IsEntry (entry C i) at (pos 0) (own_needs w.layout k (choose o d d')) (If (over k (own_needs w.layout k (choose o d d')) (seen w.layout o.cell)) t' (Some u')) → (entry C i).offset ≡ at → BodyAs C w.layout k d t' → BodyAs C w.layout k d' u' → OpenedBlock q
     choose_opened q h {at} {n} {t'} {u'} {o} {d} {d'} m en mk ba bb =
         by r.taken
       where
-        r : Branched (eval (answered C p (entry C i).needs f.answers) (over k (own_needs w.layout k (choose o d d')) (seen w.layout o.cell))) t' (Some u') (entry C i).mark p q
-        r = branch_of c _ t' (Some u') (entry C i).mark p q (subst (λ (a : Act). In q (instances a (entry C i).mark p c (compute a (answered C p (entry C i).needs f.answers)))) en.act_is h)
+        r : Branched (eval (answered C p (entry C i).needs f.answers) (over k (own_needs w.layout k (choose o d d')) (seen w.layout o.cell))) t' (Some u') (entry C i).offset p q
+        r = branch_of c _ t' (Some u') (entry C i).offset p q (subst (λ (a : Act). In q (instances a (entry C i).offset p c (compute a (answered C p (entry C i).needs f.answers)))) en.act_is h)
 
         z : Mn.LiveStmt s K (script_path p) (stmt at n (choose o d d')) × K (value (script_path p, o.cell.node) r.condition)
         z = condition_known at n (choose o d d') o m (outer_in o.parts o.cell) en.needs_is r.condition r.is
@@ -286,11 +286,11 @@ module _ (s : Core) (C : Code) (w : IsCodeOf s C) (K : Knowledge) (wf : WellForm
         known : (x : Bool) → truth_of r.condition ≡ x → K (value (script_path p, o.cell.node) (One (Truth x)))
         known x g = subst (λ (v : Value). K (value (script_path p, o.cell.node) v)) (truth_is r.condition ty'.0 ty'.1 x g) z.1
 
-        by : ((truth_of r.condition ≡ true) × (q ≡ (t', step_at (entry C i).mark (Key.Number (pos 0)) p))) ⊎ ((truth_of r.condition ≡ false) × ((u : ℕ) × (Some u' ≡ Some u) × (q ≡ (u, step_at (entry C i).mark (Key.Number (pos 1)) p)))) → OpenedBlock q
+        by : ((truth_of r.condition ≡ true) × (q ≡ (t', step_at (entry C i).offset (Key.Number (pos 0)) p))) ⊎ ((truth_of r.condition ≡ false) × ((u : ℕ) × (Some u' ≡ Some u) × (q ≡ (u, step_at (entry C i).offset (Key.Number (pos 1)) p)))) → OpenedBlock q
         by (inl g) =
             moved_to q mk g.1 (by_header i ch m there mk (subst (λ (a : Act). In (Through, t') (ways a)) (sym en.act_is) (inl refl)) ba (cells_known (next_cell (known true g.0) no_cell) two_ways) then_first (depth q (ap steps_on en.act_is) h))
         by (inr g) =
-            let e : q ≡ (u', step_at (entry C i).mark (Key.Number (pos 1)) p) = g.1.2 ∙ ap (λ (z : ℕ). (z, step_at (entry C i).mark (Key.Number (pos 1)) p)) (sym (Op.some_same g.1.1)) in
+            let e : q ≡ (u', step_at (entry C i).offset (Key.Number (pos 1)) p) = g.1.2 ∙ ap (λ (z : ℕ). (z, step_at (entry C i).offset (Key.Number (pos 1)) p)) (sym (Op.some_same g.1.1)) in
             moved_to q mk e (by_header i ch m there mk (subst (λ (a : Act). In (Through, u') (ways a)) (sym en.act_is) (inr (inl refl))) bb (cells_known (next_cell (known false g.0) no_cell) two_ways) else_second (depth q (ap steps_on en.act_is) h))
 
     -- WAITS
@@ -328,21 +328,21 @@ module _ (s : Core) (C : Code) (w : IsCodeOf s C) (K : Knowledge) (wf : WellForm
         }
 
     -- LOOPS
-    pub turns_are : (lp : code.Loop) (x : Computed) (q : ℕ × List Step) → In q (turn_instances lp (entry C i).mark p (chunk c (turns_of x))) → (y : Key × Scalar) × In y (turns_of x) × (q ≡ (lp.body, step_at (entry C i).mark y.0 p))
+    pub turns_are : (lp : code.Loop) (x : Computed) (q : ℕ × List Step) → In q (turn_instances lp (entry C i).offset p (chunk c (turns_of x))) → (y : Key × Scalar) × In y (turns_of x) × (q ≡ (lp.body, step_at (entry C i).offset y.0 p))
     turns_are lp x q h =
-        let r = in_unmap (λ (y : Key × Scalar). (lp.body, step_at (entry C i).mark y.0 p)) q (chunk c (turns_of x)) h in
+        let r = in_unmap (λ (y : Key × Scalar). (lp.body, step_at (entry C i).offset y.0 p)) q (chunk c (turns_of x)) h in
         (r.0, in_chunk c (turns_of x) r.0 r.1, sym r.2)
 
     each_opened : (q : ℕ × List Step) → Opened q → {at n x t' : ℕ} {a : Name} {y : Option ℕ} {d : Block} → stmt at n (each a x y d) ∈ block_list b
-        → IsEntry (entry C i) at (pos 0) (own_needs w.layout k (each a x y d)) (code.Each (record { body = t'; value = x; turn = y })) → (entry C i).mark ≡ at → BodyAs C w.layout k d t' → OpenedBlock q
+        → IsEntry (entry C i) at (pos 0) (own_needs w.layout k (each a x y d)) (code.Each (record { body = t'; value = x; turn = y })) → (entry C i).offset ≡ at → BodyAs C w.layout k d t' → OpenedBlock q
     each_opened q h {at} {n} {x} {t'} {a} {y} {d} m en mk ba =
         by (answered C p (entry C i).needs f.answers) (subst (λ (l : List Need). AnsAll s C K p l (answered C p (entry C i).needs f.answers)) en.needs_is answers_all)
-        (turns_are (record { body = t'; value = x; turn = y }) (compute (code.Each (record { body = t'; value = x; turn = y })) (answered C p (entry C i).needs f.answers)) q (subst (λ (z : Act). In q (instances z (entry C i).mark p c (compute z (answered C p (entry C i).needs f.answers)))) en.act_is h))
+        (turns_are (record { body = t'; value = x; turn = y }) (compute (code.Each (record { body = t'; value = x; turn = y })) (answered C p (entry C i).needs f.answers)) q (subst (λ (z : Act). In q (instances z (entry C i).offset p c (compute z (answered C p (entry C i).needs f.answers)))) en.act_is h))
       where
         g : IsIn k a
         g = sc.loops k b at n x a y d (chain_scope s C w.layout K wf.names I sc ch) m
 
-        by : (zs : List Got) → AnsAll s C K p (code.Closed (name_as k true a) ∷ []) zs → (u : Key × Scalar) × In u (content (answer_at zs 0)) × (q ≡ (t', step_at (entry C i).mark u.0 p)) → OpenedBlock q
+        by : (zs : List Got) → AnsAll s C K p (code.Closed (name_as k true a) ∷ []) zs → (u : Key × Scalar) × In u (content (answer_at zs 0)) × (q ≡ (t', step_at (entry C i).offset u.0 p)) → OpenedBlock q
         by [] z u = absurd z
         by (z ∷ zs) al u =
             let r = says.array a g (subst (λ (l : List Need). In (code.Closed (name_as k true a)) l) (sym en.needs_is) (inl refl)) z al.0 in
@@ -368,7 +368,7 @@ module _ (s : Core) (C : Code) (w : IsCodeOf s C) (K : Knowledge) (wf : WellForm
         → (ms : List Need) → own_needs w.layout k (range lo hi st x y d) ≡ ms
         → IsEntry (entry C i) at (pos 0) ms
         (code.Range (over k ms (seen w.layout lo.cell)) (over k ms (seen w.layout hi.cell)) (over k ms (step_expr w.layout k st)) (record { body = t'; value = x; turn = y }))
-        → (entry C i).mark ≡ at → BodyAs C w.layout k d t' → (u : Key × Scalar) → q ≡ (t', step_at (entry C i).mark u.0 p)
+        → (entry C i).offset ≡ at → BodyAs C w.layout k d t' → (u : Key × Scalar) → q ≡ (t', step_at (entry C i).offset u.0 p)
         → Ranged (eval (answered C p (entry C i).needs f.answers) (over k ms (seen w.layout lo.cell))) (eval (answered C p (entry C i).needs f.answers) (over k ms (seen w.layout hi.cell))) (eval (answered C p (entry C i).needs f.answers) (over k ms (step_expr w.layout k st))) u
         → OpenedBlock q
     range_finish q h at n x t' lo hi None y d m ms mq en mk ba u uq r =
@@ -382,7 +382,7 @@ module _ (s : Core) (C : Code) (w : IsCodeOf s C) (K : Knowledge) (wf : WellForm
         let nb = bounds_two r.low r.high bd.0 bd.1 in
         let st1 : number_of r.step ≡ bd.0.step = ap number_of (ok_step r.step_is) ∙ sym nb.2 in
         let rc : range_count bd.0.low bd.0.high bd.0.step ≡ Ok r.many = (λ i. range_count (sym nb.0 i) (sym nb.1 i) (sym st1 i)) ∙ r.count in
-        moved_to q mk (uq ∙ ap (λ (z : Key). (t', step_at (entry C i).mark z p)) r.key_is)
+        moved_to q mk (uq ∙ ap (λ (z : Key). (t', step_at (entry C i).offset z p)) r.key_is)
         (by_header i ch m there mk (subst (λ (z : Act). In (Through, t') (ways z)) (sym en.act_is) (inl refl)) ba (cells_known ka (in_turns bd.1 rc)) (turn bd.1 rc r.below) (depth q (ap steps_on en.act_is) h))
     range_finish q h at n x t' lo hi (Some o) y d m ms mq en mk ba u uq r =
         let known = range_known at n x lo hi (Some o) y d m ms mq en.needs_is in
@@ -396,25 +396,25 @@ module _ (s : Core) (C : Code) (w : IsCodeOf s C) (K : Knowledge) (wf : WellForm
         let bd = ty.range_bounds (script_path p) at n x lo hi (Some o) y d (r.low ∷ r.high ∷ r.step ∷ []) (stmt_in s (in_block (chain_live s C w.layout K wf.names I sc ch) m)) ka in
         let nb = bounds_three r.low r.high r.step bd.0 bd.1 in
         let rc : range_count bd.0.low bd.0.high bd.0.step ≡ Ok r.many = (λ i. range_count (sym nb.0 i) (sym nb.1 i) (sym nb.2 i)) ∙ r.count in
-        moved_to q mk (uq ∙ ap (λ (z : Key). (t', step_at (entry C i).mark z p)) r.key_is)
+        moved_to q mk (uq ∙ ap (λ (z : Key). (t', step_at (entry C i).offset z p)) r.key_is)
         (by_header i ch m there mk (subst (λ (z : Act). In (Through, t') (ways z)) (sym en.act_is) (inl refl)) ba (cells_known ka (in_turns bd.1 rc)) (turn bd.1 rc r.below) (depth q (ap steps_on en.act_is) h))
 
     range_opened : (q : ℕ × List Step) → Opened q → {at n x t' : ℕ} {lo hi : Outer} {st : Option Outer} {y : Option ℕ} {d : Block} → stmt at n (range lo hi st x y d) ∈ block_list b
         → (ms : List Need) → own_needs w.layout k (range lo hi st x y d) ≡ ms
         → IsEntry (entry C i) at (pos 0) ms
         (code.Range (over k ms (seen w.layout lo.cell)) (over k ms (seen w.layout hi.cell)) (over k ms (step_expr w.layout k st)) (record { body = t'; value = x; turn = y }))
-        → (entry C i).mark ≡ at → BodyAs C w.layout k d t' → OpenedBlock q
+        → (entry C i).offset ≡ at → BodyAs C w.layout k d t' → OpenedBlock q
     range_opened q h {at} {n} {x} {t'} {lo} {hi} {st} {y} {d} m ms mq en mk ba =
         let lp : code.Loop = record { body = t'; value = x; turn = y } in
         let rl = eval (answered C p (entry C i).needs f.answers) (over k ms (seen w.layout lo.cell)) in
         let rh = eval (answered C p (entry C i).needs f.answers) (over k ms (seen w.layout hi.cell)) in
         let rs = eval (answered C p (entry C i).needs f.answers) (over k ms (step_expr w.layout k st)) in
-        let u = turns_are lp (ranged rl rh rs) q (subst (λ (z : Act). In q (instances z (entry C i).mark p c (compute z (answered C p (entry C i).needs f.answers)))) en.act_is h) in
+        let u = turns_are lp (ranged rl rh rs) q (subst (λ (z : Act). In q (instances z (entry C i).offset p c (compute z (answered C p (entry C i).needs f.answers)))) en.act_is h) in
         range_finish q h at n x t' lo hi st y d m ms mq en mk ba u.0 u.2 (ranged_of rl rh rs u.0 u.1)
 
     -- A BLOCK THAT AN ITEM OPENS IS LIVE
-    no_way : {a : Act} {q : ℕ × List Step} → (entry C i).act ≡ a → instances a (entry C i).mark p c (compute a (answered C p (entry C i).needs f.answers)) ≡ [] → Opened q → OpenedBlock q
-    no_way {a} {q} e z h = absurd (subst (λ (l : List (ℕ × List Step)). In q l) z (subst (λ (z : Act). In q (instances z (entry C i).mark p c (compute z (answered C p (entry C i).needs f.answers)))) e h))
+    no_way : {a : Act} {q : ℕ × List Step} → (entry C i).act ≡ a → instances a (entry C i).offset p c (compute a (answered C p (entry C i).needs f.answers)) ≡ [] → Opened q → OpenedBlock q
+    no_way {a} {q} e z h = absurd (subst (λ (l : List (ℕ × List Step)). In q l) z (subst (λ (z : Act). In q (instances z (entry C i).offset p c (compute z (answered C p (entry C i).needs f.answers)))) e h))
 
     part_opens : (q : ℕ × List Step) → Opened q → (st : Stmt) → st ∈ block_list b → PartOf C w.layout k st i → OpenedBlock q
     part_opens q h st m po = by po.as_part po.there po.in_stmt
@@ -427,14 +427,14 @@ module _ (s : Core) (C : Code) (w : IsCodeOf s C) (K : Knowledge) (wf : WellForm
         by (a_call {c = x} {j = j'} ca) j v = call_opened q h st m x (call_of st x v) (subst (λ (z : ℕ). CallAs C w.layout k po.all po.at po.priority x z) (sym (in_one i j' j)) ca) po.cells_in
 
     own_opens : (q : ℕ × List Step) → Opened q → (st : Stmt) → st ∈ block_list b → OwnAs C w.layout k st i → OpenedBlock q
-    own_opens q h st m (own_simple {a = a} z en nd) = no_way {q = q} en.act_is (simple_opens_none w.layout k c (entry C i).mark p _ a z) h
+    own_opens q h st m (own_simple {a = a} z en nd) = no_way {q = q} en.act_is (simple_opens_none w.layout k c (entry C i).offset p _ a z) h
     own_opens q h st m (own_branch en mk ba) = when_opened q h m en mk ba
     own_opens q h st m (own_branches en mk ba bb) = choose_opened q h m en mk ba bb
     own_opens q h st m (own_range en mk ba) = range_opened q h m _ refl en mk ba
     own_opens q h st m (own_each en mk ba) = each_opened q h m en mk ba
     own_opens q h st m (own_wait {t = t'} wa en) =
         let r = wait_opened wa (chain_scope s C w.layout K wf.names I sc ch) m (λ z j. subst (λ (l : List Need). In z l) (sym en.needs_is) (in_once z _ j)) in
-        let e : q ≡ (t', p) = first_one c q (t', p) (subst (λ (z : Act). In q (instances z (entry C i).mark p c (compute z (answered C p (entry C i).needs f.answers)))) en.act_is h) in
+        let e : q ≡ (t', p) = first_one c q (t', p) (subst (λ (z : Act). In q (instances z (entry C i).offset p c (compute z (answered C p (entry C i).needs f.answers)))) en.act_is h) in
         subst OpenedBlock (sym e) (record { inputs = k; inner_block = r.content; chain = by_wait i ch m there (subst (λ (z : Act). In (InPlace, t') (ways z)) (sym en.act_is) (inl refl)) r.stands r.waited })
 
   -- an item of a live block: its entry is one of a body that stands for a block that is live in the script
@@ -450,7 +450,7 @@ module _ (s : Core) (C : Code) (w : IsCodeOf s C) (K : Knowledge) (wf : WellForm
     pub there : In number (body C body_number).entries
 
   pub opens_block : {p : List Step} {t k : ℕ} {b : Block} (ch : Chain s C w.layout K p t k b) (i c : ℕ) (there : In i (body C t).entries) (e : Effect Task CodePlaces.Place Key Scalar) (f : Fact (Item i p c) e) (q : ℕ × List Step)
-      → In q (instances (entry C i).act (entry C i).mark p c (compute (entry C i).act (answered C p (entry C i).needs f.answers))) → OpenedBlock q
+      → In q (instances (entry C i).act (entry C i).offset p c (compute (entry C i).act (answered C p (entry C i).needs f.answers))) → OpenedBlock q
   opens_block {t = t} {k = k} {b = b} ch i c there e f q h = by_body (chain_body s C w.layout K wf.names I sc ch)
     where
       by_role : RoleIn C w.layout k b i → OpenedBlock q

@@ -140,7 +140,7 @@ module _ (s : Core) (C : Code) (l : Layout) (K : Knowledge) (w : NamesFound s) (
   pub record Covering (rights : Entry → List code.Name) : Type 0 where
     pub in_script : (j : ℕ) (r : code.Name) → In j (body C 0).entries → In r (rights (entry C j)) → Declared C 0 r
     pub in_body : (i : ℕ) (v : Way) (u : ℕ) → In (v, u) (ways (entry C i).act) → (j : ℕ) (r : code.Name) → In j (body C u).entries → In r (rights (entry C j))
-        → (Declared C u r ⊎ SeenFrom C rights i v r) ⊎ Fixes C (entry C i).mark v r
+        → (Declared C u r ⊎ SeenFrom C rights i v r) ⊎ Fixes C (entry C i).offset v r
 
   pub covering_reads : Covering (λ e. e.reads)
   covering_reads = record { in_script = λ j r i h. I.script_reads j r i h; in_body = λ i v u h j r m n. (I.fits i v u h).reads j r m n }
@@ -187,14 +187,14 @@ module _ (s : Core) (C : Code) (l : Layout) (K : Knowledge) (w : NamesFound s) (
     Meant p j k = (d : Bool) (x : Name) → In (name_as k d x) (rights (entry C j)) → IsIn k x → Stand d (place_at C p (name_as k d x)) (place s (script_path p) x)
 
     -- through a step
-    through_stands : (p : List Step) (at : ℕ) (key : Key) (j k : ℕ) → (entry C j).mark ≡ at → Meant p j k → (d : Bool) (x : Name) → SeenFrom C rights j Through (name_as k d x) → IsIn k x
+    through_stands : (p : List Step) (at : ℕ) (key : Key) (j k : ℕ) → (entry C j).offset ≡ at → Meant p j k → (d : Bool) (x : Name) → SeenFrom C rights j Through (name_as k d x) → IsIn k x
         → Stand d (place_at C (record { offset = at; key = key } ∷ p) (name_as k d x)) (place s (script_path (record { offset = at; key = key } ∷ p)) x)
     through_stands p at key j k mk rec d x h g =
         let y : Name = record { up = h.outside.up; what = x.what } in
         let e : name_as k d y ≡ h.outside = λ i. record { up = h.outside.up; owned = owned_of h.seen i } in
         let r = rec d y (subst (λ (z : code.Name). In z (rights (entry C j))) (sym e) h.right) g in
         moved refl
-        (ap (λ (z : code.Name). place_at C p z) e ∙ sym (seen_place C Through (entry C j).mark p key (record { offset = at; key = key } ∷ p) (name_as k d x) h.outside (λ i. record { offset = sym mk i; key = key } ∷ p) h.seen))
+        (ap (λ (z : code.Name). place_at C p z) e ∙ sym (seen_place C Through (entry C j).offset p key (record { offset = at; key = key } ∷ p) (name_as k d x) h.outside (λ i. record { offset = sym mk i; key = key } ∷ p) h.seen))
         (sym (ap (λ (n : ℕ). place_of s (script_path (record { offset = at; key = key } ∷ p)) n x.what) (up_of h.seen)))
         r
 
@@ -213,7 +213,7 @@ module _ (s : Core) (C : Code) (l : Layout) (K : Knowledge) (w : NamesFound s) (
       calls_it : In (Calling, l.body_of c.function) (ways (entry C j).act)
       calls_it = subst (λ (a : code.Act). In (Calling, l.body_of c.function) (ways a)) (sym ca.is.act_is) (inl refl)
 
-      argument_is : (i : ℕ) (d : Bool) → argument C (entry C j).mark i d ≡ argument_in (ca.ins ++ map Named ca.outs) i d
+      argument_is : (i : ℕ) (d : Bool) → argument C (entry C j).offset i d ≡ argument_in (ca.ins ++ map Named ca.outs) i d
       argument_is i d =
           ap (λ (z : ℕ). argument_in (arguments (entry C z).act) i d) (I.fits j Calling (l.body_of c.function) calls_it).opened.1
           ∙ ap (λ (a : code.Act). argument_in (arguments a) i d) ca.is.act_is
@@ -269,10 +269,10 @@ module _ (s : Core) (C : Code) (l : Layout) (K : Knowledge) (w : NamesFound s) (
       call_stands : (d : Bool) (x : Name) → SeenFrom C rights j Calling (name_as f.inputs d x) → IsIn f.inputs x → Stand d (place_at C inner_path (name_as f.inputs d x)) (place s (script_path inner_path) x)
       call_stands d x h g =
           let z = parameter_owned f.inputs d x.what h.seen.0 h.seen.1 (owned_of h.seen.2) in
-          moved refl (sym (seen_place C Calling (entry C j).mark p (Key.Number (pos 0)) inner_path (name_as f.inputs d x) h.outside (λ i. record { offset = sym ca.mark_is i; key = Key.Number (pos 0) } ∷ p) h.seen))
+          moved refl (sym (seen_place C Calling (entry C j).offset p (Key.Number (pos 0)) inner_path (name_as f.inputs d x) h.outside (λ i. record { offset = sym ca.offset_is i; key = Key.Number (pos 0) } ∷ p) h.seen))
           (sym (ap (λ (n : ℕ). place_of s (script_path inner_path) n x.what) (up_of h.seen.2))) (seen_in d x h g x.what refl z.0 z.1)
 
-      fixed_in : (d : Bool) (x : Name) (h : Fixes C (entry C j).mark Calling (name_as f.inputs d x)) → IsIn f.inputs x → (what : Owned) → x.what ≡ what → IsParameter f.inputs h.0 what
+      fixed_in : (d : Bool) (x : Name) (h : Fixes C (entry C j).offset Calling (name_as f.inputs d x)) → IsIn f.inputs x → (what : Owned) → x.what ≡ what → IsParameter f.inputs h.0 what
           → Stand false (Constant h.2) (place_of s (script_path inner_path) 0 what)
       fixed_in d x h g (local n) e z = elim z [ ]
       fixed_in d x h g (input i) e an_input =
@@ -285,11 +285,11 @@ module _ (s : Core) (C : Code) (l : Layout) (K : Knowledge) (w : NamesFound s) (
           let r = output_at C l i h.1 (Fixed h.2) ca.outputs (sym (past_inputs C l (map Named ca.outs) i h.0 h.1 ca.inputs n') ∙ a) in
           absurd (cc (r.1))
 
-      constant_stands : (d : Bool) (x : Name) → Fixes C (entry C j).mark Calling (name_as f.inputs d x) → IsIn f.inputs x → Stand d (place_at C inner_path (name_as f.inputs d x)) (place s (script_path inner_path) x)
+      constant_stands : (d : Bool) (x : Name) → Fixes C (entry C j).offset Calling (name_as f.inputs d x) → IsIn f.inputs x → Stand d (place_at C inner_path (name_as f.inputs d x)) (place s (script_path inner_path) x)
       constant_stands d x h g =
           let z = parameter_owned f.inputs d x.what h.0 h.1 (owned_of h.3) in
           let place_is : place_at C inner_path (name_as f.inputs d x) ≡ Constant h.2 =
-          (λ i. place_at C (record { offset = sym ca.mark_is i; key = Key.Number (pos 0) } ∷ p) (h.3 i)) ∙ ap (argued C p) h.4 in
+          (λ i. place_at C (record { offset = sym ca.offset_is i; key = Key.Number (pos 0) } ∷ p) (h.3 i)) ∙ ap (argued C p) h.4 in
           moved (sym (z.1 ∙ fixed_kind (ca.ins ++ map Named ca.outs) h.0 h.1 h.2 (sym (argument_is h.0 h.1) ∙ h.4))) (sym place_is)
           (sym (ap (λ (n : ℕ). place_of s (script_path inner_path) n x.what) (up_of h.3))) (fixed_in d x h g x.what refl z.0)
 
@@ -299,21 +299,21 @@ module _ (s : Core) (C : Code) (l : Layout) (K : Knowledge) (w : NamesFound s) (
     means {p} {t} {k} (by_header {p = p'} {at = at} j' {key = key} ch m' i' mk wy h r o dp) j i d x m g =
         by (cov.in_body j' Through t wy j (name_as k d x) i m) (means ch j' i')
       where
-        by : ((Declared C t (name_as k d x) ⊎ SeenFrom C rights j' Through (name_as k d x)) ⊎ Fixes C (entry C j').mark Through (name_as k d x)) → Meant p' j' k → Stand d (place_at C p (name_as k d x)) (place s (script_path p) x)
+        by : ((Declared C t (name_as k d x) ⊎ SeenFrom C rights j' Through (name_as k d x)) ⊎ Fixes C (entry C j').offset Through (name_as k d x)) → Meant p' j' k → Stand d (place_at C p (name_as k d x)) (place s (script_path p) x)
         by (inl (inl dd)) rec = declared_stands p t k d x dd
         by (inl (inr sf)) rec = through_stands p' at key j' k mk rec d x sf g
         by (inr fx) rec = absurd fx
     means {p} {t} {k} (by_wait j' ch m' i' wy h r) j i d x m g =
         by (cov.in_body j' InPlace t wy j (name_as k d x) i m) (means ch j' i')
       where
-        by : ((Declared C t (name_as k d x) ⊎ SeenFrom C rights j' InPlace (name_as k d x)) ⊎ Fixes C (entry C j').mark InPlace (name_as k d x)) → Meant p j' k → Stand d (place_at C p (name_as k d x)) (place s (script_path p) x)
+        by : ((Declared C t (name_as k d x) ⊎ SeenFrom C rights j' InPlace (name_as k d x)) ⊎ Fixes C (entry C j').offset InPlace (name_as k d x)) → Meant p j' k → Stand d (place_at C p (name_as k d x)) (place s (script_path p) x)
         by (inl (inl dd)) rec = declared_stands p t k d x dd
         by (inl (inr sf)) rec = rec d x (subst (λ (z : code.Name). In z (rights (entry C j'))) (sym sf.seen) sf.right) g
         by (inr fx) rec = absurd fx
     means {p} {t} {k} (by_call {p = p'} {k = k'} {c = c} {f = f} j' ch m' n' i' ca cs q len h dp) j i d x m g =
         by (cov.in_body j' Calling t (calls_it j' ch m' n' ca cs q len (means ch j' i')) j (name_as k d x) i m) (means ch j' i')
       where
-        by : ((Declared C t (name_as k d x) ⊎ SeenFrom C rights j' Calling (name_as k d x)) ⊎ Fixes C (entry C j').mark Calling (name_as k d x)) → Meant p' j' k' → Stand d (place_at C p (name_as k d x)) (place s (script_path p) x)
+        by : ((Declared C t (name_as k d x) ⊎ SeenFrom C rights j' Calling (name_as k d x)) ⊎ Fixes C (entry C j').offset Calling (name_as k d x)) → Meant p' j' k' → Stand d (place_at C p (name_as k d x)) (place s (script_path p) x)
         by (inl (inl dd)) rec = declared_stands p t k d x dd
         by (inl (inr sf)) rec = call_stands j' ch m' n' ca cs q len rec d x sf g
         by (inr fx) rec = constant_stands j' ch m' n' ca cs q len rec d x fx g

@@ -14,7 +14,7 @@ use Rattle.language.specs.Facts.{value, Knowledge}
 use Rattle.language.specs.Meaning.{HasValue, ValueUnder, of_literal, of_name, of_array, of_operator, Gives, LiveStmt, cell_value, computed}
 use Rattle.language.specs.Members.{◌∈◌}
 use Rattle.language.specs.Parts.{cells}
-use Rattle.language.specs.Places.{Path, place, most_steps}
+use Rattle.language.specs.Places.{Path, place, max_path_steps}
 use Rattle.language.specs.WellFormed.{WellFormed}
 use Rattle.language_laws.proofs.Declared.{stmt_in, place_here}
 use Rattle.task_code.specs.Code as code
@@ -61,17 +61,17 @@ not_both : (a b : Bool) → (a && b) ≡ false → b ≡ true → a ≡ false
 not_both true b h q = sym q ∙ h
 not_both false b h q = refl
 
-below : (n : ℕ) → nat_le most_steps n ≡ false → n < most_steps
+below : (n : ℕ) → nat_le max_path_steps n ≡ false → n < max_path_steps
 below n h = grind arith
 
 path_length : (p : List Step) → length (script_path p) ≡ length p
 path_length [] = refl
 path_length (t ∷ p) = ap suc (path_length p)
 
-pub depth_below : (a : code.Act) (p : List Step) (s : ℕ × List Step) (ss : List (ℕ × List Step)) → steps_on a ≡ true → In s ss → is_too_deep a p ss ≡ false → length (script_path p) < most_steps
+pub depth_below : (a : code.Act) (p : List Step) (s : ℕ × List Step) (ss : List (ℕ × List Step)) → steps_on a ≡ true → In s ss → is_too_deep a p ss ≡ false → length (script_path p) < max_path_steps
 depth_below a p s ss st i h =
-    let q = below (length p) (not_both (nat_le most_steps (length p)) (steps_on a && is_some_list ss) h (and_from (steps_on a) (is_some_list ss) st (some_list s ss i))) in
-    subst (λ (n : ℕ). n < most_steps) (sym (path_length p)) q
+    let q = below (length p) (not_both (nat_le max_path_steps (length p)) (steps_on a && is_some_list ss) h (and_from (steps_on a) (is_some_list ss) st (some_list s ss i))) in
+    subst (λ (n : ℕ). n < max_path_steps) (sym (path_length p)) q
 
 -- ARRAYS ARE DATA
 
@@ -96,7 +96,7 @@ module _ (s : Core) (C : Code) (l : Layout) (K : Knowledge) (I : IsCode C) where
   seen_array j Through r h q = ap is_array_name (sym h.seen) ∙ q
   seen_array j Calling r h q = argument_kind (arguments (entry C _).act) h.seen.0 h.seen.1 h.outside h.seen.3 ∙ sym (ap is_array_name h.seen.2) ∙ q
 
-  fixed_array : (j : ℕ) (v : Way) (r : code.Name) → Fixes C (entry C j).mark v r → is_array_name r ≡ true → ⊥
+  fixed_array : (j : ℕ) (v : Way) (r : code.Name) → Fixes C (entry C j).offset v r → is_array_name r ≡ true → ⊥
   fixed_array j InPlace r h q = h
   fixed_array j Through r h q = h
   fixed_array j Calling r h q = kind_fixed (arguments (entry C _).act) h.0 h.1 h.2 h.4 (sym (ap is_array_name h.3) ∙ q)
@@ -107,16 +107,16 @@ module _ (s : Core) (C : Code) (l : Layout) (K : Knowledge) (I : IsCode C) where
   array_datum {p} {t} (by_header {p = p'} {at = at} j' {key = key} ch m' i' mk wy h o' o dp) j i r m q =
       by ((I.fits j' Through t wy).reads j r i m) (array_datum ch j' i')
     where
-      by : ((Declared C t r ⊎ SeenFrom C (λ e. e.reads) j' Through r) ⊎ Fixes C (entry C j').mark Through r) → ((r : code.Name) → In r (entry C j').reads → is_array_name r ≡ true → IsDatum (place_at C p' r)) → IsDatum (place_at C p r)
+      by : ((Declared C t r ⊎ SeenFrom C (λ e. e.reads) j' Through r) ⊎ Fixes C (entry C j').offset Through r) → ((r : code.Name) → In r (entry C j').reads → is_array_name r ≡ true → IsDatum (place_at C p' r)) → IsDatum (place_at C p r)
       by (inl (inl d)) rec = declared_datum t p r d
-      by (inl (inr sf)) rec = subst IsDatum (sym (seen_place C Through (entry C j').mark p' key p r sf.outside (λ i. record { offset = sym mk i; key = key } ∷ p') sf.seen)) (rec sf.outside sf.right (seen_array j' Through r sf q))
+      by (inl (inr sf)) rec = subst IsDatum (sym (seen_place C Through (entry C j').offset p' key p r sf.outside (λ i. record { offset = sym mk i; key = key } ∷ p') sf.seen)) (rec sf.outside sf.right (seen_array j' Through r sf q))
       by (inr fx) rec = absurd fx
   array_datum {p} {t} (by_wait j' ch m' i' wy h o) j i r m q =
       by ((I.fits j' InPlace t wy).reads j r i m) (array_datum ch j' i')
     where
-      by : ((Declared C t r ⊎ SeenFrom C (λ e. e.reads) j' InPlace r) ⊎ Fixes C (entry C j').mark InPlace r) → ((r : code.Name) → In r (entry C j').reads → is_array_name r ≡ true → IsDatum (place_at C p r)) → IsDatum (place_at C p r)
+      by : ((Declared C t r ⊎ SeenFrom C (λ e. e.reads) j' InPlace r) ⊎ Fixes C (entry C j').offset InPlace r) → ((r : code.Name) → In r (entry C j').reads → is_array_name r ≡ true → IsDatum (place_at C p r)) → IsDatum (place_at C p r)
       by (inl (inl d)) rec = declared_datum t p r d
-      by (inl (inr sf)) rec = subst IsDatum (sym (seen_place C InPlace (entry C j').mark p (Key.Number (pos 0)) p r sf.outside refl sf.seen)) (rec sf.outside sf.right (seen_array j' InPlace r sf q))
+      by (inl (inr sf)) rec = subst IsDatum (sym (seen_place C InPlace (entry C j').offset p (Key.Number (pos 0)) p r sf.outside refl sf.seen)) (rec sf.outside sf.right (seen_array j' InPlace r sf q))
       by (inr fx) rec = absurd fx
   array_datum {p} {t} (by_call {p = p'} {c = c} j' ch m' n' i' ca cs f len h dp) j i r m q =
       by ((I.fits j' Calling t calls_it).reads j r i m) (array_datum ch j' i')
@@ -124,9 +124,9 @@ module _ (s : Core) (C : Code) (l : Layout) (K : Knowledge) (I : IsCode C) where
       calls_it : In (Calling, t) (ways (entry C j').act)
       calls_it = subst (λ (a : code.Act). In (Calling, t) (ways a)) (sym ca.is.act_is) (inl refl)
 
-      by : ((Declared C t r ⊎ SeenFrom C (λ e. e.reads) j' Calling r) ⊎ Fixes C (entry C j').mark Calling r) → ((r : code.Name) → In r (entry C j').reads → is_array_name r ≡ true → IsDatum (place_at C p' r)) → IsDatum (place_at C p r)
+      by : ((Declared C t r ⊎ SeenFrom C (λ e. e.reads) j' Calling r) ⊎ Fixes C (entry C j').offset Calling r) → ((r : code.Name) → In r (entry C j').reads → is_array_name r ≡ true → IsDatum (place_at C p' r)) → IsDatum (place_at C p r)
       by (inl (inl d)) rec = declared_datum t p r d
-      by (inl (inr sf)) rec = subst IsDatum (sym (seen_place C Calling (entry C j').mark p' (Key.Number (pos 0)) p r sf.outside (λ i. record { offset = sym ca.mark_is i; key = Key.Number (pos 0) } ∷ p') sf.seen)) (rec sf.outside sf.right (seen_array j' Calling r sf q))
+      by (inl (inr sf)) rec = subst IsDatum (sym (seen_place C Calling (entry C j').offset p' (Key.Number (pos 0)) p r sf.outside (λ i. record { offset = sym ca.offset_is i; key = Key.Number (pos 0) } ∷ p') sf.seen)) (rec sf.outside sf.right (seen_array j' Calling r sf q))
       by (inr fx) rec = absurd (fixed_array j' Calling r fx q)
 
   -- so are those among its needs

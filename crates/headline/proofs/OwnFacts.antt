@@ -19,7 +19,7 @@ use Rattle.language.specs.Meaning.{Gives, ValueUnder, of_literal, of_name, of_ar
 use Rattle.language.specs.Members.{◌∈◌, first}
 use Rattle.language.specs.Openings.{Branches, one_way, two_ways, in_turns, Opens, then_alone, then_first, else_second, turn, item}
 use Rattle.language.specs.Parts.{block_list, cells}
-use Rattle.language.specs.Places.{Place, place, most_steps}
+use Rattle.language.specs.Places.{Place, place, max_path_steps}
 use Rattle.language.specs.WellFormed.{WellFormed, IsMany, a_list, a_copy}
 use Rattle.language_laws.proofs.Sources.{outer_in, cell_gives, IsFull}
 use Rattle.language_laws.proofs.Declared.{stmt_in}
@@ -56,8 +56,8 @@ use Rattle.headline.proofs.WrittenFrom.{leaf_deep, nothing_behind}
 use Rattle.headline.proofs.Roles.{OwnAs, own_simple, own_branch, own_branches, own_range, own_each, own_wait}
 
 -- no path is too long for blocks that are not there
-never_deep : (a : Act) (p : List Step) (ss : List (ℕ × List Step)) → ((q : ℕ × List Step) → In q ss → length (script_path p) < most_steps) → is_too_deep a p ss ≡ false
-never_deep a p [] h = none (nat_le most_steps (length p)) (steps_on a)
+never_deep : (a : Act) (p : List Step) (ss : List (ℕ × List Step)) → ((q : ℕ × List Step) → In q ss → length (script_path p) < max_path_steps) → is_too_deep a p ss ≡ false
+never_deep a p [] h = none (nat_le max_path_steps (length p)) (steps_on a)
   where
     none : (b d : Bool) → (b && (d && false)) ≡ false
     none true true = refl
@@ -90,16 +90,16 @@ fill_right C l I k ms e x j en = I.stores j (name_as k true x) (subst (λ (a : A
 
 module _ (s : Core) (C : Code) (w : IsCodeOf s C) (K : Knowledge) (wf : WellFormed s) (kn : Backs s K) (I : IsCode C) (sc : Scoped s) (full : IsFull s K) where
   module _ {p : List Step} {t k : ℕ} {b : Block} (ch : Chain s C w.layout K p t k b) (j : ℕ) (there : In j (body C t).entries) where
-    fact_at : {x : Computed} → Works s C w K wf kn I sc ch j there x → IsGood x → (c : ℕ) → ((q : ℕ × List Step) → In q (instances (entry C j).act (entry C j).mark p c x) → length (script_path p) < most_steps)
+    fact_at : {x : Computed} → Works s C w K wf kn I sc ch j there x → IsGood x → (c : ℕ) → ((q : ℕ × List Step) → In q (instances (entry C j).act (entry C j).offset p c x) → length (script_path p) < max_path_steps)
         → Reading (code_system C) (Answers s K) (Item j p c) (effect_at C j p c x)
     fact_at {x} z g c h = fact_of s C w K wf kn I sc ch j there z.answers c x z.computed g (never_deep (entry C j).act p _ h)
 
-    header_fact : {at : ℕ} {a : Action} {vs : List Value} {x : Computed} → Works s C w K wf kn I sc ch j there x → IsGood x → (entry C j).mark ≡ at
-        → ((c : ℕ) (q : ℕ × List Step) → In q (instances (entry C j).act (entry C j).mark p c x) → OpenedAs s C w K wf kn I sc j k p a vs q) → ((key : Key) (c : Block) → Opens a vs key c → length (script_path p) < most_steps) → HeaderFact s C w K wf kn I sc j k at p a vs
-    header_fact {x = x} z g mk o dp = record { computed = x; mark_is = mk; fact = λ c. fact_at z g c (λ q i. (let r = o c q i in dp r.key r.content r.opens)); opens = o }
+    header_fact : {at : ℕ} {a : Action} {vs : List Value} {x : Computed} → Works s C w K wf kn I sc ch j there x → IsGood x → (entry C j).offset ≡ at
+        → ((c : ℕ) (q : ℕ × List Step) → In q (instances (entry C j).act (entry C j).offset p c x) → OpenedAs s C w K wf kn I sc j k p a vs q) → ((key : Key) (c : Block) → Opens a vs key c → length (script_path p) < max_path_steps) → HeaderFact s C w K wf kn I sc j k at p a vs
+    header_fact {x = x} z g mk o dp = record { computed = x; offset_is = mk; fact = λ c. fact_at z g c (λ q i. (let r = o c q i in dp r.key r.content r.opens)); opens = o }
 
     -- BRANCHES
-    when_opens : {t' : ℕ} {o : Outer} {d : Block} {e : code.Expr} (x : Bool) → (entry C j).act ≡ If e t' None → BodyAs C w.layout k d t' → (c : ℕ) (q : ℕ × List Step) → In q (instances (entry C j).act (entry C j).mark p c (Takes x)) → OpenedAs s C w K wf kn I sc j k p (when o d) (One (Truth x) ∷ []) q
+    when_opens : {t' : ℕ} {o : Outer} {d : Block} {e : code.Expr} (x : Bool) → (entry C j).act ≡ If e t' None → BodyAs C w.layout k d t' → (c : ℕ) (q : ℕ × List Step) → In q (instances (entry C j).act (entry C j).offset p c (Takes x)) → OpenedAs s C w K wf kn I sc j k p (when o d) (One (Truth x) ∷ []) q
     when_opens {t' = t'} {d = d} true aq ba c q h = record {
       number = t';
       key = Key.Number (pos 0);
@@ -107,11 +107,11 @@ module _ (s : Core) (C : Code) (w : IsCodeOf s C) (K : Knowledge) (wf : WellForm
       way = subst (λ (a : Act). In (Through, t') (ways a)) (sym aq) (inl refl);
       stands = ba;
       opens = then_alone;
-      is = first_one c q (t', step_at (entry C j).mark (Key.Number (pos 0)) p) (subst (λ (a : Act). In q (instances a (entry C j).mark p c (Takes true))) aq h);
+      is = first_one c q (t', step_at (entry C j).offset (Key.Number (pos 0)) p) (subst (λ (a : Act). In q (instances a (entry C j).offset p c (Takes true))) aq h);
     }
-    when_opens false aq ba c q h = absurd (none_first c q (subst (λ (a : Act). In q (instances a (entry C j).mark p c (Takes false))) aq h))
+    when_opens false aq ba c q h = absurd (none_first c q (subst (λ (a : Act). In q (instances a (entry C j).offset p c (Takes false))) aq h))
 
-    choose_opens : {t' u' : ℕ} {o : Outer} {d d' : Block} {e : code.Expr} (x : Bool) → (entry C j).act ≡ If e t' (Some u') → BodyAs C w.layout k d t' → BodyAs C w.layout k d' u' → (c : ℕ) (q : ℕ × List Step) → In q (instances (entry C j).act (entry C j).mark p c (Takes x))
+    choose_opens : {t' u' : ℕ} {o : Outer} {d d' : Block} {e : code.Expr} (x : Bool) → (entry C j).act ≡ If e t' (Some u') → BodyAs C w.layout k d t' → BodyAs C w.layout k d' u' → (c : ℕ) (q : ℕ × List Step) → In q (instances (entry C j).act (entry C j).offset p c (Takes x))
         → OpenedAs s C w K wf kn I sc j k p (choose o d d') (One (Truth x) ∷ []) q
     choose_opens {t'} {d = d} true aq ba bb c q h = record {
       number = t';
@@ -120,7 +120,7 @@ module _ (s : Core) (C : Code) (w : IsCodeOf s C) (K : Knowledge) (wf : WellForm
       way = subst (λ (a : Act). In (Through, t') (ways a)) (sym aq) (inl refl);
       stands = ba;
       opens = then_first;
-      is = first_one c q (t', step_at (entry C j).mark (Key.Number (pos 0)) p) (subst (λ (a : Act). In q (instances a (entry C j).mark p c (Takes true))) aq h);
+      is = first_one c q (t', step_at (entry C j).offset (Key.Number (pos 0)) p) (subst (λ (a : Act). In q (instances a (entry C j).offset p c (Takes true))) aq h);
     }
     choose_opens {u' = u'} {d' = d'} false aq ba bb c q h = record {
       number = u';
@@ -129,17 +129,17 @@ module _ (s : Core) (C : Code) (w : IsCodeOf s C) (K : Knowledge) (wf : WellForm
       way = subst (λ (a : Act). In (Through, u') (ways a)) (sym aq) (inr (inl refl));
       stands = bb;
       opens = else_second;
-      is = first_one c q (u', step_at (entry C j).mark (Key.Number (pos 1)) p) (subst (λ (a : Act). In q (instances a (entry C j).mark p c (Takes false))) aq h);
+      is = first_one c q (u', step_at (entry C j).offset (Key.Number (pos 1)) p) (subst (λ (a : Act). In q (instances a (entry C j).offset p c (Takes false))) aq h);
     }
 
     -- TURNS
     turns_opened : {x t' : ℕ} {y : Option ℕ} {a : Action} {d : Block} {vs : List Value} (ts : Elements) → loop_of (entry C j).act ≡ Some (record { body = t'; value = x; turn = y }) → In (Through, t') (ways (entry C j).act) → BodyAs C w.layout k d t'
-        → ((u : Key × Scalar) → In u ts → Opens a vs u.0 d) → (c : ℕ) (q : ℕ × List Step) → In q (instances (entry C j).act (entry C j).mark p c (Turns ts)) → OpenedAs s C w K wf kn I sc j k p a vs q
+        → ((u : Key × Scalar) → In u ts → Opens a vs u.0 d) → (c : ℕ) (q : ℕ × List Step) → In q (instances (entry C j).act (entry C j).offset p c (Turns ts)) → OpenedAs s C w K wf kn I sc j k p a vs q
     turns_opened {x} {t'} {y} {d = d} ts lq wy ba f c q h =
-        let r = in_unmap (λ (u : Key × Scalar). (t', step_at (entry C j).mark u.0 p)) q (chunk c ts) (subst (λ (l : List (ℕ × List Step)). In q l) (loop_instances C (entry C j).act (record { body = t'; value = x; turn = y }) (entry C j).mark p c (Turns ts) lq) h) in
+        let r = in_unmap (λ (u : Key × Scalar). (t', step_at (entry C j).offset u.0 p)) q (chunk c ts) (subst (λ (l : List (ℕ × List Step)). In q l) (loop_instances C (entry C j).act (record { body = t'; value = x; turn = y }) (entry C j).offset p c (Turns ts) lq) h) in
         record { number = t'; key = (r.0).0; content = d; way = wy; stands = ba; opens = f r.0 (in_chunk c ts r.0 r.1); is = sym r.2 }
 
-    headers : (at n : ℕ) (a : Action) (vs : List Value) → stmt at n a ∈ block_list b → OwnAs C w.layout k (stmt at n a) j → Branches a → Ready s K (script_path p) a vs → ((key : Key) (c : Block) → Opens a vs key c → length (script_path p) < most_steps) → HeaderFact s C w K wf kn I sc j k at p a vs
+    headers : (at n : ℕ) (a : Action) (vs : List Value) → stmt at n a ∈ block_list b → OwnAs C w.layout k (stmt at n a) j → Branches a → Ready s K (script_path p) a vs → ((key : Key) (c : Block) → Opens a vs key c → length (script_path p) < max_path_steps) → HeaderFact s C w K wf kn I sc j k at p a vs
     headers at n a vs m (own_simple z en nd) br r dp = absurd (no_simple a z br)
     headers at n (when o d) vs m (own_branch en mk ba) br (cells_known ks (one_way {t = x})) dp =
         let kv = condition_value s C w K wf kn I sc ch j there (cells_known ks (one_way {c = o} {b = d} {t = x})) refl refl (λ ns c e. absurd (cc (e))) (λ x y z c e. absurd (cc (e))) in
@@ -162,7 +162,7 @@ module _ (s : Core) (C : Code) (w : IsCodeOf s C) (K : Knowledge) (wf : WellForm
 
     -- elements that an item inserts are known, if they are as elements of the script's array
     insert_known : (x : Name) → In (name_as k true x) (entry C j).writes → IsIn k x → (xs : List (Key × Scalar)) → ((key : Key) (y : Scalar) → In (key, y) xs → (u : Place) × K (element (place s (script_path p) x) key u y))
-        → stores C (entry C j).act (entry C j).node (entry C j).mark p 0 (Inserts xs) ≡ inserted_at (place_at C p (name_as k true x)) (Inserts xs) → KnownWrites s C w K wf kn I sc j p 0 (Inserts xs)
+        → stores C (entry C j).act (entry C j).node (entry C j).offset p 0 (Inserts xs) ≡ inserted_at (place_at C p (name_as k true x)) (Inserts xs) → KnownWrites s C w K wf kn I sc j p 0 (Inserts xs)
     insert_known x right g xs f q d v key y va i =
         let one = inserted_one (place_at C p (name_as k true x)) xs _ (subst (λ (l : List (Write CodePlaces.Place Key Scalar)). In (record { place = Datum d v; key = key; value = y }) l) q i) in
         let sm = same_array s wf K (means s C w.layout K wf.names I sc (λ z. z.writes) (covering_writes s C w.layout K wf.names I sc) ch j there true x right g) refl in
@@ -195,7 +195,7 @@ module _ (s : Core) (C : Code) (w : IsCodeOf s C) (K : Knowledge) (wf : WellForm
 
         by_expr : (E : Expr) → own_expr o ≡ E → ValueUnder s K (script_path p) E (Ok v) → AreIn k E → (f : List Got → Computed) → ((ys : List Got) → compute (fill_act w.layout k (own_needs w.layout k (fill x o)) x E) ys ≡ f ys) → ((ys : List Got) → steps_on (fill_act w.layout k (own_needs w.layout k (fill x o)) x E) ≡ false)
             → ((z : Known s C w K wf kn I sc ch j there) → (entry C j).needs ≡ each_once (wanted k E) → (xs : List (Key × Scalar)) × (f (answered C p (entry C j).needs z.answers) ≡ Inserts xs) × (v ≡ Many (elements xs)))
-            → ((X : Computed) → stores C (fill_act w.layout k (own_needs w.layout k (fill x o)) x E) (entry C j).node (entry C j).mark p 0 X ≡ inserted_at (place_at C p (name_as k true x)) X) → Filled
+            → ((X : Computed) → stores C (fill_act w.layout k (own_needs w.layout k (fill x o)) x E) (entry C j).node (entry C j).offset p 0 X ≡ inserted_at (place_at C p (name_as k true x)) X) → Filled
         by_expr E eq vu g f fq sf good st =
             let nq : (entry C j).needs ≡ each_once (wanted k E) = en.needs_is ∙ ap each_once (nothing_behind s C w K wf kn I sc (wanted k (own_expr o)) ∙ ap (wanted k) eq) in
             let act : (entry C j).act ≡ fill_act w.layout k (own_needs w.layout k (fill x o)) x E = en.act_is ∙ ap (fill_act w.layout k (own_needs w.layout k (fill x o)) x) eq in
@@ -207,7 +207,7 @@ module _ (s : Core) (C : Code) (w : IsCodeOf s C) (K : Knowledge) (wf : WellForm
               Inserts r.0,
               fact_of s C w K wf kn I sc ch j there z 0 (Inserts r.0) (ap (λ (a : Act). compute a ys) act ∙ fq ys ∙ r.1) tt (leaf_deep s C w K wf kn I sc (entry C j).act p _ (ap steps_on act ∙ sf ys)),
               insert_known x (fill_right C w.layout I k (own_needs w.layout k (fill x o)) (own_expr o) x j en) target_in r.0 (λ key y i. ((script_path p, n), all.2 key y (subst (λ (l : List Element). element_of key y ∈ l) (sym same) (element_in r.0 key y i))))
-                  (ap (λ (a : Act). stores C a (entry C j).node (entry C j).mark p 0 (Inserts r.0)) act ∙ st (Inserts r.0)),
+                  (ap (λ (a : Act). stores C a (entry C j).node (entry C j).offset p 0 (Inserts r.0)) act ∙ st (Inserts r.0)),
             )
 
         by_form : {g : Form} → o.cell.form ≡ g → IsMany g → Filled
@@ -267,11 +267,11 @@ module _ (s : Core) (C : Code) (w : IsCodeOf s C) (K : Knowledge) (wf : WellForm
           Inserts xs,
           fact_of s C w K wf kn I sc ch j there z.answers 0 (Inserts xs) z.computed tt (leaf_deep s C w K wf kn I sc (entry C j).act p _ (ap steps_on en.act_is)),
           insert_known x right g xs (λ l y h. ((script_path p, n), one_element (key_of r.scalar) r.key_is kv l y h))
-              (ap (λ (a : Act). stores C a (entry C j).node (entry C j).mark p 0 (Inserts xs)) en.act_is),
+              (ap (λ (a : Act). stores C a (entry C j).node (entry C j).offset p 0 (Inserts xs)) en.act_is),
         )
 
     -- CALLS AND WAITS
-    calls_fact : (c : Call) (all : List Part) (at : ℕ) (pr : ℤ) → CallAs C w.layout k all at pr c j → length (script_path p) < most_steps → Reading (code_system C) (Answers s K) (Item j p 0) (effect_at C j p 0 OpensIt)
+    calls_fact : (c : Call) (all : List Part) (at : ℕ) (pr : ℤ) → CallAs C w.layout k all at pr c j → length (script_path p) < max_path_steps → Reading (code_system C) (Answers s K) (Item j p 0) (effect_at C j p 0 OpensIt)
     calls_fact c all at pr ca dp =
         let z = known s C w K wf kn I sc ch j there (λ n h. absurd (subst (λ (l : List Need). In n l) ca.is.needs_is h)) in
         fact_of s C w K wf kn I sc ch j there z 0 OpensIt (ap (λ (a : Act). compute a (answered C p (entry C j).needs z.answers)) ca.is.act_is) tt (not_too_deep _ p _ dp)

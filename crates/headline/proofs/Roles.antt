@@ -91,16 +91,16 @@ module _ (C : Code) (l : Layout) where
   pub data OwnAs (k : ℕ) : Stmt → ℕ → Type 0 where
     own_simple : {at n : ℕ} {a : Action} {j : ℕ} → IsSimple a → IsEntry (entry C j) at (own_priority a) (own_needs l k a) (simple_act l k (own_needs l k a) a) → (entry C j).node ≡ n → OwnAs k (stmt at n a) j
     own_branch : {at n t : ℕ} {c : Outer} {b : Block} {j : ℕ}
-        → IsEntry (entry C j) at (pos 0) (own_needs l k (when c b)) (If (over k (own_needs l k (when c b)) (seen l c.cell)) t None) → (entry C j).mark ≡ at → BodyAs C l k b t → OwnAs k (stmt at n (when c b)) j
+        → IsEntry (entry C j) at (pos 0) (own_needs l k (when c b)) (If (over k (own_needs l k (when c b)) (seen l c.cell)) t None) → (entry C j).offset ≡ at → BodyAs C l k b t → OwnAs k (stmt at n (when c b)) j
     own_branches : {at n t u : ℕ} {c : Outer} {b d : Block} {j : ℕ}
-        → IsEntry (entry C j) at (pos 0) (own_needs l k (choose c b d)) (If (over k (own_needs l k (choose c b d)) (seen l c.cell)) t (Some u)) → (entry C j).mark ≡ at → BodyAs C l k b t → BodyAs C l k d u
+        → IsEntry (entry C j) at (pos 0) (own_needs l k (choose c b d)) (If (over k (own_needs l k (choose c b d)) (seen l c.cell)) t (Some u)) → (entry C j).offset ≡ at → BodyAs C l k b t → BodyAs C l k d u
         → OwnAs k (stmt at n (choose c b d)) j
     own_range : {at n t x : ℕ} {lo hi : Outer} {st : Option Outer} {y : Option ℕ} {b : Block} {j : ℕ}
         → IsEntry (entry C j) at (pos 0) (own_needs l k (range lo hi st x y b))
         (Range (over k (own_needs l k (range lo hi st x y b)) (seen l lo.cell)) (over k (own_needs l k (range lo hi st x y b)) (seen l hi.cell)) (over k (own_needs l k (range lo hi st x y b)) (step_expr l k st)) (record { body = t; value = x; turn = y }))
-        → (entry C j).mark ≡ at → BodyAs C l k b t → OwnAs k (stmt at n (range lo hi st x y b)) j
+        → (entry C j).offset ≡ at → BodyAs C l k b t → OwnAs k (stmt at n (range lo hi st x y b)) j
     own_each : {at n t x : ℕ} {a : Name} {y : Option ℕ} {b : Block} {j : ℕ}
-        → IsEntry (entry C j) at (pos 0) (own_needs l k (each a x y b)) (Each (record { body = t; value = x; turn = y })) → (entry C j).mark ≡ at → BodyAs C l k b t → OwnAs k (stmt at n (each a x y b)) j
+        → IsEntry (entry C j) at (pos 0) (own_needs l k (each a x y b)) (Each (record { body = t; value = x; turn = y })) → (entry C j).offset ≡ at → BodyAs C l k b t → OwnAs k (stmt at n (each a x y b)) j
     own_wait : {at n t : ℕ} {ns : List Awaited} {b : Block} {hs : List Header} {j : ℕ} → WaitAs C l k (stmt at n (wait ns b)) hs t
         → IsEntry (entry C j) at (pos 0) (each_once (flat_map (λ h. h.needs) hs)) (Wait hs t) → OwnAs k (stmt at n (wait ns b)) j
 

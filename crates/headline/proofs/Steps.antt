@@ -61,15 +61,15 @@ outcome_is (Turns ts) b e e' h = limited_is b e e' h
 outcome_is Opens b e e' h = limited_is b e e' h
 
 -- a block that an item opens from its chunk on, itself or by the rest
-pub data InAll (act : Act) (mark : ℕ) (p : List Step) (c : ℕ) (x : Computed) (q : ℕ × List Step) : Type 0 where
-  now_opened : In q (instances act mark p c x) → InAll act mark p c x q
-  rest_opened : (lp : Loop) (y : Key × Scalar) → loop_of act ≡ Some lp → In y (left_at (suc c) (turns_of x)) → q ≡ (lp.body, step_at mark y.0 p) → InAll act mark p c x q
+pub data InAll (act : Act) (offset : ℕ) (p : List Step) (c : ℕ) (x : Computed) (q : ℕ × List Step) : Type 0 where
+  now_opened : In q (instances act offset p c x) → InAll act offset p c x q
+  rest_opened : (lp : Loop) (y : Key × Scalar) → loop_of act ≡ Some lp → In y (left_at (suc c) (turns_of x)) → q ≡ (lp.body, step_at offset y.0 p) → InAll act offset p c x q
 
 -- every turn of a loop is in its first chunk or in the rest
-pub turn_in_all : (C : Code) (act : Act) (mark : ℕ) (p : List Step) (x : Computed) (lp : Loop) → loop_of act ≡ Some lp → (y : Key × Scalar) → In y (turns_of x) → InAll act mark p 0 x (lp.body, step_at mark y.0 p)
-turn_in_all C act mark p x lp q y h =
+pub turn_in_all : (C : Code) (act : Act) (offset : ℕ) (p : List Step) (x : Computed) (lp : Loop) → loop_of act ≡ Some lp → (y : Key × Scalar) → In y (turns_of x) → InAll act offset p 0 x (lp.body, step_at offset y.0 p)
+turn_in_all C act offset p x lp q y h =
     elim (split_taken chunk_size (turns_of x) y h) [
-      | inl m ↦ now_opened (subst (λ (l : List (ℕ × List Step)). In (lp.body, step_at mark y.0 p) l) (sym (loop_instances C act lp mark p 0 x q)) (in_map (λ (u : Key × Scalar). (lp.body, step_at mark u.0 p)) y (chunk 0 (turns_of x)) m))
+      | inl m ↦ now_opened (subst (λ (l : List (ℕ × List Step)). In (lp.body, step_at offset y.0 p) l) (sym (loop_instances C act lp offset p 0 x q)) (in_map (λ (u : Key × Scalar). (lp.body, step_at offset u.0 p)) y (chunk 0 (turns_of x)) m))
       | inr m ↦ rest_opened lp y q m refl
     ]
 
@@ -116,27 +116,27 @@ module _ (s : Core) (C : Code) (K : Knowledge) (kn : Knows s K) (I : IsCode C) w
       ap (λ (l : List (Answer Key Scalar)). compute (entry C i).act (answered C p (entry C i).needs l)) (same_answers (code_system C) (code_laws C I) (Answers s K) one_answer (task_inputs C (Item i p 0)) f.answers g.answers f.read g.read)
 
   pub effect_by : {i c : ℕ} {p : List Step} {e : Effect Task CodePlaces.Place Key Scalar} (f : Reading (code_system C) (Answers s K) (Item i p c) e) → effect_at C i p c (computes_by f) ≡ e
-  effect_by {i} {c} {p} {e} f = outcome_is (computes_by f) (is_too_deep (entry C i).act p (instances (entry C i).act (entry C i).mark p c (computes_by f))) (effect_at C i p c (computes_by f)) e f.is
+  effect_by {i} {c} {p} {e} f = outcome_is (computes_by f) (is_too_deep (entry C i).act p (instances (entry C i).act (entry C i).offset p c (computes_by f))) (effect_at C i p c (computes_by f)) e f.is
 
   module _ (a : CodePlaces.Place) (G : ℕ → List Step → Type 0) where
     pub record DoneBy (i : ℕ) (p : List Step) (c : ℕ) : Type 0 where
       pub effect : Effect Task CodePlaces.Place Key Scalar
       pub fact : Facts s C K (Item i p c) effect
-      pub below : (q : ℕ × List Step) → InAll (entry C i).act (entry C i).mark p c (computes_by fact.reading) q → (j : ℕ) → In j (body C q.0).entries → G j q.1
+      pub below : (q : ℕ × List Step) → InAll (entry C i).act (entry C i).offset p c (computes_by fact.reading) q → (j : ℕ) → In j (body C q.0).entries → G j q.1
 
     abbrev pub Step_ : ℕ → List Step → ℕ → Type 0
     Step_ i p c = (In a ((code_system C).may_write (Item i p 0)) → ⊥) ⊎ DoneBy i p c
 
     module _ (close : (i : ℕ) (p : List Step) → Step_ i p 0 → G i p) where
-      opens_now : {i c : ℕ} {p : List Step} {e : Effect Task CodePlaces.Place Key Scalar} (f : Facts s C K (Item i p c) e) (q : ℕ × List Step) → In q (instances (entry C i).act (entry C i).mark p c (computes_by f.reading)) → In (block C q) e.opens
+      opens_now : {i c : ℕ} {p : List Step} {e : Effect Task CodePlaces.Place Key Scalar} (f : Facts s C K (Item i p c) e) (q : ℕ × List Step) → In q (instances (entry C i).act (entry C i).offset p c (computes_by f.reading)) → In (block C q) e.opens
       opens_now {i} {c} {p} f q h =
           subst (λ (z : Effect Task CodePlaces.Place Key Scalar). In (block C q) z.opens) (effect_by f.reading)
-          (in_left (block C q) (map (block C) (instances (entry C i).act (entry C i).mark p c (computes_by f.reading))) _ (in_map (block C) q (instances (entry C i).act (entry C i).mark p c (computes_by f.reading)) h))
+          (in_left (block C q) (map (block C) (instances (entry C i).act (entry C i).offset p c (computes_by f.reading))) _ (in_map (block C) q (instances (entry C i).act (entry C i).offset p c (computes_by f.reading)) h))
 
       rest_now : {i c : ℕ} {p : List Step} {e : Effect Task CodePlaces.Place Key Scalar} (f : Facts s C K (Item i p c) e) (lp : Loop) → loop_of (entry C i).act ≡ Some lp → is_some_list (left_at (suc c) (turns_of (computes_by f.reading))) ≡ true → In (record { makes = []; tasks = Item i p (suc c) ∷ [] }) e.opens
       rest_now {i} {c} {p} f lp q h =
           subst (λ (z : Effect Task CodePlaces.Place Key Scalar). In (record { makes = []; tasks = Item i p (suc c) ∷ [] }) z.opens) (effect_by f.reading)
-          (in_right _ (map (block C) (instances (entry C i).act (entry C i).mark p c (computes_by f.reading))) _
+          (in_right _ (map (block C) (instances (entry C i).act (entry C i).offset p c (computes_by f.reading))) _
           (subst (λ (o : Option Loop). In (record { makes = []; tasks = Item i p (suc c) ∷ [] }) (rest o i p c (computes_by f.reading))) (sym q)
           (subst (λ (b : Bool). In (record { makes = []; tasks = Item i p (suc c) ∷ [] }) (rest_if b i p c)) (sym h) (inl refl))))
 
@@ -150,23 +150,23 @@ module _ (s : Core) (C : Code) (K : Knowledge) (kn : Knows s K) (I : IsCode C) w
           X : Computed
           X = computes_by f.reading
 
-          at_once : (q : ℕ × List Step) → In q (instances (entry C i).act (entry C i).mark p c (computes_by f.reading)) → (j : ℕ) → In j (body C q.0).entries → G j q.1
+          at_once : (q : ℕ × List Step) → In q (instances (entry C i).act (entry C i).offset p c (computes_by f.reading)) → (j : ℕ) → In j (body C q.0).entries → G j q.1
           at_once q h j m = close j q.1 (rec (block C q) (opens_now f q h) j 0 q.1 (in_map (λ (z : ℕ). Item z q.1 0) j (body C q.0).entries m))
 
-          with_rest : (lp : Loop) → loop_of (entry C i).act ≡ Some lp → DoneBy i p (suc c) → (y : Key × Scalar) → In y (left_at (suc c) (turns_of (computes_by f.reading))) → (j : ℕ) → In j (body C lp.body).entries → G j (step_at (entry C i).mark y.0 p)
+          with_rest : (lp : Loop) → loop_of (entry C i).act ≡ Some lp → DoneBy i p (suc c) → (y : Key × Scalar) → In y (left_at (suc c) (turns_of (computes_by f.reading))) → (j : ℕ) → In j (body C lp.body).entries → G j (step_at (entry C i).offset y.0 p)
           with_rest lp q d y h j m =
               let same : computes_by f.reading ≡ computes_by (d.fact).reading = one_computed f.reading (d.fact).reading in
               let h' : In y (left_at (suc c) (turns_of (computes_by (d.fact).reading))) = subst (λ (z : Computed). In y (left_at (suc c) (turns_of z))) same h in
-              d.below (lp.body, step_at (entry C i).mark y.0 p) (elim (split_taken chunk_size (left_at (suc c) (turns_of (computes_by (d.fact).reading))) y h') [
-                | inl n ↦ now_opened (subst (λ (l : List (ℕ × List Step)). In (lp.body, step_at (entry C i).mark y.0 p) l) (sym (loop_instances C (entry C i).act lp (entry C i).mark p (suc c) (computes_by (d.fact).reading) q))
-                    (in_map (λ (u : Key × Scalar). (lp.body, step_at (entry C i).mark u.0 p)) y (chunk (suc c) (turns_of (computes_by (d.fact).reading))) n))
+              d.below (lp.body, step_at (entry C i).offset y.0 p) (elim (split_taken chunk_size (left_at (suc c) (turns_of (computes_by (d.fact).reading))) y h') [
+                | inl n ↦ now_opened (subst (λ (l : List (ℕ × List Step)). In (lp.body, step_at (entry C i).offset y.0 p) l) (sym (loop_instances C (entry C i).act lp (entry C i).offset p (suc c) (computes_by (d.fact).reading) q))
+                    (in_map (λ (u : Key × Scalar). (lp.body, step_at (entry C i).offset u.0 p)) y (chunk (suc c) (turns_of (computes_by (d.fact).reading))) n))
                 | inr n ↦ rest_opened lp y q (subst (λ (l : List (Key × Scalar)). In y l) (next_left (suc c) (turns_of (computes_by (d.fact).reading))) n) refl
               ]) j m
 
           by_rest : (lp : Loop) → loop_of (entry C i).act ≡ Some lp → (b : Bool) → is_some_list (left_at (suc c) (turns_of (computes_by f.reading))) ≡ b → Step_ i p c
           by_rest lp q false z = inr (record { effect = e; fact = f; below = λ u h. by u h })
             where
-              by : (u : ℕ × List Step) → InAll (entry C i).act (entry C i).mark p c (computes_by f.reading) u → (j : ℕ) → In j (body C u.0).entries → G j u.1
+              by : (u : ℕ × List Step) → InAll (entry C i).act (entry C i).offset p c (computes_by f.reading) u → (j : ℕ) → In j (body C u.0).entries → G j u.1
               by u (now_opened h) j m = at_once u h j m
               by u (rest_opened l y e' h r) j m = absurd (none_left _ y z h)
           by_rest lp q true z =
@@ -175,18 +175,18 @@ module _ (s : Core) (C : Code) (K : Knowledge) (kn : Knows s K) (I : IsCode C) w
                 | inr d ↦ inr (record { effect = e; fact = f; below = λ u h. by d u h })
               ]
             where
-              by : DoneBy i p (suc c) → (u : ℕ × List Step) → InAll (entry C i).act (entry C i).mark p c (computes_by f.reading) u → (j : ℕ) → In j (body C u.0).entries → G j u.1
+              by : DoneBy i p (suc c) → (u : ℕ × List Step) → InAll (entry C i).act (entry C i).offset p c (computes_by f.reading) u → (j : ℕ) → In j (body C u.0).entries → G j u.1
               by d u (now_opened h) j m = at_once u h j m
               by d u (rest_opened l y e' h r) j m =
                   let same : lp ≡ l = some_same (sym q ∙ e') in
-                  let r' : u ≡ (lp.body, step_at (entry C i).mark y.0 p) = r ∙ ap (λ (z : Loop). (z.body, step_at (entry C i).mark y.0 p)) (sym same) in
+                  let r' : u ≡ (lp.body, step_at (entry C i).offset y.0 p) = r ∙ ap (λ (z : Loop). (z.body, step_at (entry C i).offset y.0 p)) (sym same) in
                   subst (λ (z : ℕ × List Step). G j z.1) (sym r') (with_rest lp q d y h j (subst (λ (z : ℕ × List Step). In j (body C z.0).entries) r' m))
 
           by_loop : (l : Option Loop) → loop_of (entry C i).act ≡ l → Step_ i p c
           by_loop (Some lp) q = by_rest lp q (is_some_list (left_at (suc c) (turns_of (computes_by f.reading)))) refl
           by_loop None q = inr (record { effect = e; fact = f; below = λ u h. by u h })
             where
-              by : (u : ℕ × List Step) → InAll (entry C i).act (entry C i).mark p c (computes_by f.reading) u → (j : ℕ) → In j (body C u.0).entries → G j u.1
+              by : (u : ℕ × List Step) → InAll (entry C i).act (entry C i).offset p c (computes_by f.reading) u → (j : ℕ) → In j (body C u.0).entries → G j u.1
               by u (now_opened h) j m = at_once u h j m
               by u (rest_opened l y e' h r) j m = absurd (none_some (sym q ∙ e'))
 

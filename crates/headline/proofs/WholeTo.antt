@@ -58,13 +58,13 @@ stored_place d (Compute.Takes b) x h = absurd h
 stored_place d (Turns ts) x h = absurd h
 stored_place d Compute.Opens x h = absurd h
 
-pub bound_place : (lp : Loop) (mark : ℕ) (p : List Step) (u : Key × Scalar) (x : Write CodePlaces.Place Key Scalar) → In x (bound lp mark p u) → AtScalar x
-bound_place lp mark p u x (inl e) = (step_at mark u.0 p, scalar lp.value, ap (λ (z : Write CodePlaces.Place Key Scalar). z.place) e, refl)
-bound_place lp mark p u x (inr h) = by lp.turn h
+pub bound_place : (lp : Loop) (offset : ℕ) (p : List Step) (u : Key × Scalar) (x : Write CodePlaces.Place Key Scalar) → In x (bound lp offset p u) → AtScalar x
+bound_place lp offset p u x (inl e) = (step_at offset u.0 p, scalar lp.value, ap (λ (z : Write CodePlaces.Place Key Scalar). z.place) e, refl)
+bound_place lp offset p u x (inr h) = by lp.turn h
   where
-    by : (o : Option ℕ) → In x (turn_bound o (step_at mark u.0 p) u.0) → AtScalar x
+    by : (o : Option ℕ) → In x (turn_bound o (step_at offset u.0 p) u.0) → AtScalar x
     by None h = absurd h
-    by (Some n) (inl e) = (step_at mark u.0 p, scalar n, ap (λ (z : Write CodePlaces.Place Key Scalar). z.place) e, refl)
+    by (Some n) (inl e) = (step_at offset u.0 p, scalar n, ap (λ (z : Write CodePlaces.Place Key Scalar). z.place) e, refl)
     by (Some n) (inr h) = absurd h
 
 item_parts : {i j c c' : ℕ} {p q : List Step} → Item i p c ≡ Item j q c' → (i ≡ j) × (p ≡ q) × (c ≡ c')
@@ -85,7 +85,7 @@ module _ (s : Core) (C : Code) (w : IsCodeOf s C) (K : Knowledge) (wf : WellForm
 
   module _ {p : List Step} {t k : ℕ} {b : Block} (ch : Chain s C w.layout K p t k b) (i c : ℕ) (there : In i (body C t).entries) (e : Effect Task CodePlaces.Place Key Scalar) (f : Fact s C w K wf kn I sc ty (Item i p c) e) where
     abbrev StoresAs : Act → Write CodePlaces.Place Key Scalar → Type 0
-    StoresAs a x = In x (stores C a (entry C i).node (entry C i).mark p c (Compute.compute a (answered C p (entry C i).needs f.answers)))
+    StoresAs a x = In x (stores C a (entry C i).node (entry C i).offset p c (Compute.compute a (answered C p (entry C i).needs f.answers)))
 
     -- an array's element, with its writer, or a scalar's value
     abbrev pub WriteOf : Write CodePlaces.Place Key Scalar → Type 0
@@ -97,8 +97,8 @@ module _ (s : Core) (C : Code) (w : IsCodeOf s C) (K : Knowledge) (wf : WellForm
     at_turn : (lp : Loop) → loop_of (entry C i).act ≡ Some lp → (x : Write CodePlaces.Place Key Scalar) → StoresAs (entry C i).act x → AtScalar x
     at_turn lp q x h =
         let X = Compute.compute (entry C i).act (answered C p (entry C i).needs f.answers) in
-        let r = in_gather C (bound lp (entry C i).mark p) (chunk c (turns_of X)) x (subst (λ (l : List (Write CodePlaces.Place Key Scalar)). In x l) (loop_stores C (entry C i).act lp (entry C i).node (entry C i).mark p c X q) h) in
-        bound_place lp (entry C i).mark p r.0 x r.2
+        let r = in_gather C (bound lp (entry C i).offset p) (chunk c (turns_of X)) x (subst (λ (l : List (Write CodePlaces.Place Key Scalar)). In x l) (loop_stores C (entry C i).act lp (entry C i).node (entry C i).offset p c X q) h) in
+        bound_place lp (entry C i).offset p r.0 x r.2
 
     part_writes : (x : Write CodePlaces.Place Key Scalar) → StoresAs (entry C i).act x → (st : Stmt) → st ∈ block_list b → PartOf C w.layout k st i → WriteOf x
     part_writes x h (stmt at' m a) sm po = by po.as_part po.there po.in_own
@@ -146,7 +146,7 @@ module _ (s : Core) (C : Code) (w : IsCodeOf s C) (K : Knowledge) (wf : WellForm
 
   -- what an entry of a live block stores
   entry_writes : {p : List Step} {t k : ℕ} {b : Block} (ch : Chain s C w.layout K p t k b) (i c : ℕ) (there : In i (body C t).entries) (e : Effect Task CodePlaces.Place Key Scalar) (f : Fact s C w K wf kn I sc ty (Item i p c) e) (x : Write CodePlaces.Place Key Scalar)
-      → In x (stores C (entry C i).act (entry C i).node (entry C i).mark p c (Compute.compute (entry C i).act (answered C p (entry C i).needs f.answers))) → WriteOf ch i c there e f x
+      → In x (stores C (entry C i).act (entry C i).node (entry C i).offset p c (Compute.compute (entry C i).act (answered C p (entry C i).needs f.answers))) → WriteOf ch i c there e f x
   entry_writes {t = t} {k = k} {b = b} ch i c there e f x h = by_body (chain_body s C w.layout K wf.names I sc ch)
     where
       by_role : RoleIn C w.layout k b i → WriteOf ch i c there e f x

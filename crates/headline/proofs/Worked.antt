@@ -35,9 +35,9 @@ fibonacci_functions zero f h = subst (λ (f : Function). BodyAs fibonacci_code f
     (body_as (one_stmt (simple 4 tt refl no_part (same refl refl refl refl) refl refl) no_stmt refl) (makes_checked fibonacci_code fibonacci_layout _ _ refl refl))
     (body_as (one_stmt (simple 9 tt refl
     (one_part (the_cell refl refl (same refl refl refl refl))
-    (one_part (a_call (record { ins = _; outs = _; is = same refl refl refl refl; mark_is = refl; inputs = one_input (of_datum {c = record { node = 19; form = _ }} first refl) no_input; outputs = one_output false no_output }))
+    (one_part (a_call (record { ins = _; outs = _; is = same refl refl refl refl; offset_is = refl; inputs = one_input (of_datum {c = record { node = 19; form = _ }} first refl) no_input; outputs = one_output false no_output }))
     (one_part (the_cell refl refl (same refl refl refl refl))
-    (one_part (a_call (record { ins = _; outs = _; is = same refl refl refl refl; mark_is = refl; inputs = one_input (of_datum {c = record { node = 25; form = _ }} (later first) refl) no_input; outputs = one_output false no_output })) no_part refl) refl) refl) refl)
+    (one_part (a_call (record { ins = _; outs = _; is = same refl refl refl refl; offset_is = refl; inputs = one_input (of_datum {c = record { node = 25; form = _ }} (later first) refl) no_input; outputs = one_output false no_output })) no_part refl) refl) refl) refl)
     (same refl refl refl refl) refl refl) no_stmt refl) (makes_checked fibonacci_code fibonacci_layout _ _ refl refl))
     refl) no_stmt refl) (makes_checked fibonacci_code fibonacci_layout _ _ refl refl))
 fibonacci_functions (suc i) f h = absurd (cc)
@@ -46,7 +46,7 @@ pub fibonacci_is : IsCodeOf fibonacci fibonacci_code
 fibonacci_is = record {
   layout = fibonacci_layout;
   script = body_as (one_stmt (simple 1 tt refl
-      (one_part (plain_literal refl) (one_part (a_call (record { ins = _; outs = _; is = same refl refl refl refl; mark_is = refl; inputs = one_input (of_literal first refl) no_input; outputs = one_output false no_output })) no_part refl) refl)
+      (one_part (plain_literal refl) (one_part (a_call (record { ins = _; outs = _; is = same refl refl refl refl; offset_is = refl; inputs = one_input (of_literal first refl) no_input; outputs = one_output false no_output })) no_part refl) refl)
       (same refl refl refl refl) refl refl) no_stmt refl) (makes_checked fibonacci_code fibonacci_layout _ _ refl refl);
   functions = fibonacci_functions;
 }
@@ -69,7 +69,7 @@ pub filled_is : IsCodeOf filled filled_code
 filled_is = record {
   layout = filled_layout;
   script = body_as (one_stmt declares (one_stmt (calls_alone
-      (one_part (plain_literal refl) (one_part (a_call (record { ins = _; outs = _; is = same refl refl refl refl; mark_is = refl; inputs = one_input (of_literal first refl) no_input; outputs = one_output true no_output })) no_part refl) refl))
+      (one_part (plain_literal refl) (one_part (a_call (record { ins = _; outs = _; is = same refl refl refl refl; offset_is = refl; inputs = one_input (of_literal first refl) no_input; outputs = one_output true no_output })) no_part refl) refl))
       (one_stmt (simple 2 tt refl (one_part (plain_literal refl) (one_part (a_read refl refl (at_literal first refl) (same refl refl refl refl)) no_part refl) refl) (same refl refl refl refl) refl refl) no_stmt refl) refl) refl)
       (makes_checked filled_code filled_layout _ _ refl refl);
   functions = filled_functions;

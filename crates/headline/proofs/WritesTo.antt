@@ -21,7 +21,7 @@ use Rattle.language.specs.Meaning.{ValueUnder, of_array, Gives, computed, now, b
 use Rattle.language.specs.Members.{◌∈◌, first, later}
 use Rattle.language.specs.Openings.{Bounds, bounds, Opens, in_turns, turn, item, InTurn, range_value, range_turn, each_value, each_key}
 use Rattle.language.specs.Parts.{outer_cells, block_list}
-use Rattle.language.specs.Places.{Place, place, most_steps}
+use Rattle.language.specs.Places.{Place, place, max_path_steps}
 use Rattle.language.specs.WellFormed.{WellFormed, IsMany, a_list, a_copy}
 use Rattle.language_laws.proofs.Declared.{stmt_in}
 use Rattle.language_laws.proofs.Sources.{outer_in, index_in, right_in, many_given}
@@ -82,7 +82,7 @@ record PutOne (d : CodePlaces.Place) (ri ro : Result Value OpFault) (x : Write C
   key_is : x.key ≡ key_of (scalar_of index)
   value_is : x.value ≡ scalar_of right
 
-put_one : (d : CodePlaces.Place) (ri ro : Result Value OpFault) (x : Write CodePlaces.Place Key Scalar) → In x (inserted_at d (Compute.put ri ro)) → PutOne d ri ro x
+put_one : (d : CodePlaces.Place) (ri ro : Result Value OpFault) (x : Write CodePlaces.Place Key Scalar) → In x (inserted_at d (Compute.insert_element ri ro)) → PutOne d ri ro x
 put_one d (Err f) ro x h = absurd h
 put_one d (Ok i) (Err f) x h = absurd h
 put_one d (Ok i) (Ok v) x (inl e) = record { index = i; right = v; index_is = refl; right_is = refl; place_is = ap (λ (z : Write CodePlaces.Place Key Scalar). z.place) e; key_is = ap (λ (z : Write CodePlaces.Place Key Scalar). z.key) e; value_is = ap (λ (z : Write CodePlaces.Place Key Scalar). z.value) e }
@@ -135,7 +135,7 @@ module _ (s : Core) (C : Code) (w : IsCodeOf s C) (K : Knowledge) (wf : WellForm
 
     -- what the entry stores, as an entry of this act
     abbrev StoresAs : Act → Write CodePlaces.Place Key Scalar → Type 0
-    StoresAs a x = In x (stores C a (entry C i).node (entry C i).mark p c (Compute.compute a (answered C p (entry C i).needs f.answers)))
+    StoresAs a x = In x (stores C a (entry C i).node (entry C i).offset p c (Compute.compute a (answered C p (entry C i).needs f.answers)))
 
     abbrev Stored : Write CodePlaces.Place Key Scalar → Type 0
     Stored x = StoresAs (entry C i).act x
@@ -237,7 +237,7 @@ module _ (s : Core) (C : Code) (w : IsCodeOf s C) (K : Knowledge) (wf : WellForm
 
     -- ONE ELEMENT
     pub put_written : {at n : ℕ} (y : Name) (ix o : Outer) → stmt at n (insert y ix o) ∈ block_list b → (ms : List Need) → own_needs w.layout k (insert y ix o) ≡ ms
-        → IsEntry (entry C i) at (pos 0) ms (code.Put (name_as k true y) (over k ms (seen w.layout ix.cell)) (over k ms (seen w.layout o.cell))) → (entry C i).node ≡ n → (x : Write CodePlaces.Place Key Scalar) → Stored x → OwnWrite x
+        → IsEntry (entry C i) at (pos 0) ms (code.InsertElement (name_as k true y) (over k ms (seen w.layout ix.cell)) (over k ms (seen w.layout o.cell))) → (entry C i).node ≡ n → (x : Write CodePlaces.Place Key Scalar) → Stored x → OwnWrite x
     put_written {at} {n} y ix o sm ms mq en nd x h =
         let lv = live_stmt sm in
         let scp = scoped_stmt sm in
@@ -254,11 +254,11 @@ module _ (s : Core) (C : Code) (w : IsCodeOf s C) (K : Knowledge) (wf : WellForm
         (kn.shut _ (inserted lv (before ki) index.2 (before (subst (λ (z : Value). K (value (script_path p, o.cell.node) z)) one.1 ko))))
 
     -- A LOOP'S VARIABLES
-    turn_ours : {at n v : ℕ} {y : Option ℕ} {a : Action} {vs : List Value} {d : Block} (t' : ℕ) (u : Key × Scalar) → stmt at n a ∈ block_list b → (entry C i).mark ≡ at → Ready s K (script_path p) a vs → Opens a vs u.0 d → length (script_path p) < most_steps
-        → InTurn a vs u.0 v u.1 → ((m : ℕ) → y ≡ Some m → InTurn a vs u.0 m (key_scalar u.0)) → (x : Write CodePlaces.Place Key Scalar) → In x (bound (record { body = t'; value = v; turn = y }) (entry C i).mark p u) → IsOurs x
+    turn_ours : {at n v : ℕ} {y : Option ℕ} {a : Action} {vs : List Value} {d : Block} (t' : ℕ) (u : Key × Scalar) → stmt at n a ∈ block_list b → (entry C i).offset ≡ at → Ready s K (script_path p) a vs → Opens a vs u.0 d → length (script_path p) < max_path_steps
+        → InTurn a vs u.0 v u.1 → ((m : ℕ) → y ≡ Some m → InTurn a vs u.0 m (key_scalar u.0)) → (x : Write CodePlaces.Place Key Scalar) → In x (bound (record { body = t'; value = v; turn = y }) (entry C i).offset p u) → IsOurs x
     turn_ours {at} {n} {v} {y} {a} {vs} t' u m mk r o dp iv it x h = elim h [ inl q ↦ one_ours v u.1 q iv | inr z ↦ by y refl z ]
       where
-        one_ours : (nn : ℕ) (val : Scalar) → x ≡ record { place = Datum (step_at (entry C i).mark u.0 p) (scalar nn); key = only; value = val } → InTurn a vs u.0 nn val → IsOurs x
+        one_ours : (nn : ℕ) (val : Scalar) → x ≡ record { place = Datum (step_at (entry C i).offset u.0 p) (scalar nn); key = only; value = val } → InTurn a vs u.0 nn val → IsOurs x
         one_ours nn val q tn =
             let hv : HasValue s K ((at, u.0) ∷ script_path p, nn) val = in_turn (chain_live s C w.layout K wf.names I sc ch) m r o tn dp in (
               step_at at u.0 p,
@@ -267,23 +267,23 @@ module _ (s : Core) (C : Code) (w : IsCodeOf s C) (K : Knowledge) (wf : WellForm
               (ap (λ (z : Write CodePlaces.Place Key Scalar). z.key) q, subst (λ (z : Scalar). HasValue s K ((at, u.0) ∷ script_path p, nn) z) (sym (ap (λ (z : Write CodePlaces.Place Key Scalar). z.value) q)) hv),
             )
 
-        by : (yy : Option ℕ) → y ≡ yy → In x (turn_bound yy (step_at (entry C i).mark u.0 p) u.0) → IsOurs x
+        by : (yy : Option ℕ) → y ≡ yy → In x (turn_bound yy (step_at (entry C i).offset u.0 p) u.0) → IsOurs x
         by None q z = absurd z
         by (Some nn) q (inl z) = one_ours nn (key_scalar u.0) z (it nn q)
         by (Some nn) q (inr z) = absurd z
 
     -- the turn that a write is of
-    turn_of_write : (lp : code.Loop) (X : Computed) (x : Write CodePlaces.Place Key Scalar) → In x (flat_map (bound lp (entry C i).mark p) (chunk c (turns_of X))) → (u : Key × Scalar) × In u (turns_of X) × In u (chunk c (turns_of X)) × In x (bound lp (entry C i).mark p u)
-    turn_of_write lp X x h = let r = in_gather C (bound lp (entry C i).mark p) (chunk c (turns_of X)) x h in (r.0, in_chunk c (turns_of X) r.0 r.1, r.1, r.2)
+    turn_of_write : (lp : code.Loop) (X : Computed) (x : Write CodePlaces.Place Key Scalar) → In x (flat_map (bound lp (entry C i).offset p) (chunk c (turns_of X))) → (u : Key × Scalar) × In u (turns_of X) × In u (chunk c (turns_of X)) × In x (bound lp (entry C i).offset p u)
+    turn_of_write lp X x h = let r = in_gather C (bound lp (entry C i).offset p) (chunk c (turns_of X)) x h in (r.0, in_chunk c (turns_of X) r.0 r.1, r.1, r.2)
 
     -- a loop that has a turn does not lie too deep
-    loop_depth : (lp : code.Loop) → loop_of (entry C i).act ≡ Some lp → steps_on (entry C i).act ≡ true → (u : Key × Scalar) → In u (chunk c (turns_of (Compute.compute (entry C i).act (answered C p (entry C i).needs f.answers)))) → length (script_path p) < most_steps
+    loop_depth : (lp : code.Loop) → loop_of (entry C i).act ≡ Some lp → steps_on (entry C i).act ≡ true → (u : Key × Scalar) → In u (chunk c (turns_of (Compute.compute (entry C i).act (answered C p (entry C i).needs f.answers)))) → length (script_path p) < max_path_steps
     loop_depth lp q st u h =
-        depth s C w K wf kn I sc ty ch i c there e f (lp.body, step_at (entry C i).mark u.0 p) st
-        (subst (λ (l : List (ℕ × List Step)). In (lp.body, step_at (entry C i).mark u.0 p) l) (sym (loop_instances C (entry C i).act lp (entry C i).mark p c (Compute.compute (entry C i).act (answered C p (entry C i).needs f.answers)) q))
-        (in_map (λ (z : Key × Scalar). (lp.body, step_at (entry C i).mark z.0 p)) u _ h))
+        depth s C w K wf kn I sc ty ch i c there e f (lp.body, step_at (entry C i).offset u.0 p) st
+        (subst (λ (l : List (ℕ × List Step)). In (lp.body, step_at (entry C i).offset u.0 p) l) (sym (loop_instances C (entry C i).act lp (entry C i).offset p c (Compute.compute (entry C i).act (answered C p (entry C i).needs f.answers)) q))
+        (in_map (λ (z : Key × Scalar). (lp.body, step_at (entry C i).offset z.0 p)) u _ h))
 
-    pub each_written : {at n x' t' : ℕ} {a : Name} {y : Option ℕ} {d : Block} → stmt at n (each a x' y d) ∈ block_list b → IsEntry (entry C i) at (pos 0) (own_needs w.layout k (each a x' y d)) (code.Each (record { body = t'; value = x'; turn = y })) → (entry C i).mark ≡ at
+    pub each_written : {at n x' t' : ℕ} {a : Name} {y : Option ℕ} {d : Block} → stmt at n (each a x' y d) ∈ block_list b → IsEntry (entry C i) at (pos 0) (own_needs w.layout k (each a x' y d)) (code.Each (record { body = t'; value = x'; turn = y })) → (entry C i).offset ≡ at
         → (x : Write CodePlaces.Place Key Scalar) → Stored x → IsOurs x
     each_written {at} {n} {x'} {t'} {a} {y} {d} m en mk x h =
         by (answered C p (entry C i).needs f.answers) refl (subst (λ (l : List Need). AnsAll s C K p l (answered C p (entry C i).needs f.answers)) en.needs_is (answers_all s C w K wf kn I sc ty ch i c there e f))
@@ -297,10 +297,10 @@ module _ (s : Core) (C : Code) (w : IsCodeOf s C) (K : Knowledge) (wf : WellForm
         comp : Compute.compute (entry C i).act (answered C p (entry C i).needs f.answers) ≡ Turns (content (answer_at (answered C p (entry C i).needs f.answers) 0))
         comp = ap (λ (z : Act). Compute.compute z (answered C p (entry C i).needs f.answers)) en.act_is
 
-        ut : (u : Key × Scalar) × In u (content (answer_at (answered C p (entry C i).needs f.answers) 0)) × In u (chunk c (content (answer_at (answered C p (entry C i).needs f.answers) 0))) × In x (bound lp (entry C i).mark p u)
+        ut : (u : Key × Scalar) × In u (content (answer_at (answered C p (entry C i).needs f.answers) 0)) × In u (chunk c (content (answer_at (answered C p (entry C i).needs f.answers) 0))) × In x (bound lp (entry C i).offset p u)
         ut = turn_of_write lp (Turns (content (answer_at (answered C p (entry C i).needs f.answers) 0))) x (subst (λ (z : Act). StoresAs z x) en.act_is h)
 
-        dp : length (script_path p) < most_steps
+        dp : length (script_path p) < max_path_steps
         dp = loop_depth lp (ap loop_of en.act_is) (ap steps_on en.act_is) ut.0 (subst (λ (z : Computed). In ut.0 (chunk c (turns_of z))) (sym comp) ut.2)
 
         by : (zs : List Got) → answered C p (entry C i).needs f.answers ≡ zs → AnsAll s C K p (code.Closed (name_as k true a) ∷ []) zs → IsOurs x
@@ -314,19 +314,19 @@ module _ (s : Core) (C : Code) (w : IsCodeOf s C) (K : Knowledge) (wf : WellForm
             at_key : {es : List Element} (mm : ℕ) → y ≡ Some mm → InTurn (each a x' y d) (Many es ∷ []) (ut.0).0 mm (key_scalar (ut.0).0)
             at_key {es} mm q = subst (λ (o : Option ℕ). InTurn (each a x' o d) (Many es ∷ []) (ut.0).0 mm (key_scalar (ut.0).0)) (sym q) (each_key (key_same (ut.0).0))
 
-    range_ours : {at n x' : ℕ} {lo hi : Outer} {st : Option Outer} {y : Option ℕ} {d : Block} {vs : List Value} (t' : ℕ) (u : Key × Scalar) → stmt at n (range lo hi st x' y d) ∈ block_list b → (entry C i).mark ≡ at
+    range_ours : {at n x' : ℕ} {lo hi : Outer} {st : Option Outer} {y : Option ℕ} {d : Block} {vs : List Value} (t' : ℕ) (u : Key × Scalar) → stmt at n (range lo hi st x' y d) ∈ block_list b → (entry C i).offset ≡ at
         → KnownAll K (script_path p) (outer_cells (range lo hi st x' y d)) vs → (bd : Bounds) → bounds vs ≡ Some bd → (many turn_no : ℕ) → range_count bd.low bd.high bd.step ≡ Ok many → turn_no < many
-        → u.0 ≡ Key.Number (pos turn_no) → u.1 ≡ Number (value_in bd.low bd.step turn_no) → length (script_path p) < most_steps
-        → (x : Write CodePlaces.Place Key Scalar) → In x (bound (record { body = t'; value = x'; turn = y }) (entry C i).mark p u) → IsOurs x
+        → u.0 ≡ Key.Number (pos turn_no) → u.1 ≡ Number (value_in bd.low bd.step turn_no) → length (script_path p) < max_path_steps
+        → (x : Write CodePlaces.Place Key Scalar) → In x (bound (record { body = t'; value = x'; turn = y }) (entry C i).offset p u) → IsOurs x
     range_ours {x' = x'} {lo = lo} {hi = hi} {st = st} {y = y} {d = d} {vs = vs} t' u m mk ka bd bq many turn_no rc lt kq vq dp x h =
         let key = Key.Number (pos turn_no) in
         turn_ours t' u m mk (cells_known ka (in_turns bq rc)) (subst (λ (z : Key). Opens (range lo hi st x' y d) vs z d) (sym kq) (turn bq rc lt)) dp
         (subst (λ (z : Key). InTurn (range lo hi st x' y d) vs z x' u.1) (sym kq) (range_value bq vq))
         (λ mm q. subst (λ (o : Option ℕ). InTurn (range lo hi st x' o d) vs u.0 mm (key_scalar u.0)) (sym q) (range_turn (key_same u.0))) x h
 
-    range_finish : (at n x' t' : ℕ) (lo hi : Outer) (st : Option Outer) (y : Option ℕ) (d : Block) → stmt at n (range lo hi st x' y d) ∈ block_list b → (ms : List Need) → own_needs w.layout k (range lo hi st x' y d) ≡ ms → (entry C i).needs ≡ ms → (entry C i).mark ≡ at → (u : Key × Scalar)
+    range_finish : (at n x' t' : ℕ) (lo hi : Outer) (st : Option Outer) (y : Option ℕ) (d : Block) → stmt at n (range lo hi st x' y d) ∈ block_list b → (ms : List Need) → own_needs w.layout k (range lo hi st x' y d) ≡ ms → (entry C i).needs ≡ ms → (entry C i).offset ≡ at → (u : Key × Scalar)
         → RangeTurn (eval (answered C p (entry C i).needs f.answers) (over k ms (seen w.layout lo.cell))) (eval (answered C p (entry C i).needs f.answers) (over k ms (seen w.layout hi.cell))) (eval (answered C p (entry C i).needs f.answers) (over k ms (step_expr w.layout k st))) u
-        → length (script_path p) < most_steps → (x : Write CodePlaces.Place Key Scalar) → In x (bound (record { body = t'; value = x'; turn = y }) (entry C i).mark p u) → IsOurs x
+        → length (script_path p) < max_path_steps → (x : Write CodePlaces.Place Key Scalar) → In x (bound (record { body = t'; value = x'; turn = y }) (entry C i).offset p u) → IsOurs x
     range_finish at n x' t' lo hi None y d m ms mq nq mk u r dp x h =
         let known = range_known s C w K wf kn I sc ty ch i c there e f at n x' lo hi None y d m ms mq nq in
         let e1 = wanted k (seen w.layout lo.cell) in
@@ -354,7 +354,7 @@ module _ (s : Core) (C : Code) (w : IsCodeOf s C) (K : Knowledge) (wf : WellForm
         range_ours t' u m mk ka bd.0 bd.1 r.many r.place rc r.below r.key_is (r.value_is ∙ (λ i. Number (value_in (nb.0 i) (nb.2 i) r.place))) dp x h
 
     pub range_written : {at n x' t' : ℕ} {lo hi : Outer} {st : Option Outer} {y : Option ℕ} {d : Block} → stmt at n (range lo hi st x' y d) ∈ block_list b → (ms : List Need) → own_needs w.layout k (range lo hi st x' y d) ≡ ms
-        → IsEntry (entry C i) at (pos 0) ms (code.Range (over k ms (seen w.layout lo.cell)) (over k ms (seen w.layout hi.cell)) (over k ms (step_expr w.layout k st)) (record { body = t'; value = x'; turn = y })) → (entry C i).mark ≡ at
+        → IsEntry (entry C i) at (pos 0) ms (code.Range (over k ms (seen w.layout lo.cell)) (over k ms (seen w.layout hi.cell)) (over k ms (step_expr w.layout k st)) (record { body = t'; value = x'; turn = y })) → (entry C i).offset ≡ at
         → (x : Write CodePlaces.Place Key Scalar) → Stored x → IsOurs x
     range_written {at} {n} {x'} {t'} {lo} {hi} {st} {y} {d} m ms mq en mk x h =
         let lp : code.Loop = record { body = t'; value = x'; turn = y } in

@@ -14,7 +14,7 @@ use Rattle.language.specs.Facts.{value, Knowledge, IsKey, OneWrite, Fault}
 use Rattle.language.specs.Meaning.{ValueUnder, of_name, LiveStmt, in_block, HasValue, stored, in_turn, Gives, Ready, New, found, missing}
 use Rattle.language.specs.Members.{◌∈◌, first}
 use Rattle.language.specs.Parts.{parts, cells, block_list, script_stmts, part_cells}
-use Rattle.language.specs.Places.{Path, Place, Step as ScriptStep, place, most_steps}
+use Rattle.language.specs.Places.{Path, Place, Step as ScriptStep, place, max_path_steps}
 use Rattle.language.specs.WellFormed.{WellFormed}
 use Rattle.language_laws.proofs.Declared.{stmt_in, place_here}
 use Rattle.language.proofs.Members.{split_in, to_left, to_right, either}
@@ -181,7 +181,7 @@ module _ (s : Core) (C : Code) (w : IsCodeOf s C) (K : Knowledge) (wf : WellForm
   no_step false b = refl
 
   pub leaf_deep : (a : Act) (p : List Step) (ss : List (ℕ × List Step)) → steps_on a ≡ false → is_too_deep a p ss ≡ false
-  leaf_deep a p ss h = ap (λ (z : Bool). nat_le most_steps (length p) && (z && is_some_list ss)) h ∙ no_step (nat_le most_steps (length p)) (is_some_list ss)
+  leaf_deep a p ss h = ap (λ (z : Bool). nat_le max_path_steps (length p) && (z && is_some_list ss)) h ∙ no_step (nat_le max_path_steps (length p)) (is_some_list ss)
 
   compute_same : {x y : Expr} → compute x ≡ compute y → x ≡ y
   compute_same h = cc
@@ -210,7 +210,7 @@ module _ (s : Core) (C : Code) (w : IsCodeOf s C) (K : Knowledge) (wf : WellForm
       task = Item j p 0;
       effect = effect_at C j p 0 (Compute.Gives u);
       fact = gives_one code.Cell (λ x ys. refl) (λ x. refl) en refl g vu;
-      write = subst (λ (a : Act). In (record { place = Datum p (scalar n); key = only; value = u }) (stores C a (entry C j).node (entry C j).mark p 0 (Compute.Gives u))) (sym en.act_is)
+      write = subst (λ (a : Act). In (record { place = Datum p (scalar n); key = only; value = u }) (stores C a (entry C j).node (entry C j).offset p 0 (Compute.Gives u))) (sym en.act_is)
           (inl (ap (λ (d : CodePlaces.Place). record { place = d; key = only; value = u }) (sym (declared_at C p (scalar (entry C j).node) ∙ ap (λ (z : ℕ). Datum p (scalar z)) nd))));
     }
 
@@ -220,7 +220,7 @@ module _ (s : Core) (C : Code) (w : IsCodeOf s C) (K : Knowledge) (wf : WellForm
       task = Item j p 0;
       effect = effect_at C j p 0 (Compute.Gives u);
       fact = gives_one (code.Set (name_as k false x)) (λ x ys. refl) (λ x. refl) en mq g vu;
-      write = subst (λ (a : Act). In (record { place = Datum q v; key = only; value = u }) (stores C a (entry C j).node (entry C j).mark p 0 (Compute.Gives u))) (sym en.act_is)
+      write = subst (λ (a : Act). In (record { place = Datum q v; key = only; value = u }) (stores C a (entry C j).node (entry C j).offset p 0 (Compute.Gives u))) (sym en.act_is)
           (inl (ap (λ (d : CodePlaces.Place). record { place = d; key = only; value = u }) (sym pq)));
     }
 
@@ -331,7 +331,7 @@ module _ (s : Core) (C : Code) (w : IsCodeOf s C) (K : Knowledge) (wf : WellForm
                 (ap (λ (a : Act). Compute.compute a (answered C p (entry C j).needs z.answers)) en.act_is ∙ ap (λ (l : List Got). Compute.compute code.Read l) inp.back) tt
                 (leaf_deep (entry C j).act p _ (ap steps_on en.act_is));
           };
-          write = subst (λ (a : Act). In (record { place = Datum p (scalar n); key = only; value = u }) (stores C a (entry C j).node (entry C j).mark p 0 (Compute.Gives u))) (sym en.act_is)
+          write = subst (λ (a : Act). In (record { place = Datum p (scalar n); key = only; value = u }) (stores C a (entry C j).node (entry C j).offset p 0 (Compute.Gives u))) (sym en.act_is)
               (inl (ap (λ (d : CodePlaces.Place). record { place = d; key = only; value = u }) (sym (declared_at C p (scalar (entry C j).node) ∙ ap (λ (z : ℕ). Datum p (scalar z)) nd))));
         }
 
@@ -381,7 +381,7 @@ module _ (s : Core) (C : Code) (w : IsCodeOf s C) (K : Knowledge) (wf : WellForm
   -- A SCALAR THAT THE SCRIPT KNOWS IS STORED; loop variables are handed over
   abbrev pub TurnsStored : Type 0
   TurnsStored = (p : List Step) (v : Variable) (u : Scalar) (at n x : ℕ) (header : Action) (path : Path) (vs : List Value) (key : Key) (b : Block) → v.array ≡ false → LiveStmt s K path (stmt at n header) → Ready s K path header vs → Opens header vs key b → InTurn header vs key x u
-      → length path < most_steps → script_place p v ≡ ((at, key) ∷ path, x) → Written (code_system C) (Facts s C K) (Datum p v) only u
+      → length path < max_path_steps → script_place p v ≡ ((at, key) ∷ path, x) → Written (code_system C) (Facts s C K) (Datum p v) only u
 
   module _ (turns : TurnsStored) where
     same_variable : {x y : Variable} → x.node ≡ y.node → x.array ≡ y.array → x ≡ y

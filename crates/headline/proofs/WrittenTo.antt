@@ -67,7 +67,7 @@ module _ (s : Core) (C : Code) (w : IsCodeOf s C) (K : Knowledge) (wf : WellForm
   module _ {p : List Step} {t k : ℕ} {b : Block} (ch : Chain s C w.layout K p t k b) (i c : ℕ) (there : In i (body C t).entries) (e : Effect Task CodePlaces.Place Key Scalar) (f : Fact s C w K wf kn I sc ty (Item i p c) e) where
     -- what the entry stores
     abbrev pub Stores : Write CodePlaces.Place Key Scalar → Type 0
-    Stores x = In x (stores C (entry C i).act (entry C i).node (entry C i).mark p c (Compute.compute (entry C i).act (answered C p (entry C i).needs f.answers)))
+    Stores x = In x (stores C (entry C i).act (entry C i).node (entry C i).offset p c (Compute.compute (entry C i).act (answered C p (entry C i).needs f.answers)))
 
     -- A CELL
     pub cell_written : {at : ℕ} {pr : ℤ} {n m : ℕ} {a : Action} {ex : Expr} {at' : ℕ} → stmt at' m a ∈ block_list b → Co.inner (record { node = n; form = compute ex }) ∈ own_parts a → (entry C i).node ≡ n
@@ -75,7 +75,7 @@ module _ (s : Core) (C : Code) (w : IsCodeOf s C) (K : Knowledge) (wf : WellForm
     cell_written {n = n} {m = m} {a = a} {ex = ex} {at' = at'} sm pm nd en x h =
         let d = place_at C p (code.here (scalar (entry C i).node)) in
         let r = stored_value d (eval (answered C p (entry C i).needs f.answers) (over k (each_once (wanted k ex)) ex)) x
-        (subst (λ (z : Act). In x (stores C z (entry C i).node (entry C i).mark p c (Compute.compute z (answered C p (entry C i).needs f.answers)))) en.act_is h) in
+        (subst (λ (z : Act). In x (stores C z (entry C i).node (entry C i).offset p c (Compute.compute z (answered C p (entry C i).needs f.answers)))) en.act_is h) in
         let lv = in_block (chain_live s C w.layout K wf.names I sc ch) sm in
         let cm = cell_among _ (part_of_stmt a pm) in
         let g = (sc.statements k b (stmt at' m a) (chain_scope s C w.layout K wf.names I sc ch) sm).in_cells _ cm in
@@ -121,7 +121,7 @@ module _ (s : Core) (C : Code) (w : IsCodeOf s C) (K : Knowledge) (wf : WellForm
     assign_written {at} {n} {y} {o} sm en x h =
         let ms = own_needs w.layout k (assign y o) in
         let r = stored_value (place_at C p (name_as k false y)) (eval (answered C p (entry C i).needs f.answers) (over k ms (own_expr o))) x
-        (subst (λ (z : Act). In x (stores C z (entry C i).node (entry C i).mark p c (Compute.compute z (answered C p (entry C i).needs f.answers)))) en.act_is h) in
+        (subst (λ (z : Act). In x (stores C z (entry C i).node (entry C i).offset p c (Compute.compute z (answered C p (entry C i).needs f.answers)))) en.act_is h) in
         let lv = in_block (chain_live s C w.layout K wf.names I sc ch) sm in
         let scp = sc.statements k b (stmt at n (assign y o)) (chain_scope s C w.layout K wf.names I sc ch) sm in
         let u = subst (λ (z : Result Value OpFault). ValueUnder s K (script_path p) (own_expr o) z) r.is
@@ -179,7 +179,7 @@ module _ (s : Core) (C : Code) (w : IsCodeOf s C) (K : Knowledge) (wf : WellForm
         → (entry C i).node ≡ n → IndexAs C w.layout k all y ix need → IsEntry (entry C i) at pr (need ∷ []) code.Read → (x : Write CodePlaces.Place Key Scalar) → Stores x → IsKnown x
     read_written {n = n} {m = m} {ix = ix} {at' = at'} {a = a} {y = y} {all = all} {need = need} sm pm sub nd ia en x h =
         by (answered C p (entry C i).needs f.answers) (subst (λ (l : List Need). AnsAll s C K p l (answered C p (entry C i).needs f.answers)) en.needs_is (answers_all s C w K wf kn I sc ty ch i c there e f))
-        (subst (λ (z : Act). In x (stores C z (entry C i).node (entry C i).mark p c (Compute.compute z (answered C p (entry C i).needs f.answers)))) en.act_is h)
+        (subst (λ (z : Act). In x (stores C z (entry C i).node (entry C i).offset p c (Compute.compute z (answered C p (entry C i).needs f.answers)))) en.act_is h)
       where
         lv : LiveStmt s K (script_path p) (stmt at' m a)
         lv = in_block (chain_live s C w.layout K wf.names I sc ch) sm

@@ -10,7 +10,7 @@ use Rattle.language.specs.Meaning.{Closed, HasValue, Ready, LiveStmt}
 use Rattle.language.specs.Members.{◌∈◌}
 use Rattle.language.specs.Openings.{Opens}
 use Rattle.language.specs.Parts.{part_cells, cells, stmt_calls, block_list}
-use Rattle.language.specs.Places.{Path, Place, place, most_steps}
+use Rattle.language.specs.Places.{Path, Place, place, max_path_steps}
 use Rattle.task_code.specs.Code.{Variable, Code, Through, InPlace, entry, body, ways}
 use Rattle.task_code.specs.Compute.{in_key_order, key_of}
 use Rattle.task_code.specs.Effects.{step_at}
@@ -77,11 +77,11 @@ module _ (s : Core) (C : Code) (l : Layout) (K : Knowledge) where
   pub data Chain : List Step → ℕ → ℕ → Block → Type 0 where
     at_script : BodyAs C l 0 s.body 0 → Chain [] 0 0 s.body
     by_header : {p : List Step} {t k : ℕ} {b : Block} {at n : ℕ} {a : Action} {c : Block} {u : ℕ} (j : ℕ) {vs : List Value} {key : Key}
-        → Chain p t k b → stmt at n a ∈ block_list b → In j (body C t).entries → (entry C j).mark ≡ at → In (Through, u) (ways (entry C j).act)
-        → BodyAs C l k c u → Ready s K (script_path p) a vs → Opens a vs key c → length (script_path p) < most_steps → Chain (step_at at key p) u k c
+        → Chain p t k b → stmt at n a ∈ block_list b → In j (body C t).entries → (entry C j).offset ≡ at → In (Through, u) (ways (entry C j).act)
+        → BodyAs C l k c u → Ready s K (script_path p) a vs → Opens a vs key c → length (script_path p) < max_path_steps → Chain (step_at at key p) u k c
     by_wait : {p : List Step} {t k : ℕ} {b : Block} {st : Stmt} {c : Block} {u : ℕ} (j : ℕ)
         → Chain p t k b → st ∈ block_list b → In j (body C t).entries → In (InPlace, u) (ways (entry C j).act) → BodyAs C l k c u → Waited (script_path p) st c → Chain p u k c
     by_call : {p : List Step} {t k : ℕ} {b : Block} {st : Stmt} {c : Call} {f : Function} {all : List Part} {at : ℕ} {pr : ℤ} (j : ℕ)
         → Chain p t k b → st ∈ block_list b → c ∈ stmt_calls st → In j (body C t).entries → CallAs C l k all at pr c j → ((d : Cell) → d ∈ part_cells all → d ∈ cells st)
         → slice_get s.functions c.function ≡ Some f → length c.inputs ≡ f.inputs → BodyAs C l f.inputs f.body (l.body_of c.function)
-        → length (script_path p) < most_steps → Chain (step_at c.at (Key.Number (pos 0)) p) (l.body_of c.function) f.inputs f.body
+        → length (script_path p) < max_path_steps → Chain (step_at c.at (Key.Number (pos 0)) p) (l.body_of c.function) f.inputs f.body

@@ -10,7 +10,7 @@ use Rattle.values.specs.declared.value.Scalar.TheVariants.{Number}
 use Rattle.language.specs.Core.{Core}
 use Rattle.language_laws.specs.ExampleTrees.{table_of_fibonacci, tree_of_fibonacci, table_of_filled_in_a_call, tree_of_filled_in_a_call}
 use Rattle.language.specs.Resolved.{core}
-use Rattle.task_code.specs.Code.{Variable, Name, Parameter, Stored, Closed, AtKey, Expr, constant, need, operation, no_operand, operand, Named, Fixed, Cell, Read, Call, Set, Put, Print, If, Range, ByMain, ByCalls, ByStep, Code, here, scalar}
+use Rattle.task_code.specs.Code.{Variable, Name, Parameter, Stored, Closed, AtKey, Expr, constant, need, operation, no_operand, operand, Named, Fixed, Cell, Read, Call, Set, InsertElement, Print, If, Range, ByMain, ByCalls, ByStep, Code, here, scalar}
 use Rattle.code_rules.specs.IsCodeOf.{Layout}
 
 abbrev two : Operation → Expr → Expr → Expr
@@ -40,16 +40,16 @@ fibonacci_code =
     let r1 : Name = record { up = 1; owned = Parameter 1 false } in
     record {
       entries =
-          record { node = 34; at = 79; mark = 92; priority = pos 0; needs = []; act = Call 1 (Fixed (Number (pos 10)) ∷ []) (here result ∷ []); reads = []; writes = here result ∷ [] }
-          ∷ record { node = 29; at = 79; mark = 79; priority = pos 0; needs = Stored (here result) ∷ []; act = Print (operation (printf (digits ∷ [])) (operand (need 0) no_operand)); reads = here result ∷ []; writes = [] }
-          ∷ record { node = 6; at = 21; mark = 25; priority = pos 0; needs = Stored n ∷ []; act = Cell (two (compare Less) (need 0) (num 2)); reads = n ∷ []; writes = here small ∷ [] }
-          ∷ record { node = 5; at = 21; mark = 21; priority = pos 0; needs = Stored (here small) ∷ []; act = If (need 0) 2 (Some 3); reads = here small ∷ n ∷ []; writes = r ∷ [] }
-          ∷ record { node = 10; at = 34; mark = 34; priority = pos 0; needs = Stored n1 ∷ []; act = Set r1 (need 0); reads = n1 ∷ []; writes = r1 ∷ [] }
-          ∷ record { node = 19; at = 50; mark = 58; priority = pos 0; needs = Stored n1 ∷ []; act = Cell (two (sum_of (Minus ∷ [])) (need 0) (num 1)); reads = n1 ∷ []; writes = here below1 ∷ [] }
-          ∷ record { node = 18; at = 50; mark = 54; priority = pos 0; needs = []; act = Call 1 (Named (here below1) ∷ []) (here fib1 ∷ []); reads = here below1 ∷ []; writes = here fib1 ∷ [] }
-          ∷ record { node = 25; at = 50; mark = 69; priority = pos 0; needs = Stored n1 ∷ []; act = Cell (two (sum_of (Minus ∷ [])) (need 0) (num 2)); reads = n1 ∷ []; writes = here below2 ∷ [] }
-          ∷ record { node = 24; at = 50; mark = 65; priority = pos 0; needs = []; act = Call 1 (Named (here below2) ∷ []) (here fib2 ∷ []); reads = here below2 ∷ []; writes = here fib2 ∷ [] }
-          ∷ record { node = 14; at = 50; mark = 50; priority = pos 0; needs = Stored (here fib1) ∷ Stored (here fib2) ∷ []; act = Set r1 (two (sum_of (Plus ∷ [])) (need 0) (need 1)); reads = here fib1 ∷ here fib2 ∷ []; writes = r1 ∷ [] }
+          record { node = 34; at = 79; offset = 92; priority = pos 0; needs = []; act = Call 1 (Fixed (Number (pos 10)) ∷ []) (here result ∷ []); reads = []; writes = here result ∷ [] }
+          ∷ record { node = 29; at = 79; offset = 79; priority = pos 0; needs = Stored (here result) ∷ []; act = Print (operation (printf (digits ∷ [])) (operand (need 0) no_operand)); reads = here result ∷ []; writes = [] }
+          ∷ record { node = 6; at = 21; offset = 25; priority = pos 0; needs = Stored n ∷ []; act = Cell (two (compare Less) (need 0) (num 2)); reads = n ∷ []; writes = here small ∷ [] }
+          ∷ record { node = 5; at = 21; offset = 21; priority = pos 0; needs = Stored (here small) ∷ []; act = If (need 0) 2 (Some 3); reads = here small ∷ n ∷ []; writes = r ∷ [] }
+          ∷ record { node = 10; at = 34; offset = 34; priority = pos 0; needs = Stored n1 ∷ []; act = Set r1 (need 0); reads = n1 ∷ []; writes = r1 ∷ [] }
+          ∷ record { node = 19; at = 50; offset = 58; priority = pos 0; needs = Stored n1 ∷ []; act = Cell (two (sum_of (Minus ∷ [])) (need 0) (num 1)); reads = n1 ∷ []; writes = here below1 ∷ [] }
+          ∷ record { node = 18; at = 50; offset = 54; priority = pos 0; needs = []; act = Call 1 (Named (here below1) ∷ []) (here fib1 ∷ []); reads = here below1 ∷ []; writes = here fib1 ∷ [] }
+          ∷ record { node = 25; at = 50; offset = 69; priority = pos 0; needs = Stored n1 ∷ []; act = Cell (two (sum_of (Minus ∷ [])) (need 0) (num 2)); reads = n1 ∷ []; writes = here below2 ∷ [] }
+          ∷ record { node = 24; at = 50; offset = 65; priority = pos 0; needs = []; act = Call 1 (Named (here below2) ∷ []) (here fib2 ∷ []); reads = here below2 ∷ []; writes = here fib2 ∷ [] }
+          ∷ record { node = 14; at = 50; offset = 50; priority = pos 0; needs = Stored (here fib1) ∷ Stored (here fib2) ∷ []; act = Set r1 (two (sum_of (Plus ∷ [])) (need 0) (need 1)); reads = here fib1 ∷ here fib2 ∷ []; writes = r1 ∷ [] }
           ∷ [];
       bodies =
           record { opener = ByMain; makes = result ∷ []; entries = 0 ∷ 1 ∷ [] }
@@ -78,13 +78,13 @@ filled_code =
     let b1 : Name = record { up = 1; owned = Parameter 1 true } in
     record {
       entries =
-          record { node = 23; at = 69; mark = 73; priority = pos 0; needs = []; act = Call 1 (Fixed (Number (pos 4)) ∷ []) (here c ∷ []); reads = []; writes = here c ∷ [] }
-          ∷ record { node = 36; at = 79; mark = 104; priority = pos 0; needs = AtKey (here c) (number_key (pos 3)) ∷ []; act = Read; reads = here c ∷ []; writes = here found ∷ [] }
-          ∷ record { node = 28; at = 79; mark = 79; priority = pos 0; needs = Closed (here c) ∷ Stored (here found) ∷ []; act = Print (operation (printf (digits ∷ Byte 32 ∷ digits ∷ [])) (operand (operation size (operand (need 0) no_operand)) (operand (need 1) no_operand))); reads = here c ∷ here found ∷ []; writes = [] }
-          ∷ record { node = 8; at = 21; mark = 37; priority = pos 0; needs = Stored m ∷ []; act = Cell (two (sum_of (Minus ∷ [])) (need 0) (num 1)); reads = m ∷ []; writes = here last ∷ [] }
-          ∷ record { node = 5; at = 21; mark = 21; priority = pos 0; needs = Stored (here last) ∷ []; act = Range (num 0) (need 0) (num 1) (record { body = 2; value = 6; turn = None }); reads = here last ∷ []; writes = b ∷ [] }
-          ∷ record { node = 16; at = 44; mark = 51; priority = pos 0; needs = Stored (here i) ∷ []; act = Cell (two (product_of (Times ∷ [])) (need 0) (need 0)); reads = here i ∷ []; writes = here square ∷ [] }
-          ∷ record { node = 12; at = 44; mark = 44; priority = pos 0; needs = Stored (here i) ∷ Stored (here square) ∷ []; act = Put b1 (need 0) (need 1); reads = here i ∷ here square ∷ []; writes = b1 ∷ [] }
+          record { node = 23; at = 69; offset = 73; priority = pos 0; needs = []; act = Call 1 (Fixed (Number (pos 4)) ∷ []) (here c ∷ []); reads = []; writes = here c ∷ [] }
+          ∷ record { node = 36; at = 79; offset = 104; priority = pos 0; needs = AtKey (here c) (number_key (pos 3)) ∷ []; act = Read; reads = here c ∷ []; writes = here found ∷ [] }
+          ∷ record { node = 28; at = 79; offset = 79; priority = pos 0; needs = Closed (here c) ∷ Stored (here found) ∷ []; act = Print (operation (printf (digits ∷ Byte 32 ∷ digits ∷ [])) (operand (operation size (operand (need 0) no_operand)) (operand (need 1) no_operand))); reads = here c ∷ here found ∷ []; writes = [] }
+          ∷ record { node = 8; at = 21; offset = 37; priority = pos 0; needs = Stored m ∷ []; act = Cell (two (sum_of (Minus ∷ [])) (need 0) (num 1)); reads = m ∷ []; writes = here last ∷ [] }
+          ∷ record { node = 5; at = 21; offset = 21; priority = pos 0; needs = Stored (here last) ∷ []; act = Range (num 0) (need 0) (num 1) (record { body = 2; value = 6; turn = None }); reads = here last ∷ []; writes = b ∷ [] }
+          ∷ record { node = 16; at = 44; offset = 51; priority = pos 0; needs = Stored (here i) ∷ []; act = Cell (two (product_of (Times ∷ [])) (need 0) (need 0)); reads = here i ∷ []; writes = here square ∷ [] }
+          ∷ record { node = 12; at = 44; offset = 44; priority = pos 0; needs = Stored (here i) ∷ Stored (here square) ∷ []; act = InsertElement b1 (need 0) (need 1); reads = here i ∷ here square ∷ []; writes = b1 ∷ [] }
           ∷ [];
       bodies =
           record { opener = ByMain; makes = c ∷ found ∷ []; entries = 0 ∷ 1 ∷ 2 ∷ [] }

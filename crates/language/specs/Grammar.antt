@@ -16,6 +16,7 @@ use Rattle.language.specs.declared.tree.Level.{Level}
 use Rattle.lexer.specs.declared.token.TokenKind.TheVariants as Kind
 use Rattle.language.specs.Kinds.{operator_of, base_of, level_of, repeats}
 use Rattle.language.specs.Rules.{Place, Rule, The, ◌⋆◌, ◌▹◌, ◌◃◌, Never, Many, Maybe, AtMostOne, Perhaps, Made, Commas, Round, Square, Curly, Deeper}
+use Rattle.values.specs.Limits.{max_priority}
 
 -- the place of the first token
 abbrev pub first_of : List Lexeme → Span
@@ -163,7 +164,7 @@ IsPrio s t u = The Kind.Name s t u × (t.text ≡ 112 ∷ 114 ∷ 105 ∷ 111 �
 
 -- a number of at most a million
 abbrev pub IsSmall : Rule ℕ
-IsSmall s n u = (t : Lexeme) × The Kind.Number s t u × (decimal t.text ≤ 1000000) × (n ≡ decimal t.text)
+IsSmall s n u = (t : Lexeme) × The Kind.Number s t u × (decimal t.text ≤ max_priority) × (n ≡ decimal t.text)
 
 -- a number, or its negative after a `-`
 abbrev pub signed : {A : Type 0} → Option A → ℕ → ℤ

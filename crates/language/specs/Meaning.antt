@@ -15,7 +15,7 @@ use Rattle.language.specs.Facts.{Fault, operation, no_element, element_twice, to
 use Rattle.language.specs.Members.{◌∈◌}
 use Rattle.language.specs.Openings.{Bounds, bounds, Decides, Opens, InTurn, Branches}
 use Rattle.language.specs.Parts.{stmt_at, stmt_node, outer_cells, cells, stmt_calls, block_list, function_body, targets}
-use Rattle.language.specs.Places.{Path, Place, place, most_steps}
+use Rattle.language.specs.Places.{Path, Place, place, max_path_steps}
 
 -- a variable is a target in a statement or in a block nested in it
 abbrev pub IsTarget : Owned → Stmt → Type 0
@@ -28,12 +28,12 @@ mutual
     script : Live s K [] s.body
     opened : {path : Path} {b c : Block} {at n : ℕ} {header : Action} {vs : List Value} {k : Key}
         → Live s K path b → stmt at n header ∈ block_list b
-        → Ready s K path header vs → Opens header vs k c → length path < most_steps → Live s K ((at, k) ∷ path) c
+        → Ready s K path header vs → Opens header vs k c → length path < max_path_steps → Live s K ((at, k) ∷ path) c
     waited : {path : Path} {b c : Block} {at n : ℕ} {ns : List Awaited}
         → Live s K path b → stmt at n (wait ns c) ∈ block_list b → Ready s K path (wait ns c) [] → Live s K path c
     called : {path : Path} {b : Block} {f : Function} {st : Stmt} {c : Call}
         → Live s K path b → st ∈ block_list b → c ∈ stmt_calls st
-        → slice_get s.functions c.function ≡ Some f → length path < most_steps → Live s K ((c.at, Key.Number (pos 0)) ∷ path) f.body
+        → slice_get s.functions c.function ≡ Some f → length path < max_path_steps → Live s K ((c.at, Key.Number (pos 0)) ∷ path) f.body
 
   -- an array is closed: its block is live, each statement of that block is finished for it, and no key has two writers
   -- (docs/LANGUAGE.md, Closing)
@@ -53,13 +53,13 @@ mutual
     write_known : {a : Owned} {path : Path} {at n : ℕ} {x : Name} {i c : Outer} {k : Key} {v : Scalar}
         → K (element (place s path x) k (path, n) v) → Finished s K a path (stmt at n (insert x i c))
     body_finished : {a : Owned} {path : Path} {at n : ℕ} {p : ℤ} {ps : List Part} {c : Call}
-        → length path < most_steps
+        → length path < max_path_steps
         → ((j : ℕ) (x : Name) (st : Stmt) → slice_get c.outputs j ≡ Some x → x.what ≡ a → st ∈ function_body s c.function
         → Finished s K (output j) ((c.at, Key.Number (pos 0)) ∷ path) st)
         → Finished s K a path (stmt at n (call_alone p ps c))
     blocks_finished : {a : Owned} {path : Path} {at n : ℕ} {header : Action} {vs : List Value}
         → Branches header → Ready s K path header vs
-        → ((k : Key) (b : Block) → Opens header vs k b → length path < most_steps)
+        → ((k : Key) (b : Block) → Opens header vs k b → length path < max_path_steps)
         → ((k : Key) (b : Block) (st : Stmt) → Opens header vs k b → st ∈ block_list b → Finished s K a ((at, k) ∷ path) st)
         → Finished s K a path (stmt at n header)
     content_finished : {a : Owned} {path : Path} {at n : ℕ} {ns : List Awaited} {b : Block}
@@ -88,7 +88,7 @@ mutual
   pub data HasValue (s : Core) (K : Knowledge) : Place → Scalar → Type 0 where
     stored : {at : Place} {v : Scalar} → K (value at (One v)) → HasValue s K at v
     in_turn : {path : Path} {c : Block} {at n x : ℕ} {header : Action} {vs : List Value} {k : Key} {b : Block} {v : Scalar}
-        → Live s K path c → stmt at n header ∈ block_list c → Ready s K path header vs → Opens header vs k b → InTurn header vs k x v → length path < most_steps
+        → Live s K path c → stmt at n header ∈ block_list c → Ready s K path header vs → Opens header vs k b → InTurn header vs k x v → length path < max_path_steps
         → HasValue s K ((at, k) ∷ path, x) v
 
 mutual
@@ -159,10 +159,10 @@ pub data New (s : Core) (K : Knowledge) : Fact → Type 0 where
       → New s K (fault (operation f) at (path, n))
   too_deep_header : {path : Path} {at n : ℕ} {header : Action} {vs : List Value} {k : Key} {b : Block}
       → LiveStmt s K path (stmt at n header) → ComeAll s K path (outer_cells header) vs ⊎ Ready s K path header vs
-      → Opens header vs k b → length path ≡ most_steps
+      → Opens header vs k b → length path ≡ max_path_steps
       → New s K (fault too_deep at (path, n))
   too_deep_call : {path : Path} {st : Stmt} {c : Call}
-      → LiveStmt s K path st → c ∈ stmt_calls st → length path ≡ most_steps
+      → LiveStmt s K path st → c ∈ stmt_calls st → length path ≡ max_path_steps
       → New s K (fault too_deep (stmt_at st) (path, stmt_node st))
   written_twice : {path : Path} {st : Stmt} {a w : Place} {k : Key} {v u : Scalar}
       → LiveStmt s K path st → K (element a k (path, stmt_node st) v) → K (element a k w u) → w ≢ (path, stmt_node st)

@@ -2,7 +2,7 @@
 -- paths; Calls.
 use Rattle.std.specs.Prelude.{ℕ, zero, suc, List, [], ◌∷◌}
 use Rattle.values.specs.declared.key.Key.{Key}
-pub use Rattle.values.specs.Limits.{most_steps}
+pub use Rattle.values.specs.Limits.{max_path_steps}
 use Rattle.language.specs.Core.{Core, Name, Owned, local, input, output}
 use Rattle.language.specs.Parts.{call_at, input_name, output_name}
 

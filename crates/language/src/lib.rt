@@ -2,4 +2,5 @@
 //! programs share with them.
 #![tactic(auto)]
 
+pub mod operators;
 pub mod tree;

@@ -16,6 +16,7 @@ use Rattle.language_accepted.specs.Placed.{Rise, IsPlaced}
 use Rattle.language_accepted.proofs.Called.{starts_of, c_script}
 use Rattle.language_accepted.proofs.Once.{numbered_rise}
 use Rattle.language_accepted.proofs.Rising.{hit_most, here_or_none, hit_other}
+use Rattle.values.specs.Limits.{max_nesting}
 
 -- NUMBERS CHANGE NO OFFSET
 
@@ -130,7 +131,7 @@ apart bytes tree r = few_distinct (tree_offsets tree) (λ n. few n)
         let rise = subst (SpansRise 0 (length bytes)) (sym items) (spans_rise bytes) in
         let same : tree_offsets tree ≡ tree_offsets r.parsed = ap tree_offsets r.is_numbered ∙ of_tree 1 r.parsed in
         let a = ap (times n) same in
-        let b = c_script 64 n (record { before = 0; rest = r.tokens }) r.parsed (r.is_script).0 (r.is_script).1 in
+        let b = c_script max_nesting n (record { before = 0; rest = r.tokens }) r.parsed (r.is_script).0 (r.is_script).1 in
         let c = starts_once 0 (length bytes) n r.tokens rise in
         omega arith
 

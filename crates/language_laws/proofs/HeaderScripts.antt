@@ -15,7 +15,7 @@ use Rattle.language.specs.Meaning.{Live, script, opened, waited, called, Ready, 
 use Rattle.language.specs.Members.{◌∈◌, first, later}
 use Rattle.language.specs.Openings.{Opens, then_alone, item, InTurn}
 use Rattle.language.specs.Parts.{block_list}
-use Rattle.language.specs.Places.{Path, Place, most_steps}
+use Rattle.language.specs.Places.{Path, Place, max_path_steps}
 use Rattle.language.specs.Single.{SinglyAssigned}
 use Rattle.language.specs.WellFormed.{WellFormed, each_value_role}
 use Rattle.language_laws.proofs.DeepPaths.{deep_length}
@@ -37,12 +37,12 @@ H = example.headers_without_end
 abbrev h_body : Block
 h_body = example.body_of_headers
 
-h_live : (d : ℕ) → d < most_steps → Live H (Known H 0) (nested_calls 62 37 d) h_body
+h_live : (d : ℕ) → d < max_path_steps → Live H (Known H 0) (nested_calls 62 37 d) h_body
 h_live zero h = called script first first refl (omega arith)
 h_live (suc d) h = let l = deep_length 62 37 d in called (h_live d (omega arith)) (later first) first refl (omega arith)
 
-pub header_fault : Known H 1 (fault too_deep 19 (nested_calls 62 37 (most_steps - 1), 5))
-header_fault = inr (too_deep_header (in_block (h_live (most_steps - 1) (omega arith)) first) (inl (next_comes (now (computed of_literal)) none_comes)) then_alone (deep_length 62 37 (most_steps - 1)))
+pub header_fault : Known H 1 (fault too_deep 19 (nested_calls 62 37 (max_path_steps - 1), 5))
+header_fault = inr (too_deep_header (in_block (h_live (max_path_steps - 1) (omega arith)) first) (inl (next_comes (now (computed of_literal)) none_comes)) then_alone (deep_length 62 37 (max_path_steps - 1)))
 
 -- A LOOP IN A BRANCH THAT IS NOT TAKEN
 

@@ -7,7 +7,7 @@ use Rattle.language.specs.Core.{Owned, local, input, output, Stmt, Block, Core}
 use Rattle.language.specs.Facts.{value, Knowledge}
 use Rattle.language.specs.Meaning.{Live, script, opened, waited, called, LiveStmt, in_block, HasValue, stored, in_turn, Known, Meaning}
 use Rattle.language.specs.Parts.{call_at, input_name, output_name}
-use Rattle.language.specs.Places.{Path, Place, Step, place_of, most_steps}
+use Rattle.language.specs.Places.{Path, Place, Step, place_of, max_path_steps}
 use Rattle.language.specs.Single.{SinglyAssigned}
 use Rattle.language.specs.WellFormed.{WellFormed}
 use Rattle.language_laws.proofs.Ever.{grow_meaning}
@@ -26,7 +26,7 @@ outward (waited l m r) = outward l
 outward (called l m i e d) = (_, l)
 
 -- no live path is longer than a path may be
-pub path_bound : {s : Core} {K : Knowledge} {path : Path} {b : Block} → Live s K path b → length path ≤ most_steps
+pub path_bound : {s : Core} {K : Knowledge} {path : Path} {b : Block} → Live s K path b → length path ≤ max_path_steps
 path_bound script = omega arith
 path_bound (opened l m r o d) = omega arith
 path_bound (waited l m r) = path_bound l

@@ -16,7 +16,7 @@ use Rattle.language_laws.specs.HeaderExamples.{nested_calls}
 use Rattle.language.specs.Facts.{operation, element_twice, too_deep, value, element, line, fault, a_number}
 use Rattle.language.specs.Meaning.{Live, script, waited, called, names_known, Come, scalar_known, stored, of_literal, of_name, of_operator, no_operand, operand, computed, faulty, now, LiveStmt, in_block, cell_value, cell_fault, assigned, inserted, printed, written_twice, too_deep_call, Known}
 use Rattle.language.specs.Members.{◌∈◌, first, later}
-use Rattle.language.specs.Places.{Path, Place, most_steps}
+use Rattle.language.specs.Places.{Path, Place, max_path_steps}
 use Rattle.language_laws.proofs.DeepPaths.{deep_length}
 
 -- READ BEFORE ASSIGNMENT
@@ -88,12 +88,12 @@ f_body = block_of (
 abbrev calls_deep : ℕ → Path
 calls_deep d = nested_calls 48 23 d
 
-deep_live : (d : ℕ) → d < most_steps → Live example.calls_without_end (Known example.calls_without_end 0) (calls_deep d) f_body
+deep_live : (d : ℕ) → d < max_path_steps → Live example.calls_without_end (Known example.calls_without_end 0) (calls_deep d) f_body
 deep_live zero h = called script first first refl (omega arith)
 deep_live (suc d) h = let l = deep_length 48 23 d in called (deep_live d (omega arith)) first first refl (omega arith)
 
-pub too_deep_at_last : Known example.calls_without_end 1 (fault too_deep 19 (calls_deep (most_steps - 1), 5))
-too_deep_at_last = let l = deep_length 48 23 (most_steps - 1) in inr (too_deep_call (in_block (deep_live (most_steps - 1) (omega arith)) first) first (omega arith))
+pub too_deep_at_last : Known example.calls_without_end 1 (fault too_deep 19 (calls_deep (max_path_steps - 1), 5))
+too_deep_at_last = let l = deep_length 48 23 (max_path_steps - 1) in inr (too_deep_call (in_block (deep_live (max_path_steps - 1) (omega arith)) first) first (omega arith))
 
 -- NESTED WAITS
 

@@ -11,7 +11,7 @@ ghost use Rattle.language_laws.specs.HeaderExamples.{nested_calls, no_step, head
 ghost use Rattle.language.specs.Facts.{operation, too_deep};
 ghost use Rattle.language.specs.Meaning.{HasValue, Meaning};
 ghost use Rattle.language.specs.Outcomes.{Faults, Lines};
-ghost use Rattle.language.specs.Places.{Path, most_steps};
+ghost use Rattle.language.specs.Places.{Path, max_path_steps};
 
 /// Proves that `foreach i in [5:1:0] { }` is at fault: a step of 0 is a fault, even if the range has no values.
 pub fn an_empty_range_has_its_step_tested()
@@ -19,18 +19,18 @@ pub fn an_empty_range_has_its_step_tested()
 {}
 
 /// Proves that the condition is at fault in the deepest body of
-/// `(int r) f(int n) { if (true) { } r = f(n + 1); } printf("%i", f(0));`. The path of this body has `most_steps`
+/// `(int r) f(int n) { if (true) { } r = f(n + 1); } printf("%i", f(0));`. The path of this body has `max_path_steps`
 /// steps.
 pub fn a_header_at_the_longest_path_is_too_deep()
-    ensures length { length (nested_calls 62 37 (most_steps - 1)) ≡ most_steps }
-    ensures fault { Faults (Meaning headers_without_end) too_deep 19 (nested_calls 62 37 (most_steps - 1)) }
+    ensures length { length (nested_calls 62 37 (max_path_steps - 1)) ≡ max_path_steps }
+    ensures fault { Faults (Meaning headers_without_end) too_deep 19 (nested_calls 62 37 (max_path_steps - 1)) }
 {}
 
 /// Proves that the call is at fault in the deepest body of `(int r) f(int n) { r = f(n + 1); } printf("%i", f(0));`.
-/// The path of this body has `most_steps` steps.
+/// The path of this body has `max_path_steps` steps.
 pub fn a_call_at_the_longest_path_is_too_deep()
-    ensures length { length (nested_calls 48 23 (most_steps - 1)) ≡ most_steps }
-    ensures fault { Faults (Meaning calls_without_end) too_deep 19 (nested_calls 48 23 (most_steps - 1)) }
+    ensures length { length (nested_calls 48 23 (max_path_steps - 1)) ≡ max_path_steps }
+    ensures fault { Faults (Meaning calls_without_end) too_deep 19 (nested_calls 48 23 (max_path_steps - 1)) }
 {}
 
 /// Proves that in `int A[] = [7]; if (false) { foreach v in A { } }` the variable `v` has no value at any path. No turn

@@ -12,7 +12,7 @@ ghost use Rattle.language.specs.Meaning.{Closed, Gives, HasValue, Live, New, Kno
 ghost use Rattle.language.specs.Members.{◌∈◌};
 ghost use Rattle.language.specs.Outcomes.{Clean};
 ghost use Rattle.language.specs.Parts.{cells, script_stmts, stmt_node};
-ghost use Rattle.language.specs.Places.{Path, Place, most_steps};
+ghost use Rattle.language.specs.Places.{Path, Place, max_path_steps};
 ghost use Rattle.language.specs.Resolved.{core};
 ghost use Rattle.language.specs.Single.{SinglyAssigned};
 ghost use Rattle.language.specs.Table.{Table};
@@ -46,9 +46,9 @@ pub fn a_scalar_is_at_a_live_block()
     ensures { (s : Core) → WellFormed s → SinglyAssigned s → (p : Place) (v : Scalar) → HasValue s (Meaning s) p v → (b : Block) × Live s (Meaning s) p.0 b }
 {}
 
-/// Proves that no block is live at a path of more than `most_steps` steps.
+/// Proves that no block is live at a path of more than `max_path_steps` steps.
 pub fn live_paths_are_bounded()
-    ensures { (s : Core) (path : Path) (b : Block) → Live s (Meaning s) path b → length path ≤ most_steps }
+    ensures { (s : Core) (path : Path) (b : Block) → Live s (Meaning s) path b → length path ≤ max_path_steps }
 {}
 
 /// Proves that a cell evaluates to at most one value or fault, in whichever rounds.

@@ -8,7 +8,7 @@ use Rattle.language.specs.Core.{Owned, Name, Block, Core, Stmt}
 use Rattle.language.specs.Members.{◌∈◌, first, later}
 use Rattle.language.proofs.Members.{to_left, to_right, either}
 use Rattle.flow.specs.declared.name.Name.{Name as FlowName}
-use Rattle.language.specs.Places.{most_steps}
+use Rattle.language.specs.Places.{max_path_steps}
 use Rattle.flow.specs.declared.script.Function.{Function}
 use Rattle.flow.specs.declared.statement.Action.{Action, Wait}
 use Rattle.flow.specs.declared.statement.Block.{Block as FlowBlock}
@@ -130,7 +130,7 @@ get_past f (y ∷ xs) (suc k) e = get_past f xs k e
 
 -- no function is called
 pub called_none : {A : Type 0} (l : FactBase) (i : ℕ) (a : Owned) (c : core.Call) (fs : List (Function A)) (gs : List Goal) (deep : Bool) → slice_get fs c.function ≡ None
-    → deep ≡ nat_le most_steps (length (path_of l.instances.all.items i)) → where_so (not deep) gs ≡ behind gs (function_goals l i a c (slice_get (map function_view fs) c.function))
+    → deep ≡ nat_le max_path_steps (length (path_of l.instances.all.items i)) → where_so (not deep) gs ≡ behind gs (function_goals l i a c (slice_get (map function_view fs) c.function))
 called_none {A} l i a c fs gs deep e d = by (not deep) refl
   where
     is : function_goals l i a c (slice_get (map (function_view {A = A}) fs) c.function) ≡ where_so (not deep) []

@@ -6,7 +6,7 @@ use Rattle.values.specs.declared.value.Value.{Value}
 use Rattle.values.specs.Keys.{value_key}
 use Rattle.language.specs.Core.{Owned, output, Name, Call, Stmt, stmt, Action, call_alone, fill, insert, when, choose, range, each, wait, Block, no_stmts, stmts, Function, Core}
 use Rattle.language.specs.Members.{◌∈◌}
-use Rattle.language.specs.Places.{most_steps}
+use Rattle.language.specs.Places.{max_path_steps}
 use Rattle.flow.specs.View.{owned_view, block_view, waits_around}
 use Rattle.meaning_cells.specs.Chosen.{Chosen, block_in, chosen_in, count_in, have_come_in, key_in}
 use Rattle.meaning_cells.specs.declared.finished.PendingBlock.{PendingBlock}
@@ -72,7 +72,7 @@ body_goals None a b xs = None
 
 abbrev pub function_goals : FactBase → ℕ → Owned → Call → Option Function → Goals
 function_goals l i a c (Some f) = body_goals (child_at l.instances i c.at (Key.Number (pos 0))) a f.body c.outputs
-function_goals l i a c None = where_so (not (nat_le most_steps (length (path_of l.instances.all.items i)))) []
+function_goals l i a c None = where_so (not (nat_le max_path_steps (length (path_of l.instances.all.items i)))) []
 
 -- the block in a child instance
 abbrev pub child_goals : Option ℕ → Owned → Block → Goals

@@ -11,7 +11,7 @@ use Rattle.values.specs.Keys.{same_key}
 use Rattle.values.specs.Maps.{found}
 use Rattle.language.specs.Core.{Owned, local, input, output, Name, Core}
 use Rattle.language.specs.Parts.{call_at, input_name, output_name}
-use Rattle.language.specs.Places.{Path, Place, place, place_of, most_steps}
+use Rattle.language.specs.Places.{Path, Place, place, place_of, max_path_steps}
 use Rattle.language.specs.Places.{Step as PathStep}
 use Rattle.meaning_steps.specs.Environment.{Sight}
 use Rattle.meaning_steps.specs.News.{Past}
@@ -136,7 +136,7 @@ sight_is a b p q r u v = λ i. record { scalar = p i; closed = q i; elements = r
 pub past_is : (a b : Past) → a.valued ≡ b.valued → a.written ≡ b.written → a.twice ≡ b.twice → a.lined ≡ b.lined → a.faulted ≡ b.faulted → a.deep ≡ b.deep → a ≡ b
 past_is a b p q r u v w = λ i. record { valued = p i; written = q i; twice = r i; lined = u i; faulted = v i; deep = w i }
 
-pub deep_same : (n : ℕ) → n ≤ most_steps → nat_le most_steps n ≡ nat_eq n most_steps
+pub deep_same : (n : ℕ) → n ≤ max_path_steps → nat_le max_path_steps n ≡ nat_eq n max_path_steps
 deep_same n l = grind (arith, nat_tests)
 
 module _ (s : Core) (l : FactBase) (h : IsPlaced s l.instances) (i : ℕ) (within : i < length l.instances.all.items) where

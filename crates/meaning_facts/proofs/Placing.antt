@@ -4,7 +4,7 @@ use Rattle.std.proofs.Common.{inl, inr, sym, ap, ◌∙◌, subst, arith, length
 use Rattle.std.proofs.lemmas.Bool.{cases_lt}
 use Rattle.language.specs.Core.{Owned, local, input, output, Name, Core}
 use Rattle.language.specs.Parts.{call_at, input_name, output_name}
-use Rattle.language.specs.Places.{Path, most_steps}
+use Rattle.language.specs.Places.{Path, max_path_steps}
 use Rattle.meaning_facts.specs.declared.facts.Place.{Place as Spot}
 use Rattle.meaning_facts.specs.declared.instances.InstanceBindings.{InstanceBindings}
 use Rattle.paths.specs.declared.steps.Step.{Step}
@@ -75,5 +75,5 @@ module _ (s : Core) (t u : Instances) (p : ℕ) (x : Step) (g : InstanceBindings
           subst (Stands s u.all.items i) (sym path) (subst (λ (z : ℕ). Stands s u.all.items z ((x.offset, x.key) ∷ path_of t.all.items p)) (sym last) stands_new)
     ]
 
-    pub placed_more : child_at t p x.offset x.key ≡ None → length (path_of t.all.items p) < most_steps → IsPlaced s u
+    pub placed_more : child_at t p x.offset x.key ≡ None → length (path_of t.all.items p) < max_path_steps → IsPlaced s u
     placed_more lacks fits = record { tree = grows t u p x g o h within lacks fits; stands = stands_all }

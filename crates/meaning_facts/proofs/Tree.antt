@@ -10,7 +10,7 @@ use Rattle.values.specs.declared.key.Key.{Key}
 use Rattle.values.specs.declared.key.Key.TheVariants.{Number, Text}
 use Rattle.values.specs.Keys.{same_key}
 use Rattle.values.proofs.Keys.{same_key-eq, same_key-refl}
-use Rattle.language.specs.Places.{Path, most_steps}
+use Rattle.language.specs.Places.{Path, max_path_steps}
 use Rattle.meaning_facts.specs.declared.instances.InstanceBindings.{InstanceBindings}
 use Rattle.paths.specs.declared.steps.Step.{Step}
 use Rattle.meaning_facts.specs.declared.instances.Instance.{Instance}
@@ -41,13 +41,13 @@ one_is_tree t n e p q i o v m w = record {
     few : (j : ℕ) → 0 < j → j < length t.all.items → ⊥
     few j l b = let x : length t.all.items ≡ 1 = ap length e in omega arith
 
-    short : (j : ℕ) → length (path_of t.all.items j) ≤ most_steps
+    short : (j : ℕ) → length (path_of t.all.items j) ≤ max_path_steps
     short zero =
         let none : path_of t.all.items 0 ≡ [] = ap (λ (z : List Instance). path_of z 0) e ∙ ap (map step_view) q in
-        subst (λ (z : Path). length z ≤ most_steps) (sym none) (omega arith)
+        subst (λ (z : Path). length z ≤ max_path_steps) (sym none) (omega arith)
     short (suc j) =
         let past : slice_get t.all.items (suc j) ≡ None = ap (λ (z : List Instance). slice_get z (suc j)) e ∙ slice_get_past (n ∷ []) (suc j) (omega arith) in
-        subst (λ (z : Option Instance). length (path_in z) ≤ most_steps) (sym past) (omega arith)
+        subst (λ (z : Option Instance). length (path_in z) ≤ max_path_steps) (sym past) (omega arith)
 
 -- ONE MORE
 
@@ -130,7 +130,7 @@ module _ (t u : Instances) (p : ℕ) (s : Step) (g : InstanceBindings) (o : IsOp
   pub found_other : (i at : ℕ) (k : Key) → same_step (p, s.offset, s.key) (i, at, k) ≡ false → child_at u i at k ≡ child_at t i at k
   found_other i at k h = o.found i at k ∙ ap (λ (b : Bool). if b then Some (length t.all.items) else child_at t i at k) h
 
-  module _ (h : IsTree t) (within : p < length t.all.items) (lacks : child_at t p s.offset s.key ≡ None) (fits : length (path_of t.all.items p) < most_steps) where
+  module _ (h : IsTree t) (within : p < length t.all.items) (lacks : child_at t p s.offset s.key ≡ None) (fits : length (path_of t.all.items p) < max_path_steps) where
     -- what was found is found
     pub found_stays : (i at : ℕ) (k : Key) (j : ℕ) → child_at t i at k ≡ Some j → child_at u i at k ≡ Some j
     found_stays i at k j e = elim (cases_Bool (same_step (p, s.offset, s.key) (i, at, k))) [
@@ -180,15 +180,15 @@ module _ (t u : Instances) (p : ℕ) (s : Step) (g : InstanceBindings) (o : IsOp
           record { at = s.offset; key = s.key; opened = ap (λ (z : ℕ). child_at u (parent_of u.all.items z) s.offset s.key) q ∙ ap (λ (z : ℕ). child_at u z s.offset s.key) parent_comes ∙ found_itself ∙ ap Some (sym q) }
     ]
 
-    pub short : (j : ℕ) → length (path_of u.all.items j) ≤ most_steps
+    pub short : (j : ℕ) → length (path_of u.all.items j) ≤ max_path_steps
     short j = elim (cases_order j (length t.all.items)) [
-      | inr (inl q) ↦ subst (λ (z : Path). length z ≤ most_steps) (sym (path_stays j q)) (h.short j)
+      | inr (inl q) ↦ subst (λ (z : Path). length z ≤ max_path_steps) (sym (path_stays j q)) (h.short j)
       | inl q ↦
           let e : path_of u.all.items j ≡ (s.offset, s.key) ∷ path_of t.all.items p = ap (path_of u.all.items) q ∙ path_comes in
-          subst (λ (z : Path). length z ≤ most_steps) (sym e) (omega (arith, fits))
+          subst (λ (z : Path). length z ≤ max_path_steps) (sym e) (omega (arith, fits))
       | inr (inr q) ↦
           let e : slice_get u.all.items j ≡ None = ap (λ (z : List Instance). slice_get z j) o.all ∙ past_at t.all.items o.made j q in
-          subst (λ (z : Option Instance). length (path_in z) ≤ most_steps) (sym e) (omega arith)
+          subst (λ (z : Option Instance). length (path_in z) ≤ max_path_steps) (sym e) (omega arith)
     ]
 
     pub grows : IsTree u

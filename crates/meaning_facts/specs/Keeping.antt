@@ -6,7 +6,7 @@ use Rattle.values.specs.declared.fault.OpFault.TheVariants as Op
 use Rattle.values.specs.declared.value.Scalar.{Scalar}
 use Rattle.language.specs.Core.{Core}
 use Rattle.language.specs.Facts.{Fault, operation, no_element, element_twice, too_deep}
-use Rattle.language.specs.Places.{Place, most_steps}
+use Rattle.language.specs.Places.{Place, max_path_steps}
 use Rattle.meaning_steps.specs.News.{Past}
 use Rattle.meaning_steps.specs.Kept.{Kept, is_there, several_in}
 use Rattle.meaning_steps.specs.Kept.{Write as KeptWrite}
@@ -103,7 +103,7 @@ past_of l i = record {
   twice = λ a k. several_in (writes_under (writes_at l.facts (spot l.instances.all.items i a)) k);
   lined = λ n. is_some (line_at l.facts (record { instance = i; node = n }));
   faulted = λ f at n. fault_at l.facts f at (record { instance = i; node = n });
-  deep = nat_le most_steps (length (path_of l.instances.all.items i));
+  deep = nat_le max_path_steps (length (path_of l.instances.all.items i));
 }
 
 -- PATHS OF INSTANCES

@@ -6,7 +6,7 @@ use Rattle.std.specs.Str.{bytes_eq}
 use Rattle.values.specs.declared.key.Key.{Key}
 use Rattle.values.specs.declared.key.Key.TheVariants.{Number, Text}
 use Rattle.values.specs.Keys.{same_key}
-use Rattle.language.specs.Places.{Path, most_steps}
+use Rattle.language.specs.Places.{Path, max_path_steps}
 use Rattle.language.specs.Places.{Step as PathStep}
 use Rattle.paths.specs.declared.steps.Step.{Step}
 use Rattle.meaning_facts.specs.declared.instances.InstanceBindings.{InstanceBindings}
@@ -82,7 +82,7 @@ pub record IsTree (t : Instances) : Type 0 where
   pub root_variables : variables_of t.all.items 0 ≡ []
   pub opens : (i at : ℕ) (k : Key) (j : ℕ) → child_at t i at k ≡ Some j → IsChild t.all.items i at k j
   pub opened : (j : ℕ) → 0 < j → j < length t.all.items → IsOpened t j
-  pub short : (j : ℕ) → length (path_of t.all.items j) ≤ most_steps
+  pub short : (j : ℕ) → length (path_of t.all.items j) ≤ max_path_steps
 
 -- an instance was opened at a step of another one: it is appended to the list, and is found at that step
 pub record IsOpen (t : Instances) (parent : ℕ) (s : Step) (g : InstanceBindings) (u : Instances) : Type 0 where

@@ -5,7 +5,7 @@ ghost use Rattle.std.specs.Str.{bytes_eq};
 ghost use Rattle.values.specs.declared.key.Key.{Key as StepKey};
 ghost use Rattle.flow.specs.View.{name_view, names_view, owned_view};
 ghost use Rattle.language.specs.Core.{Core};
-ghost use Rattle.language.specs.Places.{Path, place, most_steps};
+ghost use Rattle.language.specs.Places.{Path, place, max_path_steps};
 ghost use Rattle.meaning_facts.specs.Paths.{child_at, named_in, path_of, same_step, step_view, IsNone, IsOpen, IsTree};
 ghost use Rattle.meaning_facts.specs.Stands.{Stands, IsPlace};
 ghost use Rattle.meaning_facts.specs.Store.{same_pair, spot, spots, outward, parent_of, owner_spot, given_at, variable_in, variables_of, inputs_of, outputs_of};
@@ -16,6 +16,7 @@ use paths::Step;
 use std::alloc::{AllocError, Global};
 use std::collections::HashMap;
 use values::key::Key;
+use values::limits::MAX_PATH_STEPS;
 use values::text::Text;
 use values::value::Scalar;
 
@@ -50,9 +51,6 @@ pub struct Instances {
     opened: HashMap<(usize, usize, i64), usize>,
     named: HashMap<(usize, usize), HashMap<Text, usize>>,
 }
-
-/// Maximum number of steps of a path.
-pub const MOST_STEPS: usize = 2048;
 
 impl InstanceBindings {
     /// Creates bindings that bind nothing.
@@ -89,9 +87,9 @@ impl Instances {
 
     /// Returns true if the path of an instance has the maximum length.
     pub fn is_deep(&self, instance: usize) -> bool
-        ensures { result ≡ nat_le most_steps (length (path_of self.now.all.items instance)) }
+        ensures { result ≡ nat_le max_path_steps (length (path_of self.now.all.items instance)) }
     {
-        self.path(instance).len() >= MOST_STEPS
+        self.path(instance).len() >= MAX_PATH_STEPS
     }
 
     /// Returns the path of an instance, innermost step first.
@@ -128,7 +126,7 @@ impl Instances {
         ensures number { IfOk result (λ number. number ≡ length self.old.all.items) }
         ensures opened { OnOk result (IsOpen self.old parent step given self.new) }
         ensures tree { OnOk result (IsTree self.old → parent < length self.old.all.items → child_at self.old parent step.offset step.key ≡ None
-            → length (path_of self.old.all.items parent) < most_steps → IsTree self.new) }
+            → length (path_of self.old.all.items parent) < max_path_steps → IsTree self.new) }
     {
         let number = self.all.len();
         self.note(alloc, parent, step.offset, &step.key, number)?;

@@ -2,7 +2,7 @@
 ghost use Rattle.std.specs.Prelude.{◌≡◌, ◌<◌, ℕ, List, None, Some, length};
 ghost use Rattle.language.specs.Core.{Core, Name};
 ghost use Rattle.language.specs.Parts.{call_at, input_name, output_name};
-ghost use Rattle.language.specs.Places.{Path, place, most_steps};
+ghost use Rattle.language.specs.Places.{Path, place, max_path_steps};
 ghost use Rattle.meaning_steps.specs.Kept.{sight_by, past_by};
 ghost use Rattle.language.specs.Facts as script;
 ghost use Rattle.meaning_steps.specs.Taken.{Knows};
@@ -52,5 +52,5 @@ pub fn one_instance_more()
     ensures { (s : Core) (t u : Instances) (p : ℕ) (x : Step) (g : InstanceBindings) → IsOpen t p x g u → IsPlaced s t → p < length t.all.items
         → ((j : ℕ) → given_at g.inputs.items j p ≡ spot t.all.items p (input_name (call_at s x.offset) j))
         → ((j : ℕ) → given_at g.outputs.items j p ≡ spot t.all.items p (output_name (call_at s x.offset) j))
-        → child_at t p x.offset x.key ≡ None → length (path_of t.all.items p) < most_steps → IsPlaced s u }
+        → child_at t p x.offset x.key ≡ None → length (path_of t.all.items p) < max_path_steps → IsPlaced s u }
 {}

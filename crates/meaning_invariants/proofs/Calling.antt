@@ -10,7 +10,7 @@ use Rattle.language.specs.Members.{◌∈◌}
 use Rattle.language.specs.Meaning.{Live, called, opened, LiveStmt, in_block, Ready}
 use Rattle.language.specs.Openings.{InTurn, Opens}
 use Rattle.language.specs.Parts.{call_at, input_name, name_at, output_name, stmt_calls}
-use Rattle.language.specs.Places.{Path, most_steps}
+use Rattle.language.specs.Places.{Path, max_path_steps}
 use Rattle.language.specs.WellFormed.{NamesFound}
 use Rattle.language_laws.proofs.Declared.{stmt_in}
 use Rattle.meaning_facts.specs.declared.facts.Place.{Place as Spot}
@@ -32,15 +32,15 @@ given_name ns i (x ∷ xs) zero = refl
 given_name ns i (x ∷ xs) (suc j) = given_name ns i xs j
 
 live_body : {s : Core} {K : Knowledge} {path : Path} {st : Stmt} {c : Call} {f : Function} → LiveStmt s K path st → c ∈ stmt_calls st → slice_get s.functions c.function ≡ Some f
-    → length path < most_steps → Live s K ((c.at, Key.Number (pos 0)) ∷ path) f.body
+    → length path < max_path_steps → Live s K ((c.at, Key.Number (pos 0)) ∷ path) f.body
 live_body (in_block l m) j e h = called l m j e h
 
 live_turn : {s : Core} {K : Knowledge} {path : Path} {at n : ℕ} {header : Action} {vs : List Value} {k : Key} {b : Block} → LiveStmt s K path (stmt at n header) → Ready s K path header vs
-    → Opens header vs k b → length path < most_steps → Live s K ((at, k) ∷ path) b
+    → Opens header vs k b → length path < max_path_steps → Live s K ((at, k) ∷ path) b
 live_turn (in_block l m) r o h = opened l m r o h
 
 module _ (s : Core) (names : NamesFound s) (K : Knowledge) (levels : ℕ) (l : FactBase) (ls : List Active) (arrays : List Candidate) (far : IsSoFar s K levels l ls arrays) (i : ℕ)
-    (x : Step) (g : InstanceBindings) (short : length (path_of l.instances.all.items i) < most_steps) where
+    (x : Step) (g : InstanceBindings) (short : length (path_of l.instances.all.items i) < max_path_steps) where
   abbrev ns : List Instance
   ns = l.instances.all.items
 

@@ -11,7 +11,7 @@ use Rattle.language.specs.Meaning.{IsTarget}
 use Rattle.language.specs.Members.{◌∈◌, first}
 use Rattle.language.specs.Openings.{Branches, Opens}
 use Rattle.language.specs.Parts.{block_list, function_body, part_calls, stmt_calls, stmts_of}
-use Rattle.language.specs.Places.{Path, place, most_steps}
+use Rattle.language.specs.Places.{Path, place, max_path_steps}
 use Rattle.language.proofs.Members.{to_right}
 use Rattle.language_laws.proofs.Declared.{stmt_in}
 use Rattle.meaning_steps.specs.News.{Past}
@@ -40,7 +40,7 @@ done_aimed : {s : Core} {l : FactBase} (b : Bool) (o : Goals) → AllDone s l o 
 done_aimed true o x = x
 done_aimed false o x = done_none
 
-not_below : (n : ℕ) → n < most_steps → not (nat_le most_steps n) ≡ true
+not_below : (n : ℕ) → n < max_path_steps → not (nat_le max_path_steps n) ≡ true
 not_below n h = grind (arith, nat_tests, h)
 
 some_true : {X : Type 0} (o : Option X) (x : X) → o ≡ Some x → is_some o ≡ true
@@ -89,7 +89,7 @@ module _ (s : Core) (K : Knowledge) (l : FactBase) (ls : List Active) (placed : 
   -- a header
 
   done_header : (i at n : ℕ) (a : Owned) (header : Action) (vs : List Value) → Within i → active i (stmt at n header) ∈ ls → Branches header → ReadyBy s K (taken_by l ls) (At i) header vs
-      → ((k : Key) (b : Block) → Opens header vs k b → length (At i) < most_steps)
+      → ((k : Key) (b : Block) → Opens header vs k b → length (At i) < max_path_steps)
       → ((k : Key) (b : Block) (st : Stmt) → Opens header vs k b → st ∈ block_list b → (j : ℕ) → Within j → At j ≡ (at, k) ∷ At i → active j st ∈ ls → AllDone s l (statement_goals s l j a st))
       → AllDone s l (header_goals l i a at header)
   done_header i at n a header vs within there branches ready fits rest =
@@ -113,12 +113,12 @@ module _ (s : Core) (K : Knowledge) (l : FactBase) (ls : List Active) (placed : 
 
   -- a call
 
-  done_body : (i at n : ℕ) (a : Owned) (p : ℤ) (ps : List Part) (c : Call) → Within i → active i (stmt at n (call_alone p ps c)) ∈ ls → length (At i) < most_steps
+  done_body : (i at n : ℕ) (a : Owned) (p : ℤ) (ps : List Part) (c : Call) → Within i → active i (stmt at n (call_alone p ps c)) ∈ ls → length (At i) < max_path_steps
       → ((t : ℕ) (x : Name) (st : Stmt) → slice_get c.outputs t ≡ Some x → x.what ≡ a → st ∈ function_body s c.function
       → (j : ℕ) → Within j → At j ≡ (c.at, Key.Number (pos 0)) ∷ At i → active j st ∈ ls → AllDone s l (statement_goals s l j (output t) st))
       → (o : Option Function) → slice_get s.functions c.function ≡ o → AllDone s l (function_goals l i a c o)
   done_body i at n a p ps c within there fits rest None found =
-      done_where (not (nat_le most_steps (length (At i)))) [] (not_below (length (At i)) fits) done_none
+      done_where (not (nat_le max_path_steps (length (At i)))) [] (not_below (length (At i)) fits) done_none
   done_body i at n a p ps c within there fits rest (Some f) found =
       let h = open_all.calls i (stmt at n (call_alone p ps c)) c f there (alone_there at n p ps c) found fits in
       let child = placed.tree.opens i c.at (Key.Number (pos 0)) h.instance h.opened in
@@ -165,14 +165,14 @@ module _ (s : Core) (K : Knowledge) (l : FactBase) (ls : List Active) (placed : 
       (done_where (is_inserted_in l i x index.cell.node n) [] (done_write i n x index.cell.node key known.0 v within known.2 known.1 write) done_none)
   done_statement (body_by {a = a} {path = path} {at = at} {n = n} {p = priority} {ps = ps} {c = c} fits fs) i within p there =
       done_aimed (aims_of a (call_alone priority ps c)) (action_goals s l i a at n (call_alone priority ps c))
-      (done_body i at n a priority ps c within there (subst (λ (z : Path). length z < most_steps) (sym p) fits)
+      (done_body i at n a priority ps c within there (subst (λ (z : Path). length z < max_path_steps) (sym p) fits)
       (λ t x st e q m j w g h. done_statement (fs t x st e q m) j w (g ∙ ap (λ (z : Path). (c.at, Key.Number (pos 0)) ∷ z) p) h)
       (slice_get s.functions c.function) refl)
   done_statement (blocks_by {a = a} {path = path} {at = at} {n = n} {header = header} {vs = vs} branches ready fits fs) i within p there =
       done_aimed (aims_of a header) (action_goals s l i a at n header)
       (of_header s l i a at n header branches
       (done_header i at n a header vs within there branches (subst (λ (z : Path). ReadyBy s K (taken_by l ls) z header vs) (sym p) ready)
-      (λ k b o. subst (λ (z : Path). length z < most_steps) (sym p) (fits k b o))
+      (λ k b o. subst (λ (z : Path). length z < max_path_steps) (sym p) (fits k b o))
       (λ k b st o m j w g h. done_statement (fs k b st o m) j w (g ∙ ap (λ (z : Path). (at, k) ∷ z) p) h)))
   done_statement (content_by {a = a} {path = path} {at = at} {n = n} {ns = ns} {b = b} ready fs) i within p there =
       let come : have_come_in (sight_of l i) ns ≡ true = come_all s l ls placed i within ns (ready_names (subst (λ (z : Path). ReadyBy s K (taken_by l ls) z (wait ns b) []) (sym p) ready)) in

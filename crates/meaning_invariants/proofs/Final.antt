@@ -10,7 +10,7 @@ use Rattle.language.specs.Members.{◌∈◌}
 use Rattle.language.specs.Meaning.{LiveStmt, in_block, Ready}
 use Rattle.language.specs.Openings.{Branches, InTurn, Opens, then_alone, then_first, else_second, turn, item}
 use Rattle.language.specs.Parts.{block_list, call_at, stmt_calls}
-use Rattle.language.specs.Places.{Path, most_steps}
+use Rattle.language.specs.Places.{Path, max_path_steps}
 use Rattle.language.specs.WellFormed.{NamesFound}
 use Rattle.language_laws.proofs.Declared.{live_block, stmt_in}
 use Rattle.language_laws.proofs.Hinge.{choice_stays, Later}
@@ -55,7 +55,7 @@ module _ (s : Core) (names : NamesFound s) (offsets : OffsetsApart s) (K : Knowl
   module _ (levels : ℕ) (l : FactBase) (ls : List Active) (arrays : List Candidate) (far : IsSoFar s K levels l ls arrays)
       (ws : List Active) (passed : ArePassed s K l ls ls ws) (unready : (a : Active) → a ∈ ws → IsUnready l a) where
     block_of : (i at n : ℕ) (header : Action) (vs : List Value) (k : Key) (b : Block) → IsOpened s K l ls (active i (stmt at n header)) → Ready s K (path_of l.instances.all.items i) header vs
-        → Opens header vs k b → length (path_of l.instances.all.items i) < most_steps → HasBlock l ls i at k b
+        → Opens header vs k b → length (path_of l.instances.all.items i) < max_path_steps → HasBlock l ls i at k b
     block_of i at n header vs k b (nothing p q) r o short = absurd (p (opens_branches o))
     block_of i at n header vs k b (branches r' d f) r o short = f k b (subst (λ (z : List Value). Opens header z k b) (choice_stays s names K K later r r') o) short
     block_of i at n header vs k b (content ns c e f) r o short = let none : Branches (wait ns c) = subst Branches e (opens_branches o) in absurd none

@@ -11,7 +11,7 @@ use Rattle.language.specs.Facts.{Knowledge, OneWriter}
 use Rattle.language.specs.Members.{◌∈◌, first}
 use Rattle.language.specs.Openings.{Branches}
 use Rattle.language.specs.Parts.{block_list, stmts_of}
-use Rattle.language.specs.Places.{Path, Place, place, most_steps}
+use Rattle.language.specs.Places.{Path, Place, place, max_path_steps}
 use Rattle.meaning_steps.specs.News.{Past}
 use Rattle.meaning_steps.specs.Taken.{FinishedBy, no_target_by, value_by, write_by, body_by, blocks_by, content_by, by_names}
 use Rattle.meaning_facts.specs.declared.fact_base.FactBase.{FactBase}
@@ -30,7 +30,7 @@ use Rattle.meaning_invariants.proofs.Aiming.{aimed_all}
 use Rattle.meaning_invariants.proofs.Parts.{part_of_block, part_of_turns, Child, child_of, output_first, where_parts}
 use Rattle.meaning_invariants.proofs.Sights.{sees, come_so, some_is}
 
-below : (n : ℕ) → not (nat_le most_steps n) ≡ true → n < most_steps
+below : (n : ℕ) → not (nat_le max_path_steps n) ≡ true → n < max_path_steps
 below n e = grind (arith, nat_tests, e)
 
 module _ (s : Core) (K : Knowledge) (l : FactBase) (ls : List Active) (placed : IsPlaced s l.instances) (keeps : KeepsFacts K l)
@@ -43,7 +43,7 @@ module _ (s : Core) (K : Knowledge) (l : FactBase) (ls : List Active) (placed : 
   Ended h = h.instance < length l.instances.all.items → (x : Stmt) → x ∈ block_list h.block → FinishedBy s K (taken_by l ls) h.what (At h.instance) x
 
   -- an instance that was opened stands at a path that is not too long
-  pub not_deep : (i at : ℕ) (k : Key) (j : ℕ) → child_at l.instances i at k ≡ Some j → length (At i) < most_steps
+  pub not_deep : (i at : ℕ) (k : Key) (j : ℕ) → child_at l.instances i at k ≡ Some j → length (At i) < max_path_steps
   not_deep i at k j e =
       let c = placed.tree.opens i at k j e in
       let longer : length (At j) ≡ length ((at, k) ∷ At i) = ap length c.path_is in
@@ -89,7 +89,7 @@ module _ (s : Core) (K : Knowledge) (l : FactBase) (ls : List Active) (placed : 
       → (hs : List Goal) → function_goals l i a c o ≡ Some hs → ((h : Goal) → h ∈ hs → Ended h) → FinishedBy s K (taken_by l ls) a (At i) (stmt at n (call_alone p ps c))
   by_call i at n a p ps c within (Some f) found hs q ended = by_body i at n a p ps c f within found (child_at l.instances i c.at (Key.Number (pos 0))) refl hs q ended
   by_call i at n a p ps c within None found hs q ended =
-      body_by (below (length (At i)) (where_parts (not (nat_le most_steps (length (At i)))) [] hs q).0)
+      body_by (below (length (At i)) (where_parts (not (nat_le max_path_steps (length (At i)))) [] hs q).0)
       (λ t x st there what m. (let none : st ∈ [] = subst (λ (z : Option Function). st ∈ stmts_of z) found m in elim none [ ]))
 
   -- HEADERS

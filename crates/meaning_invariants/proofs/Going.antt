@@ -7,7 +7,7 @@ use Rattle.language.specs.Facts.{Knowledge}
 use Rattle.language.specs.Members.{◌∈◌}
 use Rattle.language.specs.Meaning.{Ready}
 use Rattle.language.specs.Parts.{stmt_action}
-use Rattle.language.specs.Places.{Path, most_steps}
+use Rattle.language.specs.Places.{Path, max_path_steps}
 use Rattle.meaning_facts.specs.declared.fact_base.FactBase.{FactBase}
 use Rattle.meaning_facts.specs.Paths.{path_of}
 use Rattle.meaning_cells.specs.Chosen.{chosen_in, have_come_in}
@@ -37,8 +37,8 @@ module _ (l m : FactBase) (ls ms : List Active) (g : GoesOn l ls m ms) where
   pub block_stays : {i at : ℕ} {k : Key} {b : Block} → HasBlock l ls i at k b → HasBlock m ms i at k b
   block_stays {i} {at} {k} {b} x = record { instance = x.instance; opened = g.children i at k x.instance x.opened; listed = λ st j. g.listed (active x.instance st) (x.listed st j) }
 
-  shorter : (i : ℕ) → i < length l.instances.all.items → length (path_of m.instances.all.items i) < most_steps → length (path_of l.instances.all.items i) < most_steps
-  shorter i w h = subst (λ (p : Path). length p < most_steps) (g.path_same i w) h
+  shorter : (i : ℕ) → i < length l.instances.all.items → length (path_of m.instances.all.items i) < max_path_steps → length (path_of l.instances.all.items i) < max_path_steps
+  shorter i w h = subst (λ (p : Path). length p < max_path_steps) (g.path_same i w) h
 
   pub called_stays : (s : Core) (a : Active) → a.instance < length l.instances.all.items → AreCalled s l ls a → AreCalled s m ms a
   called_stays s a w f = λ c x i e h. block_stays (f c x i e (shorter a.instance w h))

@@ -8,7 +8,7 @@ use Rattle.language.specs.Core.{Block, Core, Name}
 use Rattle.language.specs.Facts.{Knowledge}
 use Rattle.language.specs.Meaning.{Closed, Live, LiveStmt}
 use Rattle.language.specs.Parts.{call_at, input_name, output_name}
-use Rattle.language.specs.Places.{Path, most_steps}
+use Rattle.language.specs.Places.{Path, max_path_steps}
 use Rattle.meaning_facts.specs.declared.facts.Place.{Place as Spot}
 use Rattle.meaning_facts.specs.declared.instances.InstanceBindings.{InstanceBindings}
 use Rattle.meaning_facts.specs.declared.instances.Instances.{Instances}
@@ -30,7 +30,7 @@ use Rattle.meaning_invariants.specs.Opened.{GoesOn, IsActive, IsCandidate, IsClo
 
 module _ (s : Core) (K : Knowledge) (levels : ℕ) (l : FactBase) (ls : List Active) (arrays : List Candidate) (far : IsSoFar s K levels l ls arrays)
     (i : ℕ) (within : i < length l.instances.all.items) (x : Step) (g : InstanceBindings) (u : Instances) (o : IsOpen l.instances i x g u) (lacks : child_at l.instances i x.offset x.key ≡ None)
-    (short : length (path_of l.instances.all.items i) < most_steps) where
+    (short : length (path_of l.instances.all.items i) < max_path_steps) where
   abbrev t : Instances
   t = l.instances
 

@@ -6,7 +6,7 @@ use Rattle.values.specs.declared.value.Scalar.{Scalar}
 use Rattle.language.specs.Core.{Action, Awaited, Block, Core, wait}
 use Rattle.language.specs.Facts.{Knowledge}
 use Rattle.language.specs.Meaning.{Closed, HasValue, in_block, in_turn, Ready}
-use Rattle.language.specs.Places.{Path, Place, most_steps}
+use Rattle.language.specs.Places.{Path, Place, max_path_steps}
 use Rattle.meaning_steps.specs.Taken.{Taken, by_names}
 use Rattle.meaning_steps.proofs.Settled.{ready_so}
 use Rattle.meaning_facts.specs.declared.instances.LoopVariable.{LoopVariable}
@@ -24,7 +24,7 @@ use Rattle.meaning_invariants.proofs.Sights.{come_so, sees}
 use Rattle.meaning_invariants.specs.Opened.{IsChoice, IsSoFar, Origin, of_header, of_call, SeesChoices}
 
 -- what a variable is by what opened its instance
-origin_value : {s : Core} {K : Knowledge} {path : Path} {at : ℕ} {k : Key} {variable : ℕ → Option Scalar} → Origin s K path at k variable → length path < most_steps
+origin_value : {s : Core} {K : Knowledge} {path : Path} {at : ℕ} {k : Key} {variable : ℕ → Option Scalar} → Origin s K path at k variable → length path < max_path_steps
     → (x : ℕ) (v : Scalar) → variable x ≡ Some v → HasValue s K ((at, k) ∷ path, x) v
 origin_value (of_header (in_block l m) r o all so) short x v e = in_turn l m r o (so x v e) short
 origin_value (of_call l m e none) short x v q = let z : None ≡ Some v = sym (none x) ∙ q in absurd (cc (z))
@@ -43,7 +43,7 @@ module _ (s : Core) (K : Knowledge) (levels : ℕ) (l : FactBase) (ls : List Act
       let o = far.placed.tree.opened (suc j) (omega arith) w in
       let i = parent_of l.instances.all.items (suc j) in
       let c = far.placed.tree.opens i o.at o.key (suc j) o.opened in
-      let short : length (path_of l.instances.all.items i) < most_steps = omega (arith, far.placed.tree.short (suc j), ap length c.path_is) in
+      let short : length (path_of l.instances.all.items i) < max_path_steps = omega (arith, far.placed.tree.short (suc j), ap length c.path_is) in
       subst (λ (p : Path). HasValue s K (p, x) v) (sym c.path_is) (origin_value (far.origins i o.at o.key (suc j) o.opened) short x v e)
 
   turn_found : (a : Place) (v : Scalar) (o : Option ℕ) → at_path l.instances a.0 ≡ o → in_instance None (turn_at l) o a.1 ≡ Some v → HasValue s K a v

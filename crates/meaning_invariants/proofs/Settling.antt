@@ -11,7 +11,7 @@ use Rattle.language.specs.Meaning.{HasValue, stored, Live, LiveStmt, Ready}
 use Rattle.language.specs.Members.{◌∈◌}
 use Rattle.language.specs.Openings.{Branches, InTurn, Opens, then_alone, then_first, else_second, turn, item}
 use Rattle.language.specs.Parts.{block_list, script_blocks, stmt_calls}
-use Rattle.language.specs.Places.{Path, Place, most_steps}
+use Rattle.language.specs.Places.{Path, Place, max_path_steps}
 use Rattle.language.specs.WellFormed.{NamesFound}
 use Rattle.language_laws.proofs.Declared.{live_block}
 use Rattle.meaning_steps.specs.Kept.{Keeps, scalar_by}
@@ -56,11 +56,11 @@ module _ (s : Core) (K : Knowledge) (l : FactBase) (ls : List Active) (levels : 
     block : HasBlock l ls parent at k b
 
   open_block : (at n : ℕ) (header : Action) (vs : List Value) (k : Key) (b : Block) (path : Path) → IsListed l ls path (stmt at n header) → ReadyBy s K (taken_by l ls) path header vs → Opens header vs k b
-      → length path < most_steps → Opened at n header vs k b path
+      → length path < max_path_steps → Opened at n header vs k b path
   open_block at n header vs k b path h ready o fits =
       let i = h.instance in
       let here : ReadyBy s K (taken_by l ls) (At i) header vs = subst (λ (z : Path). ReadyBy s K (taken_by l ls) z header vs) (sym h.path_is) ready in
-      let short : length (At i) < most_steps = subst (λ (z : Path). length z < most_steps) (sym h.path_is) fits in
+      let short : length (At i) < max_path_steps = subst (λ (z : Path). length z < max_path_steps) (sym h.path_is) fits in
       let r = ready_chosen s K (taken_by l ls) (At i) (sight_of l i) (sees s K l ls placed keeps (right_apart s K l ls right) i h.within) header vs (opens_branches o) here in
       let so = ready_so s K (taken_by l ls) (right_so s K l ls keeps right) here in
       record {
@@ -79,7 +79,7 @@ module _ (s : Core) (K : Knowledge) (l : FactBase) (ls : List Active) (levels : 
       record { instance = h.instance; within = c.within; there = h.listed st m; path_is = c.path_is ∙ ap (λ (z : Path). (at, k) ∷ z) e }
 
   opened : (path : Path) (at n : ℕ) (header : Action) (vs : List Value) (k : Key) (c : Block) (st : Stmt) → IsListed l ls path (stmt at n header) → ReadyBy s K (taken_by l ls) path header vs → Opens header vs k c
-      → length path < most_steps → st ∈ block_list c → IsListed l ls ((at, k) ∷ path) st
+      → length path < max_path_steps → st ∈ block_list c → IsListed l ls ((at, k) ∷ path) st
   opened path at n header vs k c st h ready o fits m = let r = open_block at n header vs k c path h ready o fits in list_behind r.parent at k c path r.parent_is r.block st m
 
   waited : (path : Path) (at n : ℕ) (ns : List Awaited) (c : Block) (st : Stmt) → IsListed l ls path (stmt at n (wait ns c)) → ReadyBy s K (taken_by l ls) path (wait ns c) [] → st ∈ block_list c → IsListed l ls path st
@@ -87,10 +87,10 @@ module _ (s : Core) (K : Knowledge) (l : FactBase) (ls : List Active) (levels : 
       let come = come_all s l ls placed h.instance h.within ns (ready_names (subst (λ (z : Path). ReadyBy s K (taken_by l ls) z (wait ns c) []) (sym h.path_is) ready)) in
       record { instance = h.instance; within = h.within; there = open_all.waits h.instance at n ns c st h.there come m; path_is = h.path_is }
 
-  called : (path : Path) (caller st : Stmt) (c : Call) (f : Function) → IsListed l ls path caller → c ∈ stmt_calls caller → slice_get s.functions c.function ≡ Some f → length path < most_steps → st ∈ block_list f.body
+  called : (path : Path) (caller st : Stmt) (c : Call) (f : Function) → IsListed l ls path caller → c ∈ stmt_calls caller → slice_get s.functions c.function ≡ Some f → length path < max_path_steps → st ∈ block_list f.body
       → IsListed l ls ((c.at, Key.Number (pos 0)) ∷ path) st
   called path caller st c f h i e fits m =
-      list_behind h.instance c.at (Key.Number (pos 0)) f.body path h.path_is (open_all.calls h.instance caller c f h.there i e (subst (λ (z : Path). length z < most_steps) (sym h.path_is) fits)) st m
+      list_behind h.instance c.at (Key.Number (pos 0)) f.body path h.path_is (open_all.calls h.instance caller c f h.there i e (subst (λ (z : Path). length z < max_path_steps) (sym h.path_is) fits)) st m
 
   -- CLOSING
 
@@ -144,7 +144,7 @@ module _ (s : Core) (K : Knowledge) (l : FactBase) (ls : List Active) (levels : 
   -- TURNS
 
   turn_is : (path : Path) (at n x : ℕ) (header : Action) (vs : List Value) (k : Key) (b : Block) (v : Scalar) → IsListed l ls path (stmt at n header) → ReadyBy s K (taken_by l ls) path header vs → Opens header vs k b
-      → InTurn header vs k x v → length path < most_steps → (kept_of l).turn ((at, k) ∷ path, x) ≡ Some v
+      → InTurn header vs k x v → length path < max_path_steps → (kept_of l).turn ((at, k) ∷ path, x) ≡ Some v
   turn_is path at n x header vs k b v h ready o t fits =
       let r = open_block at n header vs k b path h ready o fits in
       let c = placed.tree.opens r.parent at k r.block.instance r.block.opened in

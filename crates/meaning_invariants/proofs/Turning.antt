@@ -6,7 +6,7 @@ use Rattle.language.specs.Core.{Action, Block, Core, stmt}
 use Rattle.language.specs.Facts.{Knowledge}
 use Rattle.language.specs.Members.{◌∈◌}
 use Rattle.language.specs.Openings.{InTurn, Opens}
-use Rattle.language.specs.Places.{Path, most_steps}
+use Rattle.language.specs.Places.{Path, max_path_steps}
 use Rattle.language.specs.WellFormed.{WellFormed}
 use Rattle.language_laws.proofs.Declared.{stmt_in}
 use Rattle.meaning_steps.specs.Taken.{Taken}
@@ -31,7 +31,7 @@ use Rattle.meaning_invariants.proofs.Calling.{turn_opening}
 use Rattle.meaning_invariants.proofs.Right.{is_right}
 
 module _ (s : Core) (w : WellFormed s) (offsets : OffsetsApart s) (K : Knowledge) (levels : ℕ) (l : FactBase) (ls : List Active) (arrays : List Candidate)
-    (far : IsSoFar s K levels l ls arrays) (i : ℕ) (x : Step) (g : InstanceBindings) (short : length (path_of l.instances.all.items i) < most_steps) (at n : ℕ) (header : Action) (c : Chosen) (j : ℕ) (b : Block)
+    (far : IsSoFar s K levels l ls arrays) (i : ℕ) (x : Step) (g : InstanceBindings) (short : length (path_of l.instances.all.items i) < max_path_steps) (at n : ℕ) (header : Action) (c : Chosen) (j : ℕ) (b : Block)
     (there : active i (stmt at n header) ∈ ls) (chosen : chosen_in (sight_of l i) header ≡ Some c) (below : j < count_in c) (block : block_in header c ≡ Some b) where
   abbrev T : Taken
   T = taken_by l ls

@@ -10,7 +10,7 @@ use Rattle.language.specs.Meaning.{Closed, HasValue, LiveStmt, Ready}
 use Rattle.language.specs.Members.{◌∈◌}
 use Rattle.language.specs.Openings.{InTurn, Opens}
 use Rattle.language.specs.Parts.{block_list, script_blocks, script_stmts, stmt_calls}
-use Rattle.language.specs.Places.{Path, Place, place, most_steps}
+use Rattle.language.specs.Places.{Path, Place, place, max_path_steps}
 use Rattle.meaning_steps.specs.Kept.{scalar_by}
 use Rattle.meaning_steps.specs.Taken.{Taken}
 use Rattle.meaning_facts.specs.declared.facts.Place.{Place as Spot}
@@ -66,14 +66,14 @@ pub record IsAllOpen (s : Core) (K : Knowledge) (l : FactBase) (ls : List Active
   pub script : (st : Stmt) → st ∈ block_list s.body → active 0 st ∈ ls
   pub blocks : (i at n : ℕ) (header : Action) (c : Chosen) (vs : List Value) (k : Key) (b : Block)
       → active i (stmt at n header) ∈ ls → chosen_in (sight_of l i) header ≡ Some c → Ready s K (path_of l.instances.all.items i) header vs → Opens header vs k b
-      → length (path_of l.instances.all.items i) < most_steps → HasBlock l ls i at k b
+      → length (path_of l.instances.all.items i) < max_path_steps → HasBlock l ls i at k b
   pub turns : (i at n x j : ℕ) (header : Action) (c : Chosen) (vs : List Value) (k : Key) (b : Block) (v : Scalar)
       → active i (stmt at n header) ∈ ls → chosen_in (sight_of l i) header ≡ Some c → Ready s K (path_of l.instances.all.items i) header vs → Opens header vs k b
       → InTurn header vs k x v → child_at l.instances i at k ≡ Some j → variable_in (variables_of l.instances.all.items j) x ≡ Some v
   pub waits : (i at n : ℕ) (ns : List Awaited) (b : Block) (st : Stmt)
       → active i (stmt at n (wait ns b)) ∈ ls → have_come_in (sight_of l i) ns ≡ true → st ∈ block_list b → active i st ∈ ls
   pub calls : (i : ℕ) (st : Stmt) (c : Call) (f : Function) → active i st ∈ ls → c ∈ stmt_calls st → slice_get s.functions c.function ≡ Some f
-      → length (path_of l.instances.all.items i) < most_steps → HasBlock l ls i c.at (Key.Number (pos 0)) f.body
+      → length (path_of l.instances.all.items i) < max_path_steps → HasBlock l ls i c.at (Key.Number (pos 0)) f.body
 
 -- a variable of an instance, with the block that declares it
 abbrev pub Candidate : Type 0

@@ -10,7 +10,7 @@ use Rattle.language.specs.Meaning.{Closed, Live, LiveStmt, Ready}
 use Rattle.language.specs.Members.{◌∈◌}
 use Rattle.language.specs.Openings.{Branches, InTurn, Opens}
 use Rattle.language.specs.Parts.{block_list, call_at, input_name, output_name, script_stmts, stmt_action, stmt_at, stmt_calls}
-use Rattle.language.specs.Places.{Path, most_steps}
+use Rattle.language.specs.Places.{Path, max_path_steps}
 use Rattle.meaning_facts.specs.declared.facts.Place.{Place as Spot}
 use Rattle.meaning_facts.specs.declared.instances.InstanceBindings.{InstanceBindings}
 use Rattle.meaning_facts.specs.declared.instances.Instances.{Instances}
@@ -70,14 +70,14 @@ pub record IsSoFar (s : Core) (K : Knowledge) (levels : ℕ) (l : FactBase) (ls 
 -- the bodies of the calls of a statement are listed, each in a child of its instance
 abbrev pub AreCalled : Core → FactBase → List Active → Active → Type 0
 AreCalled s l ls a = (c : Call) (f : Function) → c ∈ stmt_calls a.statement → slice_get s.functions c.function ≡ Some f
-    → length (path_of l.instances.all.items a.instance) < most_steps → HasBlock l ls a.instance c.at (Key.Number (pos 0)) f.body
+    → length (path_of l.instances.all.items a.instance) < max_path_steps → HasBlock l ls a.instance c.at (Key.Number (pos 0)) f.body
 
 -- what a statement opens is listed: it opens nothing; or its choice is known, with the blocks that it opens; or it is a
 -- `wait`, with its content
 pub data IsOpened (s : Core) (K : Knowledge) (l : FactBase) (ls : List Active) (a : Active) : Type 0 where
   nothing : (Branches (stmt_action a.statement) → ⊥) → ((ns : List Awaited) (b : Block) → stmt_action a.statement ≡ wait ns b → ⊥) → IsOpened s K l ls a
   branches : {vs : List Value} → Ready s K (path_of l.instances.all.items a.instance) (stmt_action a.statement) vs → Branches (stmt_action a.statement)
-      → ((k : Key) (b : Block) → Opens (stmt_action a.statement) vs k b → length (path_of l.instances.all.items a.instance) < most_steps → HasBlock l ls a.instance (stmt_at a.statement) k b)
+      → ((k : Key) (b : Block) → Opens (stmt_action a.statement) vs k b → length (path_of l.instances.all.items a.instance) < max_path_steps → HasBlock l ls a.instance (stmt_at a.statement) k b)
       → IsOpened s K l ls a
   content : (ns : List Awaited) (b : Block) → stmt_action a.statement ≡ wait ns b → ((st : Stmt) → st ∈ block_list b → active a.instance st ∈ ls) → IsOpened s K l ls a
 
@@ -114,7 +114,7 @@ pub record SeesChoices (s : Core) (K : Knowledge) (l : FactBase) : Type 0 where
 -- call; inputs and outputs are at the places of the names of the call
 pub record IsOpening (s : Core) (K : Knowledge) (l : FactBase) (i : ℕ) (x : Step) (g : InstanceBindings) (b : Block) : Type 0 where
   pub within : i < length l.instances.all.items
-  pub short : length (path_of l.instances.all.items i) < most_steps
+  pub short : length (path_of l.instances.all.items i) < max_path_steps
   pub live : Live s K ((x.offset, x.key) ∷ path_of l.instances.all.items i) b
   pub inputs : (j : ℕ) → given_at g.inputs.items j i ≡ spot l.instances.all.items i (input_name (call_at s x.offset) j)
   pub outputs : (j : ℕ) → given_at g.outputs.items j i ≡ spot l.instances.all.items i (output_name (call_at s x.offset) j)

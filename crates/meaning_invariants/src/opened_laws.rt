@@ -8,7 +8,7 @@ ghost use Rattle.language.specs.Core.{Action, Block, Call, Core, Function, Stmt,
 ghost use Rattle.language.specs.Facts.{Knowledge};
 ghost use Rattle.language.specs.Meaning.{Known};
 ghost use Rattle.language.specs.Parts.{call_at, input_name, output_name};
-ghost use Rattle.language.specs.Places.{most_steps};
+ghost use Rattle.language.specs.Places.{max_path_steps};
 ghost use Rattle.meaning_cells.specs.Chosen.{Chosen, block_in, chosen_in, count_in, key_in};
 ghost use Rattle.meaning_facts.specs.Sighted.{sight_of};
 ghost use Rattle.meaning_invariants.specs.Turns.{turn_variables};
@@ -47,7 +47,7 @@ pub fn one_more_is_so()
     ensures so { (s : Core) (n : ℕ) (levels : ℕ) (l : FactBase) (ls : List Active) (arrays : List Candidate) → IsSoFar s (Known s n) levels l ls arrays
         → (i : ℕ) → i < length l.instances.all.items → (x : Step) (g : InstanceBindings) (u : Instances) → IsOpen l.instances i x g u
         → child_at l.instances i x.offset x.key ≡ None
-        → length (path_of l.instances.all.items i) < most_steps
+        → length (path_of l.instances.all.items i) < max_path_steps
         → ((j : ℕ) → given_at g.inputs.items j i ≡ spot l.instances.all.items i (input_name (call_at s x.offset) j))
         → ((j : ℕ) → given_at g.outputs.items j i ≡ spot l.instances.all.items i (output_name (call_at s x.offset) j))
         → Origin s (Known s n) (path_of l.instances.all.items i) x.offset x.key (variable_in g.variables.items)
@@ -89,14 +89,14 @@ pub fn what_may_be_opened()
         → IsSoFar s (Known s n) levels l ls arrays
         → (i : ℕ) (x : Step) (g : InstanceBindings) (st : Stmt) (c : Call) (f : Function) → active i st ∈ ls → c ∈ stmt_calls st
         → slice_get s.functions c.function ≡ Some f
-        → length (path_of l.instances.all.items i) < most_steps → x.offset ≡ c.at → x.key ≡ Key.Number (pos 0)
+        → length (path_of l.instances.all.items i) < max_path_steps → x.offset ≡ c.at → x.key ≡ Key.Number (pos 0)
         → g.inputs.items ≡ spots l.instances.all.items i c.inputs → g.outputs.items ≡ spots l.instances.all.items i c.outputs → g.variables.items ≡ []
         → IsOpening s (Known s n) l i x g f.body }
     ensures turns { (s : Core) (n levels : ℕ) (l : FactBase) (ls : List Active) (arrays : List Candidate) → WellFormed s → OffsetsApart s
         → IsSoFar s (Known s n) levels l ls arrays
         → (i : ℕ) (x : Step) (g : InstanceBindings) (at node : ℕ) (header : Action) (c : Chosen) (j : ℕ) (b : Block) → active i (stmt at node header) ∈ ls
         → chosen_in (sight_of l i) header ≡ Some c
-        → j < count_in c → block_in header c ≡ Some b → length (path_of l.instances.all.items i) < most_steps → x.offset ≡ at → x.key ≡ key_in c j
+        → j < count_in c → block_in header c ≡ Some b → length (path_of l.instances.all.items i) < max_path_steps → x.offset ≡ at → x.key ≡ key_in c j
         → g.inputs.items ≡ [] → g.outputs.items ≡ [] → g.variables.items ≡ turn_variables header c j → IsOpening s (Known s n) l i x g b }
 {}
 

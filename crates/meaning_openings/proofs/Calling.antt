@@ -10,7 +10,7 @@ use Rattle.language.specs.Core as core
 use Rattle.language.specs.Core.{Core, Stmt}
 use Rattle.language.specs.Members.{◌∈◌}
 use Rattle.language.specs.Parts.{stmt_calls}
-use Rattle.language.specs.Places.{Path, most_steps}
+use Rattle.language.specs.Places.{Path, max_path_steps}
 use Rattle.language.proofs.Members.{either, split_in}
 use Rattle.meaning_cells.specs.Listed.{calls_listed}
 use Rattle.meaning_facts.specs.Paths.{path_of}
@@ -36,13 +36,13 @@ only_one x y m = elim (split_in m) [ inl e ↦ e | inr i ↦ absurd (none i) ]
 -- one call more
 pub body_next : {A : Type 0} (s : Core) (n : ℕ) (old mid new : RoundState A) (i : ℕ) (st : Stmt) (cs : List core.Call) (c : core.Call) → IsGood s n old → active i st ∈ tasks_of old → HaveBodies s n old mid i cs
     → (IsGood s n mid → active i st ∈ tasks_of mid → IsStep s n mid new
-    × ((f : core.Function) → slice_get s.functions c.function ≡ Some f → length (path_of mid.fact_base.instances.all.items i) < most_steps → HasBlock new.fact_base (tasks_of new) i c.at (Key.Number (pos 0)) f.body))
+    × ((f : core.Function) → slice_get s.functions c.function ≡ Some f → length (path_of mid.fact_base.instances.all.items i) < max_path_steps → HasBlock new.fact_base (tasks_of new) i c.at (Key.Number (pos 0)) f.body))
     → HaveBodies s n old new i (cs ++ c ∷ [])
 body_next {A} s n old mid new i st cs c good there h opens =
     let within = (good.live (active i st) there).within in
     let now = opens h.step.so (h.step.goes.listed (active i st) there) in
-    let one : (f : core.Function) → slice_get s.functions c.function ≡ Some f → length (path_of old.fact_base.instances.all.items i) < most_steps → HasBlock new.fact_base (tasks_of new) i c.at (Key.Number (pos 0)) f.body
-    = λ f e short. now.1 f e (subst (λ (p : Path). length p < most_steps) (sym (h.step.goes.path_same i within)) short) in
+    let one : (f : core.Function) → slice_get s.functions c.function ≡ Some f → length (path_of old.fact_base.instances.all.items i) < max_path_steps → HasBlock new.fact_base (tasks_of new) i c.at (Key.Number (pos 0)) f.body
+    = λ f e short. now.1 f e (subst (λ (p : Path). length p < max_path_steps) (sym (h.step.goes.path_same i within)) short) in
     record {
       step = step_joins s n old mid new h.step now.0;
       bodies = λ d f m e short. elim (either cs (c ∷ []) m) [
@@ -60,7 +60,7 @@ pub bodies_called : {A : Type 0} (s : Core) (n : ℕ) (old new : RoundState A) (
     → IsStep s n old new × AreCalled s new.fact_base (tasks_of new) a
 bodies_called {A} s n old new a good there h =
     let within = (good.live a there).within in
-    (h.step, λ c f m e short. h.bodies c f m e (subst (λ (p : Path). length p < most_steps) (h.step.goes.path_same a.instance within) short))
+    (h.step, λ c f m e short. h.bodies c f m e (subst (λ (p : Path). length p < max_path_steps) (h.step.goes.path_same a.instance within) short))
 
 -- the calls of a list with one more
 pub calls_more : {A : Type 0} (cs : List (Bor (Call A))) (i : ℕ) (d : Bor (Call A)) → i < length cs → calls_listed (take (i + 1) cs) ≡ calls_listed (take i cs) ++ call_view (get_or cs i d).now ∷ []

@@ -8,7 +8,7 @@ use Rattle.language.specs.Meaning.{Known, Ready}
 use Rattle.language.specs.Members.{◌∈◌}
 use Rattle.language.specs.Openings.{Branches}
 use Rattle.language.specs.Parts.{stmt_action, stmt_at}
-use Rattle.language.specs.Places.{Path, most_steps}
+use Rattle.language.specs.Places.{Path, max_path_steps}
 use Rattle.meaning_facts.specs.declared.fact_base.FactBase.{FactBase}
 use Rattle.meaning_cells.specs.Chosen.{Chosen, chosen_in, count_in}
 use Rattle.meaning_facts.specs.Paths.{path_of}
@@ -36,7 +36,7 @@ header_opened {A} s n old new a c good there header chosen turned waiting =
           (λ k b o short. (
           let at = choice.opens.all k b o in
           subst (λ (z : Key). HasBlock new.fact_base (tasks_of new) a.instance (stmt_at a.statement) z b) at.key_is
-          (turned.blocks at.index b at.below at.block_is (subst (λ (p : Path). length p < most_steps) same short))
+          (turned.blocks at.index b at.below at.block_is (subst (λ (p : Path). length p < max_path_steps) same short))
           ))) waiting,
     )
 

@@ -12,7 +12,7 @@ use Rattle.language.specs.Meaning.{Known}
 use Rattle.language.specs.Parts.{block_list, stmt_action, stmt_calls}
 use Rattle.language.specs.Members.{◌∈◌}
 use Rattle.language.specs.WellFormed.{WellFormed}
-use Rattle.language.specs.Places.{most_steps}
+use Rattle.language.specs.Places.{max_path_steps}
 use Rattle.meaning_facts.specs.declared.instances.InstanceBindings.{InstanceBindings}
 use Rattle.paths.specs.declared.steps.Step.{Step}
 use Rattle.meaning_cells.specs.Chosen.{Chosen, block_in, chosen_in, count_in, key_in}
@@ -78,10 +78,10 @@ enter_step {A} s n old new i x g b good opening e =
     }
 
 -- where a path is full no further step is short
-pub not_short : (n : ℕ) {X : Type 0} → true ≡ nat_le most_steps n → n < most_steps → X
+pub not_short : (n : ℕ) {X : Type 0} → true ≡ nat_le max_path_steps n → n < max_path_steps → X
 not_short n e l = absurd (grind (arith, nat_tests))
 
-pub short_path : (n : ℕ) → false ≡ nat_le most_steps n → n < most_steps
+pub short_path : (n : ℕ) → false ≡ nat_le max_path_steps n → n < max_path_steps
 short_path n e = grind (arith, nat_tests)
 
 -- nothing more
@@ -109,7 +109,7 @@ step_joins s n a b c p q = record { so = q.so; goes = goes_further a.fact_base b
 -- the body of a call becomes live
 pub call_step : {A : Type 0} (s : Core) (n : ℕ) (old new : RoundState A) (i : ℕ) (c : core.Call) (b : core.Block) (f : core.Function) (x : Step) (g : InstanceBindings)
     → WellFormed s → IsGood s n old → (st : Stmt) → active i st ∈ tasks_of old → c ∈ stmt_calls st → slice_get s.functions c.function ≡ Some f → f.body ≡ b
-    → length (path_of old.fact_base.instances.all.items i) < most_steps → x.offset ≡ c.at → x.key ≡ Key.Number (pos 0)
+    → length (path_of old.fact_base.instances.all.items i) < max_path_steps → x.offset ≡ c.at → x.key ≡ Key.Number (pos 0)
     → g.inputs.items ≡ spots old.fact_base.instances.all.items i c.inputs → g.outputs.items ≡ spots old.fact_base.instances.all.items i c.outputs → g.variables.items ≡ []
     → IsEnteredBy old i x g b new → IsStep s n old new × HasBlock new.fact_base (tasks_of new) i c.at (Key.Number (pos 0)) f.body
 call_step {A} s n old new i c b f x g w good st m j found body short at key ins outs none e =
@@ -128,7 +128,7 @@ one_function s k f h p q = same_Some _ _ (sym q ∙ p)
 -- a block that a header opens in a turn becomes live
 pub turn_step : {A : Type 0} (s : Core) (n : ℕ) (old new : RoundState A) (i at node : ℕ) (header : Action) (c : Chosen) (j : ℕ) (b : core.Block) (x : Step) (g : InstanceBindings)
     → WellFormed s → OffsetsApart s → IsGood s n old → active i (stmt at node header) ∈ tasks_of old → chosen_in (sight_of old.fact_base i) header ≡ Some c → j < count_in c → block_in header c ≡ Some b
-    → length (path_of old.fact_base.instances.all.items i) < most_steps → x.offset ≡ at → x.key ≡ key_in c j → g.inputs.items ≡ [] → g.outputs.items ≡ [] → g.variables.items ≡ turn_variables header c j
+    → length (path_of old.fact_base.instances.all.items i) < max_path_steps → x.offset ≡ at → x.key ≡ key_in c j → g.inputs.items ≡ [] → g.outputs.items ≡ [] → g.variables.items ≡ turn_variables header c j
     → IsEnteredBy old i x g b new → IsStep s n old new × HasBlock new.fact_base (tasks_of new) i at (key_in c j) b
 turn_step {A} s n old new i at node header c j b x g w offsets good there chosen below block short at_is key ins outs variables e =
     let opening = seen_opening s w offsets (Known s n) 0 old.fact_base (tasks_of old) (arrays_of old) good i x g short at node header c j b there chosen below block at_is key ins outs variables in

@@ -9,7 +9,7 @@ use Rattle.language.specs.Facts.{Knowledge}
 use Rattle.language.specs.Meaning.{in_block, opened, Known, Live, LiveStmt}
 use Rattle.language.specs.Members.{◌∈◌}
 use Rattle.language.specs.Parts.{stmt_node}
-use Rattle.language.specs.Places.{Path, Place, most_steps}
+use Rattle.language.specs.Places.{Path, Place, max_path_steps}
 use Rattle.language.proofs.Members.{split_in}
 use Rattle.paths.proofs.Orders.{number_order}
 use Rattle.meaning_facts.specs.declared.facts.Place.{Place as Spot}
@@ -122,7 +122,7 @@ is_turn ns j m =
     subst (λ (z : ℕ). IsTurn ns z) same h.turn
 
 -- what opens a turn opens a live block
-origin_live : (s : Core) (K : Knowledge) (path : Path) (at : ℕ) (k : Key) (vs : List LoopVariable) → Origin s K path at k (variable_in vs) → length path < most_steps
+origin_live : (s : Core) (K : Knowledge) (path : Path) (at : ℕ) (k : Key) (vs : List LoopVariable) → Origin s K path at k (variable_in vs) → length path < max_path_steps
     → nat_eq (length vs) 0 ≡ false → (b : Block) × Live s K ((at, k) ∷ path) b
 origin_live s K path at k vs (of_header {b = b} (in_block live there) ready opens f g) short has = (b, opened live there ready opens short)
 origin_live s K path at k [] (of_call live c same none) short has = absurd (cc (has))
@@ -142,9 +142,9 @@ module _ (s : Core) (K : Knowledge) (l : FactBase) (ls : List Active) (cs : List
       let up = parent_of l.instances.all.items (suc j) in
       let o = tree.opened (suc j) (omega arith) t.within in
       let c = tree.opens up o.at o.key (suc j) o.opened in
-      let fits : suc (length (path_of l.instances.all.items (parent_of l.instances.all.items (suc j)))) ≤ most_steps
-      = subst (λ (p : Path). length p ≤ most_steps) c.path_is (tree.short (suc j)) in
-      let short : length (path_of l.instances.all.items (parent_of l.instances.all.items (suc j))) < most_steps = omega (arith, fits) in
+      let fits : suc (length (path_of l.instances.all.items (parent_of l.instances.all.items (suc j)))) ≤ max_path_steps
+      = subst (λ (p : Path). length p ≤ max_path_steps) c.path_is (tree.short (suc j)) in
+      let short : length (path_of l.instances.all.items (parent_of l.instances.all.items (suc j))) < max_path_steps = omega (arith, fits) in
       subst (λ (p : Path). (b : Block) × Live s K p b) (sym c.path_is)
       (origin_live s K (path_of l.instances.all.items up) o.at o.key (variables_of l.instances.all.items (suc j)) (good.origins up o.at o.key (suc j) o.opened) short t.has)
 

@@ -131,17 +131,17 @@ more_closed l m e f = record {
 -- at the place of each array that was closed something comes, and nothing elsewhere
 closed_or_same : (l m : FactBase) (closed : List Spot) → m.facts ≡ l.facts → ((q : Spot) → (q ∈ closed) ⊎ (closed_at m q ≡ closed_at l q)) → (e : WakeEvent) → (e ∈ map at closed) ⊎ IsSame l m e
 closed_or_same l m closed f others e = elim (others e.place) [
-  | inl i ↦ elim (cases_Bool (nat_eq e.mark 0)) [
-    | inl whole ↦ inl (subst (λ (z : WakeEvent). z ∈ map at closed) (λ j. record { place = e.place; mark = sym (eqb-true e.mark 0 whole) j }) (mapped_in at closed i))
+  | inl i ↦ elim (cases_Bool (nat_eq e.hash 0)) [
+    | inl whole ↦ inl (subst (λ (z : WakeEvent). z ∈ map at closed) (λ j. record { place = e.place; hash = sym (eqb-true e.hash 0 whole) j }) (mapped_in at closed i))
     | inr marked ↦ inr (same (λ z. absurd (not_zero z marked)))
   ]
   | inr c ↦ inr (same (λ z. c))
 ]
   where
-    not_zero : e.mark ≡ 0 → nat_eq e.mark 0 ≡ false → ⊥
-    not_zero z marked = let h : true ≡ false = sym (eq-eqb e.mark 0 z) ∙ marked in absurd (cc (h))
+    not_zero : e.hash ≡ 0 → nat_eq e.hash 0 ≡ false → ⊥
+    not_zero z marked = let h : true ≡ false = sym (eq-eqb e.hash 0 z) ∙ marked in absurd (cc (h))
 
-    same : (e.mark ≡ 0 → closed_at m e.place ≡ closed_at l e.place) → IsSame l m e
+    same : (e.hash ≡ 0 → closed_at m e.place ≡ closed_at l e.place) → IsSame l m e
     same c = record {
       value = λ z. ap (λ (k : Facts). value_at k e.place) f;
       closed = c;

@@ -5,7 +5,7 @@ use Rattle.std.proofs.lemmas.Option.{same_Some}
 use Rattle.language.specs.Core as core
 use Rattle.language.specs.Core.{Core, Action, stmt}
 use Rattle.language.specs.Members.{◌∈◌}
-use Rattle.language.specs.Places.{Path, most_steps}
+use Rattle.language.specs.Places.{Path, max_path_steps}
 use Rattle.meaning_steps.specs.Environment.{Sight}
 use Rattle.meaning_cells.specs.Chosen.{Chosen, block_in, chosen_in, key_in}
 use Rattle.meaning_facts.specs.Paths.{path_of}
@@ -31,7 +31,7 @@ no_turns {A} s n old i at header c good = record { step = no_step s n old good; 
 
 -- the path is full
 pub deep_turns : {A : Type 0} (s : Core) (n : ℕ) (old : RoundState A) (i at : ℕ) (header : Action) (c : Chosen) (turns : ℕ) → IsGood s n old
-    → true ≡ nat_le most_steps (length (path_of old.fact_base.instances.all.items i)) → AreTurned s n old old i at header c turns
+    → true ≡ nat_le max_path_steps (length (path_of old.fact_base.instances.all.items i)) → AreTurned s n old old i at header c turns
 deep_turns {A} s n old i at header c turns good deep = record { step = no_step s n old good; blocks = λ j b l e short. not_short (length (path_of old.fact_base.instances.all.items i)) deep short }
 
 -- no block
@@ -41,14 +41,14 @@ no_turn_block {A} s n old i at header c turns good none = record { step = no_ste
 -- one turn more
 pub turn_next : {A : Type 0} (s : Core) (n : ℕ) (old mid new : RoundState A) (i at node : ℕ) (header : Action) (c : Chosen) (b : core.Block) (k : ℕ) → IsGood s n old
     → active i (stmt at node header) ∈ tasks_of old → chosen_in (sight_of old.fact_base i) header ≡ Some c → block_in header c ≡ Some b
-    → length (path_of old.fact_base.instances.all.items i) < most_steps → AreTurned s n old mid i at header c k
+    → length (path_of old.fact_base.instances.all.items i) < max_path_steps → AreTurned s n old mid i at header c k
     → (IsGood s n mid → active i (stmt at node header) ∈ tasks_of mid → chosen_in (sight_of mid.fact_base i) header ≡ Some c
-    → length (path_of mid.fact_base.instances.all.items i) < most_steps → IsStep s n mid new × HasBlock new.fact_base (tasks_of new) i at (key_in c k) b)
+    → length (path_of mid.fact_base.instances.all.items i) < max_path_steps → IsStep s n mid new × HasBlock new.fact_base (tasks_of new) i at (key_in c k) b)
     → AreTurned s n old new i at header c (k + 1)
 turn_next {A} s n old mid new i at node header c b k good there chosen block short t opens =
     let within = (good.live (active i (stmt at node header)) there).within in
     let now = opens t.step.so (t.step.goes.listed (active i (stmt at node header)) there) (ap (λ (z : Sight). chosen_in z header) (t.step.goes.sight_same i within) ∙ chosen)
-    (subst (λ (p : Path). length p < most_steps) (sym (t.step.goes.path_same i within)) short) in
+    (subst (λ (p : Path). length p < max_path_steps) (sym (t.step.goes.path_same i within)) short) in
     record {
       step = step_joins s n old mid new t.step now.0;
       blocks = λ j d l e h. elim (below_more j k l) [

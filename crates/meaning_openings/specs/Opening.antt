@@ -6,7 +6,7 @@ use Rattle.language.specs.Core.{Core, Action}
 use Rattle.language.specs.Meaning.{Known}
 use Rattle.language.specs.Members.{◌∈◌}
 use Rattle.language.specs.Parts.{block_list}
-use Rattle.language.specs.Places.{most_steps}
+use Rattle.language.specs.Places.{max_path_steps}
 use Rattle.meaning_facts.specs.declared.instances.InstanceBindings.{InstanceBindings}
 use Rattle.paths.specs.declared.steps.Step.{Step}
 use Rattle.meaning_cells.specs.Chosen.{Chosen, block_in, key_in}
@@ -49,13 +49,13 @@ pub data IsLookedAt {A : Type 0} (s : Core) (n : ℕ) (old : RoundState A) (a : 
 -- the blocks of the first turns of a choice are live, unless the path has the maximum length
 pub record AreTurned {A : Type 0} (s : Core) (n : ℕ) (old new : RoundState A) (i at : ℕ) (header : Action) (c : Chosen) (turns : ℕ) : Type 0 where
   pub step : IsStep s n old new
-  pub blocks : (j : ℕ) (b : core.Block) → j < turns → block_in header c ≡ Some b → length (path_of old.fact_base.instances.all.items i) < most_steps
+  pub blocks : (j : ℕ) (b : core.Block) → j < turns → block_in header c ≡ Some b → length (path_of old.fact_base.instances.all.items i) < max_path_steps
       → HasBlock new.fact_base (tasks_of new) i at (key_in c j) b
 
 -- the bodies of these calls of a statement are live, unless the path has the maximum length
 pub record HaveBodies {A : Type 0} (s : Core) (n : ℕ) (old new : RoundState A) (i : ℕ) (cs : List core.Call) : Type 0 where
   pub step : IsStep s n old new
-  pub bodies : (c : core.Call) (f : core.Function) → c ∈ cs → slice_get s.functions c.function ≡ Some f → length (path_of old.fact_base.instances.all.items i) < most_steps
+  pub bodies : (c : core.Call) (f : core.Function) → c ∈ cs → slice_get s.functions c.function ≡ Some f → length (path_of old.fact_base.instances.all.items i) < max_path_steps
       → HasBlock new.fact_base (tasks_of new) i c.at (Key.Number (pos 0)) f.body
 
 -- the blocks that a statement opens are listed, or it is pending

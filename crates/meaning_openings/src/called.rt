@@ -6,7 +6,7 @@ ghost use Rattle.flow.specs.View.{call_view, core_of};
 ghost use Rattle.language.specs.Core.{Core, Function, Stmt};
 ghost use Rattle.language.specs.Members.{◌∈◌};
 ghost use Rattle.language.specs.Parts.{stmt_calls};
-ghost use Rattle.language.specs.Places.{most_steps};
+ghost use Rattle.language.specs.Places.{max_path_steps};
 ghost use Rattle.language.specs.WellFormed.{WellFormed};
 ghost use Rattle.meaning_facts.specs.Paths.{path_of};
 ghost use Rattle.meaning_invariants.specs.Active.{active, HasBlock};
@@ -65,7 +65,7 @@ fn open_call<'a, A: Allocator>(
     ensures so { OnOk result ((s : Core) (n : ℕ) → s ≡ core_of state.old.flow.now → WellFormed s → IsGood s n state.old
         → (st : Stmt) → active instance st ∈ tasks_of state.old → call_view call.entry.now ∈ stmt_calls st
         → IsStep s n state.old state.new × ((f : Function) → slice_get s.functions call.entry.now.function ≡ Some f
-        → length (path_of state.old.fact_base.instances.all.items instance) < most_steps
+        → length (path_of state.old.fact_base.instances.all.items instance) < max_path_steps
         → HasBlock state.new.fact_base (tasks_of state.new) instance call.entry.now.at (StepKey.Number (pos 0)) f.body)) }
     ensures more { OnOk result (IsMore state.old state.new) }
     ensures flow { state.new.flow.now ≡ state.old.flow.now }

@@ -4,7 +4,7 @@ ghost use Rattle.std.specs.Prelude.{◌≡◌, ◌<◌, ◌∷◌, ℕ, length, 
 ghost use Rattle.flow.specs.View.{action_view, block_view};
 ghost use Rattle.language.specs.Core.{Block as CoreBlock, Core, stmt};
 ghost use Rattle.language.specs.Members.{◌∈◌};
-ghost use Rattle.language.specs.Places.{most_steps};
+ghost use Rattle.language.specs.Places.{max_path_steps};
 ghost use Rattle.language.specs.WellFormed.{WellFormed};
 ghost use Rattle.meaning_cells.specs.Chosen.{block_in, choice_view, chosen_in, count_in, key_in, value_at_turn};
 ghost use Rattle.meaning_facts.specs.Paths.{path_of};
@@ -78,7 +78,7 @@ fn open_turn<'a, A: Allocator>(
         → active instance (stmt at node (action_view action.entry.now)) ∈ tasks_of state.old
         → chosen_in (sight_of state.old.fact_base instance) (action_view action.entry.now) ≡ Some (choice_view choice.now) → i < count_in (choice_view choice.now)
         → block_in (action_view action.entry.now) (choice_view choice.now) ≡ Some (block_view block.entry.now)
-        → length (path_of state.old.fact_base.instances.all.items instance) < most_steps
+        → length (path_of state.old.fact_base.instances.all.items instance) < max_path_steps
         → IsStep s n state.old state.new × HasBlock state.new.fact_base (tasks_of state.new) instance at (key_in (choice_view choice.now) i)
         (block_view block.entry.now)) }
     ensures more { OnOk result (IsMore state.old state.new) }

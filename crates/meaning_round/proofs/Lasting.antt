@@ -6,7 +6,7 @@ use Rattle.std.proofs.lemmas.Bool.{cases_Bool, eq-eqb, eqb-true}
 use Rattle.values.specs.declared.key.Key.{Key}
 use Rattle.values.specs.declared.value.Scalar.{Scalar}
 use Rattle.values.specs.declared.value.Value.{Value}
-use Rattle.values.specs.Keys.{mark_of, same_key}
+use Rattle.values.specs.Keys.{hash_of, same_key}
 use Rattle.values.proofs.Keys.{same_key-eq}
 use Rattle.language.specs.Members.{◌∈◌, first, later}
 use Rattle.meaning_steps.specs.Kept.{scalar_by}
@@ -102,19 +102,19 @@ more_by_one l f k a = record {
 elsewhere : {X : Type 0} (p q : Place) (x y : X) → same_place p q ≡ false → (if same_place p q then x else y) ≡ y
 elsewhere p q x y e = ap (λ (b : Bool). if b then x else y) e
 
--- an event by its place and its mark
-is_event : (p : Place) (n : ℕ) (e : WakeEvent) → p ≡ e.place → n ≡ e.mark → record { place = p; mark = n } ≡ e
-is_event p n e f g = λ i. record { place = f i; mark = g i }
+-- an event by its place and its hash
+is_event : (p : Place) (n : ℕ) (e : WakeEvent) → p ≡ e.place → n ≡ e.hash → record { place = p; hash = n } ≡ e
+is_event p n e f g = λ i. record { place = f i; hash = g i }
 
 not_zero : (n : ℕ) → nat_eq n 0 ≡ false → n ≡ 0 → ⊥
 not_zero n e z = let h : true ≡ false = sym (eq-eqb n 0 z) ∙ e in absurd (cc (h))
 
 -- keys of other marks are others
-other_key : (a b : Key) (n : ℕ) → nat_eq n (mark_of a) ≡ false → mark_of b ≡ n → same_key a b ≡ false
+other_key : (a b : Key) (n : ℕ) → nat_eq n (hash_of a) ≡ false → hash_of b ≡ n → same_key a b ≡ false
 other_key a b n e z = elim (cases_Bool (same_key a b)) [
   | inr other ↦ other
   | inl same ↦ (
-      let h : true ≡ false = sym (eq-eqb n (mark_of a) (sym z ∙ ap mark_of (sym (same_key-eq a b same)))) ∙ e in
+      let h : true ≡ false = sym (eq-eqb n (hash_of a) (sym z ∙ ap hash_of (sym (same_key-eq a b same)))) ∙ e in
       absurd (cc (h))
       )
 ]
@@ -146,10 +146,10 @@ module _ (l : FactBase) (k : Facts) where
   value_comes : (p : Place) (v : Value) → IsAdded l.facts (Is.Value p v) k → (e : WakeEvent) → (e ∈ (at p ∷ [])) ⊎ IsSame l (with_facts l k) e
   value_comes p v a e = elim (cases_Bool (same_place p e.place)) [
     | inr other ↦ inr (same_here e (a.values e.place ∙ elsewhere p e.place (first_of (value_at l.facts e.place) v) (value_at l.facts e.place) other) (a.writes e.place))
-    | inl same ↦ elim (cases_Bool (nat_eq e.mark 0)) [
-      | inl whole ↦ inl (subst (λ (z : WakeEvent). z ∈ (at p ∷ [])) (is_event p 0 e (same_place-eq p e.place same) (sym (eqb-true e.mark 0 whole))) first)
+    | inl same ↦ elim (cases_Bool (nat_eq e.hash 0)) [
+      | inl whole ↦ inl (subst (λ (z : WakeEvent). z ∈ (at p ∷ [])) (is_event p 0 e (same_place-eq p e.place same) (sym (eqb-true e.hash 0 whole))) first)
       | inr marked ↦ inr (record {
-        value = λ z. absurd (not_zero e.mark marked z);
+        value = λ z. absurd (not_zero e.hash marked z);
         closed = λ z. refl;
         elements = λ z c. a.writes e.place;
         writes = λ key z. ap (λ (ws : List Write). writes_under ws key) (a.writes e.place);
@@ -164,25 +164,25 @@ module _ (l : FactBase) (k : Facts) where
     | inl same ↦ here (same_place-eq p e.place same) (a.writes e.place ∙ ap (λ (b : Bool). if b then with_write (writes_at l.facts e.place) w else writes_at l.facts e.place) same)
   ]
     where
-      whole : (b : Bool) → closed_at l p ≡ b → p ≡ e.place → e.mark ≡ 0 → (closed_at l e.place ≡ true) → e ∈ closed_too b p
+      whole : (b : Bool) → closed_at l p ≡ b → p ≡ e.place → e.hash ≡ 0 → (closed_at l e.place ≡ true) → e ∈ closed_too b p
       whole true f g z c = subst (λ (y : WakeEvent). y ∈ (at p ∷ [])) (is_event p 0 e g (sym z)) first
       whole false f g z c = let h : true ≡ false = sym c ∙ ap (closed_at l) (sym g) ∙ f in absurd (cc (h))
 
-      open_array : p ≡ e.place → writes_at k e.place ≡ with_write (writes_at l.facts e.place) w → nat_eq e.mark (mark_of w.key) ≡ false → (e.mark ≡ 0 → closed_at l e.place ≡ true → ⊥) → IsSame l (with_facts l k) e
+      open_array : p ≡ e.place → writes_at k e.place ≡ with_write (writes_at l.facts e.place) w → nat_eq e.hash (hash_of w.key) ≡ false → (e.hash ≡ 0 → closed_at l e.place ≡ true → ⊥) → IsSame l (with_facts l k) e
       open_array g h other never = record {
         value = λ z. a.values e.place;
         closed = λ z. refl;
         elements = λ z c. absurd (never z c);
-        writes = λ key z. ap (λ (ws : List Write). writes_under ws key) h ∙ under_with w (writes_at l.facts e.place) key (other_key w.key key e.mark other z);
+        writes = λ key z. ap (λ (ws : List Write). writes_under ws key) h ∙ under_with w (writes_at l.facts e.place) key (other_key w.key key e.hash other z);
       }
 
       here : p ≡ e.place → writes_at k e.place ≡ with_write (writes_at l.facts e.place) w → (e ∈ comes_with l (Is.Element p w)) ⊎ IsSame l (with_facts l k) e
-      here g h = elim (cases_Bool (nat_eq e.mark (mark_of w.key))) [
-        | inl under_key ↦ inl (subst (λ (z : WakeEvent). z ∈ comes_with l (Is.Element p w)) (is_event p (mark_of w.key) e g (sym (eqb-true e.mark (mark_of w.key) under_key))) first)
-        | inr other ↦ elim (cases_Bool (nat_eq e.mark 0)) [
-          | inr marked ↦ inr (open_array g h other (λ z c. not_zero e.mark marked z))
+      here g h = elim (cases_Bool (nat_eq e.hash (hash_of w.key))) [
+        | inl under_key ↦ inl (subst (λ (z : WakeEvent). z ∈ comes_with l (Is.Element p w)) (is_event p (hash_of w.key) e g (sym (eqb-true e.hash (hash_of w.key) under_key))) first)
+        | inr other ↦ elim (cases_Bool (nat_eq e.hash 0)) [
+          | inr marked ↦ inr (open_array g h other (λ z c. not_zero e.hash marked z))
           | inl unmarked ↦ elim (cases_Bool (closed_at l e.place)) [
-            | inl c ↦ inl (later (whole (closed_at l p) refl g (eqb-true e.mark 0 unmarked) c))
+            | inl c ↦ inl (later (whole (closed_at l p) refl g (eqb-true e.hash 0 unmarked) c))
             | inr c ↦ inr (open_array g h other (λ z d. (let y : true ≡ false = sym d ∙ c in absurd (cc (y)))))
           ]
         ]

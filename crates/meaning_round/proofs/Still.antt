@@ -15,7 +15,7 @@ use Rattle.language.specs.Facts.{Fault, operation, element_twice, too_deep, Fact
 use Rattle.language.specs.Members.{◌∈◌, first, later}
 use Rattle.language.specs.Openings.{bounds}
 use Rattle.language.specs.Parts.{outers, outer_cells, outer_parts, parts, part_cells, stmt_calls}
-use Rattle.language.specs.Places.{Path, most_steps}
+use Rattle.language.specs.Places.{Path, max_path_steps}
 use Rattle.language.proofs.Members.{to_left, to_right}
 use Rattle.meaning_steps.specs.Environment.{Come, Outcome, outcome, as_outcome, element_come, element_under, many_come, one_come, operated, read_come, with_come, worked, worked_all}
 use Rattle.meaning_steps.specs.Kept.{is_there, several_in}
@@ -146,7 +146,7 @@ module _ (l m : FactBase) (more : KnowsMore l m) (t : LiveStatement) (placed : H
       by None e = absurd (cc (e))
 
   deep_same : (past_at m t).deep ≡ (past_at l t).deep
-  deep_same = ap (λ (z : Path). nat_le most_steps (length z)) (more.grows.path_same t.instance placed.within)
+  deep_same = ap (λ (z : Path). nat_le max_path_steps (length z)) (more.grows.path_same t.instance placed.within)
 
   -- what is told unless it is known
   known_in : (b : Bool) (x : Fact) → unless b x ≡ [] → b ≡ true

@@ -25,7 +25,7 @@ abbrev pub same_event : ℕ × ℕ × ℕ → ℕ × ℕ × ℕ → Bool
 same_event p q = (nat_eq p.0 q.0 && nat_eq p.1 q.1) && nat_eq p.2 q.2
 
 abbrev pub event_key : WakeEvent → ℕ × ℕ × ℕ
-event_key e = (e.place.instance, e.place.node, e.mark)
+event_key e = (e.place.instance, e.place.node, e.hash)
 
 abbrev pub is_in : {S : Type 0} → Option (HashSet ℕ S) → ℕ → Bool
 is_in (Some numbers) k = contains nat_eq numbers k

@@ -4,7 +4,7 @@ use Rattle.values.specs.declared.key.Key.{Key}
 use Rattle.values.specs.declared.map.Element.{Element}
 use Rattle.values.specs.declared.value.Value.{Value}
 use Rattle.values.specs.declared.value.Value.TheVariants.{One, Many}
-use Rattle.values.specs.Keys.{mark_of, value_key}
+use Rattle.values.specs.Keys.{hash_of, value_key}
 use Rattle.language.specs.Core.{Cell, Name, Expr, Exprs, literal, name, whole, operator, none, also, Form, compute, read, Outer, Action, fill, insert, each}
 use Rattle.language.specs.Parts.{outer_parts, parts, part_cells}
 use Rattle.meaning_facts.specs.declared.facts.Place.{Place}
@@ -18,18 +18,18 @@ use Rattle.meaning_round.specs.declared.worklist.WakeEvent.{WakeEvent}
 
 -- a place gets its value, or is closed
 abbrev pub at : Place → WakeEvent
-at p = record { place = p; mark = 0 }
+at p = record { place = p; hash = 0 }
 
 -- a key of an array is written
 abbrev pub under : Place → Key → WakeEvent
-under a k = record { place = a; mark = mark_of k }
+under a k = record { place = a; hash = hash_of k }
 
 -- nothing has changed for an event
 pub record IsSame (l m : FactBase) (e : WakeEvent) : Type 0 where
-  pub value : e.mark ≡ 0 → value_at m.facts e.place ≡ value_at l.facts e.place
-  pub closed : e.mark ≡ 0 → closed_at m e.place ≡ closed_at l e.place
-  pub elements : e.mark ≡ 0 → closed_at l e.place ≡ true → writes_at m.facts e.place ≡ writes_at l.facts e.place
-  pub writes : (k : Key) → mark_of k ≡ e.mark → writes_under (writes_at m.facts e.place) k ≡ writes_under (writes_at l.facts e.place) k
+  pub value : e.hash ≡ 0 → value_at m.facts e.place ≡ value_at l.facts e.place
+  pub closed : e.hash ≡ 0 → closed_at m e.place ≡ closed_at l e.place
+  pub elements : e.hash ≡ 0 → closed_at l e.place ≡ true → writes_at m.facts e.place ≡ writes_at l.facts e.place
+  pub writes : (k : Key) → hash_of k ≡ e.hash → writes_under (writes_at m.facts e.place) k ≡ writes_under (writes_at l.facts e.place) k
 
 -- CELLS
 

@@ -15,11 +15,11 @@ use std::collections::{HashMap, HashSet};
 use std::mem::replace;
 use values::key::KeyRef;
 
-/// An event at a place. The mark is 0 for its value or its closing; for a write of a key it is the mark of the key.
+/// An event at a place. The hash is 0 for its value or its closing; for a write of a key it is the hash of the key.
 #[derive(Clone, Copy)]
 pub struct WakeEvent {
     pub place: Place,
-    pub mark: u64,
+    pub hash: u64,
 }
 
 /// The worklist: numbers of live statements that may have a new fact. These are the awake ones, and all from `fresh`
@@ -37,7 +37,7 @@ impl WakeEvent {
     pub fn at(place: Place) -> WakeEvent
         ensures { result ≡ reads.at place }
     {
-        WakeEvent { place, mark: 0 }
+        WakeEvent { place, hash: 0 }
     }
 
     /// Creates the event that a key of an array is written.
@@ -46,14 +46,14 @@ impl WakeEvent {
     {
         WakeEvent {
             place: array,
-            mark: key.mark(),
+            hash: key.hash_code(),
         }
     }
 
     fn key(self) -> (usize, u32, u64)
         ensures { result ≡ event_key self }
     {
-        (self.place.instance, self.place.node, self.mark)
+        (self.place.instance, self.place.node, self.hash)
     }
 }
 

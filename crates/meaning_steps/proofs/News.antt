@@ -17,7 +17,7 @@ use Rattle.language.specs.Meaning.{Ready, cells_known, source_closed, names_know
 use Rattle.language.specs.Members.{◌∈◌, first, later}
 use Rattle.language.specs.Openings.{Bounds, bounds, Opens, then_alone, then_first, else_second, turn, item}
 use Rattle.language.specs.Parts.{stmt_at, stmt_node, stmt_calls, cells, outers, outer_cells, outer_parts, part_cells}
-use Rattle.language.specs.Places.{Path, Place, place, most_steps}
+use Rattle.language.specs.Places.{Path, Place, place, max_path_steps}
 use Rattle.language.proofs.Members.{split_in, to_left, to_right, either}
 use Rattle.meaning_steps.specs.Environment.{Sight, Sees, Outcome, outcome}
 use Rattle.meaning_steps.specs.News.{Past, Recalls, unless, come_by, comes, cell_by, cell_told, cells_told, assigned_told, element_by, element_told, elements_told, filled_told, key_in, one_in, inserted_told, text_in, printed_told, with_value, comes_all, count_of, positive, some_turn, some_item, branch_by, items_by, opens_some, deep_by, deep_told, bad_by, bad_told, items_told, own_told, some_call, news, Wrote, by_fill, by_insert, Writer, IsSteady, ToldOf}
@@ -454,7 +454,7 @@ module _ (s : Core) (K : Knowledge) (path : Path) (g : Sight) (m : Past) (h : Se
     known_come no_cell = none_comes
     known_come (next_cell k ks) = next_comes (before k) (known_come ks)
 
-    values_deep : (at n : ℕ) (a : Action) (vs : List Value) → LiveStmt s K path (stmt at n a) → ComeAll s K path (outer_cells a) vs → opens_some a vs ≡ true → length path ≡ most_steps
+    values_deep : (at n : ℕ) (a : Action) (vs : List Value) → LiveStmt s K path (stmt at n a) → ComeAll s K path (outer_cells a) vs → opens_some a vs ≡ true → length path ≡ max_path_steps
         → (fault too_deep at (path, n) ∈ deep_told m path at n a (comes_all g (outer_cells a))) ⊎ K (fault too_deep at (path, n))
     values_deep at n a vs l x o e =
         subst (λ (z : Option (List Value)). (fault too_deep at (path, n) ∈ deep_told m path at n a z) ⊎ K (fault too_deep at (path, n))) (sym (comes_all_is l (outermost at n a) x))
@@ -468,14 +468,14 @@ module _ (s : Core) (K : Knowledge) (path : Path) (g : Sight) (m : Past) (h : Se
     ready_values (inr (names_known cs)) f k = k none_comes
 
     items_or : (at n : ℕ) (a : Name) (x : ℕ) (t : Option ℕ) (b : Block) (vs : List Value) → LiveStmt s K path (stmt at n (each a x t b)) → Ready s K path (each a x t b) vs → opens_some (each a x t b) vs ≡ true
-        → length path ≡ most_steps → (fault too_deep at (path, n) ∈ own_told s g m path at n (each a x t b)) ⊎ K (fault too_deep at (path, n))
+        → length path ≡ max_path_steps → (fault too_deep at (path, n) ∈ own_told s g m path at n (each a x t b)) ⊎ K (fault too_deep at (path, n))
     items_or at n a x t b vs l (cells_known ks d) o e = elim d [ ]
     items_or at n a x t b vs l (source_closed {es = es} c q) o e =
         let F : Bool → List Element → Type 0 = λ z us. (fault too_deep at (path, n) ∈ items_told m path at n z (each a x t b) us) ⊎ K (fault too_deep at (path, n)) in
         subst (λ (z : Bool). F z (g.elements a)) (sym (h.closed_all a c))
         (subst (λ (us : List Element). F true us) (h.elements_all a es c q) (deep_or at n (m.deep && some_item es) (and_from _ _ (r.deep_all e) o)))
 
-    header_or : (at n : ℕ) (a : Action) (vs : List Value) (k : Key) (b : Block) → LiveStmt s K path (stmt at n a) → ComeAll s K path (outer_cells a) vs ⊎ Ready s K path a vs → Opens a vs k b → length path ≡ most_steps
+    header_or : (at n : ℕ) (a : Action) (vs : List Value) (k : Key) (b : Block) → LiveStmt s K path (stmt at n a) → ComeAll s K path (outer_cells a) vs ⊎ Ready s K path a vs → Opens a vs k b → length path ≡ max_path_steps
         → (fault too_deep at (path, n) ∈ own_told s g m path at n a) ⊎ K (fault too_deep at (path, n))
     header_or at n (when c b) vs k d l x o e = ready_values x (λ y z t u q. absurd (cc (q))) (λ z. values_deep at n (when c b) vs l z (opens_found o) e)
     header_or at n (choose c b b') vs k d l x o e = ready_values x (λ y z t u q. absurd (cc (q))) (λ z. values_deep at n (choose c b b') vs l z (opens_found o) e)
@@ -520,7 +520,7 @@ module _ (s : Core) (K : Knowledge) (path : Path) (g : Sight) (m : Past) (h : Se
         (unless_or (m.lined n) (line (path, n) bytes)
         (λ e. (let z = r.lined_so n e in subst (λ (b : List ℕ). K (line (path, n) b)) (sym (y.print_same path at n p c bytes z.0 l q z.1)) z.1))))
 
-    call_or : (st : Stmt) (c : Call) → c ∈ stmt_calls st → length path ≡ most_steps → (fault too_deep (stmt_at st) (path, stmt_node st) ∈ news s g m path st) ⊎ K (fault too_deep (stmt_at st) (path, stmt_node st))
+    call_or : (st : Stmt) (c : Call) → c ∈ stmt_calls st → length path ≡ max_path_steps → (fault too_deep (stmt_at st) (path, stmt_node st) ∈ news s g m path st) ⊎ K (fault too_deep (stmt_at st) (path, stmt_node st))
     call_or (stmt at n a) c i e = of_calls at n a (fault too_deep at (path, n)) (deep_or at n (m.deep && some_call (stmt_calls (stmt at n a))) (and_from _ _ (r.deep_all e) (call_some i)))
 
 module _ (s : Core) (K : Knowledge) (g : Path → Sight) (m : Path → Past) (sees : (path : Path) → Sees s K path (g path)) (recalls : (path : Path) → Recalls s K path (m path)) (y : IsSteady s K) where

@@ -10,7 +10,7 @@ use Rattle.values.specs.declared.value.Value.TheVariants.{One, Many}
 use Rattle.language.specs.Core.{Core}
 use Rattle.language.specs.Facts.{value, element, Knowledge, OneWrite, OneWriter}
 use Rattle.language.specs.Meaning.{Closed, closed, HasValue, stored, in_turn}
-use Rattle.language.specs.Places.{Path, Place, place, most_steps}
+use Rattle.language.specs.Places.{Path, Place, place, max_path_steps}
 use Rattle.language_laws.proofs.PlacesEqual.{place_is}
 use Rattle.meaning_steps.specs.Environment.{Sees}
 use Rattle.meaning_steps.specs.News.{Recalls}
@@ -103,6 +103,6 @@ module _ (s : Core) (K : Knowledge) (k : Kept) (h : Keeps s K k) (one : (p : Pla
     twice_all = λ a key n w v u x y d. twice_all (place s path a) key (path, n) w v u x y d;
     lined_so = λ n e. h.lined_so (path, n) e;
     faulted_so = λ f at n e. h.faulted_so f at (path, n) e;
-    deep_so = λ e. eqb-true (length path) most_steps e;
-    deep_all = λ e. eq-eqb (length path) most_steps e;
+    deep_so = λ e. eqb-true (length path) max_path_steps e;
+    deep_all = λ e. eq-eqb (length path) max_path_steps e;
   }

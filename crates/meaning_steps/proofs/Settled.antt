@@ -9,7 +9,7 @@ use Rattle.language.specs.Meaning.{Live, script, opened, waited, called, Closed,
 use Rattle.language.specs.Members.{◌∈◌}
 use Rattle.language.specs.Openings.{Opens, InTurn}
 use Rattle.language.specs.Parts.{block_list, stmt_calls}
-use Rattle.language.specs.Places.{Path, Place, most_steps}
+use Rattle.language.specs.Places.{Path, Place, max_path_steps}
 use Rattle.meaning_steps.specs.Taken.{Taken, ComeBy, ReadyBy, by_cells, by_source, by_names, FinishedBy, no_target_by, value_by, write_by, body_by, blocks_by, content_by, IsSo, IsSettled, FollowsSo}
 
 module _ (s : Core) (K : Knowledge) (T : Taken) (so : IsSo s K T) where
@@ -68,7 +68,7 @@ module _ (s : Core) (K : Knowledge) (T : Taken) (all : IsSettled s K T) where
 -- each step from what is so is so
 module _ (s : Core) (K : Knowledge) (T : Taken) (so : IsSo s K T) where
   by_opened : {path : Path} {at n : ℕ} {header : Action} {vs : List Value} {k : Key} {c : Block} {st : Stmt} → LiveStmt s K path (stmt at n header)
-      → ReadyBy s K T path header vs → Opens header vs k c → length path < most_steps → st ∈ block_list c → LiveStmt s K ((at, k) ∷ path) st
+      → ReadyBy s K T path header vs → Opens header vs k c → length path < max_path_steps → st ∈ block_list c → LiveStmt s K ((at, k) ∷ path) st
   by_opened (in_block b m) r o d i = in_block (opened b m (ready_so s K T so r) o d) i
 
   by_waited : {path : Path} {at n : ℕ} {ns : List Awaited} {c : Block} {st : Stmt} → LiveStmt s K path (stmt at n (wait ns c))
@@ -76,11 +76,11 @@ module _ (s : Core) (K : Knowledge) (T : Taken) (so : IsSo s K T) where
   by_waited (in_block b m) r i = in_block (waited b m (ready_so s K T so r)) i
 
   by_called : {path : Path} {caller st : Stmt} {c : Call} {f : Function} → LiveStmt s K path caller → c ∈ stmt_calls caller
-      → slice_get s.functions c.function ≡ Some f → length path < most_steps → st ∈ block_list f.body → LiveStmt s K ((c.at, Key.Number (pos 0)) ∷ path) st
+      → slice_get s.functions c.function ≡ Some f → length path < max_path_steps → st ∈ block_list f.body → LiveStmt s K ((c.at, Key.Number (pos 0)) ∷ path) st
   by_called (in_block b m) j e d i = in_block (called b m j e d) i
 
   by_turn : {path : Path} {at n x : ℕ} {header : Action} {vs : List Value} {k : Key} {b : Block} {v : Scalar} → LiveStmt s K path (stmt at n header)
-      → ReadyBy s K T path header vs → Opens header vs k b → InTurn header vs k x v → length path < most_steps → HasValue s K ((at, k) ∷ path, x) v
+      → ReadyBy s K T path header vs → Opens header vs k b → InTurn header vs k x v → length path < max_path_steps → HasValue s K ((at, k) ∷ path, x) v
   by_turn (in_block b m) r o t d = in_turn b m (ready_so s K T so r) o t d
 
   -- WHAT FOLLOWS AT ONCE FROM WHAT IS SO IS SO

@@ -13,7 +13,7 @@ use Rattle.language.specs.Meaning.{Closed, HasValue, Live, Ready}
 use Rattle.language.specs.Members.{◌∈◌}
 use Rattle.language.specs.Openings.{InTurn, Opens}
 use Rattle.language.specs.Parts.{block_list}
-use Rattle.language.specs.Places.{Path, Place, place, most_steps}
+use Rattle.language.specs.Places.{Path, Place, place, max_path_steps}
 use Rattle.meaning_steps.specs.Environment.{Sight}
 use Rattle.meaning_steps.specs.News.{Past}
 
@@ -44,7 +44,7 @@ pub record Keeps (s : Core) (K : Knowledge) (k : Kept) : Type 0 where
   pub value_all : (p : Place) (v : Value) → K (value p v) → k.value p ≡ Some v
   pub turn_so : (p : Place) (v : Scalar) → k.turn p ≡ Some v → HasValue s K p v
   pub turn_all : (path : Path) (c : Block) (at n x : ℕ) (header : Action) (vs : List Value) (key : Key) (b : Block) (v : Scalar)
-      → Live s K path c → stmt at n header ∈ block_list c → Ready s K path header vs → Opens header vs key b → InTurn header vs key x v → length path < most_steps
+      → Live s K path c → stmt at n header ∈ block_list c → Ready s K path header vs → Opens header vs key b → InTurn header vs key x v → length path < max_path_steps
       → k.turn ((at, key) ∷ path, x) ≡ Some v
   pub closed_so : (a : Place) → k.closed a ≡ true → Closed s K a
   pub closed_all : (a : Place) → Closed s K a → k.closed a ≡ true
@@ -118,5 +118,5 @@ past_by s k path = record {
   twice = λ a key. several_in (values_under (k.writes (place s path a)) key);
   lined = λ n. k.lined (path, n);
   faulted = λ f at n. k.faulted f at (path, n);
-  deep = nat_eq (length path) most_steps;
+  deep = nat_eq (length path) max_path_steps;
 }

@@ -16,7 +16,7 @@ use Rattle.language.specs.Meaning.{Gives, Comes, LiveStmt}
 use Rattle.language.specs.Members.{◌∈◌}
 use Rattle.language.specs.Openings.{Bounds, bounds}
 use Rattle.language.specs.Parts.{stmt_at, stmt_node, stmt_action, stmt_calls, cells, outer_cells, script_stmts}
-use Rattle.language.specs.Places.{Path, Place, place, most_steps}
+use Rattle.language.specs.Places.{Path, Place, place, max_path_steps}
 use Rattle.meaning_steps.specs.Environment.{Sight, Outcome, outcome}
 
 -- the facts derived before, as tests: a variable has a value; the statement of a node has written a key of an array; a
@@ -38,8 +38,8 @@ pub record Recalls (s : Core) (K : Knowledge) (path : Path) (m : Past) : Type 0 
   pub twice_all : (a : Name) (k : Key) (n : ℕ) (w : Place) (v u : Scalar) → K (element (place s path a) k (path, n) v) → K (element (place s path a) k w u) → w ≢ (path, n) → m.twice a k ≡ true
   pub lined_so : (n : ℕ) → m.lined n ≡ true → (bytes : List ℕ) × K (line (path, n) bytes)
   pub faulted_so : (f : Fault) (at n : ℕ) → m.faulted f at n ≡ true → K (fault f at (path, n))
-  pub deep_so : m.deep ≡ true → length path ≡ most_steps
-  pub deep_all : length path ≡ most_steps → m.deep ≡ true
+  pub deep_so : m.deep ≡ true → length path ≡ max_path_steps
+  pub deep_all : length path ≡ max_path_steps → m.deep ≡ true
 
 -- CELLS
 

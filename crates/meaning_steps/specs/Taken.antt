@@ -12,7 +12,7 @@ use Rattle.language.specs.Meaning.{IsTarget, Live, Closed, HasValue, LiveStmt}
 use Rattle.language.specs.Members.{◌∈◌}
 use Rattle.language.specs.Openings.{Decides, Opens, InTurn, Branches}
 use Rattle.language.specs.Parts.{outer_cells, block_list, stmt_calls, function_body}
-use Rattle.language.specs.Places.{Path, Place, place, most_steps}
+use Rattle.language.specs.Places.{Path, Place, place, max_path_steps}
 
 -- the statements taken to be live, the arrays taken to be closed, and the scalars at places
 pub record Taken : Type 1 where
@@ -42,13 +42,13 @@ pub data FinishedBy (s : Core) (K : Knowledge) (T : Taken) : Owned → Path → 
   write_by : {a : Owned} {path : Path} {at n : ℕ} {x : Name} {i c : Outer} {k : Key} {v : Scalar}
       → K (element (place s path x) k (path, n) v) → FinishedBy s K T a path (stmt at n (insert x i c))
   body_by : {a : Owned} {path : Path} {at n : ℕ} {p : ℤ} {ps : List Part} {c : Call}
-      → length path < most_steps
+      → length path < max_path_steps
       → ((j : ℕ) (x : Name) (st : Stmt) → slice_get c.outputs j ≡ Some x → x.what ≡ a → st ∈ function_body s c.function
       → FinishedBy s K T (output j) ((c.at, Key.Number (pos 0)) ∷ path) st)
       → FinishedBy s K T a path (stmt at n (call_alone p ps c))
   blocks_by : {a : Owned} {path : Path} {at n : ℕ} {header : Action} {vs : List Value}
       → Branches header → ReadyBy s K T path header vs
-      → ((k : Key) (b : Block) → Opens header vs k b → length path < most_steps)
+      → ((k : Key) (b : Block) → Opens header vs k b → length path < max_path_steps)
       → ((k : Key) (b : Block) (st : Stmt) → Opens header vs k b → st ∈ block_list b → FinishedBy s K T a ((at, k) ∷ path) st)
       → FinishedBy s K T a path (stmt at n header)
   content_by : {a : Owned} {path : Path} {at n : ℕ} {ns : List Awaited} {b : Block}
@@ -66,35 +66,35 @@ pub record IsSo (s : Core) (K : Knowledge) (T : Taken) : Type 0 where
 pub record IsSettled (s : Core) (K : Knowledge) (T : Taken) : Type 0 where
   pub script : (st : Stmt) → st ∈ block_list s.body → T.live [] st
   pub opened : (path : Path) (at n : ℕ) (header : Action) (vs : List Value) (k : Key) (c : Block) (st : Stmt)
-      → T.live path (stmt at n header) → ReadyBy s K T path header vs → Opens header vs k c → length path < most_steps
+      → T.live path (stmt at n header) → ReadyBy s K T path header vs → Opens header vs k c → length path < max_path_steps
       → st ∈ block_list c → T.live ((at, k) ∷ path) st
   pub waited : (path : Path) (at n : ℕ) (ns : List Awaited) (c : Block) (st : Stmt)
       → T.live path (stmt at n (wait ns c)) → ReadyBy s K T path (wait ns c) [] → st ∈ block_list c → T.live path st
   pub called : (path : Path) (caller st : Stmt) (c : Call) (f : Function)
-      → T.live path caller → c ∈ stmt_calls caller → slice_get s.functions c.function ≡ Some f → length path < most_steps
+      → T.live path caller → c ∈ stmt_calls caller → slice_get s.functions c.function ≡ Some f → length path < max_path_steps
       → st ∈ block_list f.body → T.live ((c.at, Key.Number (pos 0)) ∷ path) st
   pub closed : (path : Path) (b : Block) (at n m : ℕ) → Live s K path b → ((st : Stmt) → st ∈ block_list b → T.live path st) → stmt at m (declare n) ∈ block_list b
       → ((st : Stmt) → st ∈ block_list b → FinishedBy s K T (local n) path st) → OneWriter K (path, n) → T.closed (path, n)
   pub stored : (p : Place) (v : Scalar) → K (value p (One v)) → T.has p v
   pub in_turn : (path : Path) (at n x : ℕ) (header : Action) (vs : List Value) (k : Key) (b : Block) (v : Scalar)
       → T.live path (stmt at n header) → ReadyBy s K T path header vs → Opens header vs k b → InTurn header vs k x v
-      → length path < most_steps → T.has ((at, k) ∷ path, x) v
+      → length path < max_path_steps → T.has ((at, k) ∷ path, x) v
 
 -- what follows at once from what is taken holds in the meaning
 pub record FollowsSo (s : Core) (K : Knowledge) (T : Taken) : Type 0 where
   pub opened : (path : Path) (at n : ℕ) (header : Action) (vs : List Value) (k : Key) (c : Block) (st : Stmt)
-      → T.live path (stmt at n header) → ReadyBy s K T path header vs → Opens header vs k c → length path < most_steps
+      → T.live path (stmt at n header) → ReadyBy s K T path header vs → Opens header vs k c → length path < max_path_steps
       → st ∈ block_list c → LiveStmt s K ((at, k) ∷ path) st
   pub waited : (path : Path) (at n : ℕ) (ns : List Awaited) (c : Block) (st : Stmt)
       → T.live path (stmt at n (wait ns c)) → ReadyBy s K T path (wait ns c) [] → st ∈ block_list c → LiveStmt s K path st
   pub called : (path : Path) (caller st : Stmt) (c : Call) (f : Function)
-      → T.live path caller → c ∈ stmt_calls caller → slice_get s.functions c.function ≡ Some f → length path < most_steps
+      → T.live path caller → c ∈ stmt_calls caller → slice_get s.functions c.function ≡ Some f → length path < max_path_steps
       → st ∈ block_list f.body → LiveStmt s K ((c.at, Key.Number (pos 0)) ∷ path) st
   pub closed : (path : Path) (b : Block) (at n m : ℕ) → Live s K path b → stmt at m (declare n) ∈ block_list b
       → ((st : Stmt) → st ∈ block_list b → FinishedBy s K T (local n) path st) → OneWriter K (path, n) → Closed s K (path, n)
   pub in_turn : (path : Path) (at n x : ℕ) (header : Action) (vs : List Value) (k : Key) (b : Block) (v : Scalar)
       → T.live path (stmt at n header) → ReadyBy s K T path header vs → Opens header vs k b → InTurn header vs k x v
-      → length path < most_steps → HasValue s K ((at, k) ∷ path, x) v
+      → length path < max_path_steps → HasValue s K ((at, k) ∷ path, x) v
 
 -- the knowledge of exactly these facts
 abbrev pub Knows : List Fact → Knowledge

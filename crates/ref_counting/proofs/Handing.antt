@@ -77,28 +77,28 @@ past_all [] i h = refl
 past_all (e ∷ es) zero h = absurd (omega arith)
 past_all (e ∷ es) (suc i) h = past_all es i (omega arith)
 
-module _ (C : Code) (mark call : ℕ) (at : call_at C mark ≡ call) where
-  pub no_call : (q : pure.Name) → length C.entries ≤ call → Answers None (Seen C mark Calling q)
-  no_call q h = answers_none (Seen C mark Calling q) (λ r s. absurd (none_there s.0 s.1 r s.3))
+module _ (C : Code) (offset call : ℕ) (at : call_at C offset ≡ call) where
+  pub no_call : (q : pure.Name) → length C.entries ≤ call → Answers None (Seen C offset Calling q)
+  no_call q h = answers_none (Seen C offset Calling q) (λ r s. absurd (none_there s.0 s.1 r s.3))
     where
-      none_there : (k : ℕ) (b : Bool) (r : pure.Name) → argument C mark k b ≡ Some (Named r) → ⊥
+      none_there : (k : ℕ) (b : Bool) (r : pure.Name) → argument C offset k b ≡ Some (Named r) → ⊥
       none_there k b r e =
-          let blank : entry C (call_at C mark) ≡ blank_entry = ap (entry C) at ∙ past_all C.entries call h in
+          let blank : entry C (call_at C offset) ≡ blank_entry = ap (entry C) at ∙ past_all C.entries call h in
           let none : ◌≡◌ {A = Option Argument} None (Some (Named r)) = sym (ap (λ (x : Entry). argument_in (arguments x.act) k b) blank) ∙ e in
           absurd (cc)
 
-  pub called : (k : ℕ) (b : Bool) (q : pure.Name) (a : Option Name) → q ≡ record { up = 0; owned = Parameter k b } → Answers a (λ r. argument_in (arguments (entry C call).act) k b ≡ Some (Named r)) → Answers a (Seen C mark Calling q)
-  called k b q a e h = answers_as a (λ r. argument_in (arguments (entry C call).act) k b ≡ Some (Named r)) (Seen C mark Calling q) to from h
+  pub called : (k : ℕ) (b : Bool) (q : pure.Name) (a : Option Name) → q ≡ record { up = 0; owned = Parameter k b } → Answers a (λ r. argument_in (arguments (entry C call).act) k b ≡ Some (Named r)) → Answers a (Seen C offset Calling q)
+  called k b q a e h = answers_as a (λ r. argument_in (arguments (entry C call).act) k b ≡ Some (Named r)) (Seen C offset Calling q) to from h
     where
-      to : (r : pure.Name) → argument_in (arguments (entry C call).act) k b ≡ Some (Named r) → Seen C mark Calling q r
+      to : (r : pure.Name) → argument_in (arguments (entry C call).act) k b ≡ Some (Named r) → Seen C offset Calling q r
       to r t = (k, b, e, ap (λ n. argument_in (arguments (entry C n).act) k b) at ∙ t)
 
-      from : (r : pure.Name) → Seen C mark Calling q r → argument_in (arguments (entry C call).act) k b ≡ Some (Named r)
+      from : (r : pure.Name) → Seen C offset Calling q r → argument_in (arguments (entry C call).act) k b ≡ Some (Named r)
       from r s =
           let o : Parameter k b ≡ Parameter s.0 s.1 = ap (λ (x : pure.Name). x.owned) (sym e ∙ s.2) in
           let i : k ≡ s.0 = cc in
           let j : b ≡ s.1 = cc in
-          ap (λ n. argument_in (arguments (entry C n).act) k b) (sym at) ∙ ap (λ n. argument C mark n b) i ∙ ap (λ t. argument C mark s.0 t) j ∙ s.3
+          ap (λ n. argument_in (arguments (entry C n).act) k b) (sym at) ∙ ap (λ n. argument C offset n b) i ∙ ap (λ t. argument C offset s.0 t) j ∙ s.3
 
 -- DECLARED NAMES
 
@@ -122,8 +122,8 @@ module _ (C : Code) (i b : ℕ) (q : pure.Name) where
       outer : (r : pure.Name) → q ≡ record { up = suc r.up; owned = r.owned } → Declared C b q → ⊥
       outer r e d = let z : suc r.up ≡ 0 = ap (λ (x : pure.Name). x.up) (sym e ∙ d.is) in absurd (omega arith)
 
-  pub seen_calling : (a : Option Name) → Answers a (Seen C (entry C i).mark Calling q) → Answers a (Sees C i Calling b q)
-  seen_calling a t = answers_as a (Seen C (entry C i).mark Calling q) (Sees C i Calling b q) (λ r s. record { outer = outer s.0 s.1 s.2; seen = s }) (λ r s. s.seen) t
+  pub seen_calling : (a : Option Name) → Answers a (Seen C (entry C i).offset Calling q) → Answers a (Sees C i Calling b q)
+  seen_calling a t = answers_as a (Seen C (entry C i).offset Calling q) (Sees C i Calling b q) (λ r s. record { outer = outer s.0 s.1 s.2; seen = s }) (λ r s. s.seen) t
     where
       outer : (k : ℕ) (c : Bool) → q ≡ record { up = 0; owned = Parameter k c } → Declared C b q → ⊥
       outer k c e d = let z : Parameter k c ≡ pure.Local d.variable = ap (λ (x : pure.Name). x.owned) (sym e ∙ d.is) in absurd (cc)

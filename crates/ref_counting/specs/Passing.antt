@@ -26,4 +26,4 @@ pub record Outlives (ms : List DeclaredIn) (b : ℕ) (q r : pure.Name) : Type 0 
 -- the body does not declare the name, and r is the name that the opening entry has for it
 pub record Sees (C : Code) (i : ℕ) (w : Way) (b : ℕ) (q r : pure.Name) : Type 0 where
   pub outer : Declared C b q → ⊥
-  pub seen : Seen C (entry C i).mark w q r
+  pub seen : Seen C (entry C i).offset w q r

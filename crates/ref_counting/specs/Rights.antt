@@ -18,7 +18,7 @@ pub record Adds (P : ℕ → Name → Type 0) (old new : List EntryName) : Type 
 module _ (C : Code) where
   -- each call has an offset of its own
   abbrev pub HasMarks : Type 0
-  HasMarks = (i b : ℕ) → In (Calling, b) (ways (entry C i).act) → call_at C (entry C i).mark ≡ i
+  HasMarks = (i b : ℕ) → In (Calling, b) (ways (entry C i).act) → call_at C (entry C i).offset ≡ i
 
   -- the entry opens the body in this way
   abbrev pub Opens : BodyOpening → ℕ → Type 0

@@ -72,14 +72,25 @@ fn argument(act: &Act, place: usize, array: bool) -> Option<Name>
             outputs,
             ..
         } => argument_at(inputs, outputs, place, array),
-        _ => None,
+        Act::Cell(_)
+        | Act::Read
+        | Act::Set(_, _)
+        | Act::Fill(_, _)
+        | Act::Copy(_)
+        | Act::InsertElement(_, _, _)
+        | Act::Print(_)
+        | Act::Assert(_)
+        | Act::If(_, _, _)
+        | Act::Range(_, _, _, _)
+        | Act::Each(_)
+        | Act::Wait(_, _) => None,
     }
 }
 
 /// Translates a name of the body of a function into a name of the call. Only parameters have one.
 fn calling(code: &CodeTables, call: u32, name: Name) -> Option<Name>
-    requires { call_at code.now (entry code.now call).mark ≡ call }
-    ensures { Answers result (Seen code.now (entry code.now call).mark Calling (name_view name)) }
+    requires { call_at code.now (entry code.now call).offset ≡ call }
+    ensures { Answers result (Seen code.now (entry code.now call).offset Calling (name_view name)) }
 {
     match name.owned {
         Owned::Local(_) => None,
@@ -139,7 +150,7 @@ pub fn outward(
     requires made { AreMade code.now made.now.keys }
     requires body { body < length code.now.bodies }
     requires opens { Opens code.now opening body }
-    requires marks { way_of opening.way ≡ Calling → call_at code.now (entry code.now opening.entry).mark ≡ opening.entry }
+    requires marks { way_of opening.way ≡ Calling → call_at code.now (entry code.now opening.entry).offset ≡ opening.entry }
     ensures { Answers result (Sees code.now opening.entry (way_of opening.way) body (name_view name)) }
 {
     match opening.way {

@@ -69,7 +69,14 @@ fn note_act(
         Act::Range(_, _, _, turns) => note(openings, entry, OpenKind::Through, turns.body),
         Act::Each(turns) => note(openings, entry, OpenKind::Through, turns.body),
         Act::Wait(_, body) => note(openings, entry, OpenKind::InPlace, *body),
-        _ => Ok(()),
+        Act::Cell(_)
+        | Act::Read
+        | Act::Set(_, _)
+        | Act::Fill(_, _)
+        | Act::Copy(_)
+        | Act::InsertElement(_, _, _)
+        | Act::Print(_)
+        | Act::Assert(_) => Ok(()),
     }
 }
 

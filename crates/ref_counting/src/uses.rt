@@ -98,8 +98,13 @@ fn note_targets(
         Act::Set(target, _) => note_one(*target, number, leads),
         Act::Fill(target, _) => note_one(*target, number, leads),
         Act::Copy(target) => note_one(*target, number, leads),
-        Act::Put(target, _, _) => note_one(*target, number, leads),
-        _ => Ok(()),
+        Act::InsertElement(target, _, _) => note_one(*target, number, leads),
+        Act::Print(_)
+        | Act::Assert(_)
+        | Act::If(_, _, _)
+        | Act::Range(_, _, _, _)
+        | Act::Each(_)
+        | Act::Wait(_, _) => Ok(()),
     }
 }
 

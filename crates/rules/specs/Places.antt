@@ -1,5 +1,5 @@
 -- The index of waiting items by input.
-use Rattle.std.specs.Prelude.{◌≡◌, ◌≢◌, ◌⊎◌, ℕ, ◌+◌, ◌-◌, ◌*◌, ◌<◌, ◌≤◌, ◌%◌, ◌^◌, ◌==◌, ◌||◌, Bool, true, false, List, length, Option, Some, None, slice_index_or, Contains}
+use Rattle.std.specs.Prelude.{◌≡◌, ◌≢◌, ◌⊎◌, ℕ, ◌+◌, ◌-◌, ◌*◌, ◌<◌, ◌≤◌, ◌/◌, ◌%◌, ◌^◌, ◌==◌, ◌||◌, Bool, true, false, List, length, Option, Some, None, slice_index_or, Contains}
 use Rattle.std.specs.List.{list_any}
 use Rattle.rules.specs.declared.input.Input.{Input}
 use Rattle.rules.specs.declared.input.Input.TheVariants.{Whole, Element}
@@ -13,10 +13,14 @@ abbrev pub datum : Input → ℕ
 datum (Whole d) = d % 2 ^ 32
 datum (Element d k) = d % 2 ^ 32
 
+-- 32 bits to which both halves of a hash of 64 bits contribute
+unfoldable pub folded : ℕ → ℕ
+folded h = (h + h / 2 ^ 32 * 2654435769 % 2 ^ 64) % 2 ^ 64 % 2 ^ 32
+
 -- the address at which items that wait for the input are noted
 abbrev pub address : Input → ℕ
 address (Whole d) = d % 2 ^ 32
-address (Element d k) = (d * 11400714819323198485 % 2 ^ 64 + k) % 2 ^ 64 % 2 ^ 32
+address (Element d k) = folded ((d * 11400714819323198485 % 2 ^ 64 + k) % 2 ^ 64)
 
 -- an item that misses the input is noted at this address
 abbrev pub is_at : ℕ → Input → Bool

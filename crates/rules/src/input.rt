@@ -1,17 +1,21 @@
 //! Inputs: what an item can wait for.
 ghost use Rattle.std.specs.Prelude.{◌≡◌, ◌%◌, ◌^◌};
 ghost use Rattle.rules.specs.Inputs.{covers};
-ghost use Rattle.rules.specs.Places.{address, datum, is_at};
+ghost use Rattle.rules.specs.Places.{address, datum, folded, is_at};
 
 // Multiplier (2^64 divided by the golden ratio) that hashes the elements of one array far from those of another.
 const SPREAD: u64 = 11_400_714_819_323_198_485;
+
+// Multiplier (2^32 divided by the golden ratio) for the high half of a hash, so that keys which differ in their high
+// halves alone have different addresses. Neighbouring keys keep neighbouring addresses.
+const FOLD: u64 = 2_654_435_769;
 
 /// An input of an item: something that can become known.
 #[derive(Debug, Drop)]
 pub enum Input {
     /// A datum as a whole: a scalar that is stored, or an array that is closed.
     Whole(u64),
-    /// An element of an array, under a key with this mark.
+    /// An element of an array, under a key with this hash.
     Element(u64, u64),
 }
 
@@ -40,7 +44,7 @@ impl Input {
     {
         match self {
             Input::Whole(datum) => Input::Whole(*datum),
-            Input::Element(datum, mark) => Input::Element(*datum, *mark),
+            Input::Element(datum, hash) => Input::Element(*datum, *hash),
         }
     }
 
@@ -51,7 +55,7 @@ impl Input {
     {
         match self {
             Input::Whole(datum) => low(*datum),
-            Input::Element(datum, mark) => low(datum.wrapping_mul(SPREAD).wrapping_add(*mark)),
+            Input::Element(datum, hash) => folded(datum.wrapping_mul(SPREAD).wrapping_add(*hash)),
         }
     }
 
@@ -72,6 +76,14 @@ impl Input {
     {
         self.address() == address || self.datum() == address
     }
+}
+
+// Returns 32 bits to which both halves of a hash contribute.
+#[tactic(auto, unfolding(crate::specs::Places::folded))]
+fn folded(hash: u64) -> u32
+    ensures { result ≡ folded hash }
+{
+    low(hash.wrapping_add((hash / 4_294_967_296).wrapping_mul(FOLD)))
 }
 
 // Returns the low 32 bits.

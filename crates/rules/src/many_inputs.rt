@@ -12,7 +12,7 @@ use std::alloc::{AllocError, Global};
 use std::marker::Model;
 
 // Maximum number of inputs that are searched linearly, without an index.
-const FEW: usize = 8;
+const LINEAR_SEARCH_LIMIT: usize = 8;
 
 /// An index of a list of inputs: which of them are known, and a hash table to find them.
 #[derive(Drop)]
@@ -147,7 +147,7 @@ fn boxed(alloc: Global, inputs: &[Input]) -> Result<Box<InputIndex>, AllocError>
 fn index_to(alloc: Global, inputs: &[Input]) -> Option<Box<InputIndex>>
     ensures { IfSome (index_in result) (IsFresh inputs.now) }
 {
-    if inputs.len() <= FEW {
+    if inputs.len() <= LINEAR_SEARCH_LIMIT {
         return None;
     }
     match boxed(alloc, inputs) {

@@ -12,7 +12,7 @@ use smallvec::SmallVec;
 use std::alloc::Global;
 
 /// The missing inputs of an item, in order. One or two are stored inline, without a tag per input; more are stored in a
-/// list. A datum is its number, and an element is the number of its array and its mark.
+/// list. A datum is its number, and an element is the number of its array and the hash of its key.
 #[derive(Drop)]
 pub enum Missing {
     Nothing,

@@ -15,7 +15,7 @@ use std::alloc::{AllocError, Global};
 use std::marker::Model;
 
 // Minimum number of slots for which a nonempty index is allocated.
-const FEWEST: usize = 64;
+const MIN_INDEXED_SLOTS: usize = 64;
 
 // Removes the inputs that `input` covers from all items. Those with none left are removed, and their numbers are
 // appended to `out`.
@@ -52,7 +52,7 @@ fn fit(
     ensures more { places.old.place ≤ places.new.place }
 {
     if places.place() < slots {
-        let mut wider = Subscribers::sized(alloc, slots.max(FEWEST), heavy(waiters))?;
+        let mut wider = Subscribers::sized(alloc, slots.max(MIN_INDEXED_SLOTS), heavy(waiters))?;
         wider.renew(waiters);
         *places = wider;
     }

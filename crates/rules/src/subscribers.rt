@@ -14,16 +14,16 @@ use std::alloc::{AllocError, Global};
 use std::marker::Model;
 
 // Maximum number of notes of an item of two inputs.
-const PLAIN: usize = 4;
+const NOTES_OF_TWO_INPUTS: usize = 4;
 
 // Maximum number of notes of other addresses that a walk may pass without being counted.
-const FEW: usize = 64;
+const UNCOUNTED_PASSES: usize = 64;
 
 // The slot of a note that was unlinked from its list.
 const NO_SLOT: u32 = 4_294_967_295;
 
 // Limit of the number of notes, and of the slots that can be noted, since both are stored in 32 bits.
-const MOST: usize = 4_294_967_295;
+const MAX_NOTES: usize = 4_294_967_295;
 
 /// A note that the item of a slot is to be found at an address.
 #[derive(Clone, Copy, Debug, PartialEq, Eq)]
@@ -229,8 +229,8 @@ impl Subscribers {
         let number = self.notes.len();
         if self.heads.is_empty()
             || number == self.notes.capacity()
-            || number >= MOST
-            || slot >= MOST
+            || number >= MAX_NOTES
+            || slot >= MAX_NOTES
         {
             return false;
         }
@@ -285,7 +285,7 @@ impl Subscribers {
         ensures noted { result ≡ true → (a : ℕ) → needs a waiter.now ≡ true → IsAt self.new.notes a slot }
     {
         let weight = notes_of(waiter.count());
-        if weight > PLAIN && self.notes.len().saturating_add(weight) > most {
+        if weight > NOTES_OF_TWO_INPUTS && self.notes.len().saturating_add(weight) > most {
             return false;
         }
         self.note_item(waiter, slot)
@@ -376,7 +376,7 @@ impl Subscribers {
         ensures noted { IsNoted self.new waiters.now.slots }
         ensures place { self.new.place ≡ self.old.place }
     {
-        if passed <= FEW {
+        if passed <= UNCOUNTED_PASSES {
             return;
         }
         self.count_passed(passed);
@@ -487,12 +487,16 @@ pub fn notes_of(inputs: usize) -> usize {
 
 // Returns the number of notes if it exceeds that of an item of two inputs, and 0 otherwise.
 fn heavy_part(notes: usize) -> usize {
-    if notes > PLAIN { notes } else { 0 }
+    if notes > NOTES_OF_TWO_INPUTS {
+        notes
+    } else {
+        0
+    }
 }
 
 // Returns the maximum number of notes of this number of items of two inputs.
 fn plain(items: usize) -> usize {
-    items.saturating_mul(PLAIN)
+    items.saturating_mul(NOTES_OF_TWO_INPUTS)
 }
 
 // Returns the maximum number of notes in use after a rebuild with this capacity: three quarters of it.

@@ -9,6 +9,7 @@ use crate::progress::ProgressReporter;
 use crate::source_cache::SourceCache;
 use crate::trace_replay::follow;
 use explain_faults::limits::{add_limit_of_steps, add_limit_of_trace};
+use explain_text::words::write_str;
 use std::alloc::{AllocError, Global};
 use std::io::{Error, Write};
 use swt_arguments::line::Line;
@@ -67,6 +68,7 @@ fn write_ending(
 ) -> Result<(), AllocError> {
     if ended.is(Status::Refused) || ended.is_checked() {
         kept.tell_checked();
+        write_counts(rt, kept, ended.line);
     } else if !kept.tells_json() {
         let mut text = Vec::new(rt.alloc());
         add_end(rt.alloc(), kept, ended, reason, &mut text)?;
@@ -78,6 +80,48 @@ fn write_ending(
     } else {
         Ok(())
     }
+}
+
+/// Reports how many of the files of a check are accepted, if there are two or more.
+fn write_counts(rt: &HostRuntime, kept: &SourceCache<'_>, line: &Line) {
+    let Line::Check { files } = line else {
+        return;
+    };
+    let count = files.as_slice().len();
+    if count > 1 && !kept.tells_json() && !kept.lacks() {
+        let accepted = kept.accepted();
+        // If this cannot be written, the status is enough.
+        let _ = eprintln!(rt; "swt: {accepted} of {count} files are accepted");
+    }
+}
+
+/// Appends the names of the files that a check has not opened, if there are any.
+fn add_unchecked(
+    kept: &SourceCache<'_>,
+    line: &Line,
+    text: &mut Vec<u8>,
+) -> Result<(), AllocError> {
+    let Line::Check { files } = line else {
+        return Ok(());
+    };
+    let mut place: usize = 0;
+    for file in files.as_slice() {
+        if place >= kept.opened() {
+            add_name(text, place == kept.opened(), file.as_str())?;
+        }
+        place = place.saturating_add(1);
+    }
+    if place > kept.opened() {
+        write_str(text, "\n")?;
+    }
+    Ok(())
+}
+
+/// Appends the name of a file that was not opened, after the words for the first one or after a comma.
+fn add_name(text: &mut Vec<u8>, is_first: bool, name: &str) -> Result<(), AllocError> {
+    let before = if is_first { "swt: not checked: " } else { ", " };
+    write_str(text, before)?;
+    write_str(text, name)
 }
 
 /// Appends the explanation of a command whose script is not refused.
@@ -106,7 +150,8 @@ fn add_trouble(
     text: &mut Vec<u8>,
 ) -> Result<(), AllocError> {
     if let Some(name) = kept.unread() {
-        return explain_unread(alloc, name, reason, text);
+        explain_unread(alloc, name, reason, text)?;
+        return add_unchecked(kept, ended.line, text);
     }
     if let Some(error) = ended.unprinted {
         return explain_unwritten(alloc, "standard output", error, text);

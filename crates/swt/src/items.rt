@@ -1,11 +1,11 @@
 //! The items of a run: the entry and block of each, whether it has ended, and the scalars stored.
 
-use board_effects::loop_chunks::{are_left, chunk_of};
 use board_work::outcome::{ControlResult, Outcome};
 use std::alloc::{AllocError, Global};
 use std::collections::HashMap;
 use task_code::code::Code;
 use task_code::entry::{Act, Argument, Entry, Loop, Name, Need, Owned};
+use values::loop_chunks::{are_left, chunk_of};
 use values::map::Map;
 use values::range::IntRange;
 use values::value::{Scalar, Value};

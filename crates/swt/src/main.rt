@@ -106,7 +106,7 @@ fn perform<'r, R: Threads + Wait + Sync>(
 {
     let mut host = host;
     let line = &request.line;
-    let reporter = ProgressReporter::new(rt, request.progress, most_steps(line));
+    let reporter = ProgressReporter::new(rt, request.progress, step_limit(line));
     host.want(request);
     out.want(request.explain);
     let number = process::id(rt.process());
@@ -125,7 +125,7 @@ fn perform<'r, R: Threads + Wait + Sync>(
 }
 
 /// Returns the maximum number of events of the line's run.
-fn most_steps(line: &Line) -> u32 {
+fn step_limit(line: &Line) -> u32 {
     match line {
         Line::Run { steps, .. } => *steps,
         _ => u32::MAX,

@@ -6,16 +6,16 @@ use std::io::Write;
 use std::str;
 
 /// Maximum length of a file name in bytes. Longer words are skipped.
-const LONGEST: usize = 4096;
+const MAX_WORD_BYTES: usize = 4096;
 
 /// Bound on the number of words, larger than any command line.
-const MOST_WORDS: usize = 16_777_216;
+const MAX_WORDS: usize = 16_777_216;
 
 /// Reports on standard error the first word of the command line that is not valid UTF-8, with its bytes unchanged.
 /// Returns true if there is one.
 pub fn write_foreign(rt: &HostRuntime) -> Result<bool, AllocError> {
-    let mut room = vec![in rt.alloc(); 0u8; LONGEST]?;
-    for place in 1..MOST_WORDS {
+    let mut room = vec![in rt.alloc(); 0u8; MAX_WORD_BYTES]?;
+    for place in 1..MAX_WORDS {
         match rt.arg(place, room.as_mut_slice()) {
             Ok(length) => {
                 let word = &room.as_slice()[..length];

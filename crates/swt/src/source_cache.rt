@@ -45,6 +45,10 @@ pub struct SourceCache<'r> {
     /// Whether refusals and warnings are reported as JSON.
     json: bool,
     sources: Vec<SourceFile>,
+    /// The number of files that were opened.
+    opened: usize,
+    /// The number of files that were reported as accepted.
+    accepted: usize,
     /// Whether an allocation failed, for a file or for a report about it.
     lacks: bool,
 }
@@ -57,6 +61,8 @@ impl<'r> SourceCache<'r> {
             wanted: CachePolicy::Nothing,
             json: false,
             sources: Vec::new(rt.alloc()),
+            opened: 0,
+            accepted: 0,
             lacks: false,
         }
     }
@@ -84,6 +90,16 @@ impl<'r> SourceCache<'r> {
             Some(_) => None,
             None => Some(source.name.as_str()),
         }
+    }
+
+    /// Returns the number of files that were opened.
+    pub fn opened(&self) -> usize {
+        self.opened
+    }
+
+    /// Returns the number of files that were reported as accepted.
+    pub fn accepted(&self) -> usize {
+        self.accepted
     }
 
     /// Returns true if an allocation failed.
@@ -114,6 +130,7 @@ impl<'r> SourceCache<'r> {
         if self.wanted == CachePolicy::Each {
             self.tell_checked();
         }
+        self.opened = self.opened.saturating_add(1);
         if self.wanted != CachePolicy::Nothing && !self.lacks && self.add_source(name).is_err() {
             self.give_up();
         }
@@ -157,45 +174,50 @@ impl<'r> SourceCache<'r> {
 
     /// Reports the refusal or the warnings of the first file on standard error, and empties the cache.
     pub fn tell_checked(&mut self) {
-        if self.told_checked().is_err() {
-            self.lacks = true;
+        match self.told_checked() {
+            Ok(true) => self.accepted = self.accepted.saturating_add(1),
+            Ok(false) => {}
+            Err(AllocError) => self.lacks = true,
         }
         self.sources.clear();
     }
 
-    fn told_checked(&self) -> Result<(), AllocError> {
+    /// Reports the refusal or the warnings of the first file, and returns true if there is one that is accepted.
+    fn told_checked(&self) -> Result<bool, AllocError> {
         match self.first() {
             Some((name, text)) if self.json => write_json(self.rt, name, text),
             Some((name, text)) => write_checked(self.rt, self.rt.alloc(), name, text),
-            None => Ok(()),
+            None => Ok(false),
         }
     }
 }
 
-/// Reports the refusal of a text on standard error, or its warnings if it is accepted.
+/// Reports the refusal of a text on standard error, or its warnings if it is accepted. Returns true if it is accepted.
 fn write_checked(
     rt: &HostRuntime,
     alloc: Global,
     name: &str,
     text: &[u8],
-) -> Result<(), AllocError> {
-    let words = match explained(alloc, name, text)? {
-        Some(refusal) => refusal,
-        None => render::explained(alloc, name, text)?,
-    };
-    // If this cannot be written, the status is enough.
-    let _ = rt.stderr().write_all(words.as_slice());
-    Ok(())
+) -> Result<bool, AllocError> {
+    if let Some(refusal) = explained(alloc, name, text)? {
+        // If this cannot be written, the status is enough.
+        let _ = rt.stderr().write_all(refusal.as_slice());
+        return Ok(false);
+    }
+    let warnings = render::explained(alloc, name, text)?;
+    let _ = rt.stderr().write_all(warnings.as_slice());
+    Ok(true)
 }
 
-/// Reports the refusal of a text on standard error, or its warnings if it is accepted, as lines of JSON.
-fn write_json(rt: &HostRuntime, name: &str, text: &[u8]) -> Result<(), AllocError> {
+/// Reports the refusal of a text on standard error, or its warnings if it is accepted, as lines of JSON. Returns true if
+/// it is accepted.
+fn write_json(rt: &HostRuntime, name: &str, text: &[u8]) -> Result<bool, AllocError> {
     if let Some(refusal) = json_line(rt.alloc(), name, text)? {
         // If this cannot be written, the status is enough.
         let _ = eprintln!(rt; "{refusal}");
-        return Ok(());
+        return Ok(false);
     }
     let lines = warning_lines(rt.alloc(), name, text)?;
     let _ = rt.stderr().write_all(lines.as_slice());
-    Ok(())
+    Ok(true)
 }

@@ -13,7 +13,7 @@ use task_code::entry::{Name, Need, Owned};
 use values::key::Key;
 
 /// Maximum number of items examined for one: those that compute cells of its statement.
-const MOST: usize = 64;
+const MAX_EXAMINED_ITEMS: usize = 64;
 
 /// A script's text and index, and its code with the items of a run.
 #[derive(Drop)]
@@ -36,7 +36,7 @@ pub fn write_waits(
 ) -> Result<(), AllocError> {
     let mut queue = Vec::new(view.alloc);
     queue.push(number)?;
-    for place in 0..MOST {
+    for place in 0..MAX_EXAMINED_ITEMS {
         match queue.get(place).copied() {
             Some(item) => write_item_waits(view, out, &mut queue, item)?,
             None => break,
@@ -189,7 +189,7 @@ fn write_name(
 /// Returns the function whose call opened a block or an enclosing one.
 fn function_around(view: &ItemContext<'_, '_>, block: usize) -> Option<usize> {
     let call = view.code.entry(view.items.call_around(block)?)?;
-    view.index.called_at(call.mark)
+    view.index.called_at(call.offset)
 }
 
 /// Returns the binding at an index among the inputs followed by the outputs of a function.

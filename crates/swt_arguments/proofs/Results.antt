@@ -1,5 +1,5 @@
 -- What the matches and the errors of a command say of the words.
-use Rattle.std.proofs.Common.{◌≤◌, ◌+◌, length, ◌≡◌, ◌∙◌, arith, ℕ, Bool, true, false, refl, sym, ap, subst, List, [], ◌∷◌, Option, Some, None, inl, inr}
+use Rattle.std.proofs.Common.{◌≤◌, ◌+◌, ◌-◌, length, ◌≡◌, ◌∙◌, arith, ℕ, Bool, true, false, refl, sym, ap, subst, List, [], ◌∷◌, Option, Some, None, inl, inr}
 use Rattle.std.specs.Prelude.{◌||◌, ◌&&◌, ◌++◌, Result, Ok, Err, IsErrAnd, option_to_list, option_map, option_and_then, slice_get, find, cond, fold, codes, unwrap_or, bytes_eq}
 use Rattle.std.proofs.lemmas.Bool.{and_parts}
 use Rattle.std.specs.List.{list_all}
@@ -27,6 +27,7 @@ use Rattle.swt_arguments.specs.Reader.{Holds, IsRead, files_given, values_given,
 use Rattle.swt_arguments.proofs.Arguments.{EachOf, each_option, shape_for, is_reader}
 use Rattle.swt_arguments.proofs.Rows.{kept, tally}
 use Rattle.swt_arguments.proofs.Walking.{standing, or_else_nil, Comes, from_both}
+use Rattle.values.specs.Limits.{max_events, max_threads}
 
 -- ---- what comes after the walk
 
@@ -210,11 +211,11 @@ twice_line c ws fs n o is = each_option c (λ p. 2 ≤ length (values_of p false
     all Replay = tt
     all Mean = (λ h. rw (twice_number 1 4294967295 1000000 (values_of (codes "--rounds") false ws) h) (and_then_none (only fs)), tt)
     all Run = (
-      λ h. rw (twice_number 1 63 1 (values_of (codes "--engines") false ws) h) (and_then_none (only fs)),
+      λ h. rw (twice_number 1 (max_threads - 1) 1 (values_of (codes "--engines") false ws) h) (and_then_none (only fs)),
       (
-        λ h. simp (twice_number 1 63 3 (values_of (codes "--workers") false ws) h, and_then_none) refl,
+        λ h. simp (twice_number 1 (max_threads - 1) 3 (values_of (codes "--workers") false ws) h, and_then_none) refl,
         (
-          λ h. simp (twice_number 0 4294967295 10000000 (values_of (codes "--steps") false ws) h, and_then_none) refl,
+          λ h. simp (twice_number 0 max_events 10000000 (values_of (codes "--steps") false ws) h, and_then_none) refl,
           (λ h. simp (twice_text (values_of (codes "--trace") false ws) h, and_then_none) refl, tt),
         ),
       ),

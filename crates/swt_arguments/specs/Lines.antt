@@ -1,11 +1,12 @@
 -- The line that the words after a command form.
-use Rattle.std.specs.Prelude.{ℕ, ◌≤◌, List, [], ◌∷◌, ◌++◌, ◌&&◌, false, Option, Some, None, option_and_then, if◌then◌else◌, codes}
+use Rattle.std.specs.Prelude.{ℕ, ◌-◌, ◌≤◌, List, [], ◌∷◌, ◌++◌, ◌&&◌, false, Option, Some, None, option_and_then, if◌then◌else◌, codes}
 use Rattle.swt_arguments.specs.declared.command.Command.{Command}
 use Rattle.swt_arguments.specs.declared.command.Command.TheVariants as command
 use Rattle.swt_arguments.specs.declared.line.Line.{Line}
 use Rattle.swt_arguments.specs.declared.line.Line.TheVariants.{Check, Mean, Code, Run, Replay}
 use Rattle.swt_arguments.specs.Numbers.{number_given}
 use Rattle.swt_arguments.specs.Words.{well_formed, files_in, flag_given, input_once, values_of, only, written}
+use Rattle.values.specs.Limits.{max_events, max_threads}
 
 -- `check`, with one or more files
 abbrev pub check_line : List (List ℕ) → Option Line
@@ -33,9 +34,9 @@ run_line files engines workers steps trace =
     option_and_then (λ s.
     option_and_then (λ t. Some (Run file e w s t))
     (written trace))
-    (number_given 0 4294967295 10000000 steps))
-    (number_given 1 63 3 workers))
-    (number_given 1 63 1 engines))
+    (number_given 0 max_events 10000000 steps))
+    (number_given 1 (max_threads - 1) 3 workers))
+    (number_given 1 (max_threads - 1) 1 engines))
     (only files)
 
 -- `replay`, with its file and its trace
@@ -73,5 +74,5 @@ abbrev pub IsInRange : Line → Type 0
 IsInRange (Check files) = Unit {0}
 IsInRange (Mean file rounds) = (1 ≤ rounds) × (rounds ≤ 4294967295)
 IsInRange (Code file dot) = Unit {0}
-IsInRange (Run file engines workers steps trace) = (1 ≤ engines) × (engines ≤ 63) × (1 ≤ workers) × (workers ≤ 63) × (steps ≤ 4294967295)
+IsInRange (Run file engines workers steps trace) = (1 ≤ engines) × (engines ≤ max_threads - 1) × (1 ≤ workers) × (workers ≤ max_threads - 1) × (steps ≤ max_events)
 IsInRange (Replay file trace) = Unit {0}

@@ -1,11 +1,13 @@
 //! Diagnosis of words that do not form a request.
 
 use crate::command::{Command, explains};
+use crate::line::MAX_OF_A_KIND;
 use crate::option_number::number_within;
 use crate::request::divided;
 use crate::word::Word;
 use crate::words::is;
 use std::fmt;
+use values::limits::MAX_EVENTS;
 
 /// Why a word is wrong, or what is missing.
 #[derive(Clone, Copy, PartialEq, Eq, Debug, Drop)]
@@ -267,9 +269,9 @@ fn range_of(option: &str) -> Option<(u32, u32)> {
     if is(option, "--rounds") {
         Some((1, u32::MAX))
     } else if is(option, "--steps") {
-        Some((0, u32::MAX))
+        Some((0, MAX_EVENTS as u32))
     } else if is(option, "--engines") || is(option, "--workers") {
-        Some((1, 63))
+        Some((1, MAX_OF_A_KIND))
     } else {
         None
     }

@@ -1,9 +1,10 @@
 //! A command with its files and numbers.
-ghost use Rattle.std.specs.Prelude.{◌≡◌, ◌≤◌, ◌++◌, [], ◌∷◌, codes, IfOk};
+ghost use Rattle.std.specs.Prelude.{◌≡◌, ◌-◌, ◌≤◌, ◌++◌, [], ◌∷◌, codes, IfOk};
 ghost use Rattle.swt_arguments.specs.Numbers.{number_given};
 ghost use Rattle.swt_arguments.specs.Words.{Answers};
 ghost use Rattle.swt_arguments.specs.Reader.{files_given, values_given};
 ghost use Rattle.swt_arguments.specs.Lines.{formed_line, check_line, mean_line, code_line, run_line, replay_line, files_of, IsInRange};
+ghost use Rattle.values.specs.Limits.{max_threads};
 
 use crate::command::Command;
 use crate::fault::LineFault;
@@ -12,6 +13,10 @@ use crate::{reading, words};
 use clap::ArgMatches;
 use std::alloc::{AllocError, Global};
 use std::marker::Model;
+use values::limits::{MAX_EVENTS, MAX_THREADS};
+
+/// Maximum number of engines, and of workers. A run has at least one of each.
+pub(crate) const MAX_OF_A_KIND: u32 = MAX_THREADS as u32 - 1;
 
 /// The files of a line, in command-line order.
 #[derive(Drop)]
@@ -180,7 +185,7 @@ fn read_run(alloc: Global, files: &[Word], matches: &ArgMatches) -> Result<Line,
     let file = words::only(alloc, files)?;
     let engines = thread_count(matches, "--engines", 1)?;
     let workers = thread_count(matches, "--workers", 3)?;
-    let steps = number(matches, "--steps", 0, u32::MAX, 10_000_000)?;
+    let steps = number(matches, "--steps", 0, MAX_EVENTS as u32, 10_000_000)?;
     let trace = words::written(alloc, matches.get_str("--trace"))?;
     Ok(Line::Run {
         file,
@@ -222,14 +227,14 @@ fn number(
     )
 }
 
-/// Returns the number of engines or of workers, from 1 to 63, or its default.
+/// Returns the number of engines or of workers, from 1 to `MAX_OF_A_KIND`, or its default.
 fn thread_count(matches: &ArgMatches, option: &str, default: u8) -> Result<u8, LineFault>
     requires least { 1 ≤ default }
-    requires most { default ≤ 63 }
-    ensures value { Answers (number_given 1 63 default (values_given matches.now option.now)) result }
-    ensures within { IfOk result (λ n. (1 ≤ n) × (n ≤ 63)) }
+    requires most { default ≤ max_threads - 1 }
+    ensures value { Answers (number_given 1 (max_threads - 1) default (values_given matches.now option.now)) result }
+    ensures within { IfOk result (λ n. (1 ≤ n) × (n ≤ max_threads - 1)) }
 {
-    match crate::option_number::number(matches.get_str(option), 1, 63, default as u32) {
+    match crate::option_number::number(matches.get_str(option), 1, MAX_OF_A_KIND, default as u32) {
         Some(n) => Ok(n as u8),
         None => Err(LineFault::Usage),
     }

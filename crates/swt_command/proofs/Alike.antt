@@ -26,7 +26,7 @@ use Rattle.compile.specs.Compiled.{IsCompiled}
 use Rattle.compile.proofs.Alike.{text_alike}
 use Rattle.swt_trace.specs.Replay.{IsFirstNoStep, IsTraceOf, IsWrongEnd, ReplaysTo}
 use Rattle.swt_trace.specs.Report.{TraceOf, ending_of}
-use Rattle.swt_trace.specs.Trace.{IsFirstBad, most_events}
+use Rattle.swt_trace.specs.Trace.{IsFirstBad, max_events}
 use Rattle.swt_trace.proofs.Again.{its_trace, not_bad, not_refused, not_wrong, same_again}
 use Rattle.swt_command.specs.Same.{TellSame, of_code}
 
@@ -64,7 +64,7 @@ stands_alike C D al s p (code.Call b rs os) own at x = x
 stands_alike C D al s p (code.Set r e) own at x = x
 stands_alike C D al s p (code.Fill r es) own at x = x
 stands_alike C D al s p (code.Copy r) own at x = x
-stands_alike C D al s p (code.Put r i e) own at x = x
+stands_alike C D al s p (code.InsertElement r i e) own at x = x
 stands_alike C D al s p (code.Print e) own at x = x
 stands_alike C D al s p (code.Assert e) own at x = x
 stands_alike C D al s p (code.If e b d) own at x = x
@@ -134,7 +134,7 @@ reports_alike C D al limit r p =
 pub told_same : (D : Code) (r s : Report) → SameReport (of_code D r) s → TellSame r s
 told_same D r s x = record { history = x.history; lines = x.lines; end = x.end; blocked = x.blocked; tallies = x.tallies }
 
-module _ (src : List ℕ) (C D : Code) (limit : ℕ) (r : Report) (x : IsCompiled src C) (y : IsCompiled src D) (few : limit ≤ most_events) (p : Reports C limit r) where
+module _ (src : List ℕ) (C D : Code) (limit : ℕ) (r : Report) (x : IsCompiled src C) (y : IsCompiled src D) (few : limit ≤ max_events) (p : Reports C limit r) where
   too : Reports D limit (of_code D r)
   too = reports_alike C D (text_alike src C D x y) limit r p
 

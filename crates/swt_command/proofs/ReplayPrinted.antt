@@ -20,7 +20,7 @@ use Rattle.swt_status.specs.declared.failure.CommandFailure.TheVariants as Is
 use Rattle.swt_status.specs.Troubles.{trouble_status}
 use Rattle.swt_trace.specs.Replay.{ReplaysTo}
 use Rattle.swt_trace.specs.Report.{ReportText, TraceOf}
-use Rattle.swt_trace.specs.Trace.{most_events}
+use Rattle.swt_trace.specs.Trace.{max_events}
 use Rattle.swt_command.specs.Same.{IsOfReport, PrintOneText, TellSame}
 use Rattle.swt_command.proofs.Alike.{replayed_same}
 use Rattle.swt_command.proofs.Texts.{one_status, one_text}
@@ -116,7 +116,7 @@ replay_by files (Err stop) out out_new n d is h = absurd (not_stopped stop.troub
 one_some : (xs ys : List ℕ) → Some xs ≡ Some ys → xs ≡ ys
 one_some xs ys e = cc
 
-both : (files later : Files) (steps : ℕ) (out out_new trace trace_new again again_new : Held) (n m : ℕ) → steps ≤ most_events → HasRun files steps out out_new trace trace_new n → trace.bytes ≡ []
+both : (files later : Files) (steps : ℕ) (out out_new trace trace_new again again_new : Held) (n m : ℕ) → steps ≤ max_events → HasRun files steps out out_new trace trace_new n → trace.bytes ≡ []
     → source_of later 0 ≡ source_of files 0 → source_of later 1 ≡ Some trace_new.bytes → HasReplayed later again again_new m → PrintOneText out out_new again again_new × (n ≡ m)
 both files later steps out out_new trace trace_new again again_new n m few x empty script there y =
     let bytes : y.bytes ≡ TraceOf x.report = one_some y.bytes trace_new.bytes (sym y.trace ∙ there) ∙ x.traced.0 ∙ ap (λ (bs : List ℕ). bs ++ TraceOf x.report) empty in
@@ -128,7 +128,7 @@ both files later steps out out_new trace trace_new again again_new n m few x emp
       x.number_is ∙ ap number_of (one_status x.report y.report same) ∙ sym y.number_is,
     )
 
-pub one_report : (file name : List ℕ) (engines workers steps : ℕ) (files : Files) (out out_new err err_new trace trace_new : Held) (number : ℕ) → steps ≤ most_events
+pub one_report : (file name : List ℕ) (engines workers steps : ℕ) (files : Files) (out out_new err err_new trace trace_new : Held) (number : ℕ) → steps ≤ max_events
     → Owes (Run file engines workers steps (Some name)) files out out_new err err_new trace trace_new number → IsOfReport number → trace.bytes ≡ []
     → (script events : List ℕ) (later : Files) (again again_new said said_new kept kept_new : Held) (other : ℕ) → source_of later 0 ≡ source_of files 0 → source_of later 1 ≡ Some trace_new.bytes
     → Owes (Replay script events) later again again_new said said_new kept kept_new other → IsOfReport other → PrintOneText out out_new again again_new × (number ≡ other)

@@ -14,16 +14,13 @@ use Rattle.swt_status.specs.declared.failure.CommandFailure.TheVariants as Is
 use Rattle.swt_status.specs.Traces.{StopsAtTrace}
 use Rattle.swt_command.specs.Files.{Files, source_of, HasCode, StopsAt}
 use Rattle.swt_command.specs.Sinks.{Held, Kept, Took, Lost}
-
--- maximum number of engines and workers together
-abbrev pub most_threads : ℕ
-most_threads = 64
+use Rattle.values.specs.Limits.{max_threads}
 
 -- RUN
 
 -- no engine, no worker, or more of both than allowed
 abbrev pub IsBadCount : (engines workers : ℕ) → Type 0
-IsBadCount engines workers = (engines ≡ 0) ⊎ ((workers ≡ 0) ⊎ (most_threads < engines + workers))
+IsBadCount engines workers = (engines ≡ 0) ⊎ ((workers ≡ 0) ⊎ (max_threads < engines + workers))
 
 -- the report is of a run of the script's code by these numbers of engines and workers, of at most `steps` events
 abbrev pub Ran : Files → (engines workers steps : ℕ) → Report → Type 0

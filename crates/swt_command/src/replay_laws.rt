@@ -12,7 +12,7 @@ ghost use Rattle.swt_command.specs.Same.{IsOfReport, PrintOneText, TellSame, of_
 ghost use Rattle.swt_status.specs.Statuses.{report_status};
 ghost use Rattle.swt_trace.specs.Replay.{IsFirstNoStep, IsWrongEnd, ReplaysTo};
 ghost use Rattle.swt_trace.specs.Report.{ReportText, TraceOf};
-ghost use Rattle.swt_trace.specs.Trace.{IsFirstBad, most_events};
+ghost use Rattle.swt_trace.specs.Trace.{IsFirstBad, max_events};
 ghost use Rattle.task_code.specs.Code.{Code};
 
 /// Proves that a report of a run of code, with its program replaced, is a report of all code that is alike.
@@ -25,13 +25,13 @@ pub fn alike_codes_are_reported_alike()
 /// No line of the trace is bad or no step, and its end is that of the run. Two reports of the same content have the
 /// same text and the same status.
 pub fn replays_tell_the_same()
-    ensures same { (src : List ℕ) (C D : Code) (limit : ℕ) (r : Report) → IsCompiled src C → IsCompiled src D → limit ≤ most_events → Reports C limit r
+    ensures same { (src : List ℕ) (C D : Code) (limit : ℕ) (r : Report) → IsCompiled src C → IsCompiled src D → limit ≤ max_events → Reports C limit r
         → (s : Report) → ReplaysTo D (TraceOf r) s → TellSame r s }
-    ensures not_bad { (src : List ℕ) (C D : Code) (limit : ℕ) (r : Report) → IsCompiled src C → IsCompiled src D → limit ≤ most_events → Reports C limit r
+    ensures not_bad { (src : List ℕ) (C D : Code) (limit : ℕ) (r : Report) → IsCompiled src C → IsCompiled src D → limit ≤ max_events → Reports C limit r
         → (n : ℕ) → IsFirstBad (TraceOf r) n → ⊥ }
-    ensures no_step { (src : List ℕ) (C D : Code) (limit : ℕ) (r : Report) → IsCompiled src C → IsCompiled src D → limit ≤ most_events → Reports C limit r
+    ensures no_step { (src : List ℕ) (C D : Code) (limit : ℕ) (r : Report) → IsCompiled src C → IsCompiled src D → limit ≤ max_events → Reports C limit r
         → (n : ℕ) → IsFirstNoStep D (TraceOf r) n → ⊥ }
-    ensures its_end { (src : List ℕ) (C D : Code) (limit : ℕ) (r : Report) → IsCompiled src C → IsCompiled src D → limit ≤ most_events → Reports C limit r
+    ensures its_end { (src : List ℕ) (C D : Code) (limit : ℕ) (r : Report) → IsCompiled src C → IsCompiled src D → limit ≤ max_events → Reports C limit r
         → (n : ℕ) → IsWrongEnd D (TraceOf r) n → ⊥ }
     ensures text { (r s : Report) → TellSame r s → ReportText r ≡ ReportText s }
     ensures status { (r s : Report) → TellSame r s → report_status r ≡ report_status s }
@@ -43,7 +43,7 @@ pub fn replays_tell_the_same()
 /// The trace is written to a sink that was empty, and read from the second file.
 pub fn a_run_and_its_replay_print_one_report()
     ensures { (file name : List ℕ) (engines workers steps : ℕ) (files : Files) (out out_new err err_new trace trace_new : Held) (number : ℕ)
-        → steps ≤ most_events → Owes (Run file engines workers steps (Some name)) files out out_new err err_new trace trace_new number
+        → steps ≤ max_events → Owes (Run file engines workers steps (Some name)) files out out_new err err_new trace trace_new number
         → IsOfReport number → trace.bytes ≡ []
         → (script events : List ℕ) (later : Files) (again again_new said said_new kept kept_new : Held) (other : ℕ)
         → source_of later 0 ≡ source_of files 0 → source_of later 1 ≡ Some trace_new.bytes

@@ -7,6 +7,7 @@ ghost use Rattle.board_runs.specs.Turns.{RanTo, starts};
 ghost use Rattle.board_runs.specs.declared.report.Report.{Report};
 ghost use Rattle.swt_trace.specs.Replay.{IsFirstNoStep, IsTraceOf, IsWrongEnd, ReplaysTo};
 ghost use Rattle.swt_trace.specs.Trace.{IsFirstBad};
+ghost use Rattle.values.specs.Limits.{max_threads};
 ghost use Rattle.workers.specs.Reports.{IsReport};
 
 use crate::scripts::CompiledScript;
@@ -58,7 +59,7 @@ pub fn run_one(
 ///
 /// # Errors
 ///
-/// Returns `BadCount` exactly if there is no engine, no worker or more than 64 of both. Returns `Spawn` if a thread
+/// Returns `BadCount` exactly if there is no engine, no worker or more than `MAX_THREADS` of both. Returns `Spawn` if a thread
 /// cannot be started, `Stranger` if the thread counts contradict the board, and `Memory` if an allocation fails.
 pub fn run_threads<R: Threads + Wait + Sync, G: Gate>(
     rt: &R,
@@ -71,7 +72,7 @@ pub fn run_threads<R: Threads + Wait + Sync, G: Gate>(
 ) -> Result<(Report, PoolCount), RunFault>
     ensures report { IfOk result (λ r. IsReport code.now.program limit engines workers r.0 r.1) }
     ensures reports { IfOk result (λ r. Reports code.now.program limit r.0) }
-    ensures count { (result ≡ Err RunFault.BadCount) ↔ ((engines ≡ 0) ⊎ ((workers ≡ 0) ⊎ (64 < engines + workers))) }
+    ensures count { (result ≡ Err RunFault.BadCount) ↔ ((engines ≡ 0) ⊎ ((workers ≡ 0) ⊎ (max_threads < engines + workers))) }
 {
     run::run_threads(rt, alloc, &code.program, engines, workers, limit, gate)
 }

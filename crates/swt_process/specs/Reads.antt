@@ -5,10 +5,7 @@ use Rattle.swt_arguments.specs.declared.line.Line.{Line}
 use Rattle.swt_arguments.specs.declared.line.Line.TheVariants.{Check, Mean, Code, Run, Replay}
 use Rattle.swt_arguments.specs.Lines.{files_of}
 use Rattle.swt_command.specs.Files.{Files, name_at}
-
--- maximum size of a script in bytes
-abbrev pub max_source : ℕ
-max_source = 1048576
+pub use Rattle.values.specs.Limits.{max_source}
 
 -- maximum size in bytes of the file at this index: that of a script, or for a trace all that memory can hold
 abbrev pub most_at : Line → ℕ → ℕ

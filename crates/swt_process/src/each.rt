@@ -7,7 +7,6 @@ ghost use Rattle.swt_command.specs.Sinks.{held};
 ghost use Rattle.swt_process.specs.Each.{ChecksEach, IsChecked};
 ghost use Rattle.swt_process.specs.Ends.{Ran};
 
-use crate::files::MAX_SOURCE;
 use bumpalo::Bump;
 use host::Host;
 use host::identity::Identity;
@@ -20,6 +19,7 @@ use swt_status::failure::CommandFailure;
 use swt_status::refusal::Refusal;
 use swt_status::status::Status;
 use swt_status::stop::CommandStop;
+use values::limits::MAX_SOURCE;
 use values::sink::Sink;
 
 /// Reads and checks each file, in order, and stops at the first that fails. Returns the exit status of the process.

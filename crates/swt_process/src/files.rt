@@ -10,9 +10,7 @@ use host::reading::read_file;
 use std::alloc::{AllocError, Global};
 use swt_arguments::line::Line;
 use swt_arguments::word::Word;
-
-/// Maximum size of a script in bytes.
-pub const MAX_SOURCE: usize = 1_048_576;
+use values::limits::MAX_SOURCE;
 
 /// Returns the maximum size in bytes of the input file at this index. One byte more is read, so that a larger file is
 /// detected.

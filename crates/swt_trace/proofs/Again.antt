@@ -27,7 +27,7 @@ use Rattle.swt_trace.specs.Faults.{replay_fault}
 use Rattle.swt_trace.specs.declared.ending.Ending.{Ending}
 use Rattle.swt_trace.specs.Replay.{IsFirstNoStep, IsNamed, IsTraceOf, IsWrongEnd, ReplaysTo}
 use Rattle.swt_trace.specs.Report.{ending_of}
-use Rattle.swt_trace.specs.Trace.{IsFirstBad, IsInRange, IsTrace, most_events}
+use Rattle.swt_trace.specs.Trace.{IsFirstBad, IsInRange, IsTrace, max_events}
 use Rattle.swt_trace.proofs.Lines.{bad, one_meaning, written}
 
 -- an event of a list, as the machine's
@@ -52,7 +52,7 @@ module _ (C : Code) (bytes : List ℕ) (r : Report) (t : IsTraceOf C bytes r) wh
   -- the bytes are a trace of its events, and name its end
   pub its_trace : IsTrace bytes r.history.items (Some (ending_of r.end))
   its_trace =
-      let few : length r.history.items ≤ most_events = omega (arith, length-map r.history.items event_view, ap (λ (es : List Machine.Event). length es) t.reports.tells.history, t.reports.within, t.few) in
+      let few : length r.history.items ≤ max_events = omega (arith, length-map r.history.items event_view, ap (λ (es : List Machine.Event). length es) t.reports.tells.history, t.reports.within, t.few) in
       subst (λ (bs : List ℕ). IsTrace bs r.history.items (Some (ending_of r.end))) (sym t.text) (written r.history.items (Some (ending_of r.end)) (in_range C t.limit r t.reports) few)
 
   pub not_bad : (n : ℕ) → IsFirstBad bytes n → ⊥

@@ -9,7 +9,7 @@ use Rattle.swt_trace.specs.declared.fault.TraceError.{TraceError}
 use Rattle.swt_trace.specs.declared.fault.TraceError.TheVariants.{BadLine, Memory}
 use Rattle.swt_trace.specs.declared.ending.Ending.{Ending}
 use Rattle.swt_trace.specs.declared.ending.Ending.TheVariants.{Quiet, Fault, Limit}
-use Rattle.swt_trace.specs.Trace.{Version, plain, ended, letter, worker_of, item_of, ending_letter, first_line, event_line, event_lines, ending_line, version_of, last_line, TraceText, most_events}
+use Rattle.swt_trace.specs.Trace.{Version, plain, ended, letter, worker_of, item_of, ending_letter, first_line, event_line, event_lines, ending_line, version_of, last_line, TraceText, max_events}
 use Rattle.swt_trace.specs.Trace.{IsInRange, IsLineThen, AreLinesThen, BeginsTrace, IsTrace, LacksLine, LacksFirstLine, LacksLast, LeavesBehind, LeavesMore, IsFirstBad}
 use Rattle.swt_trace.proofs.Numbers.{written_decimal, decimal_written, same_number}
 
@@ -53,7 +53,7 @@ are_lines bytes [] rest a e = e
 are_lines bytes (e ∷ es) rest a t = (event_lines es rest, is_line bytes e (event_lines es rest) (first_in_range e es a) t, are_lines (event_lines es rest) es rest (rest_in_range e es a) refl)
 
 -- a beginning of a trace, as text
-pub begins : (v : Version) (bytes : List ℕ) (es : List Event) (rest : List ℕ) → All IsInRange es → length es ≤ most_events → bytes ≡ first_line v ++ event_lines es rest → BeginsTrace v bytes es rest
+pub begins : (v : Version) (bytes : List ℕ) (es : List Event) (rest : List ℕ) → All IsInRange es → length es ≤ max_events → bytes ≡ first_line v ++ event_lines es rest → BeginsTrace v bytes es rest
 begins v bytes es rest a few t = record {
   behind = event_lines es rest;
   first = t;
@@ -67,7 +67,7 @@ begins_with v bytes es rest b = b.first ∙ ap (λ xs. first_line v ++ xs) (line
 pub one_text : (bytes : List ℕ) (es : List Event) (e : Option Ending) → IsTrace bytes es e → bytes ≡ TraceText es e
 one_text bytes es e t = begins_with (version_of e) bytes es (last_line e) t
 
-pub written : (es : List Event) (e : Option Ending) → All IsInRange es → length es ≤ most_events → IsTrace (TraceText es e) es e
+pub written : (es : List Event) (e : Option Ending) → All IsInRange es → length es ≤ max_events → IsTrace (TraceText es e) es e
 written es e a few = begins (version_of e) (TraceText es e) es (last_line e) a few refl
 
 -- events of one letter, worker and item are the same
@@ -101,7 +101,7 @@ same_lines (e ∷ es) (f ∷ fs) r s p q l t =
     ((λ k. one.0 k ∷ more.0 k), more.1)
 
 -- where a line is lacking behind fewer lines, there are no more lines
-fewer : (k : ℕ) (es fs : List Event) (r s : List ℕ) → All IsInRange es → All IsInRange fs → (k + length es < most_events → LacksLine r) → k + length fs ≤ most_events → event_lines es r ≡ event_lines fs s → length fs ≤ length es
+fewer : (k : ℕ) (es fs : List Event) (r s : List ℕ) → All IsInRange es → All IsInRange fs → (k + length es < max_events → LacksLine r) → k + length fs ≤ max_events → event_lines es r ≡ event_lines fs s → length fs ≤ length es
 fewer k es [] r s p q lacks few t = omega arith
 fewer k [] (f ∷ fs) r s p q lacks few t = absurd (lacks (omega (arith, few)) f (event_lines fs s) (is_line r f (event_lines fs s) (first_in_range f fs q) t))
 fewer k (e ∷ es) (f ∷ fs) r s p q lacks few t =
@@ -123,7 +123,7 @@ record Read (bytes : List ℕ) (v w : Version) (es fs : List Event) (r s : List 
   pub rest : r ≡ s
 
 read_once : (bytes : List ℕ) (v w : Version) (es fs : List Event) (r s : List ℕ) → BeginsTrace v bytes es r → BeginsTrace w bytes fs s
-    → (length es < most_events → LacksLine r) → (length fs < most_events → LacksLine s) → Read bytes v w es fs r s
+    → (length es < max_events → LacksLine r) → (length fs < max_events → LacksLine s) → Read bytes v w es fs r s
 read_once bytes v w es fs r s b c lacks leaves =
     let p = (lines_are b.behind es r b.lines).1 in
     let q = (lines_are c.behind fs s c.lines).1 in
@@ -248,13 +248,13 @@ out_of_range bytes behind rest w i small little read item outside e more p t =
 pub lacks_line : (rest : List ℕ) → ((e : Event) (more : List ℕ) → IsInRange e → rest ≢ event_line e more) → LacksLine rest
 lacks_line rest none e more l = none e more l.in_range (line_is rest e more l)
 
-module _ (v : Version) (bytes lines : List ℕ) (first : bytes ≡ first_line v ++ lines) (es : List Event) (rest : List ℕ) (read : AreLinesThen lines es rest) (few : length es ≤ most_events) where
+module _ (v : Version) (bytes lines : List ℕ) (first : bytes ≡ first_line v ++ lines) (es : List Event) (rest : List ℕ) (read : AreLinesThen lines es rest) (few : length es ≤ max_events) where
   -- a beginning of a trace, as it was read
   pub begun : BeginsTrace v bytes es rest
   begun = record { behind = lines; first = first; lines = read; few = few }
 
   -- a bad line behind the events that were read
-  pub leaves : (length es < most_events → LacksLine rest) → LacksLast v rest → (n : ℕ) → n ≡ length es + 2 → IsFirstBad bytes n
+  pub leaves : (length es < max_events → LacksLine rest) → LacksLast v rest → (n : ℕ) → n ≡ length es + 2 → IsFirstBad bytes n
   leaves all lacks n is = inr (inl (record {
     version = v;
     events = es;
@@ -266,7 +266,7 @@ module _ (v : Version) (bytes lines : List ℕ) (first : bytes ≡ first_line v 
   }))
 
 -- a line behind the one that names the end
-pub leaves_more : (bytes lines : List ℕ) → bytes ≡ first_line ended ++ lines → (es : List Event) (e : Ending) (rest : List ℕ) → AreLinesThen lines es (ending_line e rest) → length es ≤ most_events
+pub leaves_more : (bytes lines : List ℕ) → bytes ≡ first_line ended ++ lines → (es : List Event) (e : Ending) (rest : List ℕ) → AreLinesThen lines es (ending_line e rest) → length es ≤ max_events
     → rest ≢ [] → (n : ℕ) → n ≡ length es + 3 → IsFirstBad bytes n
 leaves_more bytes lines first es e rest read few more n is = inr (inr (record {
   events = es;

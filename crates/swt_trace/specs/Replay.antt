@@ -11,7 +11,7 @@ use Rattle.board_runs.specs.declared.report.Report.{Report}
 use Rattle.board_runs.specs.Report.{Reports}
 use Rattle.swt_trace.specs.declared.ending.Ending.{Ending}
 use Rattle.swt_trace.specs.Report.{TraceOf, ending_of}
-use Rattle.swt_trace.specs.Trace.{IsTrace, most_events}
+use Rattle.swt_trace.specs.Trace.{IsTrace, max_events}
 
 -- the event is not a step from the state
 abbrev pub IsNoStep : Code → CodeState → Machine.Event → Type 0
@@ -68,6 +68,6 @@ pub record IsWrongEnd (C : Code) (bytes : List ℕ) (n : ℕ) : Type 0 where
 -- may have
 pub record IsTraceOf (C : Code) (bytes : List ℕ) (r : Report) : Type 0 where
   pub limit : ℕ
-  pub few : limit ≤ most_events
+  pub few : limit ≤ max_events
   pub reports : Reports C limit r
   pub text : bytes ≡ TraceOf r

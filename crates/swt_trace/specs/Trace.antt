@@ -6,6 +6,7 @@ use Rattle.task_code.specs.declared.event.Event.{Event}
 use Rattle.task_code.specs.declared.event.Event.TheVariants.{Begin, End, Back}
 use Rattle.swt_trace.specs.declared.ending.Ending.{Ending}
 use Rattle.swt_trace.specs.declared.ending.Ending.TheVariants.{Quiet, Fault, Limit}
+pub use Rattle.values.specs.Limits.{max_events, max_threads}
 
 -- `B`, `E` or `K`
 abbrev pub letter : Event → ℕ
@@ -68,19 +69,15 @@ TraceText es e = first_line (version_of e) ++ event_lines es (last_line e)
 
 -- The grammar.
 
--- the maximum number of events of a trace
-abbrev pub most_events : ℕ
-most_events = 4294967295
-
 -- the digits are the number in decimal, with no leading zero
 pub record IsWritten (digits : List ℕ) (n : ℕ) : Type 0 where
   pub digits_only : IsNumeral 10 digits
   pub no_leading_zero : slice_index digits 0 ≡ 48 → length digits ≡ 1
   pub value : digits_value 10 digits ≡ n
 
--- the worker is below 64, and the item is a number of 64 bits other than 0
+-- the worker is one of a run, and the item is a number of 64 bits other than 0
 pub record IsInRange (e : Event) : Type 0 where
-  pub worker : worker_of e < 64
+  pub worker : worker_of e < max_threads
   pub item : 0 < item_of e
   pub fits : item_of e < 2 ^ 64
 
@@ -103,7 +100,7 @@ pub record BeginsTrace (v : Version) (bytes : List ℕ) (es : List Event) (rest 
   pub behind : List ℕ
   pub first : bytes ≡ first_line v ++ behind
   pub lines : AreLinesThen behind es rest
-  pub few : length es ≤ most_events
+  pub few : length es ≤ max_events
 
 -- the bytes are a trace of the events that names this end, or of version 1, which names none
 abbrev pub IsTrace : List ℕ → List Event → Option Ending → Type 0
@@ -130,7 +127,7 @@ pub record LeavesBehind (bytes : List ℕ) (n : ℕ) : Type 0 where
   pub rest : List ℕ
   pub begins : BeginsTrace version bytes events rest
   pub lacks : LacksLast version rest
-  pub leaves : length events < most_events → LacksLine rest
+  pub leaves : length events < max_events → LacksLine rest
   pub number : n ≡ length events + 2
 
 -- the line that names the end is followed by more bytes; n is the number of their first line

@@ -16,7 +16,7 @@ ghost use Rattle.task_code.specs.Whole.{IsCode};
 ghost use Rattle.board_runs.specs.declared.report.Report.{Report};
 ghost use Rattle.swt_trace.specs.declared.ending.Ending.{Ending};
 ghost use Rattle.swt_trace.specs.Replay.{IsFirstNoStep, IsWrongEnd, ReplaysTo};
-ghost use Rattle.swt_trace.specs.Trace.{IsTrace, TraceText, IsInRange, IsFirstBad, most_events};
+ghost use Rattle.swt_trace.specs.Trace.{IsTrace, TraceText, IsInRange, IsFirstBad, max_events};
 
 pub mod ending;
 pub mod fault;
@@ -29,11 +29,11 @@ pub mod write;
 /// States that the grammar of traces and their text agree.
 ///
 /// A text is a trace of at most one list of events, and it names at most one end. `TraceText` of at most
-/// `most_events` events in range is a trace of them, and the only one. A text with a bad line is not a trace.
+/// `max_events` events in range is a trace of them, and the only one. A text with a bad line is not a trace.
 pub fn traces_are_exact()
     ensures one_meaning { (bytes : List ℕ) (es fs : List Event) (d e : Option Ending) → IsTrace bytes es d → IsTrace bytes fs e → (es ≡ fs) × (d ≡ e) }
     ensures one_text { (bytes : List ℕ) (es : List Event) (e : Option Ending) → IsTrace bytes es e → bytes ≡ TraceText es e }
-    ensures written { (es : List Event) (e : Option Ending) → All IsInRange es → length es ≤ most_events → IsTrace (TraceText es e) es e }
+    ensures written { (es : List Event) (e : Option Ending) → All IsInRange es → length es ≤ max_events → IsTrace (TraceText es e) es e }
     ensures bad { (bytes : List ℕ) (n : ℕ) (es : List Event) (e : Option Ending) → IsFirstBad bytes n → IsTrace bytes es e → ⊥ }
     ensures first_bad { (bytes : List ℕ) (m n : ℕ) → IsFirstBad bytes m → IsFirstBad bytes n → m ≡ n }
 {}

@@ -2,13 +2,14 @@
 ghost use Rattle.std.specs.Prelude.{◌≡◌, ◌≢◌, ◌^◌, ◌<◌, ◌≤◌, ◌++◌, ◌∷◌, ℕ, List, length, IfOk, IfErr, IfSome, IfNone};
 ghost use Rattle.task_code.specs.declared.event.Event.{Event};
 ghost use Rattle.swt_trace.specs.declared.ending.Ending.{Ending};
-ghost use Rattle.swt_trace.specs.Trace.{IsTrace, IsFirstBad, IsInRange, AreLinesThen, LacksLine, plain, ended, first_line, event_line, ending_line, most_events, letter, worker_of, item_of};
+ghost use Rattle.swt_trace.specs.Trace.{IsTrace, IsFirstBad, IsInRange, AreLinesThen, LacksLine, plain, ended, first_line, event_line, ending_line, max_events, letter, worker_of, item_of};
 
 use crate::ending::Ending;
 use crate::fault::TraceError;
 use crate::number::read_number;
 use std::alloc::Global;
 use task_code::event::Event;
+use values::limits::{MAX_EVENTS, MAX_THREADS};
 
 /// First line of a trace of version 1.
 const PLAIN_LINE: &[u8] = b"swt-trace 1\n";
@@ -16,8 +17,8 @@ const PLAIN_LINE: &[u8] = b"swt-trace 1\n";
 /// First line of a trace of version 2.
 const ENDED_LINE: &[u8] = b"swt-trace 2\n";
 
-/// Maximum number of events of a trace.
-const MOST_EVENTS: usize = 4_294_967_295;
+/// Maximum number of threads of a run. Its workers are numbered from 0.
+const THREADS: u64 = MAX_THREADS as u64;
 
 /// A parsed trace.
 #[derive(Drop)]
@@ -107,13 +108,13 @@ fn read_ended(alloc: Global, lines: &[u8]) -> Result<Trace, TraceError>
 /// bytes.
 fn read_events(alloc: Global, bytes: &[u8]) -> Result<(Vec<Event>, &[u8]), TraceError>
     ensures lines { IfOk result (λ read. AreLinesThen bytes.now read.0.items read.1.now) }
-    ensures few { IfOk result (λ read. length read.0.items ≤ most_events) }
-    ensures all { IfOk result (λ read. length read.0.items < most_events → LacksLine read.1.now) }
+    ensures few { IfOk result (λ read. length read.0.items ≤ max_events) }
+    ensures all { IfOk result (λ read. length read.0.items < max_events → LacksLine read.1.now) }
     ensures memory { IfErr result (λ fault. fault ≡ TraceError.Memory) }
 {
     let mut rest = bytes;
     let mut events = Vec::new(alloc);
-    while events.len() < MOST_EVENTS {
+    while events.len() < MAX_EVENTS {
         let Some((event, behind)) = read_line(rest) else {
             return Ok((events, rest));
         };
@@ -148,7 +149,7 @@ fn read_line(bytes: &[u8]) -> Option<(Event, &[u8])>
     };
     let (worker, behind) = read_number(numbers, b' ')?;
     let (item, rest) = read_number(behind, b'\n')?;
-    if worker >= 64 || item == 0 {
+    if worker >= THREADS || item == 0 {
         return None;
     }
     let event = event_of(*letter, worker as u8, item)?;

@@ -18,12 +18,7 @@ use crate::tokens::{fault_behind, fault_of};
 use lexer::token::Span;
 use std::alloc::Allocator;
 use syntax_trees::tree::Script;
-
-/// Maximum number of bytes of a text.
-pub const MAX_SOURCE: usize = 1_048_576;
-
-/// Maximum nesting depth of a text.
-pub const MAX_NESTING: u32 = 64;
+use values::limits::{MAX_NESTING, MAX_SOURCE};
 
 /// Converts a stop of the parser into the reported fault. A stop after the last token becomes the lexical fault there,
 /// or `Unexpected` at the end of the text.

@@ -8,7 +8,7 @@ use Rattle.dataflow.specs.Machine.{IsKnown}
 use Rattle.dataflow.specs.Promises.{Complete}
 use Rattle.dataflow.proofs.Lists.{in_unmap}
 use Rattle.values.specs.declared.key.Key.{Key}
-use Rattle.task_code.specs.Code.{Need, Stored, Closed, At, AtKey, Header, Act, Cell, Read, Call, Set, Fill, Copy, Put, Print, Assert, If, Range, Each, Wait, Code, entry}
+use Rattle.task_code.specs.Code.{Need, Stored, Closed, At, AtKey, Header, Act, Cell, Read, Call, Set, Fill, Copy, InsertElement, Print, Assert, If, Range, Each, Wait, Code, entry}
 use Rattle.task_code.specs.Places.{Step, Place}
 use Rattle.task_code.specs.Shape.{fits_kinds, has_headers, has_shape, is_same_plain}
 use Rattle.task_code.specs.Effects.{Task, Item}
@@ -69,7 +69,7 @@ module _ (C : Code) where
   stands_same P Q p (Set r e) ns own at shape f g x = x
   stands_same P Q p (Fill r es) ns own at shape f g x = x
   stands_same P Q p (Copy r) ns own at shape f g x = x
-  stands_same P Q p (Put r i e) ns own at shape f g x = x
+  stands_same P Q p (InsertElement r i e) ns own at shape f g x = x
   stands_same P Q p (Print e) ns own at shape f g x = x
   stands_same P Q p (Assert e) ns own at shape f g x = x
   stands_same P Q p (If e b d) ns own at shape f g x = x

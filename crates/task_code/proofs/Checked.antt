@@ -75,14 +75,14 @@ module _ (C : Code) where
   declared_sound : (b : ℕ) (r : Name) → is_declared C b r ≡ true → Declared C b r
   declared_sound b r h = declared_named b r.up r.owned h
 
-  seen_named : (rights : Entry → List Name) (i : ℕ) (w : Way) (up : ℕ) (x : Owned) → is_seen C (rights (entry C i)) (entry C i).mark w (record { up = up; owned = x }) ≡ true → SeenFrom C rights i w (record { up = up; owned = x })
+  seen_named : (rights : Entry → List Name) (i : ℕ) (w : Way) (up : ℕ) (x : Owned) → is_seen C (rights (entry C i)) (entry C i).offset w (record { up = up; owned = x }) ≡ true → SeenFrom C rights i w (record { up = up; owned = x })
   seen_named rights i InPlace up x h = record { outside = record { up = up; owned = x }; seen = refl; right = name_in_sound _ (rights (entry C i)) h }
   seen_named rights i Through zero x h = absurd (cc)
   seen_named rights i Through (suc up) x h = record { outside = record { up = up; owned = x }; seen = refl; right = name_in_sound _ (rights (entry C i)) h }
   seen_named rights i Calling zero (Local v) h = absurd (cc)
-  seen_named rights i Calling zero (Parameter k a) h = by (argument C (entry C i).mark k a) refl h
+  seen_named rights i Calling zero (Parameter k a) h = by (argument C (entry C i).offset k a) refl h
     where
-      by : (o : Option Argument) → argument C (entry C i).mark k a ≡ o → elim o [ None ↦ false | Some x ↦ elim x [ Named s ↦ name_in s (rights (entry C i)) | Fixed v ↦ false ] ] ≡ true → SeenFrom C rights i Calling (record { up = 0; owned = Parameter k a })
+      by : (o : Option Argument) → argument C (entry C i).offset k a ≡ o → elim o [ None ↦ false | Some x ↦ elim x [ Named s ↦ name_in s (rights (entry C i)) | Fixed v ↦ false ] ] ≡ true → SeenFrom C rights i Calling (record { up = 0; owned = Parameter k a })
       by None e h = absurd (cc)
       by (Some (Fixed v)) e h = absurd (cc)
       by (Some (Named s)) e h = record { outside = s; seen = (k, a, refl, e); right = name_in_sound s (rights (entry C i)) h }
@@ -90,28 +90,28 @@ module _ (C : Code) where
 
   covered_sound : (rights : Entry → List Name) (i : ℕ) (w : Way) (b : ℕ) → is_covered C rights (entry C i) w b ≡ true → (j : ℕ) (r : Name) → In j (body C b).entries → In r (rights (entry C j)) → Declared C b r ⊎ SeenFrom C rights i w r
   covered_sound rights i w b h j r ij ir =
-      let x = every_in (λ j. list_all (λ r. is_declared C b r || is_seen C (rights (entry C i)) (entry C i).mark w r) (rights (entry C j))) (body C b).entries h j ij in
-      let y = every_in (λ r. is_declared C b r || is_seen C (rights (entry C i)) (entry C i).mark w r) (rights (entry C j)) x r ir in
-      elim (or_cases (is_declared C b r) (is_seen C (rights (entry C i)) (entry C i).mark w r) y) [
+      let x = every_in (λ j. list_all (λ r. is_declared C b r || is_seen C (rights (entry C i)) (entry C i).offset w r) (rights (entry C j))) (body C b).entries h j ij in
+      let y = every_in (λ r. is_declared C b r || is_seen C (rights (entry C i)) (entry C i).offset w r) (rights (entry C j)) x r ir in
+      elim (or_cases (is_declared C b r) (is_seen C (rights (entry C i)) (entry C i).offset w r) y) [
         | inl d ↦ inl (declared_sound b r d)
         | inr s ↦ inr (seen_named rights i w r.up r.owned s)
       ]
 
-  fixed_named : (i : ℕ) (w : Way) (up : ℕ) (x : Owned) → is_fixed C (entry C i).mark w (record { up = up; owned = x }) ≡ true → Fixes C (entry C i).mark w (record { up = up; owned = x })
+  fixed_named : (i : ℕ) (w : Way) (up : ℕ) (x : Owned) → is_fixed C (entry C i).offset w (record { up = up; owned = x }) ≡ true → Fixes C (entry C i).offset w (record { up = up; owned = x })
   fixed_named i InPlace up x h = absurd (cc)
   fixed_named i Through up x h = absurd (cc)
   fixed_named i Calling zero (Local v) h = absurd (cc)
-  fixed_named i Calling zero (Parameter k a) h = by (argument C (entry C i).mark k a) refl h
+  fixed_named i Calling zero (Parameter k a) h = by (argument C (entry C i).offset k a) refl h
     where
-      by : (o : Option Argument) → argument C (entry C i).mark k a ≡ o → elim o [ None ↦ false | Some x ↦ elim x [ Named s ↦ false | Fixed v ↦ true ] ] ≡ true → Fixes C (entry C i).mark Calling (record { up = 0; owned = Parameter k a })
+      by : (o : Option Argument) → argument C (entry C i).offset k a ≡ o → elim o [ None ↦ false | Some x ↦ elim x [ Named s ↦ false | Fixed v ↦ true ] ] ≡ true → Fixes C (entry C i).offset Calling (record { up = 0; owned = Parameter k a })
       by None e h = absurd (cc)
       by (Some (Named s)) e h = absurd (cc)
       by (Some (Fixed v)) e h = (k, a, v, refl, e)
   fixed_named i Calling (suc up) x h = absurd (cc)
 
-  reads_sound : (i : ℕ) (w : Way) (b : ℕ) → reads_covered C (entry C i) w b ≡ true → (j : ℕ) (r : Name) → In j (body C b).entries → In r (entry C j).reads → (Declared C b r ⊎ SeenFrom C (λ e. e.reads) i w r) ⊎ Fixes C (entry C i).mark w r
+  reads_sound : (i : ℕ) (w : Way) (b : ℕ) → reads_covered C (entry C i) w b ≡ true → (j : ℕ) (r : Name) → In j (body C b).entries → In r (entry C j).reads → (Declared C b r ⊎ SeenFrom C (λ e. e.reads) i w r) ⊎ Fixes C (entry C i).offset w r
   reads_sound i w b h j r ij ir =
-      let m = (entry C i).mark in
+      let m = (entry C i).offset in
       let x = every_in (λ j. list_all (λ r. (is_declared C b r || is_seen C (entry C i).reads m w r) || is_fixed C m w r) (entry C j).reads) (body C b).entries h j ij in
       let y = every_in (λ r. (is_declared C b r || is_seen C (entry C i).reads m w r) || is_fixed C m w r) (entry C j).reads x r ir in
       elim (or_cases (is_declared C b r || is_seen C (entry C i).reads m w r) (is_fixed C m w r) y) [
@@ -134,7 +134,7 @@ module _ (C : Code) where
   opened_sound i Calling ByMain h = absurd (cc)
   opened_sound i Calling (ByWait n) h = absurd (cc)
   opened_sound i Calling (ByStep n) h = absurd (cc)
-  opened_sound i Calling ByCalls h = (refl, nat_sound (call_at C (entry C i).mark) i h)
+  opened_sound i Calling ByCalls h = (refl, nat_sound (call_at C (entry C i).offset) i h)
 
   inside_sound : (i : ℕ) (w : Way) (b : ℕ) → is_inside C (entry C i) w b ≡ true → w ≡ InPlace → (v : Variable) → In v (body C b).makes → In (here v) (entry C i).writes → ⊥
   inside_sound i InPlace b h e v iv iw =
@@ -142,12 +142,12 @@ module _ (C : Code) where
   inside_sound i Through b h e v iv iw = absurd (cc)
   inside_sound i Calling b h e v iv iw = absurd (cc)
 
-  outputs_sound : (i : ℕ) (w : Way) (b : ℕ) → has_outputs C (entry C i) w b ≡ true → w ≡ Calling → (j j' k k' : ℕ) (r : Name) → In j (body C b).entries → In j' (body C b).entries → In (record { up = 0; owned = Parameter k false }) (entry C j).writes → In (record { up = 0; owned = Parameter k' false }) (entry C j').writes → argument C (entry C i).mark k false ≡ Some (Named r) → argument C (entry C i).mark k' false ≡ Some (Named r) → k ≡ k'
+  outputs_sound : (i : ℕ) (w : Way) (b : ℕ) → has_outputs C (entry C i) w b ≡ true → w ≡ Calling → (j j' k k' : ℕ) (r : Name) → In j (body C b).entries → In j' (body C b).entries → In (record { up = 0; owned = Parameter k false }) (entry C j).writes → In (record { up = 0; owned = Parameter k' false }) (entry C j').writes → argument C (entry C i).offset k false ≡ Some (Named r) → argument C (entry C i).offset k' false ≡ Some (Named r) → k ≡ k'
   outputs_sound i InPlace b h e j j' k k' r ij ij' ik ik' ak ak' = absurd (cc)
   outputs_sound i Through b h e j j' k k' r ij ij' ik ik' ak ak' = absurd (cc)
   outputs_sound i Calling b h e j j' k k' r ij ij' ik ik' ak ak' =
       let es = (body C b).entries in
-      let m = (entry C i).mark in
+      let m = (entry C i).offset in
       let x1 = every_in (λ j. list_all (λ j'. list_all (λ r. list_all (λ s. outputs_apart C m r s) (entry C j').writes) (entry C j).writes) es) es h j ij in
       let x2 = every_in (λ j'. list_all (λ r. list_all (λ s. outputs_apart C m r s) (entry C j').writes) (entry C j).writes) es x1 j' ij' in
       let x3 = every_in (λ r. list_all (λ s. outputs_apart C m r s) (entry C j').writes) (entry C j).writes x2 (record { up = 0; owned = Parameter k false }) ik in

@@ -4,8 +4,8 @@ use Rattle.std.specs.Prelude.{ℤ, pos, Result, Ok, Err, length, if◌then◌els
 use Rattle.std.specs.Prelude.{drop, take}
 use Rattle.dataflow.specs.System.{Answer, Content, Distinct, Found, In, Missing}
 use Rattle.task_code.proofs.Equal.{keys, rising_distinct}
-use Rattle.task_code.specs.Code.{Act, Assert, Call, Cell, Copy, Each, Fill, If, Print, Put, Range, Read, Set, Wait}
-use Rattle.task_code.specs.Compute.{Computed, Elements, Inserts, answer_at, branched, compute, content, elements, eval, evals, filled, given, in_key_order, pairs, put, range_turns, ranged, read, turns_or}
+use Rattle.task_code.specs.Code.{Act, Assert, Call, Cell, Copy, Each, Fill, If, Print, InsertElement, Range, Read, Set, Wait}
+use Rattle.task_code.specs.Compute.{Computed, Elements, Inserts, answer_at, branched, compute, content, elements, eval, evals, filled, given, in_key_order, pairs, insert_element, range_turns, ranged, read, turns_or}
 use Rattle.task_code.specs.Effects.{chunk, left_at, turns_of}
 use Rattle.values.specs.Maps.{rising}
 use Rattle.values.specs.Numbers.{fits}
@@ -147,7 +147,7 @@ content_apart (Some (Found v)) = tt
 content_apart (Some Missing) = tt
 content_apart (Some (Content xs)) = listed_apart xs (in_key_order xs) refl
 
-put_apart : (i v : Result Value OpFault) → Apart (put i v)
+put_apart : (i v : Result Value OpFault) → Apart (insert_element i v)
 put_apart (Err f) v = (tt, tt)
 put_apart (Ok i) (Err f) = (tt, tt)
 put_apart (Ok i) (Ok v) = (tt, ((λ h. h), tt))
@@ -173,7 +173,7 @@ computed_apart (Call b rs os) xs = (tt, tt)
 computed_apart (Set r e) xs = given_apart (eval xs e)
 computed_apart (Fill r es) xs = literal_apart (all_values (evals xs es))
 computed_apart (Copy r) xs = (tt, content_apart (answer_at xs 0))
-computed_apart (Put r i e) xs = put_apart (eval xs i) (eval xs e)
+computed_apart (InsertElement r i e) xs = put_apart (eval xs i) (eval xs e)
 computed_apart (Print e) xs = given_apart (eval xs e)
 computed_apart (Assert e) xs = given_apart (eval xs e)
 computed_apart (If e b d) xs = branched_apart (eval xs e)

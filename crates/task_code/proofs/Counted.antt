@@ -85,7 +85,7 @@ module _ (C : Code) (I : IsCode C) (clean : Clean (code_system C)) (blocks : Lis
       good_is : {x y : Effect Task Place Key Scalar} → ◌≡◌ {A = Outcome Task Place Key Scalar EntryFault} (Good x) (Good y) → x ≡ y
       good_is h = cc
   live_in n (live_opened (Item i p c) u e o l f io iu) =
-      by (in_split o (map (block C) (instances (entry C i).act (entry C i).mark p c (found C (can_at n i c p e comes)))) (rest (loop_of (entry C i).act) i p c (found C (can_at n i c p e comes))) (subst (λ (x : Effect Task Place Key Scalar). In o x.opens) (sym (effect_is C i c p e (can_at n i c p e comes))) io))
+      by (in_split o (map (block C) (instances (entry C i).act (entry C i).offset p c (found C (can_at n i c p e comes)))) (rest (loop_of (entry C i).act) i p c (found C (can_at n i c p e comes))) (subst (λ (x : Effect Task Place Key Scalar). In o x.opens) (sym (effect_is C i c p e (can_at n i c p e comes))) io))
     where
       settled : Settled (code_system C) (Known (code_system C) n)
       settled = known_settled (code_system C) (code_laws C I) clean n
@@ -106,8 +106,8 @@ module _ (C : Code) (I : IsCode C) (clean : Clean (code_system C)) (blocks : Lis
               let there = in_rests i p c (rests_of m) (few_rests c m (left_long (suc c) (turns_of (found C (can_at n i c p e comes))) z)) in
               inr (in_right u (flat_map block_items blocks) (flat_map rest_items loops) (gather_in rest_items loops (i, p, m) u (has_loops n i c p (Good e) w q comes) (subst (λ (x : Task). In x (rest_from i p (rests_of m))) (sym uq) there)))
 
-      by : In o (map (block C) (instances (entry C i).act (entry C i).mark p c (found C (can_at n i c p e comes)))) ⊎ In o (rest (loop_of (entry C i).act) i p c (found C (can_at n i c p e comes))) → In u all_items
-      by (inl g) = (let r = in_unmap (block C) o (instances (entry C i).act (entry C i).mark p c (found C (can_at n i c p e comes))) g in in_instance n (Item i p c) u e o r.0 f io (sym r.2) iu)
+      by : In o (map (block C) (instances (entry C i).act (entry C i).offset p c (found C (can_at n i c p e comes)))) ⊎ In o (rest (loop_of (entry C i).act) i p c (found C (can_at n i c p e comes))) → In u all_items
+      by (inl g) = (let r = in_unmap (block C) o (instances (entry C i).act (entry C i).offset p c (found C (can_at n i c p e comes))) g in in_instance n (Item i p c) u e o r.0 f io (sym r.2) iu)
       by (inr g) = by_rest (loop_of (entry C i).act) refl g
 
   pub items_counted : length all_items ≡ items_in C blocks loops

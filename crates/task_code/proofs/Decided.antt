@@ -40,20 +40,20 @@ module _ (C : Code) where
   pub declared_is : (b : ℕ) (r : Name) → Declared C b r → is_declared C b r ≡ true
   declared_is b r d = subst (λ (x : Name). is_declared C b x ≡ true) (sym d.is) (in_variable_in d.variable (body C b).makes d.made)
 
-  seen_is : (rights : List Name) (mark : ℕ) (w : Way) (r s : Name) → Seen C mark w r s → In s rights → is_seen C rights mark w r ≡ true
-  seen_is rights mark InPlace r s h i = subst (λ (x : Name). name_in x rights ≡ true) (sym h) (in_name_in s rights i)
-  seen_is rights mark Through r s h i = subst (λ (x : Name). is_seen C rights mark Through x ≡ true) (sym h) (in_name_in s rights i)
-  seen_is rights mark Calling r s h i = subst (λ (x : Name). is_seen C rights mark Calling x ≡ true) (sym h.2) (by (argument C mark h.0 h.1) h.3)
+  seen_is : (rights : List Name) (offset : ℕ) (w : Way) (r s : Name) → Seen C offset w r s → In s rights → is_seen C rights offset w r ≡ true
+  seen_is rights offset InPlace r s h i = subst (λ (x : Name). name_in x rights ≡ true) (sym h) (in_name_in s rights i)
+  seen_is rights offset Through r s h i = subst (λ (x : Name). is_seen C rights offset Through x ≡ true) (sym h) (in_name_in s rights i)
+  seen_is rights offset Calling r s h i = subst (λ (x : Name). is_seen C rights offset Calling x ≡ true) (sym h.2) (by (argument C offset h.0 h.1) h.3)
     where
       by : (o : Option Argument) → o ≡ Some (Named s) → elim o [ None ↦ false | Some x ↦ elim x [ Named t ↦ name_in t rights | Fixed v ↦ false ] ] ≡ true
       by None e = absurd (cc)
       by (Some (Fixed v)) e = absurd (cc)
       by (Some (Named t)) e = (let q : t ≡ s = cc in subst (λ (x : Name). name_in x rights ≡ true) (sym q) (in_name_in s rights i))
 
-  fixes_is : (mark : ℕ) (w : Way) (r : Name) → Fixes C mark w r → is_fixed C mark w r ≡ true
-  fixes_is mark InPlace r h = absurd h
-  fixes_is mark Through r h = absurd h
-  fixes_is mark Calling r h = subst (λ (x : Name). is_fixed C mark Calling x ≡ true) (sym h.3) (by (argument C mark h.0 h.1) h.4)
+  fixes_is : (offset : ℕ) (w : Way) (r : Name) → Fixes C offset w r → is_fixed C offset w r ≡ true
+  fixes_is offset InPlace r h = absurd h
+  fixes_is offset Through r h = absurd h
+  fixes_is offset Calling r h = subst (λ (x : Name). is_fixed C offset Calling x ≡ true) (sym h.3) (by (argument C offset h.0 h.1) h.4)
     where
       by : (o : Option Argument) → o ≡ Some (Fixed h.2) → elim o [ None ↦ false | Some x ↦ elim x [ Named t ↦ false | Fixed v ↦ true ] ] ≡ true
       by None e = absurd (cc)
@@ -63,23 +63,23 @@ module _ (C : Code) where
   opened_is : (i : ℕ) (w : Way) (o : Opener) → OpenedBy C i w o → is_opened_by C i (entry C i) w o ≡ true
   opened_is i InPlace o h = subst (λ (x : Opener). is_opened_by C i (entry C i) InPlace x ≡ true) (sym h) (nat_same i)
   opened_is i Through o h = subst (λ (x : Opener). is_opened_by C i (entry C i) Through x ≡ true) (sym h) (nat_same i)
-  opened_is i Calling o h = subst (λ (x : Opener). is_opened_by C i (entry C i) Calling x ≡ true) (sym h.0) (subst (λ (n : ℕ). nat_eq (call_at C (entry C i).mark) n ≡ true) h.1 (nat_same (call_at C (entry C i).mark)))
+  opened_is i Calling o h = subst (λ (x : Opener). is_opened_by C i (entry C i) Calling x ≡ true) (sym h.0) (subst (λ (n : ℕ). nat_eq (call_at C (entry C i).offset) n ≡ true) h.1 (nat_same (call_at C (entry C i).offset)))
 
   covered_is : (rights : Entry → List Name) (i : ℕ) (w : Way) (b : ℕ) → ((j : ℕ) (r : Name) → In j (body C b).entries → In r (rights (entry C j)) → Declared C b r ⊎ SeenFrom C rights i w r) → is_covered C rights (entry C i) w b ≡ true
   covered_is rights i w b h =
       in_every _ (body C b).entries (λ j ij. in_every _ (rights (entry C j)) (λ r ir. elim (h j r ij ir) [
-        | inl d ↦ or_left (is_declared C b r) (is_seen C (rights (entry C i)) (entry C i).mark w r) (declared_is b r d)
-        | inr s ↦ or_right (is_declared C b r) (is_seen C (rights (entry C i)) (entry C i).mark w r) (seen_is (rights (entry C i)) (entry C i).mark w r s.outside s.seen s.right)
+        | inl d ↦ or_left (is_declared C b r) (is_seen C (rights (entry C i)) (entry C i).offset w r) (declared_is b r d)
+        | inr s ↦ or_right (is_declared C b r) (is_seen C (rights (entry C i)) (entry C i).offset w r) (seen_is (rights (entry C i)) (entry C i).offset w r s.outside s.seen s.right)
       ]))
 
   reads_is : (i : ℕ) (w : Way) (b : ℕ) → Fits C i w b → reads_covered C (entry C i) w b ≡ true
   reads_is i w b f =
       in_every _ (body C b).entries (λ j ij. in_every _ (entry C j).reads (λ r ir. by r (f.reads j r ij ir)))
     where
-      by : (r : Name) → (Declared C b r ⊎ SeenFrom C (λ e. e.reads) i w r) ⊎ Fixes C (entry C i).mark w r → ((is_declared C b r || is_seen C (entry C i).reads (entry C i).mark w r) || is_fixed C (entry C i).mark w r) ≡ true
+      by : (r : Name) → (Declared C b r ⊎ SeenFrom C (λ e. e.reads) i w r) ⊎ Fixes C (entry C i).offset w r → ((is_declared C b r || is_seen C (entry C i).reads (entry C i).offset w r) || is_fixed C (entry C i).offset w r) ≡ true
       by r (inl (inl d)) = or_left _ _ (or_left (is_declared C b r) _ (declared_is b r d))
-      by r (inl (inr s)) = or_left _ _ (or_right (is_declared C b r) _ (seen_is (entry C i).reads (entry C i).mark w r s.outside s.seen s.right))
-      by r (inr x) = or_right (is_declared C b r || is_seen C (entry C i).reads (entry C i).mark w r) _ (fixes_is (entry C i).mark w r x)
+      by r (inl (inr s)) = or_left _ _ (or_right (is_declared C b r) _ (seen_is (entry C i).reads (entry C i).offset w r s.outside s.seen s.right))
+      by r (inr x) = or_right (is_declared C b r || is_seen C (entry C i).reads (entry C i).offset w r) _ (fixes_is (entry C i).offset w r x)
 
   inside_is : (i : ℕ) (w : Way) (b : ℕ) → Fits C i w b → is_inside C (entry C i) w b ≡ true
   inside_is i InPlace b f = in_every _ (body C b).makes (λ v iv. not_by (name_in (here v) (entry C i).writes) (λ h. f.inside refl v iv (name_in_sound (here v) (entry C i).writes h)))
@@ -107,10 +107,10 @@ module _ (C : Code) where
       es : List ℕ
       es = (body C b).entries
 
-      by : (j j' : ℕ) → In j (body C b).entries → In j' (body C b).entries → (up : ℕ) (x : Owned) (up' : ℕ) (y : Owned) → In (record { up = up; owned = x }) (entry C j).writes → In (record { up = up'; owned = y }) (entry C j').writes → outputs_apart C (entry C i).mark (record { up = up; owned = x }) (record { up = up'; owned = y }) ≡ true
+      by : (j j' : ℕ) → In j (body C b).entries → In j' (body C b).entries → (up : ℕ) (x : Owned) (up' : ℕ) (y : Owned) → In (record { up = up; owned = x }) (entry C j).writes → In (record { up = up'; owned = y }) (entry C j').writes → outputs_apart C (entry C i).offset (record { up = up; owned = x }) (record { up = up'; owned = y }) ≡ true
       by j j' ij ij' zero (Parameter k false) zero (Parameter l false) ir is =
-          nat_by k l (same_argument (argument C (entry C i).mark k false) (argument C (entry C i).mark l false)) (λ h.
-          (let n = same_named (argument C (entry C i).mark k false) (argument C (entry C i).mark l false) h in
+          nat_by k l (same_argument (argument C (entry C i).offset k false) (argument C (entry C i).offset l false)) (λ h.
+          (let n = same_named (argument C (entry C i).offset k false) (argument C (entry C i).offset l false) h in
           f.outputs refl j j' k l n.0 ij ij' ir is n.1 n.2))
       by j j' ij ij' zero (Parameter k true) up' y ir is = refl
       by j j' ij ij' zero (Local v) up' y ir is = refl

@@ -39,20 +39,20 @@ param_same {k} {l} {a} {b} h =
 
 module _ (C : Code) where
   -- a name of a body has one name outside
-  one_outside : (mark : ℕ) (w : Way) (q r s : Name) → Seen C mark w q r → Seen C mark w q s → r ≡ s
-  one_outside mark InPlace q r s h g = sym h ∙ g
-  one_outside mark Through q r s h g = up_same (sym h ∙ g)
-  one_outside mark Calling q r s h g =
+  one_outside : (offset : ℕ) (w : Way) (q r s : Name) → Seen C offset w q r → Seen C offset w q s → r ≡ s
+  one_outside offset InPlace q r s h g = sym h ∙ g
+  one_outside offset Through q r s h g = up_same (sym h ∙ g)
+  one_outside offset Calling q r s h g =
       let e = param_same (sym h.2 ∙ g.2) in
-      let x : argument C mark g.0 g.1 ≡ Some (Named r) = subst (λ (n : ℕ). argument C mark n g.1 ≡ Some (Named r)) e.0 (subst (λ (b : Bool). argument C mark h.0 b ≡ Some (Named r)) e.1 h.3) in
+      let x : argument C offset g.0 g.1 ≡ Some (Named r) = subst (λ (n : ℕ). argument C offset n g.1 ≡ Some (Named r)) e.0 (subst (λ (b : Bool). argument C offset h.0 b ≡ Some (Named r)) e.1 h.3) in
       named_same (sym x ∙ g.3)
 
-  not_fixed : (mark : ℕ) (w : Way) (q r : Name) → Seen C mark w q r → Fixes C mark w q → ⊥
-  not_fixed mark InPlace q r h g = g
-  not_fixed mark Through q r h g = g
-  not_fixed mark Calling q r h g =
+  not_fixed : (offset : ℕ) (w : Way) (q r : Name) → Seen C offset w q r → Fixes C offset w q → ⊥
+  not_fixed offset InPlace q r h g = g
+  not_fixed offset Through q r h g = g
+  not_fixed offset Calling q r h g =
       let e = param_same (sym h.2 ∙ g.3) in
-      let x : argument C mark g.0 g.1 ≡ Some (Named r) = subst (λ (n : ℕ). argument C mark n g.1 ≡ Some (Named r)) e.0 (subst (λ (b : Bool). argument C mark h.0 b ≡ Some (Named r)) e.1 h.3) in
+      let x : argument C offset g.0 g.1 ≡ Some (Named r) = subst (λ (n : ℕ). argument C offset n g.1 ≡ Some (Named r)) e.0 (subst (λ (b : Bool). argument C offset h.0 b ≡ Some (Named r)) e.1 h.3) in
       named_fixed (sym g.4 ∙ x)
 
   module _ (I : IsCode C) where
@@ -61,10 +61,10 @@ module _ (C : Code) where
     reads_led i r (itself _ _ h) = (let n = in_gather C needed (entry C i).needs r h in I.needs i n.0 r n.1 n.2)
     reads_led i r (through _ j b w _ q iw ij l out seen) = by ((I.fits i w b iw).reads j q ij (reads_led j q l))
       where
-        by : (Declared C b q ⊎ SeenFrom C (λ e. e.reads) i w q) ⊎ Fixes C (entry C i).mark w q → In r (entry C i).reads
+        by : (Declared C b q ⊎ SeenFrom C (λ e. e.reads) i w q) ⊎ Fixes C (entry C i).offset w q → In r (entry C i).reads
         by (inl (inl d)) = absurd (out d)
-        by (inl (inr s)) = subst (λ (x : Name). In x (entry C i).reads) (one_outside (entry C i).mark w q s.outside r s.seen seen) s.right
-        by (inr f) = absurd (not_fixed (entry C i).mark w q r seen f)
+        by (inl (inr s)) = subst (λ (x : Name). In x (entry C i).reads) (one_outside (entry C i).offset w q s.outside r s.seen seen) s.right
+        by (inr f) = absurd (not_fixed (entry C i).offset w q r seen f)
 
     pub writes_led : (i : ℕ) (r : Name) → Leads C targets i r → In r (entry C i).writes
     writes_led i r (itself _ _ h) = I.stores i r h
@@ -72,33 +72,33 @@ module _ (C : Code) where
       where
         by : Declared C b q ⊎ SeenFrom C (λ e. e.writes) i w q → In r (entry C i).writes
         by (inl d) = absurd (out d)
-        by (inr s) = subst (λ (x : Name). In x (entry C i).writes) (one_outside (entry C i).mark w q s.outside r s.seen seen) s.right
+        by (inr s) = subst (λ (x : Name). In x (entry C i).writes) (one_outside (entry C i).offset w q s.outside r s.seen seen) s.right
 
   -- what is found outside is seen there
-  outward_sound : (mark : ℕ) (w : Way) (b : ℕ) (q r : Name) → In r (outward C mark w b q) → (Declared C b q → ⊥) × Seen C mark w q r
-  outward_sound mark InPlace b q r h = by (is_declared C b q) refl h
+  outward_sound : (offset : ℕ) (w : Way) (b : ℕ) (q r : Name) → In r (outward C offset w b q) → (Declared C b q → ⊥) × Seen C offset w q r
+  outward_sound offset InPlace b q r h = by (is_declared C b q) refl h
     where
       by : (t : Bool) → is_declared C b q ≡ t → In r (if t then [] else q ∷ []) → (Declared C b q → ⊥) × (q ≡ r)
       by true e h = absurd h
       by false e h = ((λ d. (let n : true ≡ false = sym (declared_is C b q d) ∙ e in absurd (cc))), elim h [ inl p ↦ sym p | inr n ↦ absurd n ])
-  outward_sound mark Through b q r h = by q.up q.owned h
+  outward_sound offset Through b q r h = by q.up q.owned h
     where
-      by : (up : ℕ) (x : Owned) → In r (outward C mark Through b (record { up = up; owned = x })) → (Declared C b (record { up = up; owned = x }) → ⊥) × (◌≡◌ {A = Name} (record { up = up; owned = x }) (record { up = suc r.up; owned = r.owned }))
+      by : (up : ℕ) (x : Owned) → In r (outward C offset Through b (record { up = up; owned = x })) → (Declared C b (record { up = up; owned = x }) → ⊥) × (◌≡◌ {A = Name} (record { up = up; owned = x }) (record { up = suc r.up; owned = r.owned }))
       by zero x h = absurd h
       by (suc up) x h =
           let p : r ≡ record { up = up; owned = x } = elim h [ inl p ↦ p | inr n ↦ absurd n ] in
           ((λ d. (let e : suc up ≡ 0 = ap (λ (y : Name). y.up) d.is in absurd (omega arith))), (λ k. record { up = suc (sym p k).up; owned = (sym p k).owned }))
-  outward_sound mark Calling b q r h = by q.up q.owned h
+  outward_sound offset Calling b q r h = by q.up q.owned h
     where
-      by_argument : (k : ℕ) (a : Bool) (o : Option Argument) → argument C mark k a ≡ o → In r (elim o [ None ↦ [] | Some x ↦ elim x [ Named s ↦ s ∷ [] | Fixed v ↦ [] ] ]) → argument C mark k a ≡ Some (Named r)
+      by_argument : (k : ℕ) (a : Bool) (o : Option Argument) → argument C offset k a ≡ o → In r (elim o [ None ↦ [] | Some x ↦ elim x [ Named s ↦ s ∷ [] | Fixed v ↦ [] ] ]) → argument C offset k a ≡ Some (Named r)
       by_argument k a None e h = absurd h
       by_argument k a (Some (Fixed v)) e h = absurd h
       by_argument k a (Some (Named s)) e h = e ∙ ap (λ (x : Name). Some (Named x)) (sym (elim h [ inl p ↦ p | inr n ↦ absurd n ]))
 
-      by : (up : ℕ) (x : Owned) → In r (outward C mark Calling b (record { up = up; owned = x })) → (Declared C b (record { up = up; owned = x }) → ⊥) × Seen C mark Calling (record { up = up; owned = x }) r
+      by : (up : ℕ) (x : Owned) → In r (outward C offset Calling b (record { up = up; owned = x })) → (Declared C b (record { up = up; owned = x }) → ⊥) × Seen C offset Calling (record { up = up; owned = x }) r
       by zero (Local v) h = absurd h
       by zero (Parameter k a) h =
-          ((λ d. (let e : Parameter k a ≡ Local d.variable = ap (λ (y : Name). y.owned) d.is in absurd (cc))), (k, a, refl, by_argument k a (argument C mark k a) refl h))
+          ((λ d. (let e : Parameter k a ≡ Local d.variable = ap (λ (y : Name). y.owned) d.is in absurd (cc))), (k, a, refl, by_argument k a (argument C offset k a) refl h))
       by (suc up) x h = absurd h
 
   led_sound : (own : Entry → List Name) (depth i : ℕ) (r : Name) → In r (led_to C own depth i) → Leads C own i r
@@ -106,10 +106,10 @@ module _ (C : Code) where
   led_sound own (suc depth) i r h =
       elim (in_split r (own (entry C i)) _ h) [
         | inl g ↦ itself i r g
-        | inr g ↦ (let s = in_gather C (λ s. flat_map (λ j. flat_map (outward C (entry C i).mark s.0 s.1) (led_to C own depth j)) (body C s.1).entries) (ways (entry C i).act) r g in
-            let j = in_gather C (λ j. flat_map (outward C (entry C i).mark s.0.0 s.0.1) (led_to C own depth j)) (body C s.0.1).entries r s.2 in
-            let q = in_gather C (outward C (entry C i).mark s.0.0 s.0.1) (led_to C own depth j.0) r j.2 in
-            let o = outward_sound (entry C i).mark s.0.0 s.0.1 q.0 r q.2 in
+        | inr g ↦ (let s = in_gather C (λ s. flat_map (λ j. flat_map (outward C (entry C i).offset s.0 s.1) (led_to C own depth j)) (body C s.1).entries) (ways (entry C i).act) r g in
+            let j = in_gather C (λ j. flat_map (outward C (entry C i).offset s.0.0 s.0.1) (led_to C own depth j)) (body C s.0.1).entries r s.2 in
+            let q = in_gather C (outward C (entry C i).offset s.0.0 s.0.1) (led_to C own depth j.0) r j.2 in
+            let o = outward_sound (entry C i).offset s.0.0 s.0.1 q.0 r q.2 in
             through i j.0 s.0.1 s.0.0 r q.0 s.1 j.1 (led_sound own depth j.0 q.0 q.1) o.0 o.1)
       ]
 

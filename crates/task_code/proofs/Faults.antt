@@ -19,12 +19,13 @@ use Rattle.values.specs.Numbers.{fits, in_range, is_zero, number_in, number_or_n
 use Rattle.values.specs.Operators.{Operation, sum_of, product_of, compare, equal, unequal, all_true, any_true, not_true, negate, join, from_int, to_int, size, printf, assert, literal, added, all_values, applied, chain, chained, evaluated, from_there, joined, numbered, on_all, scaled, spelling, whole, with_value, yes_or_no}
 use Rattle.values.specs.Ranges.{range_count, values_in}
 use Rattle.values.specs.Values.{first, is_text, number_of, size_of, text_of, truth_of}
-use Rattle.task_code.specs.Code.{Act, Cell, Read, Call, Set, Fill, Copy, Put, Print, Assert, If, Range, Each, Wait, Code, Expr, constant, need, operation, Exprs, no_operand, operand, entry}
-use Rattle.task_code.specs.Compute.{EntryFault, InOperation, TooDeep, Computed, Fails, Gives, Inserts, Takes, Turns, Opens, answer_at, branched, compute, eval, evals, filled, given, put, ranged, read, turns_or}
+use Rattle.task_code.specs.Code.{Act, Cell, Read, Call, Set, Fill, Copy, InsertElement, Print, Assert, If, Range, Each, Wait, Code, Expr, constant, need, operation, Exprs, no_operand, operand, entry}
+use Rattle.task_code.specs.Compute.{EntryFault, InOperation, TooDeep, Computed, Fails, Gives, Inserts, Takes, Turns, Opens, answer_at, branched, compute, eval, evals, filled, given, insert_element, ranged, read, turns_or}
 use Rattle.task_code.specs.Effects.{Task, Main, Item, effect_at, instances, is_too_deep, limited, outcome_of}
 use Rattle.task_code.specs.Places.{Place}
 use Rattle.task_code.specs.System.{answered, code_system, task_effect}
 use Rattle.task_code.specs.Machine.{CodeState}
+use Rattle.values.specs.Limits.{max_range}
 
 -- the result is no refusal of memory
 abbrev IsFree : {A : Type 0} → Result A OpFault → Type 0
@@ -166,7 +167,7 @@ branched_free : (r : Result Value OpFault) → IsFree r → IsFreeOf (branched r
 branched_free (Ok v) h = tt
 branched_free (Err f) h = in_operation h
 
-put_free : (r s : Result Value OpFault) → IsFree r → IsFree s → IsFreeOf (put r s)
+put_free : (r s : Result Value OpFault) → IsFree r → IsFree s → IsFreeOf (insert_element r s)
 put_free (Err f) s h k = in_operation h
 put_free (Ok i) (Err f) h k = in_operation k
 put_free (Ok i) (Ok v) h k = tt
@@ -181,9 +182,9 @@ most_free : (b : Bool) (n : ℕ) → IsFree (if b then Ok n else Err Overflow)
 most_free true n = tt
 most_free false n = λ h. absurd (cc)
 
-count_free : (b : Bool) (n : ℕ) → IsFree (if b then Err BadStep else (if nat_le n 4294967296 then Ok n else Err Overflow))
+count_free : (b : Bool) (n : ℕ) → IsFree (if b then Err BadStep else (if nat_le n max_range then Ok n else Err Overflow))
 count_free true n = λ h. absurd (cc)
-count_free false n = most_free (nat_le n 4294967296) n
+count_free false n = most_free (nat_le n max_range) n
 
 turns_free : (r : Result ℕ OpFault) (low step : ℤ) → IsFree r → IsFreeOf (turns_or r low step)
 turns_free (Ok n) low step h = tt
@@ -203,7 +204,7 @@ computed_free (Call b rs os) xs = tt
 computed_free (Set r e) xs = given_free (eval xs e) (eval_free xs e)
 computed_free (Fill r es) xs = filled_free (evaluated literal (evals xs es)) (on_free literal (all_values (evals xs es)) (all_free (evals xs es) (evals_free xs es)))
 computed_free (Copy r) xs = tt
-computed_free (Put r i e) xs = put_free (eval xs i) (eval xs e) (eval_free xs i) (eval_free xs e)
+computed_free (InsertElement r i e) xs = put_free (eval xs i) (eval xs e) (eval_free xs i) (eval_free xs e)
 computed_free (Print e) xs = given_free (eval xs e) (eval_free xs e)
 computed_free (Assert e) xs = given_free (eval xs e) (eval_free xs e)
 computed_free (If e b d) xs = branched_free (eval xs e) (eval_free xs e)
@@ -228,7 +229,7 @@ module _ (C : Code) where
   effect_free Main xs h = absurd (cc)
   effect_free (Item i p c) xs h =
       let x = compute (entry C i).act (answered C p (entry C i).needs xs) in
-      outcome_free x (is_too_deep (entry C i).act p (instances (entry C i).act (entry C i).mark p c x)) (effect_at C i p c x) (computed_free (entry C i).act (answered C p (entry C i).needs xs)) h
+      outcome_free x (is_too_deep (entry C i).act p (instances (entry C i).act (entry C i).offset p c x)) (effect_at C i p c x) (computed_free (entry C i).act (answered C p (entry C i).needs xs)) h
 
   -- so no run has
   pub never_memory : (s : CodeState) (log : List (Task × Effect Task Place Key Scalar)) → Follows (code_system C) s log → (t : Task) → s.fault ≡ Some (t, OfTask (InOperation Memory)) → ⊥

@@ -9,7 +9,7 @@ use Rattle.task_code.proofs.Listed.{code_listed}
 use Rattle.task_code.proofs.Opens.{IsRest, OpensBlock, PathBy, covered, effect_is, found, in_block, in_rest, item_maker, item_opener, made_in, no_loop_one, no_loop_rest, not_script, opened, rest_makes, seen_place, stepped}
 use Rattle.task_code.proofs.Places.{argued, head_same, scalar_name, spot_path, spot_variable}
 use Rattle.task_code.proofs.Rights.{Binds, Bound, IntoTarget, apart_valid, bound_at, bound_inv, declared_name, declared_place, declared_same, in_gather, inserted_inv, loop_declares, loop_instances, names_apart, stored_once, stored_target, stores_inv, target_no_loop, target_opens_none, turn_is_bound, turn_variable, value_bound}
-use Rattle.task_code.specs.Code.{Act, Assert, At, AtKey, Call, Calling, Cell, Closed, Code, Copy, Each, Entry, Fill, If, InPlace, Loop, Name, Need, Print, Put, Range, Read, Set, Stored, Through, Variable, Wait, Way, body, entry, here, is_array_name, loop_of, needed, scalar, turn_variables}
+use Rattle.task_code.specs.Code.{Act, Assert, At, AtKey, Call, Calling, Cell, Closed, Code, Copy, Each, Entry, Fill, If, InPlace, Loop, Name, Need, Print, InsertElement, Range, Read, Set, Stored, Through, Variable, Wait, Way, body, entry, here, is_array_name, loop_of, needed, scalar, turn_variables}
 use Rattle.task_code.specs.Compute.{Computed, Elements, EntryFault, Fails, Gives, Inserts, Opens, Takes, Turns, compute, key_scalar}
 use Rattle.task_code.specs.Effects.{Item, Main, Task, at_first, block, bound, branch_instances, chunk, effect_at, inserted_at, instances, is_some_list, left_at, rest, rest_if, stored_at, stores, turn_instances, turns_of}
 use Rattle.task_code.specs.Places.{Constant, Datum, Nowhere, Place, Step, place_array, place_at}
@@ -66,26 +66,26 @@ module _ (C : Code) (I : IsCode C) where
       by (inr r) = subst (λ (x : Task). is_valid C x ≡ true) (sym (in_rest C i c p o u r iu)) can.valid
 
   -- a bound variable is made by the block of its turn
-  bound_made : (i c : ℕ) (p : List Step) (x : Computed) (w : W) → (b : Binds C (entry C i).act (entry C i).mark p c x w) → (o : O) × In o (effect_at C i p c x).opens × In w.place o.makes
+  bound_made : (i c : ℕ) (p : List Step) (x : Computed) (w : W) → (b : Binds C (entry C i).act (entry C i).offset p c x w) → (o : O) × In o (effect_at C i p c x).opens × In w.place o.makes
   bound_made i c p x w b =
-      let at = bound_at C b.loop (entry C i).mark p b.turn w b.bound in
-      let s : ℕ × List Step = (b.loop.body, stepped (entry C i).mark b.turn.0 p) in
-      let is : In s (turn_instances b.loop (entry C i).mark p (chunk c (turns_of x))) = in_map (λ (t : Key × Scalar). (b.loop.body, stepped (entry C i).mark t.0 p)) b.turn (chunk c (turns_of x)) b.there in
-      let is' : In s (instances (entry C i).act (entry C i).mark p c x) = subst (λ (l : List (ℕ × List Step)). In s l) (sym (loop_instances C (entry C i).act b.loop (entry C i).mark p c x b.loops)) is in (
+      let at = bound_at C b.loop (entry C i).offset p b.turn w b.bound in
+      let s : ℕ × List Step = (b.loop.body, stepped (entry C i).offset b.turn.0 p) in
+      let is : In s (turn_instances b.loop (entry C i).offset p (chunk c (turns_of x))) = in_map (λ (t : Key × Scalar). (b.loop.body, stepped (entry C i).offset t.0 p)) b.turn (chunk c (turns_of x)) b.there in
+      let is' : In s (instances (entry C i).act (entry C i).offset p c x) = subst (λ (l : List (ℕ × List Step)). In s l) (sym (loop_instances C (entry C i).act b.loop (entry C i).offset p c x b.loops)) is in (
         block C s,
-        in_left (block C s) (map (block C) (instances (entry C i).act (entry C i).mark p c x)) (rest (loop_of (entry C i).act) i p c x) (in_map (block C) s _ is'),
+        in_left (block C s) (map (block C) (instances (entry C i).act (entry C i).offset p c x)) (rest (loop_of (entry C i).act) i p c x) (in_map (block C) s _ is'),
         subst (λ (a : Place). In a (map (Datum s.1) (body C s.0).makes)) (sym at.2) (in_map (Datum s.1) at.0 (body C s.0).makes ((I.loops i b.loop b.loops).made at.0 at.1)),
       )
 
   writes_covered : (t : Task) (e : E) → Can (code_system C) t e → (w : W) → In w e.writes → In w.place (task_writes C t) ⊎ ((o : O) × In o e.opens × In w.place o.makes)
   writes_covered Main e can w h = absurd (subst (λ (x : E). In w x.writes) (sym (main_is e can)) h)
   writes_covered (Item i p c) e can w h =
-      by (stores_inv C (entry C i).act (entry C i).node (entry C i).mark p c (found C can) w (subst (λ (x : E). In w x.writes) (sym same) h))
+      by (stores_inv C (entry C i).act (entry C i).node (entry C i).offset p c (found C can) w (subst (λ (x : E). In w x.writes) (sym same) h))
     where
       same : effect_at C i p c (found C can) ≡ e
       same = effect_is C i c p e can
 
-      by : IntoTarget C (entry C i).act (entry C i).node p w ⊎ Binds C (entry C i).act (entry C i).mark p c (found C can) w → In w.place (map (place_at C p) (entry C i).writes) ⊎ ((o : O) × In o e.opens × In w.place o.makes)
+      by : IntoTarget C (entry C i).act (entry C i).node p w ⊎ Binds C (entry C i).act (entry C i).offset p c (found C can) w → In w.place (map (place_at C p) (entry C i).writes) ⊎ ((o : O) × In o e.opens × In w.place o.makes)
       by (inl t) = inl (subst (λ (a : Place). In a (map (place_at C p) (entry C i).writes)) (sym t.is) (in_map (place_at C p) t.target (entry C i).writes (I.stores i t.target (stored_target C (entry C i).act (entry C i).node t.target t.there))))
       by (inr b) = (let m = bound_made i c p (found C can) w b in inr (m.0, subst (λ (x : E). In m.0 x.opens) same m.1, m.2))
 
@@ -159,10 +159,10 @@ module _ (C : Code) (I : IsCode C) where
       in_data a (map (place_at C p) (entry C j).reads) x.1 (subst (λ (x : Place). In x (map (place_at C p) (entry C j).reads)) r.2 (in_map (place_at C p) r.0 (entry C j).reads (I.needs j n.0 r.0 n.1 r.1)))
 
   -- a fixed parameter is a literal
-  fixed_place : (w : Way) (mark : ℕ) (p : List Step) (k : Key) (q : List Step) (r : Name) → PathBy w mark p k q → Fixes C mark w r → (v : Scalar) × (place_at C q r ≡ Constant v)
-  fixed_place InPlace mark p k q r h e = absurd e
-  fixed_place Through mark p k q r h e = absurd e
-  fixed_place Calling mark p k q r h e = (e.2, (λ i. place_at C (h i) (e.3 i)) ∙ ap (argued C p) e.4)
+  fixed_place : (w : Way) (offset : ℕ) (p : List Step) (k : Key) (q : List Step) (r : Name) → PathBy w offset p k q → Fixes C offset w r → (v : Scalar) × (place_at C q r ≡ Constant v)
+  fixed_place InPlace offset p k q r h e = absurd e
+  fixed_place Through offset p k q r h e = absurd e
+  fixed_place Calling offset p k q r h e = (e.2, (λ i. place_at C (h i) (e.3 i)) ∙ ap (argued C p) e.4)
 
   no_datum : (a : Place) (v : Scalar) → a ≡ Constant v → IsDatum a → ⊥
   no_datum a v e d = literal (subst (λ (x : Place). IsDatum x) e d)
@@ -193,15 +193,15 @@ module _ (C : Code) (I : IsCode C) where
           r : (r : Name) × In r (entry C m.0).reads × (place_at C b.instance.1 r ≡ a)
           r = named (λ e. e.reads) b.instance.1 m.0 a x.0
 
-          by_cover : (Declared C b.instance.0 r.0 ⊎ SeenFrom C (λ e. e.reads) i b.by.way r.0) ⊎ Fixes C (entry C i).mark b.by.way r.0 → In a o.makes ⊎ In a (data_among (map (place_at C p) (entry C i).reads))
+          by_cover : (Declared C b.instance.0 r.0 ⊎ SeenFrom C (λ e. e.reads) i b.by.way r.0) ⊎ Fixes C (entry C i).offset b.by.way r.0 → In a o.makes ⊎ In a (data_among (map (place_at C p) (entry C i).reads))
           by_cover (inl (inl d)) =
               let at : a ≡ Datum b.instance.1 d.variable = sym r.2 ∙ declared_place C b.instance.0 b.instance.1 r.0 d in
               inl (subst (λ (x : O). In a x.makes) (sym b.is) (subst (λ (x : Place). In x (map (Datum b.instance.1) (body C b.instance.0).makes)) (sym at) (in_map (Datum b.instance.1) d.variable (body C b.instance.0).makes d.made)))
           by_cover (inl (inr s)) =
-              let same : place_at C p s.outside ≡ a = sym (seen_place C b.by.way (entry C i).mark p b.by.key b.instance.1 r.0 s.outside b.by.path_is s.seen) ∙ r.2 in
+              let same : place_at C p s.outside ≡ a = sym (seen_place C b.by.way (entry C i).offset p b.by.key b.instance.1 r.0 s.outside b.by.path_is s.seen) ∙ r.2 in
               inr (in_data a (map (place_at C p) (entry C i).reads) x.1 (subst (λ (z : Place). In z (map (place_at C p) (entry C i).reads)) same (in_map (place_at C p) s.outside (entry C i).reads s.right)))
           by_cover (inr f) =
-              let v = fixed_place b.by.way (entry C i).mark p b.by.key b.instance.1 r.0 b.by.path_is f in
+              let v = fixed_place b.by.way (entry C i).offset p b.by.key b.instance.1 r.0 b.by.path_is f in
               absurd (no_datum a v.0 (sym r.2 ∙ v.1) x.1)
 
   opens_covered : (t u : Task) (e : E) (o : O) (a : Place) → Can (code_system C) t e → In o e.opens → In u o.tasks → In a (task_writes C u) → In a o.makes ⊎ In a (task_writes C t)
@@ -320,41 +320,41 @@ module _ (C : Code) (I : IsCode C) where
   distinct_one zero s = ((λ h. h), tt)
   distinct_one (suc c) s = tt
 
-  distinct_branches : (c : ℕ) (x : Computed) (b : ℕ) (d : Option ℕ) (mark : ℕ) (p : List Step) → Distinct (at_first c (branch_instances x b d mark p))
-  distinct_branches (suc c) x b d mark p = tt
-  distinct_branches zero (Takes true) b d mark p = ((λ h. h), tt)
-  distinct_branches zero (Takes false) b None mark p = tt
-  distinct_branches zero (Takes false) b (Some d) mark p = ((λ h. h), tt)
-  distinct_branches zero (Fails f) b d mark p = tt
-  distinct_branches zero (Gives v) b d mark p = tt
-  distinct_branches zero (Inserts xs) b d mark p = tt
-  distinct_branches zero (Turns ts) b d mark p = tt
-  distinct_branches zero Opens b d mark p = tt
+  distinct_branches : (c : ℕ) (x : Computed) (b : ℕ) (d : Option ℕ) (offset : ℕ) (p : List Step) → Distinct (at_first c (branch_instances x b d offset p))
+  distinct_branches (suc c) x b d offset p = tt
+  distinct_branches zero (Takes true) b d offset p = ((λ h. h), tt)
+  distinct_branches zero (Takes false) b None offset p = tt
+  distinct_branches zero (Takes false) b (Some d) offset p = ((λ h. h), tt)
+  distinct_branches zero (Fails f) b d offset p = tt
+  distinct_branches zero (Gives v) b d offset p = tt
+  distinct_branches zero (Inserts xs) b d offset p = tt
+  distinct_branches zero (Turns ts) b d offset p = tt
+  distinct_branches zero Opens b d offset p = tt
 
-  distinct_turn_instances : (l : Loop) (mark : ℕ) (p : List Step) (ts : Elements) → Distinct (keys ts) → Distinct (turn_instances l mark p ts)
-  distinct_turn_instances l mark p [] d = tt
-  distinct_turn_instances l mark p (t ∷ ts) d = (
-    λ h. (let r = in_unmap (λ (t : Key × Scalar). (l.body, stepped mark t.0 p)) (l.body, stepped mark t.0 p) ts h in
-        let q : stepped mark r.0.0 p ≡ stepped mark t.0 p = ap (λ (z : ℕ × List Step). z.1) r.2 in
+  distinct_turn_instances : (l : Loop) (offset : ℕ) (p : List Step) (ts : Elements) → Distinct (keys ts) → Distinct (turn_instances l offset p ts)
+  distinct_turn_instances l offset p [] d = tt
+  distinct_turn_instances l offset p (t ∷ ts) d = (
+    λ h. (let r = in_unmap (λ (t : Key × Scalar). (l.body, stepped offset t.0 p)) (l.body, stepped offset t.0 p) ts h in
+        let q : stepped offset r.0.0 p ≡ stepped offset t.0 p = ap (λ (z : ℕ × List Step). z.1) r.2 in
         let e : r.0.0 ≡ t.0 = ap (λ (z : Step). z.key) (head_same q) in
         d.0 (subst (λ (k : Key). In k (keys ts)) e (in_map (λ (t : Key × Scalar). t.0) r.0 ts r.1))),
-    distinct_turn_instances l mark p ts d.1,
+    distinct_turn_instances l offset p ts d.1,
   )
 
-  distinct_instances : (a : Act) (mark : ℕ) (p : List Step) (c : ℕ) (x : Computed) → Distinct (keys (chunk c (turns_of x))) → Distinct (instances a mark p c x)
-  distinct_instances (Cell e) mark p c x d = tt
-  distinct_instances Read mark p c x d = tt
-  distinct_instances (Call b rs os) mark p c x d = distinct_one c _
-  distinct_instances (Set r e) mark p c x d = tt
-  distinct_instances (Fill r es) mark p c x d = tt
-  distinct_instances (Copy r) mark p c x d = tt
-  distinct_instances (Put r i e) mark p c x d = tt
-  distinct_instances (Print e) mark p c x d = tt
-  distinct_instances (Assert e) mark p c x d = tt
-  distinct_instances (If e b f) mark p c x d = distinct_branches c x b f mark p
-  distinct_instances (Range lo h s l) mark p c x d = distinct_turn_instances l mark p (chunk c (turns_of x)) d
-  distinct_instances (Each l) mark p c x d = distinct_turn_instances l mark p (chunk c (turns_of x)) d
-  distinct_instances (Wait hs b) mark p c x d = distinct_one c _
+  distinct_instances : (a : Act) (offset : ℕ) (p : List Step) (c : ℕ) (x : Computed) → Distinct (keys (chunk c (turns_of x))) → Distinct (instances a offset p c x)
+  distinct_instances (Cell e) offset p c x d = tt
+  distinct_instances Read offset p c x d = tt
+  distinct_instances (Call b rs os) offset p c x d = distinct_one c _
+  distinct_instances (Set r e) offset p c x d = tt
+  distinct_instances (Fill r es) offset p c x d = tt
+  distinct_instances (Copy r) offset p c x d = tt
+  distinct_instances (InsertElement r i e) offset p c x d = tt
+  distinct_instances (Print e) offset p c x d = tt
+  distinct_instances (Assert e) offset p c x d = tt
+  distinct_instances (If e b f) offset p c x d = distinct_branches c x b f offset p
+  distinct_instances (Range lo h s l) offset p c x d = distinct_turn_instances l offset p (chunk c (turns_of x)) d
+  distinct_instances (Each l) offset p c x d = distinct_turn_instances l offset p (chunk c (turns_of x)) d
+  distinct_instances (Wait hs b) offset p c x d = distinct_one c _
 
   tasks_append : (xs ys : List O) → tasks_of (xs ++ ys) ≡ tasks_of xs ++ tasks_of ys
   tasks_append [] ys = refl
@@ -373,10 +373,10 @@ module _ (C : Code) (I : IsCode C) where
   opens_distinct Main e can =
       subst (λ (x : E). Distinct (tasks_of x.opens)) (main_is e can) (distinct_blocks ((0, []) ∷ []) ((λ h. h), tt))
   opens_distinct (Item i p c) e can =
-      subst (λ (x : E). Distinct (tasks_of x.opens)) (effect_is C i c p e can) (subst (λ (l : List Task). Distinct l) (sym (tasks_append bs rs)) (distinct_append (tasks_of bs) (tasks_of rs) (distinct_blocks _ (distinct_instances (entry C i).act (entry C i).mark p c (found C can) (chunk_keys i c (answered C p (entry C i).needs can.answers)))) (of_rest (loop_of (entry C i).act)) apart))
+      subst (λ (x : E). Distinct (tasks_of x.opens)) (effect_is C i c p e can) (subst (λ (l : List Task). Distinct l) (sym (tasks_append bs rs)) (distinct_append (tasks_of bs) (tasks_of rs) (distinct_blocks _ (distinct_instances (entry C i).act (entry C i).offset p c (found C can) (chunk_keys i c (answered C p (entry C i).needs can.answers)))) (of_rest (loop_of (entry C i).act)) apart))
     where
       bs : List O
-      bs = map (block C) (instances (entry C i).act (entry C i).mark p c (found C can))
+      bs = map (block C) (instances (entry C i).act (entry C i).offset p c (found C can))
 
       rs : List O
       rs = rest (loop_of (entry C i).act) i p c (found C can)
@@ -400,7 +400,7 @@ module _ (C : Code) (I : IsCode C) where
       apart : (u : Task) → In u (tasks_of bs) → In u (tasks_of rs) → ⊥
       apart u h g =
           let o = in_tasks u bs h in
-          let s = in_unmap (block C) o.0 (instances (entry C i).act (entry C i).mark p c (found C can)) o.1 in
+          let s = in_unmap (block C) o.0 (instances (entry C i).act (entry C i).offset p c (found C can)) o.1 in
           let m = in_block C s.0 o.0 u (sym s.2) o.2 in
           chunk_apart (sym m.2 ∙ in_rs (loop_of (entry C i).act) u g)
 
@@ -409,8 +409,8 @@ module _ (C : Code) (I : IsCode C) where
     abbrev act : Act
     act = (entry C i).act
 
-    abbrev mark : ℕ
-    mark = (entry C i).mark
+    abbrev offset : ℕ
+    offset = (entry C i).offset
 
     abbrev got : Computed
     got = compute (entry C i).act xs
@@ -424,24 +424,24 @@ module _ (C : Code) (I : IsCode C) where
         let y = inserted_inv C d got (record { place = a; key = k; value = w }) g in
         key_once (inserted_of got) (computed_apart (entry C i).act xs).1 k v w x.1 y.1
 
-    bound_same : (l : Loop) → loop_of (entry C i).act ≡ Some l → (a : Place) (k : Key) (v w : Scalar) → In (record { place = a; key = k; value = v }) (flat_map (bound l (entry C i).mark p) (chunk c (turns_of got))) → In (record { place = a; key = k; value = w }) (flat_map (bound l (entry C i).mark p) (chunk c (turns_of got))) → v ≡ w
+    bound_same : (l : Loop) → loop_of (entry C i).act ≡ Some l → (a : Place) (k : Key) (v w : Scalar) → In (record { place = a; key = k; value = v }) (flat_map (bound l (entry C i).offset p) (chunk c (turns_of got))) → In (record { place = a; key = k; value = w }) (flat_map (bound l (entry C i).offset p) (chunk c (turns_of got))) → v ≡ w
     bound_same l e a k v w h g =
-        by (bound_inv C l (entry C i).mark p x.0 (record { place = a; key = k; value = v }) x.2) (bound_inv C l (entry C i).mark p y.0 (record { place = a; key = k; value = w }) y.2)
+        by (bound_inv C l (entry C i).offset p x.0 (record { place = a; key = k; value = v }) x.2) (bound_inv C l (entry C i).offset p y.0 (record { place = a; key = k; value = w }) y.2)
       where
-        x : (t : Key × Scalar) × In t (chunk c (turns_of got)) × In (record { place = a; key = k; value = v }) (bound l (entry C i).mark p t)
-        x = in_gather C (bound l (entry C i).mark p) (chunk c (turns_of got)) (record { place = a; key = k; value = v }) h
+        x : (t : Key × Scalar) × In t (chunk c (turns_of got)) × In (record { place = a; key = k; value = v }) (bound l (entry C i).offset p t)
+        x = in_gather C (bound l (entry C i).offset p) (chunk c (turns_of got)) (record { place = a; key = k; value = v }) h
 
-        y : (t : Key × Scalar) × In t (chunk c (turns_of got)) × In (record { place = a; key = k; value = w }) (bound l (entry C i).mark p t)
-        y = in_gather C (bound l (entry C i).mark p) (chunk c (turns_of got)) (record { place = a; key = k; value = w }) g
+        y : (t : Key × Scalar) × In t (chunk c (turns_of got)) × In (record { place = a; key = k; value = w }) (bound l (entry C i).offset p t)
+        y = in_gather C (bound l (entry C i).offset p) (chunk c (turns_of got)) (record { place = a; key = k; value = w }) g
 
         -- one place is bound by one turn
-        turn_key : {q r : Variable} → Datum (stepped (entry C i).mark x.0.0 p) q ≡ Datum (stepped (entry C i).mark y.0.0 p) r → x.0.0 ≡ y.0.0
+        turn_key : {q r : Variable} → Datum (stepped (entry C i).offset x.0.0 p) q ≡ Datum (stepped (entry C i).offset y.0.0 p) r → x.0.0 ≡ y.0.0
         turn_key s = ap (λ (z : Step). z.key) (head_same (spot_path s))
 
         apart : (n : ℕ) → l.turn ≡ Some n → scalar l.value ≡ scalar n → ⊥
         apart n en q = ((I.loops i l e).distinct).0 (subst (λ (z : Variable). In z (turn_variables l.turn)) (sym q) (turn_variable C l n en))
 
-        by : Bound C l (entry C i).mark p x.0 (record { place = a; key = k; value = v }) → Bound C l (entry C i).mark p y.0 (record { place = a; key = k; value = w }) → v ≡ w
+        by : Bound C l (entry C i).offset p x.0 (record { place = a; key = k; value = v }) → Bound C l (entry C i).offset p y.0 (record { place = a; key = k; value = w }) → v ≡ w
         by (value_bound s z) (value_bound s' z') =
             let ek = turn_key (sym s ∙ s') in
             z ∙ key_once (chunk c (turns_of got)) (chunk_keys i c xs) x.0.0 x.0.1 y.0.1 x.1 (subst (λ (j : Key). In (j, y.0.1) (chunk c (turns_of got))) (sym ek) y.1) ∙ sym z'
@@ -449,14 +449,14 @@ module _ (C : Code) (I : IsCode C) where
         by (turn_is_bound n en s z) (value_bound s' z') = absurd (apart n en (spot_variable (sym s' ∙ s)))
         by (turn_is_bound n en s z) (turn_is_bound m em s' z') = z ∙ ap key_scalar (turn_key (sym s ∙ s')) ∙ sym z'
 
-    writes_once : (b : Act) → (entry C i).act ≡ b → (a : Place) (k : Key) (v w : Scalar) → In (record { place = a; key = k; value = v }) (stores C b (entry C i).node (entry C i).mark p c got) → In (record { place = a; key = k; value = w }) (stores C b (entry C i).node (entry C i).mark p c got) → v ≡ w
+    writes_once : (b : Act) → (entry C i).act ≡ b → (a : Place) (k : Key) (v w : Scalar) → In (record { place = a; key = k; value = v }) (stores C b (entry C i).node (entry C i).offset p c got) → In (record { place = a; key = k; value = w }) (stores C b (entry C i).node (entry C i).offset p c got) → v ≡ w
     writes_once (Cell e) q a k v w h g = stored_same _ a k v w h g
     writes_once Read q a k v w h g = stored_same _ a k v w h g
     writes_once (Call b rs os) q a k v w h g = absurd h
     writes_once (Set r e) q a k v w h g = stored_same _ a k v w h g
     writes_once (Fill r es) q a k v w h g = inserted_same _ a k v w h g
     writes_once (Copy r) q a k v w h g = inserted_same _ a k v w h g
-    writes_once (Put r n e) q a k v w h g = inserted_same _ a k v w h g
+    writes_once (InsertElement r n e) q a k v w h g = inserted_same _ a k v w h g
     writes_once (Print e) q a k v w h g = absurd h
     writes_once (Assert e) q a k v w h g = absurd h
     writes_once (If e b d) q a k v w h g = absurd h
@@ -542,18 +542,18 @@ module _ (C : Code) (I : IsCode C) where
   holder_last : (t u : Task) (e : E) (o : O) (w : W) → place_array w.place ≡ false → Can (code_system C) t e → In w e.writes → In o e.opens → In u o.tasks → In w.place (task_writes C u) → ⊥
   holder_last Main u e o w sc can iw io iu h = subst (λ (x : E). In w x.writes) (sym (main_is e can)) iw
   holder_last (Item i p c) u e o w sc can iw io iu h =
-      by (stores_inv C (entry C i).act (entry C i).node (entry C i).mark p c (found C can) w (subst (λ (x : E). In w x.writes) (sym (effect_is C i c p e can)) iw)) (opened C i c p e can o io)
+      by (stores_inv C (entry C i).act (entry C i).node (entry C i).offset p c (found C can) w (subst (λ (x : E). In w x.writes) (sym (effect_is C i c p e can)) iw)) (opened C i c p e can o io)
     where
-      by : IntoTarget C (entry C i).act (entry C i).node p w ⊎ Binds C (entry C i).act (entry C i).mark p c (found C can) w → OpensBlock C i p c (found C can) o ⊎ IsRest C i p c o → ⊥
-      by (inl t) (inl b) = target_opens_none C (entry C i).act (entry C i).node (entry C i).mark p c (found C can) t.target b.instance t.there b.there
+      by : IntoTarget C (entry C i).act (entry C i).node p w ⊎ Binds C (entry C i).act (entry C i).offset p c (found C can) w → OpensBlock C i p c (found C can) o ⊎ IsRest C i p c o → ⊥
+      by (inl t) (inl b) = target_opens_none C (entry C i).act (entry C i).node (entry C i).offset p c (found C can) t.target b.instance t.there b.there
       by (inl t) (inr r) = no_loop_rest C i c p o r (target_no_loop C (entry C i).act (entry C i).node t.target t.there)
       by (inr z) (inr r) = no_rest i c p o u w.place r iu sc h
       by (inr z) (inl b) =
-          let at = bound_at C z.loop (entry C i).mark p z.turn w z.bound in
+          let at = bound_at C z.loop (entry C i).offset p z.turn w z.bound in
           let m = in_block C b.instance o u b.is iu in
           let r = named (λ e. e.writes) b.instance.1 m.0 w.place (subst (λ (x : Task). In w.place (task_writes C x)) m.2 h) in
           let dr = loop_declares C I i c p can.valid b.by.way b.instance.0 b.by.is_way b.by.key b.instance.1 b.by.path_is z.loop z.loops m.0 r.0 m.1 r.1 (subst (λ (a : Place). place_array a ≡ false) (sym r.2) sc) in
-          let q : Datum b.instance.1 dr.variable ≡ Datum (stepped (entry C i).mark z.turn.0 p) at.0 = sym (declared_place C b.instance.0 b.instance.1 r.0 dr) ∙ r.2 ∙ at.2 in
+          let q : Datum b.instance.1 dr.variable ≡ Datum (stepped (entry C i).offset z.turn.0 p) at.0 = sym (declared_place C b.instance.0 b.instance.1 r.0 dr) ∙ r.2 ∙ at.2 in
           let ev : dr.variable ≡ at.0 = spot_variable q in
           let made = (I.loops i z.loop z.loops).made at.0 at.1 in
           let eb : b.instance.0 ≡ z.loop.body = I.makes_once b.instance.0 z.loop.body at.0 (subst (λ (x : Variable). In x (body C b.instance.0).makes) ev dr.made) made in

@@ -7,7 +7,7 @@ use Rattle.task_code.proofs.Chunks.{inserted_of}
 use Rattle.task_code.proofs.Equal.{every_in, in_every, name_same, name_sound, place_same, place_sound}
 use Rattle.task_code.proofs.Opens.{PathBy, seen_place, some_same, stepped}
 use Rattle.task_code.proofs.Places.{declared_at, no_longer, only_here, scalar_name, spot_variable}
-use Rattle.task_code.specs.Code.{Act, Assert, Call, Calling, Cell, Code, Copy, Each, Fill, If, InPlace, Loop, Name, Named, Parameter, Print, Put, Range, Read, Set, Through, Variable, Wait, Way, argument, body, entry, here, is_array_name, loop_of, loop_variables, scalar, stored_of, targets_of, turn_variables, ways}
+use Rattle.task_code.specs.Code.{Act, Assert, Call, Calling, Cell, Code, Copy, Each, Fill, If, InPlace, Loop, Name, Named, Parameter, Print, InsertElement, Range, Read, Set, Through, Variable, Wait, Way, argument, body, entry, here, is_array_name, loop_of, loop_variables, scalar, stored_of, targets_of, turn_variables, ways}
 use Rattle.task_code.specs.Compute.{Computed, Fails, Gives, Inserts, Opens, Takes, Turns, key_scalar}
 use Rattle.task_code.specs.Effects.{Item, bound, chunk, inserted_at, instances, stored_at, stores, turn_bound, turn_instances, turns_of}
 use Rattle.task_code.specs.Places.{Datum, Place, Step, name_eq, place_array, place_at, place_eq}
@@ -55,14 +55,14 @@ module _ (C : Code) where
   declared_name b b' q q' r r' d d' e = d.is ∙ ap here (spot_variable (declared_same b b' q q' r r' d d' e)) ∙ sym d'.is
 
   -- what is declared inside is not what is seen outside
-  outside_not : (i b : ℕ) (w : Way) (p q : List Step) (k : Key) → Fits C i w b → PathBy w (entry C i).mark p k q → (v : Variable) (s : Name) → In v (body C b).makes → In s (entry C i).writes → place_at C p s ≡ Datum q v → ⊥
+  outside_not : (i b : ℕ) (w : Way) (p q : List Step) (k : Key) → Fits C i w b → PathBy w (entry C i).offset p k q → (v : Variable) (s : Name) → In v (body C b).makes → In s (entry C i).writes → place_at C p s ≡ Datum q v → ⊥
   outside_not i b InPlace p q k f path v s iv is e =
       let h : s ≡ here v = only_here C p s.up s.owned v (e ∙ ap (λ (x : List Step). Datum x v) path) in
       f.inside refl v iv (subst (λ (x : Name). In x (entry C i).writes) h is)
   outside_not i b Through p q k f path v s iv is e = (let l = no_longer C p s.up s.owned q v e in let m = ap length path in omega arith)
   outside_not i b Calling p q k f path v s iv is e = (let l = no_longer C p s.up s.owned q v e in let m = ap length path in omega arith)
 
-  module _ (W : IsCode C) (i c : ℕ) (p : List Step) (valid : is_valid C (Item i p c) ≡ true) (w : Way) (b : ℕ) (is_way : In (w, b) (ways (entry C i).act)) (k : Key) (q : List Step) (path : PathBy w (entry C i).mark p k q) where
+  module _ (W : IsCode C) (i c : ℕ) (p : List Step) (valid : is_valid C (Item i p c) ≡ true) (w : Way) (b : ℕ) (is_way : In (w, b) (ways (entry C i).act)) (k : Key) (q : List Step) (path : PathBy w (entry C i).offset p k q) where
     fits : Fits C i w b
     fits = W.fits i w b is_way
 
@@ -73,14 +73,14 @@ module _ (C : Code) where
       where
         outward : (s : SeenFrom C (λ e. e.writes) i w r) (s' : SeenFrom C (λ e. e.writes) i w r') → s.outside ≡ s'.outside
         outward s s' =
-            let x = seen_place C w (entry C i).mark p k q r s.outside path s.seen in
-            let y = seen_place C w (entry C i).mark p k q r' s'.outside path s'.seen in
+            let x = seen_place C w (entry C i).offset p k q r s.outside path s.seen in
+            let y = seen_place C w (entry C i).offset p k q r' s'.outside path s'.seen in
             valid_apart i c p valid s.outside s'.outside s.right s'.right (sym x ∙ same ∙ y) (subst (λ (a : Place). place_array a ≡ false) x scalar)
 
         scalar' : place_array (place_at C q r') ≡ false
         scalar' = subst (λ (a : Place). place_array a ≡ false) same scalar
 
-        back : (v : Way) → w ≡ v → (s s' : Name) → s ≡ s' → Seen C (entry C i).mark v r s → Seen C (entry C i).mark v r' s' → r ≡ r'
+        back : (v : Way) → w ≡ v → (s s' : Name) → s ≡ s' → Seen C (entry C i).offset v r s → Seen C (entry C i).offset v r' s' → r ≡ r'
         back InPlace ew s s' e x y = x ∙ e ∙ sym y
         back Through ew s s' e x y = x ∙ ap (λ (z : Name). record { up = suc z.up; owned = z.owned }) e ∙ sym y
         back Calling ew s s' e x y =
@@ -88,17 +88,17 @@ module _ (C : Code) where
             let b1 : y.1 ≡ false = sym (ap is_array_name y.2) ∙ scalar_name C q r'.up r'.owned scalar' in
             let rx : r ≡ record { up = 0; owned = Parameter x.0 false } = x.2 ∙ ap (λ (z : Bool). record { up = 0; owned = Parameter x.0 z }) b0 in
             let ry : r' ≡ record { up = 0; owned = Parameter y.0 false } = y.2 ∙ ap (λ (z : Bool). record { up = 0; owned = Parameter y.0 z }) b1 in
-            let ax : argument C (entry C i).mark x.0 false ≡ Some (Named s) = subst (λ (z : Bool). argument C (entry C i).mark x.0 z ≡ Some (Named s)) b0 x.3 in
-            let ay : argument C (entry C i).mark y.0 false ≡ Some (Named s) = subst (λ (z : Bool). argument C (entry C i).mark y.0 z ≡ Some (Named s')) b1 y.3 ∙ ap (λ (z : Name). Some (Named z)) (sym e) in
+            let ax : argument C (entry C i).offset x.0 false ≡ Some (Named s) = subst (λ (z : Bool). argument C (entry C i).offset x.0 z ≡ Some (Named s)) b0 x.3 in
+            let ay : argument C (entry C i).offset y.0 false ≡ Some (Named s) = subst (λ (z : Bool). argument C (entry C i).offset y.0 z ≡ Some (Named s')) b1 y.3 ∙ ap (λ (z : Name). Some (Named z)) (sym e) in
             let ek : x.0 ≡ y.0 = fits.outputs ew j j' x.0 y.0 s ij ij' (subst (λ (z : Name). In z (entry C j).writes) rx ir) (subst (λ (z : Name). In z (entry C j').writes) ry ir') ax ay in
             rx ∙ ap (λ (z : ℕ). record { up = 0; owned = Parameter z false }) ek ∙ sym ry
 
         by : (Declared C b r ⊎ SeenFrom C (λ e. e.writes) i w r) → (Declared C b r' ⊎ SeenFrom C (λ e. e.writes) i w r') → r ≡ r'
         by (inl d) (inl d') = declared_name b b q q r r' d d' same
         by (inl d) (inr s) =
-            absurd (outside_not i b w p q k fits path d.variable s.outside d.made s.right (sym (seen_place C w (entry C i).mark p k q r' s.outside path s.seen) ∙ sym same ∙ declared_place b q r d))
+            absurd (outside_not i b w p q k fits path d.variable s.outside d.made s.right (sym (seen_place C w (entry C i).offset p k q r' s.outside path s.seen) ∙ sym same ∙ declared_place b q r d))
         by (inr s) (inl d) =
-            absurd (outside_not i b w p q k fits path d.variable s.outside d.made s.right (sym (seen_place C w (entry C i).mark p k q r s.outside path s.seen) ∙ same ∙ declared_place b q r' d))
+            absurd (outside_not i b w p q k fits path d.variable s.outside d.made s.right (sym (seen_place C w (entry C i).offset p k q r s.outside path s.seen) ∙ same ∙ declared_place b q r' d))
         by (inr s) (inr s') = back w refl s.outside s'.outside (outward s s') s.seen s'.seen
 
     -- in a loop's body a scalar that is written is declared there
@@ -106,7 +106,7 @@ module _ (C : Code) where
     loop_declares l e j r ij ir scalar =
         elim (fits.writes j r ij ir) [
           | inl d ↦ d
-          | inr s ↦ absurd ((W.loops i l e).arrays s.outside s.right (scalar_name C p s.outside.up s.outside.owned (subst (λ (a : Place). place_array a ≡ false) (seen_place C w (entry C i).mark p k q r s.outside path s.seen) scalar)))
+          | inr s ↦ absurd ((W.loops i l e).arrays s.outside s.right (scalar_name C p s.outside.up s.outside.owned (subst (λ (a : Place). place_array a ≡ false) (seen_place C w (entry C i).offset p k q r s.outside path s.seen) scalar)))
         ]
 
   -- what an item stores
@@ -145,15 +145,15 @@ module _ (C : Code) where
       by r (inr j) = let t = r j in (t.0, inr t.1, t.2)
 
   -- a loop binds its variables
-  pub data Bound (l : Loop) (mark : ℕ) (p : List Step) (t : Key × Scalar) (w : Write Place Key Scalar) : Type 0 where
-    value_bound : w.place ≡ Datum (stepped mark t.0 p) (scalar l.value) → w.value ≡ t.1 → Bound l mark p t w
-    turn_is_bound : (n : ℕ) → l.turn ≡ Some n → w.place ≡ Datum (stepped mark t.0 p) (scalar n) → w.value ≡ key_scalar t.0 → Bound l mark p t w
+  pub data Bound (l : Loop) (offset : ℕ) (p : List Step) (t : Key × Scalar) (w : Write Place Key Scalar) : Type 0 where
+    value_bound : w.place ≡ Datum (stepped offset t.0 p) (scalar l.value) → w.value ≡ t.1 → Bound l offset p t w
+    turn_is_bound : (n : ℕ) → l.turn ≡ Some n → w.place ≡ Datum (stepped offset t.0 p) (scalar n) → w.value ≡ key_scalar t.0 → Bound l offset p t w
 
-  pub bound_inv : (l : Loop) (mark : ℕ) (p : List Step) (t : Key × Scalar) (w : Write Place Key Scalar) → In w (bound l mark p t) → Bound l mark p t w
-  bound_inv l mark p t w (inl e) = value_bound (ap (λ (y : Write Place Key Scalar). y.place) e) (ap (λ (y : Write Place Key Scalar). y.value) e)
-  bound_inv l mark p t w (inr h) = by l.turn refl h
+  pub bound_inv : (l : Loop) (offset : ℕ) (p : List Step) (t : Key × Scalar) (w : Write Place Key Scalar) → In w (bound l offset p t) → Bound l offset p t w
+  bound_inv l offset p t w (inl e) = value_bound (ap (λ (y : Write Place Key Scalar). y.place) e) (ap (λ (y : Write Place Key Scalar). y.value) e)
+  bound_inv l offset p t w (inr h) = by l.turn refl h
     where
-      by : (o : Option ℕ) → l.turn ≡ o → In w (turn_bound o (stepped mark t.0 p) t.0) → Bound l mark p t w
+      by : (o : Option ℕ) → l.turn ≡ o → In w (turn_bound o (stepped offset t.0 p) t.0) → Bound l offset p t w
       by None e h = absurd h
       by (Some n) e h =
           elim h [
@@ -165,9 +165,9 @@ module _ (C : Code) where
   turn_variable l n e = subst (λ (o : Option ℕ). In (scalar n) (turn_variables o)) (sym e) (inl refl)
 
   -- the variable that is bound
-  pub bound_at : (l : Loop) (mark : ℕ) (p : List Step) (t : Key × Scalar) (w : Write Place Key Scalar) → Bound l mark p t w → (v : Variable) × In v (loop_variables l) × (w.place ≡ Datum (stepped mark t.0 p) v)
-  bound_at l mark p t w (value_bound a b) = (scalar l.value, inl refl, a)
-  bound_at l mark p t w (turn_is_bound n e a b) = (scalar n, inr (turn_variable l n e), a)
+  pub bound_at : (l : Loop) (offset : ℕ) (p : List Step) (t : Key × Scalar) (w : Write Place Key Scalar) → Bound l offset p t w → (v : Variable) × In v (loop_variables l) × (w.place ≡ Datum (stepped offset t.0 p) v)
+  bound_at l offset p t w (value_bound a b) = (scalar l.value, inl refl, a)
+  bound_at l offset p t w (turn_is_bound n e a b) = (scalar n, inr (turn_variable l n e), a)
 
   -- a write is into a target, or binds a loop's variable
   pub record IntoTarget (a : Act) (node : ℕ) (p : List Step) (w : Write Place Key Scalar) : Type 0 where
@@ -175,35 +175,35 @@ module _ (C : Code) where
     pub there : In target (stored_of node a)
     pub is : w.place ≡ place_at C p target
 
-  pub record Binds (a : Act) (mark : ℕ) (p : List Step) (c : ℕ) (x : Computed) (w : Write Place Key Scalar) : Type 0 where
+  pub record Binds (a : Act) (offset : ℕ) (p : List Step) (c : ℕ) (x : Computed) (w : Write Place Key Scalar) : Type 0 where
     pub loop : Loop
     pub loops : loop_of a ≡ Some loop
     pub turn : Key × Scalar
     pub there : In turn (chunk c (turns_of x))
-    pub bound : Bound loop mark p turn w
+    pub bound : Bound loop offset p turn w
 
   into : (a : Act) (node : ℕ) (p : List Step) (w : Write Place Key Scalar) (r : Name) → In r (stored_of node a) → w.place ≡ place_at C p r → IntoTarget a node p w
   into a node p w r i e = record { target = r; there = i; is = e }
 
-  binds : (a : Act) (l : Loop) (mark : ℕ) (p : List Step) (c : ℕ) (x : Computed) (w : Write Place Key Scalar) → loop_of a ≡ Some l → In w (flat_map (bound l mark p) (chunk c (turns_of x))) → Binds a mark p c x w
-  binds a l mark p c x w e h =
-      let r = in_gather (bound l mark p) (chunk c (turns_of x)) w h in
-      record { loop = l; loops = e; turn = r.0; there = r.1; bound = bound_inv l mark p r.0 w r.2 }
+  binds : (a : Act) (l : Loop) (offset : ℕ) (p : List Step) (c : ℕ) (x : Computed) (w : Write Place Key Scalar) → loop_of a ≡ Some l → In w (flat_map (bound l offset p) (chunk c (turns_of x))) → Binds a offset p c x w
+  binds a l offset p c x w e h =
+      let r = in_gather (bound l offset p) (chunk c (turns_of x)) w h in
+      record { loop = l; loops = e; turn = r.0; there = r.1; bound = bound_inv l offset p r.0 w r.2 }
 
-  pub stores_inv : (a : Act) (node mark : ℕ) (p : List Step) (c : ℕ) (x : Computed) (w : Write Place Key Scalar) → In w (stores C a node mark p c x) → IntoTarget a node p w ⊎ Binds a mark p c x w
-  stores_inv (Cell e) node mark p c x w h = inl (into (Cell e) node p w (here (scalar node)) (inl refl) (stored_inv _ x w h))
-  stores_inv Read node mark p c x w h = inl (into Read node p w (here (scalar node)) (inl refl) (stored_inv _ x w h))
-  stores_inv (Call b rs os) node mark p c x w h = absurd h
-  stores_inv (Set r e) node mark p c x w h = inl (into (Set r e) node p w r (inl refl) (stored_inv _ x w h))
-  stores_inv (Fill r es) node mark p c x w h = inl (into (Fill r es) node p w r (inl refl) (inserted_inv _ x w h).0)
-  stores_inv (Copy r) node mark p c x w h = inl (into (Copy r) node p w r (inl refl) (inserted_inv _ x w h).0)
-  stores_inv (Put r i e) node mark p c x w h = inl (into (Put r i e) node p w r (inl refl) (inserted_inv _ x w h).0)
-  stores_inv (Print e) node mark p c x w h = absurd h
-  stores_inv (Assert e) node mark p c x w h = absurd h
-  stores_inv (If e b d) node mark p c x w h = absurd h
-  stores_inv (Range l h' s v) node mark p c x w h = inr (binds (Range l h' s v) v mark p c x w refl h)
-  stores_inv (Each v) node mark p c x w h = inr (binds (Each v) v mark p c x w refl h)
-  stores_inv (Wait hs b) node mark p c x w h = absurd h
+  pub stores_inv : (a : Act) (node offset : ℕ) (p : List Step) (c : ℕ) (x : Computed) (w : Write Place Key Scalar) → In w (stores C a node offset p c x) → IntoTarget a node p w ⊎ Binds a offset p c x w
+  stores_inv (Cell e) node offset p c x w h = inl (into (Cell e) node p w (here (scalar node)) (inl refl) (stored_inv _ x w h))
+  stores_inv Read node offset p c x w h = inl (into Read node p w (here (scalar node)) (inl refl) (stored_inv _ x w h))
+  stores_inv (Call b rs os) node offset p c x w h = absurd h
+  stores_inv (Set r e) node offset p c x w h = inl (into (Set r e) node p w r (inl refl) (stored_inv _ x w h))
+  stores_inv (Fill r es) node offset p c x w h = inl (into (Fill r es) node p w r (inl refl) (inserted_inv _ x w h).0)
+  stores_inv (Copy r) node offset p c x w h = inl (into (Copy r) node p w r (inl refl) (inserted_inv _ x w h).0)
+  stores_inv (InsertElement r i e) node offset p c x w h = inl (into (InsertElement r i e) node p w r (inl refl) (inserted_inv _ x w h).0)
+  stores_inv (Print e) node offset p c x w h = absurd h
+  stores_inv (Assert e) node offset p c x w h = absurd h
+  stores_inv (If e b d) node offset p c x w h = absurd h
+  stores_inv (Range l h' s v) node offset p c x w h = inr (binds (Range l h' s v) v offset p c x w refl h)
+  stores_inv (Each v) node offset p c x w h = inr (binds (Each v) v offset p c x w refl h)
+  stores_inv (Wait hs b) node offset p c x w h = absurd h
 
   -- what an entry stores into is its target
   pub stored_target : (a : Act) (node : ℕ) (r : Name) → In r (stored_of node a) → In r (targets_of node a)
@@ -213,7 +213,7 @@ module _ (C : Code) where
   stored_target (Set t e) node r h = h
   stored_target (Fill t es) node r h = h
   stored_target (Copy t) node r h = h
-  stored_target (Put t i e) node r h = h
+  stored_target (InsertElement t i e) node r h = h
   stored_target (Print e) node r h = h
   stored_target (Assert e) node r h = h
   stored_target (If e b d) node r h = h
@@ -222,20 +222,20 @@ module _ (C : Code) where
   stored_target (Wait hs b) node r h = h
 
   -- an entry that stores into a name opens nothing
-  pub target_opens_none : (a : Act) (node mark : ℕ) (p : List Step) (c : ℕ) (x : Computed) (r : Name) (s : ℕ × List Step) → In r (stored_of node a) → In s (instances a mark p c x) → ⊥
-  target_opens_none (Cell e) node mark p c x r s h g = g
-  target_opens_none Read node mark p c x r s h g = g
-  target_opens_none (Call b rs os) node mark p c x r s h g = h
-  target_opens_none (Set t e) node mark p c x r s h g = g
-  target_opens_none (Fill t es) node mark p c x r s h g = g
-  target_opens_none (Copy t) node mark p c x r s h g = g
-  target_opens_none (Put t i e) node mark p c x r s h g = g
-  target_opens_none (Print e) node mark p c x r s h g = h
-  target_opens_none (Assert e) node mark p c x r s h g = h
-  target_opens_none (If e b d) node mark p c x r s h g = h
-  target_opens_none (Range l h' st v) node mark p c x r s h g = h
-  target_opens_none (Each v) node mark p c x r s h g = h
-  target_opens_none (Wait hs b) node mark p c x r s h g = h
+  pub target_opens_none : (a : Act) (node offset : ℕ) (p : List Step) (c : ℕ) (x : Computed) (r : Name) (s : ℕ × List Step) → In r (stored_of node a) → In s (instances a offset p c x) → ⊥
+  target_opens_none (Cell e) node offset p c x r s h g = g
+  target_opens_none Read node offset p c x r s h g = g
+  target_opens_none (Call b rs os) node offset p c x r s h g = h
+  target_opens_none (Set t e) node offset p c x r s h g = g
+  target_opens_none (Fill t es) node offset p c x r s h g = g
+  target_opens_none (Copy t) node offset p c x r s h g = g
+  target_opens_none (InsertElement t i e) node offset p c x r s h g = g
+  target_opens_none (Print e) node offset p c x r s h g = h
+  target_opens_none (Assert e) node offset p c x r s h g = h
+  target_opens_none (If e b d) node offset p c x r s h g = h
+  target_opens_none (Range l h' st v) node offset p c x r s h g = h
+  target_opens_none (Each v) node offset p c x r s h g = h
+  target_opens_none (Wait hs b) node offset p c x r s h g = h
 
   pub target_no_loop : (a : Act) (node : ℕ) (r : Name) → In r (stored_of node a) → loop_of a ≡ None
   target_no_loop (Cell e) node r h = refl
@@ -244,7 +244,7 @@ module _ (C : Code) where
   target_no_loop (Set t e) node r h = refl
   target_no_loop (Fill t es) node r h = refl
   target_no_loop (Copy t) node r h = refl
-  target_no_loop (Put t i e) node r h = refl
+  target_no_loop (InsertElement t i e) node r h = refl
   target_no_loop (Print e) node r h = refl
   target_no_loop (Assert e) node r h = refl
   target_no_loop (If e b d) node r h = refl
@@ -252,17 +252,17 @@ module _ (C : Code) where
   target_no_loop (Each v) node r h = absurd h
   target_no_loop (Wait hs b) node r h = refl
 
-  pub loop_instances : (a : Act) (l : Loop) (mark : ℕ) (p : List Step) (c : ℕ) (x : Computed) → loop_of a ≡ Some l → instances a mark p c x ≡ turn_instances l mark p (chunk c (turns_of x))
-  loop_instances (Range lo h s v) l mark p c x e = ap (λ (z : Loop). turn_instances z mark p (chunk c (turns_of x))) (some_same e)
-  loop_instances (Each v) l mark p c x e = ap (λ (z : Loop). turn_instances z mark p (chunk c (turns_of x))) (some_same e)
-  loop_instances (Cell y) l mark p c x e = absurd (cc)
-  loop_instances Read l mark p c x e = absurd (cc)
-  loop_instances (Call b rs os) l mark p c x e = absurd (cc)
-  loop_instances (Set t y) l mark p c x e = absurd (cc)
-  loop_instances (Fill t es) l mark p c x e = absurd (cc)
-  loop_instances (Copy t) l mark p c x e = absurd (cc)
-  loop_instances (Put t i y) l mark p c x e = absurd (cc)
-  loop_instances (Print y) l mark p c x e = absurd (cc)
-  loop_instances (Assert y) l mark p c x e = absurd (cc)
-  loop_instances (If y b d) l mark p c x e = absurd (cc)
-  loop_instances (Wait hs b) l mark p c x e = absurd (cc)
+  pub loop_instances : (a : Act) (l : Loop) (offset : ℕ) (p : List Step) (c : ℕ) (x : Computed) → loop_of a ≡ Some l → instances a offset p c x ≡ turn_instances l offset p (chunk c (turns_of x))
+  loop_instances (Range lo h s v) l offset p c x e = ap (λ (z : Loop). turn_instances z offset p (chunk c (turns_of x))) (some_same e)
+  loop_instances (Each v) l offset p c x e = ap (λ (z : Loop). turn_instances z offset p (chunk c (turns_of x))) (some_same e)
+  loop_instances (Cell y) l offset p c x e = absurd (cc)
+  loop_instances Read l offset p c x e = absurd (cc)
+  loop_instances (Call b rs os) l offset p c x e = absurd (cc)
+  loop_instances (Set t y) l offset p c x e = absurd (cc)
+  loop_instances (Fill t es) l offset p c x e = absurd (cc)
+  loop_instances (Copy t) l offset p c x e = absurd (cc)
+  loop_instances (InsertElement t i y) l offset p c x e = absurd (cc)
+  loop_instances (Print y) l offset p c x e = absurd (cc)
+  loop_instances (Assert y) l offset p c x e = absurd (cc)
+  loop_instances (If y b d) l offset p c x e = absurd (cc)
+  loop_instances (Wait hs b) l offset p c x e = absurd (cc)

@@ -16,7 +16,7 @@ use Rattle.task_code.specs.System.{code_system}
 use Rattle.task_code.specs.Machine.{CodeState}
 use Rattle.task_code.specs.Worked.{hello, key_written_twice, used_before_assigned, HelloRuns, SecondWriteFaults, WaitsForAssignment}
 
--- an item with a mark
+-- an item with an offset
 abbrev one : ℕ → Task → Option ℕ → MachineItem Task
 one n t r = record { number = n; task = t; runs = r }
 

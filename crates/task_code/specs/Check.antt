@@ -59,43 +59,43 @@ module _ (C : Code) where
 
   -- the opener has the right to the outside name of this name
   abbrev pub is_seen : List Name → ℕ → Way → Name → Bool
-  is_seen rights mark InPlace r = name_in r rights
-  is_seen rights mark Through r = by r.up
+  is_seen rights offset InPlace r = name_in r rights
+  is_seen rights offset Through r = by r.up
     where
       by : ℕ → Bool
       by zero = false
       by (suc up) = name_in (record { up = up; owned = r.owned }) rights
-  is_seen rights mark Calling r = by r.up r.owned
+  is_seen rights offset Calling r = by r.up r.owned
     where
       by : ℕ → Owned → Bool
       by zero (Local v) = false
-      by zero (Parameter k a) = elim (argument C mark k a) [ None ↦ false | Some x ↦ elim x [ Named s ↦ name_in s rights | Fixed v ↦ false ] ]
+      by zero (Parameter k a) = elim (argument C offset k a) [ None ↦ false | Some x ↦ elim x [ Named s ↦ name_in s rights | Fixed v ↦ false ] ]
       by (suc up) x = false
 
   -- the name is a parameter whose argument is a literal
   abbrev pub is_fixed : ℕ → Way → Name → Bool
-  is_fixed mark InPlace r = false
-  is_fixed mark Through r = false
-  is_fixed mark Calling r = by r.up r.owned
+  is_fixed offset InPlace r = false
+  is_fixed offset Through r = false
+  is_fixed offset Calling r = by r.up r.owned
     where
       by : ℕ → Owned → Bool
       by zero (Local v) = false
-      by zero (Parameter k a) = elim (argument C mark k a) [ None ↦ false | Some x ↦ elim x [ Named s ↦ false | Fixed v ↦ true ] ]
+      by zero (Parameter k a) = elim (argument C offset k a) [ None ↦ false | Some x ↦ elim x [ Named s ↦ false | Fixed v ↦ true ] ]
       by (suc up) x = false
 
   -- each name that an entry of the body may read is declared, or visible to the opener, or a literal
   abbrev pub reads_covered : Entry → Way → ℕ → Bool
-  reads_covered e w b = list_all (λ j. list_all (λ r. (is_declared b r || is_seen e.reads e.mark w r) || is_fixed e.mark w r) (entry C j).reads) (body C b).entries
+  reads_covered e w b = list_all (λ j. list_all (λ r. (is_declared b r || is_seen e.reads e.offset w r) || is_fixed e.offset w r) (entry C j).reads) (body C b).entries
 
   -- each name of this right is declared, or visible to the opener
   abbrev pub is_covered : (Entry → List Name) → Entry → Way → ℕ → Bool
-  is_covered rights e w b = list_all (λ j. list_all (λ r. is_declared b r || is_seen (rights e) e.mark w r) (rights (entry C j))) (body C b).entries
+  is_covered rights e w b = list_all (λ j. list_all (λ r. is_declared b r || is_seen (rights e) e.offset w r) (rights (entry C j))) (body C b).entries
 
   -- the body's opener is this entry
   abbrev pub is_opened_by : ℕ → Entry → Way → Opener → Bool
   is_opened_by i e InPlace (ByWait n) = nat_eq n i
   is_opened_by i e Through (ByStep n) = nat_eq n i
-  is_opened_by i e Calling ByCalls = nat_eq (call_at C e.mark) i
+  is_opened_by i e Calling ByCalls = nat_eq (call_at C e.offset) i
   is_opened_by i e w o = false
 
   -- a wait has no right to write a variable that its body declares
@@ -106,10 +106,10 @@ module _ (C : Code) where
 
   -- two scalar parameters that are not the same variable of the caller
   abbrev pub outputs_apart : ℕ → Name → Name → Bool
-  outputs_apart mark r s = by r.up r.owned s.up s.owned
+  outputs_apart offset r s = by r.up r.owned s.up s.owned
     where
       by : ℕ → Owned → ℕ → Owned → Bool
-      by zero (Parameter k false) zero (Parameter l false) = nat_eq k l || not (same_argument (argument C mark k false) (argument C mark l false))
+      by zero (Parameter k false) zero (Parameter l false) = nat_eq k l || not (same_argument (argument C offset k false) (argument C offset l false))
       by _ _ _ _ = true
 
   -- no two outputs of a call are the same variable
@@ -117,7 +117,7 @@ module _ (C : Code) where
   has_outputs e InPlace b = true
   has_outputs e Through b = true
   has_outputs e Calling b =
-      list_all (λ j. list_all (λ j'. list_all (λ r. list_all (λ s. outputs_apart e.mark r s) (entry C j').writes) (entry C j).writes) (body C b).entries) (body C b).entries
+      list_all (λ j. list_all (λ j'. list_all (λ r. list_all (λ s. outputs_apart e.offset r s) (entry C j').writes) (entry C j).writes) (body C b).entries) (body C b).entries
 
   -- the entry is compatible with a body that it opens
   abbrev pub is_fit : ℕ → Entry → Way × ℕ → Bool

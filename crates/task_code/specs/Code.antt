@@ -67,7 +67,7 @@ pub data Act : Type 0 where
   Set : (target : Name) → Expr → Act
   Fill : (target : Name) → Exprs → Act
   Copy : (target : Name) → Act
-  Put : (target : Name) → (index right : Expr) → Act
+  InsertElement : (target : Name) → (index right : Expr) → Act
   Print : Expr → Act
   Assert : Expr → Act
   If : Expr → (then_body : ℕ) → (else_body : Option ℕ) → Act
@@ -79,7 +79,7 @@ pub data Act : Type 0 where
 pub record Entry : Type 0 where
   pub node : ℕ  -- the variable of this node gets the value of a cell or an element read
   pub at : ℕ  -- the offset of its statement, where its faults are reported
-  pub mark : ℕ  -- the offset that a listing shows, and that the paths of the blocks that it opens have
+  pub offset : ℕ  -- the offset that a listing shows, and that the paths of the blocks that it opens have
   pub priority : ℤ
   pub needs : List Need
   pub act : Act
@@ -129,7 +129,7 @@ kind_of (Call b rs os) = Control
 kind_of (Set r e) = Leaf
 kind_of (Fill r es) = Leaf
 kind_of (Copy r) = Control
-kind_of (Put r i e) = Control
+kind_of (InsertElement r i e) = Control
 kind_of (Print e) = Leaf
 kind_of (Assert e) = Leaf
 kind_of (If e b d) = Control
@@ -139,7 +139,7 @@ kind_of (Wait hs b) = Control
 
 -- an entry without effect, and a body without entries
 abbrev pub blank_entry : Entry
-blank_entry = record { node = 0; at = 0; mark = 0; priority = pos 0; needs = []; act = Print (constant (Number (pos 0))); reads = []; writes = [] }
+blank_entry = record { node = 0; at = 0; offset = 0; priority = pos 0; needs = []; act = Print (constant (Number (pos 0))); reads = []; writes = [] }
 
 abbrev pub blank_body : Body
 blank_body = record { opener = ByMain; makes = []; entries = [] }
@@ -160,7 +160,7 @@ body C b = nth blank_body C.bodies b
 -- the entry of the call whose function name is at an offset
 abbrev pub call_from : ℕ → List Entry → ℕ → ℕ
 call_from i [] at = 0
-call_from i (e ∷ es) at = elim (is_call e.act && nat_eq e.mark at) [ true ↦ i | false ↦ call_from (suc i) es at ]
+call_from i (e ∷ es) at = elim (is_call e.act && nat_eq e.offset at) [ true ↦ i | false ↦ call_from (suc i) es at ]
   where
     is_call : Act → Bool
     is_call (Call b rs os) = true
@@ -199,7 +199,7 @@ ways (Call b rs os) = (Calling, b) ∷ []
 ways (Set r e) = []
 ways (Fill r es) = []
 ways (Copy r) = []
-ways (Put r i e) = []
+ways (InsertElement r i e) = []
 ways (Print e) = []
 ways (Assert e) = []
 ways (If e b None) = (Through, b) ∷ []
@@ -216,7 +216,7 @@ stored_of n (Call b rs os) = []
 stored_of n (Set r e) = r ∷ []
 stored_of n (Fill r es) = r ∷ []
 stored_of n (Copy r) = r ∷ []
-stored_of n (Put r i e) = r ∷ []
+stored_of n (InsertElement r i e) = r ∷ []
 stored_of n (Print e) = []
 stored_of n (Assert e) = []
 stored_of n (If e b d) = []

@@ -15,7 +15,7 @@ use Rattle.values.specs.Maps.{rising}
 use Rattle.values.specs.Ranges.{range_count, value_in}
 use Rattle.values.specs.Values.{number_of, truth_of, scalar_of, elements_of}
 use Rattle.values.specs.Operators.{literal, evaluated}
-use Rattle.task_code.specs.Code.{Expr, constant, need, operation, Exprs, no_operand, operand, Act, Cell, Read, Call, Set, Fill, Copy, Put, Print, Assert, If, Range, Each, Wait}
+use Rattle.task_code.specs.Code.{Expr, constant, need, operation, Exprs, no_operand, operand, Act, Cell, Read, Call, Set, Fill, Copy, InsertElement, Print, Assert, If, Range, Each, Wait}
 
 -- the faults of an entry: a fault of an operation, a missing element of an array, or a path that would be too long
 pub data EntryFault : Type 0 where
@@ -101,10 +101,10 @@ content (Some Missing) = []
 content (Some (Content xs)) = listed xs
 
 -- the index is evaluated before the right side
-abbrev pub put : Result Value OpFault → Result Value OpFault → Computed
-put (Err f) right = Fails (InOperation f)
-put (Ok i) (Err f) = Fails (InOperation f)
-put (Ok i) (Ok v) = Inserts ((key_of (scalar_of i), scalar_of v) ∷ [])
+abbrev pub insert_element : Result Value OpFault → Result Value OpFault → Computed
+insert_element (Err f) right = Fails (InOperation f)
+insert_element (Ok i) (Err f) = Fails (InOperation f)
+insert_element (Ok i) (Ok v) = Inserts ((key_of (scalar_of i), scalar_of v) ∷ [])
 
 -- the branch that a condition takes
 abbrev pub branched : Result Value OpFault → Computed
@@ -136,7 +136,7 @@ compute (Call b rs os) xs = Opens
 compute (Set r e) xs = given (eval xs e)
 compute (Fill r es) xs = filled (evaluated literal (evals xs es))
 compute (Copy r) xs = Inserts (content (answer_at xs 0))
-compute (Put r i e) xs = put (eval xs i) (eval xs e)
+compute (InsertElement r i e) xs = insert_element (eval xs i) (eval xs e)
 compute (Print e) xs = given (eval xs e)
 compute (Assert e) xs = given (eval xs e)
 compute (If e b d) xs = branched (eval xs e)
@@ -152,7 +152,7 @@ leaf_result (Call b rs os) xs = None
 leaf_result (Set r e) xs = Some (eval xs e)
 leaf_result (Fill r es) xs = Some (evaluated literal (evals xs es))
 leaf_result (Copy r) xs = None
-leaf_result (Put r i e) xs = None
+leaf_result (InsertElement r i e) xs = None
 leaf_result (Print e) xs = Some (eval xs e)
 leaf_result (Assert e) xs = Some (eval xs e)
 leaf_result (If e b d) xs = None

@@ -2,13 +2,13 @@
 use Rattle.std.specs.Prelude.{ℕ, zero, suc, Bool, true, false, ◌&&◌, List, [], ◌∷◌, ◌++◌, map, take, drop, length, Option, Some, None, pos, nat_le}
 use Rattle.dataflow.specs.System.{Bad, Effect, Good, Opening, Outcome, Write}
 use Rattle.std.specs.List.{flat_map}
-use Rattle.task_code.specs.Code.{Act, Assert, Call, Cell, Code, Copy, Each, Fill, If, Loop, Print, Put, Range, Read, Set, Wait, body, entry, here, loop_of, scalar}
+use Rattle.task_code.specs.Code.{Act, Assert, Call, Cell, Code, Copy, Each, Fill, If, Loop, Print, InsertElement, Range, Read, Set, Wait, body, entry, here, loop_of, scalar}
 use Rattle.task_code.specs.Compute.{Computed, Elements, EntryFault, Fails, Gives, Inserts, Opens, Takes, TooDeep, Turns, key_scalar}
 use Rattle.task_code.specs.Places.{Datum, Place, Step, place_at}
 use Rattle.values.specs.declared.key.Key.{Key}
 use Rattle.values.specs.declared.key.Key.TheVariants.{Number as number_key}
 use Rattle.values.specs.declared.value.Scalar.{Scalar}
-use Rattle.values.specs.Limits.{chunk_size, most_steps}
+use Rattle.values.specs.Limits.{chunk_size, max_path_steps}
 
 -- the task that opens the script, or an entry in an instance of a block; chunk c of a loop begins at turn c times
 -- `chunk_size`, and other entries have chunk 0 alone
@@ -46,7 +46,7 @@ turns_of _ = []
 
 -- the path extended by one step
 abbrev pub step_at : ℕ → Key → List Step → List Step
-step_at mark k p = record { offset = mark; key = k } ∷ p
+step_at offset k p = record { offset = offset; key = k } ∷ p
 
 -- the block of an `else`, if there is one
 abbrev pub else_instance : Option ℕ → List Step → List (ℕ × List Step)
@@ -55,29 +55,29 @@ else_instance (Some b) q = (b, q) ∷ []
 
 -- the block that a condition opens
 abbrev pub branch_instances : Computed → ℕ → Option ℕ → ℕ → List Step → List (ℕ × List Step)
-branch_instances (Takes true) b d mark p = (b, step_at mark (number_key (pos 0)) p) ∷ []
-branch_instances (Takes false) b d mark p = else_instance d (step_at mark (number_key (pos 1)) p)
-branch_instances _ b d mark p = []
+branch_instances (Takes true) b d offset p = (b, step_at offset (number_key (pos 0)) p) ∷ []
+branch_instances (Takes false) b d offset p = else_instance d (step_at offset (number_key (pos 1)) p)
+branch_instances _ b d offset p = []
 
 -- the blocks of turns
 abbrev pub turn_instances : Loop → ℕ → List Step → Elements → List (ℕ × List Step)
-turn_instances w mark p ts = map (λ (t : Key × Scalar). (w.body, step_at mark t.0 p)) ts
+turn_instances w offset p ts = map (λ (t : Key × Scalar). (w.body, step_at offset t.0 p)) ts
 
 -- the blocks that an entry opens
 abbrev pub instances : Act → ℕ → List Step → ℕ → Computed → List (ℕ × List Step)
-instances (Cell e) mark p c x = []
-instances Read mark p c x = []
-instances (Call b rs os) mark p c x = at_first c ((b, step_at mark (number_key (pos 0)) p) ∷ [])
-instances (Set r e) mark p c x = []
-instances (Fill r es) mark p c x = []
-instances (Copy r) mark p c x = []
-instances (Put r i e) mark p c x = []
-instances (Print e) mark p c x = []
-instances (Assert e) mark p c x = []
-instances (If e b d) mark p c x = at_first c (branch_instances x b d mark p)
-instances (Range l h s w) mark p c x = turn_instances w mark p (chunk c (turns_of x))
-instances (Each w) mark p c x = turn_instances w mark p (chunk c (turns_of x))
-instances (Wait hs b) mark p c x = at_first c ((b, p) ∷ [])
+instances (Cell e) offset p c x = []
+instances Read offset p c x = []
+instances (Call b rs os) offset p c x = at_first c ((b, step_at offset (number_key (pos 0)) p) ∷ [])
+instances (Set r e) offset p c x = []
+instances (Fill r es) offset p c x = []
+instances (Copy r) offset p c x = []
+instances (InsertElement r i e) offset p c x = []
+instances (Print e) offset p c x = []
+instances (Assert e) offset p c x = []
+instances (If e b d) offset p c x = at_first c (branch_instances x b d offset p)
+instances (Range l h s w) offset p c x = turn_instances w offset p (chunk c (turns_of x))
+instances (Each w) offset p c x = turn_instances w offset p (chunk c (turns_of x))
+instances (Wait hs b) offset p c x = at_first c ((b, p) ∷ [])
 
 -- one more item for the remaining turns of a loop, if there are any
 abbrev pub rest_if : Bool → ℕ → List Step → ℕ → List (Opening Task Place)
@@ -114,8 +114,8 @@ turn_bound (Some n) q k = record { place = Datum q (scalar n); key = only; value
 
 -- the writes of the variables of a turn into its block
 abbrev pub bound : Loop → ℕ → List Step → Key × Scalar → List (Write Place Key Scalar)
-bound w mark p t =
-    record { place = Datum (step_at mark t.0 p) (scalar w.value); key = only; value = t.1 } ∷ turn_bound w.turn (step_at mark t.0 p) t.0
+bound w offset p t =
+    record { place = Datum (step_at offset t.0 p) (scalar w.value); key = only; value = t.1 } ∷ turn_bound w.turn (step_at offset t.0 p) t.0
 
 -- the lines that an entry prints
 abbrev pub prints : Act → Computed → List Scalar
@@ -132,7 +132,7 @@ steps_on _ = false
 
 -- the path would exceed the maximum number of steps
 abbrev pub is_too_deep : Act → List Step → List (ℕ × List Step) → Bool
-is_too_deep a p ss = nat_le most_steps (length p) && (steps_on a && is_some_list ss)
+is_too_deep a p ss = nat_le max_path_steps (length p) && (steps_on a && is_some_list ss)
 
 -- an effect, or TooDeep in its place
 abbrev pub limited : Bool → Effect Task Place Key Scalar → Outcome Task Place Key Scalar EntryFault
@@ -155,26 +155,26 @@ module _ (C : Code) where
 
   -- the writes of an entry
   abbrev pub stores : Act → ℕ → ℕ → List Step → ℕ → Computed → List (Write Place Key Scalar)
-  stores (Cell e) node mark p c x = stored_at (place_at C p (here (scalar node))) x
-  stores Read node mark p c x = stored_at (place_at C p (here (scalar node))) x
-  stores (Call b rs os) node mark p c x = []
-  stores (Set r e) node mark p c x = stored_at (place_at C p r) x
-  stores (Fill r es) node mark p c x = inserted_at (place_at C p r) x
-  stores (Copy r) node mark p c x = inserted_at (place_at C p r) x
-  stores (Put r i e) node mark p c x = inserted_at (place_at C p r) x
-  stores (Print e) node mark p c x = []
-  stores (Assert e) node mark p c x = []
-  stores (If e b d) node mark p c x = []
-  stores (Range l h s w) node mark p c x = flat_map (bound w mark p) (chunk c (turns_of x))
-  stores (Each w) node mark p c x = flat_map (bound w mark p) (chunk c (turns_of x))
-  stores (Wait hs b) node mark p c x = []
+  stores (Cell e) node offset p c x = stored_at (place_at C p (here (scalar node))) x
+  stores Read node offset p c x = stored_at (place_at C p (here (scalar node))) x
+  stores (Call b rs os) node offset p c x = []
+  stores (Set r e) node offset p c x = stored_at (place_at C p r) x
+  stores (Fill r es) node offset p c x = inserted_at (place_at C p r) x
+  stores (Copy r) node offset p c x = inserted_at (place_at C p r) x
+  stores (InsertElement r i e) node offset p c x = inserted_at (place_at C p r) x
+  stores (Print e) node offset p c x = []
+  stores (Assert e) node offset p c x = []
+  stores (If e b d) node offset p c x = []
+  stores (Range l h s w) node offset p c x = flat_map (bound w offset p) (chunk c (turns_of x))
+  stores (Each w) node offset p c x = flat_map (bound w offset p) (chunk c (turns_of x))
+  stores (Wait hs b) node offset p c x = []
 
   -- the whole effect of an item with this result
   abbrev pub effect_at : ℕ → List Step → ℕ → Computed → Effect Task Place Key Scalar
   effect_at i p c x =
       let e = entry C i in
       record {
-        writes = stores e.act e.node e.mark p c x;
+        writes = stores e.act e.node e.offset p c x;
         lines = prints e.act x;
-        opens = map block (instances e.act e.mark p c x) ++ rest (loop_of e.act) i p c x;
+        opens = map block (instances e.act e.offset p c x) ++ rest (loop_of e.act) i p c x;
       }

@@ -15,7 +15,7 @@ module _ (C : Code) where
   -- an entry uses a name itself, or an entry of a body that it opens leads to the name that this name has there
   pub data Leads (own : Entry → List Name) : ℕ → Name → Type 0 where
     itself : (i : ℕ) (r : Name) → In r (own (entry C i)) → Leads own i r
-    through : (i j b : ℕ) (w : Way) (r inner : Name) → In (w, b) (ways (entry C i).act) → In j (body C b).entries → Leads own j inner → (Declared C b inner → ⊥) → Seen C (entry C i).mark w inner r → Leads own i r
+    through : (i j b : ℕ) (w : Way) (r inner : Name) → In (w, b) (ways (entry C i).act) → In j (body C b).entries → Leads own j inner → (Declared C b inner → ⊥) → Seen C (entry C i).offset w inner r → Leads own i r
 
   -- no entry has an unused right
   pub record IsExact : Type 0 where
@@ -24,17 +24,17 @@ module _ (C : Code) where
 
   -- the outside name of a name in a body
   abbrev pub outward : ℕ → Way → ℕ → Name → List Name
-  outward mark InPlace b q = if is_declared C b q then [] else q ∷ []
-  outward mark Through b q = by q.up
+  outward offset InPlace b q = if is_declared C b q then [] else q ∷ []
+  outward offset Through b q = by q.up
     where
       by : ℕ → List Name
       by zero = []
       by (suc up) = record { up = up; owned = q.owned } ∷ []
-  outward mark Calling b q = by q.up q.owned
+  outward offset Calling b q = by q.up q.owned
     where
       by : ℕ → Owned → List Name
       by zero (Local v) = []
-      by zero (Parameter k a) = elim (argument C mark k a) [ None ↦ [] | Some x ↦ elim x [ Named r ↦ r ∷ [] | Fixed v ↦ [] ] ]
+      by zero (Parameter k a) = elim (argument C offset k a) [ None ↦ [] | Some x ↦ elim x [ Named r ↦ r ∷ [] | Fixed v ↦ [] ] ]
       by (suc up) x = []
 
   -- the names that an entry leads to through at most `depth` bodies
@@ -42,7 +42,7 @@ module _ (C : Code) where
   led_to own zero i = own (entry C i)
   led_to own (suc depth) i =
       own (entry C i)
-      ++ flat_map (λ s. flat_map (λ j. flat_map (outward (entry C i).mark s.0 s.1) (led_to own depth j)) (body C s.1).entries) (ways (entry C i).act)
+      ++ flat_map (λ s. flat_map (λ j. flat_map (outward (entry C i).offset s.0 s.1) (led_to own depth j)) (body C s.1).entries) (ways (entry C i).act)
 
   -- each right is found within `depth` bodies
   abbrev pub is_exact : ℕ → Bool

@@ -5,7 +5,7 @@ use Rattle.dataflow.specs.Facts.{Live, Known, Ever, EverGiven}
 use Rattle.dataflow.specs.Machine.{Fault, IsKnown}
 use Rattle.values.specs.declared.key.Key.{Key}
 use Rattle.values.specs.declared.value.Scalar.{Scalar}
-use Rattle.task_code.specs.Code.{Need, Header, Act, Cell, Read, Call, Set, Fill, Copy, Put, Print, Assert, If, Range, Each, Wait, Code, entry}
+use Rattle.task_code.specs.Code.{Need, Header, Act, Cell, Read, Call, Set, Fill, Copy, InsertElement, Print, Assert, If, Range, Each, Wait, Code, entry}
 use Rattle.task_code.specs.Compute.{EntryFault}
 use Rattle.task_code.specs.Places.{Step, Place}
 use Rattle.task_code.specs.Effects.{Task, Item}
@@ -20,7 +20,7 @@ counts (Call b rs os) = false
 counts (Set r e) = true
 counts (Fill r es) = true
 counts (Copy r) = true
-counts (Put r i e) = true
+counts (InsertElement r i e) = true
 counts (Print e) = true
 counts (Assert e) = true
 counts (If e b d) = true

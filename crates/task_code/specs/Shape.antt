@@ -1,7 +1,7 @@
 -- The shape of entries: an act has the needs that it uses, and its names are scalars and arrays as it requires.
 use Rattle.std.specs.Prelude.{ℕ, Bool, true, false, not, ◌&&◌, nat_lt, List, [], ◌∷◌, length}
 use Rattle.std.specs.List.{list_all, list_any}
-use Rattle.task_code.specs.Code.{Need, Stored, Closed, At, AtKey, Expr, constant, need, operation, Exprs, no_operand, operand, Header, Act, Cell, Read, Call, Set, Fill, Copy, Put, Print, Assert, If, Range, Each, Wait, Entry, is_array_name}
+use Rattle.task_code.specs.Code.{Need, Stored, Closed, At, AtKey, Expr, constant, need, operation, Exprs, no_operand, operand, Header, Act, Cell, Read, Call, Set, Fill, Copy, InsertElement, Print, Assert, If, Range, Each, Wait, Entry, is_array_name}
 use Rattle.task_code.specs.Places.{name_eq}
 
 -- needs for stored scalars name scalars, and needs for arrays name arrays
@@ -69,7 +69,7 @@ has_shape (Call b rs os) ns = is_none ns
 has_shape (Set r e) ns = not (is_array_name r) && feeds ns (is_fed (length ns) e)
 has_shape (Fill r es) ns = is_array_name r && feeds ns (are_fed (length ns) es)
 has_shape (Copy r) ns = is_array_name r && one_array ns
-has_shape (Put r i e) ns = is_array_name r && feeds ns (is_fed (length ns) i && is_fed (length ns) e)
+has_shape (InsertElement r i e) ns = is_array_name r && feeds ns (is_fed (length ns) i && is_fed (length ns) e)
 has_shape (Print e) ns = feeds ns (is_fed (length ns) e)
 has_shape (Assert e) ns = feeds ns (is_fed (length ns) e)
 has_shape (If e b d) ns = feeds ns (is_fed (length ns) e)

@@ -70,7 +70,7 @@ module _ (C : Code) where
   task_effect Main xs = Good (record { writes = []; lines = []; opens = block C (0, []) ∷ [] })
   task_effect (Item i p c) xs =
       let x = compute (entry C i).act (answered p (entry C i).needs xs) in
-      outcome_of x (is_too_deep (entry C i).act p (instances (entry C i).act (entry C i).mark p c x)) (effect_at C i p c x)
+      outcome_of x (is_too_deep (entry C i).act p (instances (entry C i).act (entry C i).offset p c x)) (effect_at C i p c x)
 
   -- the inputs of a need; a literal has none
   abbrev pub inputs_at : List Step → Need → List (Input Place Key)

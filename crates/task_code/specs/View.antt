@@ -99,7 +99,7 @@ act_view (Does.Call b rs os) = Pure.Call b (map argument_view rs.items) (map nam
 act_view (Does.Set r e) = Pure.Set (name_view r) (expr_view e)
 act_view (Does.Fill r es) = Pure.Fill (name_view r) (exprs_view es.items)
 act_view (Does.Copy r) = Pure.Copy (name_view r)
-act_view (Does.Put r i e) = Pure.Put (name_view r) (expr_view i) (expr_view e)
+act_view (Does.InsertElement r i e) = Pure.InsertElement (name_view r) (expr_view i) (expr_view e)
 act_view (Does.Print e) = Pure.Print (expr_view e)
 act_view (Does.Assert e) = Pure.Assert (expr_view e)
 act_view (Does.If e b d) = Pure.If (expr_view e) b d
@@ -113,7 +113,7 @@ entry_view e =
     record {
       node = e.node;
       at = e.at;
-      mark = e.mark;
+      offset = e.offset;
       priority = e.priority;
       needs = map need_view e.needs.items;
       act = act_view e.act;

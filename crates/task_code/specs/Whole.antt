@@ -28,25 +28,25 @@ module _ (C : Code) where
   -- the entry that opens the body this way has the right to the outside name
   pub record SeenFrom (rights : Entry → List Name) (i : ℕ) (w : Way) (r : Name) : Type 0 where
     pub outside : Name
-    pub seen : Seen (entry C i).mark w r outside
+    pub seen : Seen (entry C i).offset w r outside
     pub right : In outside (rights (entry C i))
 
   -- the body's opener is this entry, or, for a function's body, a call that its path identifies
   abbrev pub OpenedBy : ℕ → Way → Opener → Type 0
   OpenedBy i InPlace o = o ≡ ByWait i
   OpenedBy i Through o = o ≡ ByStep i
-  OpenedBy i Calling o = (o ≡ ByCalls) × (call_at C (entry C i).mark ≡ i)
+  OpenedBy i Calling o = (o ≡ ByCalls) × (call_at C (entry C i).offset ≡ i)
 
   -- an entry, and a body that it opens this way
   pub record Fits (i : ℕ) (w : Way) (b : ℕ) : Type 0 where
     pub opened : OpenedBy i w (body C b).opener
     -- every name that the entries of the body may read or write is declared in it, or the opener has the right to it
-    pub reads : (j : ℕ) (r : Name) → In j (body C b).entries → In r (entry C j).reads → (Declared b r ⊎ SeenFrom (λ e. e.reads) i w r) ⊎ Fixes (entry C i).mark w r
+    pub reads : (j : ℕ) (r : Name) → In j (body C b).entries → In r (entry C j).reads → (Declared b r ⊎ SeenFrom (λ e. e.reads) i w r) ⊎ Fixes (entry C i).offset w r
     pub writes : (j : ℕ) (r : Name) → In j (body C b).entries → In r (entry C j).writes → Declared b r ⊎ SeenFrom (λ e. e.writes) i w r
     -- the wait has no right to write a variable that its body declares
     pub inside : w ≡ InPlace → (v : Variable) → In v (body C b).makes → In (here v) (entry C i).writes → ⊥
     -- two parameters that a called body writes are two variables of the caller
-    pub outputs : w ≡ Calling → (j j' k k' : ℕ) (r : Name) → In j (body C b).entries → In j' (body C b).entries → In (record { up = 0; owned = Parameter k false }) (entry C j).writes → In (record { up = 0; owned = Parameter k' false }) (entry C j').writes → argument C (entry C i).mark k false ≡ Some (Named r) → argument C (entry C i).mark k' false ≡ Some (Named r) → k ≡ k'
+    pub outputs : w ≡ Calling → (j j' k k' : ℕ) (r : Name) → In j (body C b).entries → In j' (body C b).entries → In (record { up = 0; owned = Parameter k false }) (entry C j).writes → In (record { up = 0; owned = Parameter k' false }) (entry C j').writes → argument C (entry C i).offset k false ≡ Some (Named r) → argument C (entry C i).offset k' false ≡ Some (Named r) → k ≡ k'
 
   -- a loop writes no scalar from outside; its variables are declared by its body, and nothing else writes them
   pub record FitsLoop (i : ℕ) (l : Loop) : Type 0 where

@@ -2,7 +2,7 @@
 use Rattle.std.specs.Prelude.{◌≡◌, ℕ, true, false, length, [], ◌∷◌, Option, None, Some, pos}
 use Rattle.dataflow.specs.Machine.{Begin, ElementTwice, End, Quiet, Run}
 use Rattle.dataflow.specs.System.{Answer, Bad, Found, Good, Missing, Outcome}
-use Rattle.task_code.specs.Code.{At, AtKey, Each, ByCalls, ByMain, ByStep, ByWait, Call, Cell, Closed, Code, Expr, Fill, Fixed, If, Local, Name, Named, Parameter, Print, Put, Range, Read, Set, Stored, Variable, Wait, constant, here, need, no_operand, operand, operation, scalar}
+use Rattle.task_code.specs.Code.{At, AtKey, Each, ByCalls, ByMain, ByStep, ByWait, Call, Cell, Closed, Code, Expr, Fill, Fixed, If, Local, Name, Named, Parameter, Print, InsertElement, Range, Read, Set, Stored, Variable, Wait, constant, here, need, no_operand, operand, operation, scalar}
 use Rattle.task_code.specs.Compute.{EntryFault, InOperation, NoElement, range_turns}
 use Rattle.task_code.specs.Effects.{Item, Task, chunk, only}
 use Rattle.task_code.specs.Places.{Constant, Datum, Place, Step, place_at}
@@ -52,7 +52,7 @@ abbrev pub hello : Code
 hello =
     record {
       entries =
-          record { node = 1; at = 0; mark = 0; priority = pos 0; needs = []; act = Print (operation (printf (Byte 104 ∷ Byte 101 ∷ Byte 108 ∷ Byte 108 ∷ Byte 111 ∷ [])) no_operand); reads = []; writes = [] }
+          record { node = 1; at = 0; offset = 0; priority = pos 0; needs = []; act = Print (operation (printf (Byte 104 ∷ Byte 101 ∷ Byte 108 ∷ Byte 108 ∷ Byte 111 ∷ [])) no_operand); reads = []; writes = [] }
           ∷ [];
       bodies =
           record { opener = ByMain; makes = []; entries = 0 ∷ [] }
@@ -66,9 +66,9 @@ used_before_assigned =
     let y = scalar 2 in
     record {
       entries =
-          record { node = 3; at = 14; mark = 14; priority = pos 0; needs = Stored (here y) ∷ []; act = Set (here x) (two (sum_of (Plus ∷ [])) (need 0) (num 1)); reads = here y ∷ []; writes = here x ∷ [] }
-          ∷ record { node = 4; at = 25; mark = 25; priority = pos 0; needs = []; act = Set (here y) (num 2); reads = []; writes = here y ∷ [] }
-          ∷ record { node = 5; at = 32; mark = 32; priority = pos 0; needs = Stored (here x) ∷ []; act = Print print_number; reads = here x ∷ []; writes = [] }
+          record { node = 3; at = 14; offset = 14; priority = pos 0; needs = Stored (here y) ∷ []; act = Set (here x) (two (sum_of (Plus ∷ [])) (need 0) (num 1)); reads = here y ∷ []; writes = here x ∷ [] }
+          ∷ record { node = 4; at = 25; offset = 25; priority = pos 0; needs = []; act = Set (here y) (num 2); reads = []; writes = here y ∷ [] }
+          ∷ record { node = 5; at = 32; offset = 32; priority = pos 0; needs = Stored (here x) ∷ []; act = Print print_number; reads = here x ∷ []; writes = [] }
           ∷ [];
       bodies =
           record { opener = ByMain; makes = x ∷ y ∷ []; entries = 0 ∷ 1 ∷ 2 ∷ [] }
@@ -86,14 +86,14 @@ filled_by_loop =
     let last = scalar 9 in
     record {
       entries =
-          record { node = 2; at = 9; mark = 9; priority = pos 0; needs = []; act = Put (here a) (num 0) (num 1); reads = []; writes = here a ∷ [] }
-          ∷ record { node = 4; at = 19; mark = 19; priority = pos 0; needs = []; act = Range (num 1) (num 5) (num 1) (record { body = 1; value = 3; turn = None }); reads = here a ∷ []; writes = here a ∷ [] }
-          ∷ record { node = 9; at = 61; mark = 74; priority = pos 0; needs = AtKey (here a) (number_key (pos 5)) ∷ []; act = Read; reads = here a ∷ []; writes = here last ∷ [] }
-          ∷ record { node = 10; at = 61; mark = 61; priority = pos 0; needs = Stored (here last) ∷ []; act = Print print_number; reads = here last ∷ []; writes = [] }
-          ∷ record { node = 5; at = 40; mark = 49; priority = pos 0; needs = Stored (here i) ∷ []; act = Cell (two (sum_of (Minus ∷ [])) (need 0) (num 1)); reads = here i ∷ []; writes = here before ∷ [] }
-          ∷ record { node = 6; at = 40; mark = 47; priority = pos 0; needs = At (outer a) (here before) ∷ []; act = Read; reads = outer a ∷ here before ∷ []; writes = here found ∷ [] }
-          ∷ record { node = 7; at = 40; mark = 47; priority = pos 0; needs = Stored (here found) ∷ []; act = Cell (two (product_of (Times ∷ [])) (need 0) (num 2)); reads = here found ∷ []; writes = here double ∷ [] }
-          ∷ record { node = 8; at = 40; mark = 40; priority = pos 0; needs = Stored (here i) ∷ Stored (here double) ∷ []; act = Put (outer a) (need 0) (need 1); reads = here i ∷ here double ∷ []; writes = outer a ∷ [] }
+          record { node = 2; at = 9; offset = 9; priority = pos 0; needs = []; act = InsertElement (here a) (num 0) (num 1); reads = []; writes = here a ∷ [] }
+          ∷ record { node = 4; at = 19; offset = 19; priority = pos 0; needs = []; act = Range (num 1) (num 5) (num 1) (record { body = 1; value = 3; turn = None }); reads = here a ∷ []; writes = here a ∷ [] }
+          ∷ record { node = 9; at = 61; offset = 74; priority = pos 0; needs = AtKey (here a) (number_key (pos 5)) ∷ []; act = Read; reads = here a ∷ []; writes = here last ∷ [] }
+          ∷ record { node = 10; at = 61; offset = 61; priority = pos 0; needs = Stored (here last) ∷ []; act = Print print_number; reads = here last ∷ []; writes = [] }
+          ∷ record { node = 5; at = 40; offset = 49; priority = pos 0; needs = Stored (here i) ∷ []; act = Cell (two (sum_of (Minus ∷ [])) (need 0) (num 1)); reads = here i ∷ []; writes = here before ∷ [] }
+          ∷ record { node = 6; at = 40; offset = 47; priority = pos 0; needs = At (outer a) (here before) ∷ []; act = Read; reads = outer a ∷ here before ∷ []; writes = here found ∷ [] }
+          ∷ record { node = 7; at = 40; offset = 47; priority = pos 0; needs = Stored (here found) ∷ []; act = Cell (two (product_of (Times ∷ [])) (need 0) (num 2)); reads = here found ∷ []; writes = here double ∷ [] }
+          ∷ record { node = 8; at = 40; offset = 40; priority = pos 0; needs = Stored (here i) ∷ Stored (here double) ∷ []; act = InsertElement (outer a) (need 0) (need 1); reads = here i ∷ here double ∷ []; writes = outer a ∷ [] }
           ∷ [];
       bodies =
           record { opener = ByMain; makes = a ∷ last ∷ []; entries = 0 ∷ 1 ∷ 2 ∷ 3 ∷ [] }
@@ -108,10 +108,10 @@ key_written_twice =
     let found = scalar 4 in
     record {
       entries =
-          record { node = 2; at = 9; mark = 9; priority = pos 0; needs = []; act = Put (here a) (num 0) (num 1); reads = []; writes = here a ∷ [] }
-          ∷ record { node = 3; at = 19; mark = 19; priority = pos 0; needs = []; act = Put (here a) (num 0) (num 2); reads = []; writes = here a ∷ [] }
-          ∷ record { node = 4; at = 29; mark = 42; priority = pos 0; needs = AtKey (here a) (number_key (pos 0)) ∷ []; act = Read; reads = here a ∷ []; writes = here found ∷ [] }
-          ∷ record { node = 5; at = 29; mark = 29; priority = pos 0; needs = Stored (here found) ∷ []; act = Print print_number; reads = here found ∷ []; writes = [] }
+          record { node = 2; at = 9; offset = 9; priority = pos 0; needs = []; act = InsertElement (here a) (num 0) (num 1); reads = []; writes = here a ∷ [] }
+          ∷ record { node = 3; at = 19; offset = 19; priority = pos 0; needs = []; act = InsertElement (here a) (num 0) (num 2); reads = []; writes = here a ∷ [] }
+          ∷ record { node = 4; at = 29; offset = 42; priority = pos 0; needs = AtKey (here a) (number_key (pos 0)) ∷ []; act = Read; reads = here a ∷ []; writes = here found ∷ [] }
+          ∷ record { node = 5; at = 29; offset = 29; priority = pos 0; needs = Stored (here found) ∷ []; act = Print print_number; reads = here found ∷ []; writes = [] }
           ∷ [];
       bodies =
           record { opener = ByMain; makes = a ∷ found ∷ []; entries = 0 ∷ 1 ∷ 2 ∷ 3 ∷ [] }
@@ -133,16 +133,16 @@ fibonacci =
     let r1 = parameter 1 1 in
     record {
       entries =
-          record { node = 1; at = 79; mark = 92; priority = pos 0; needs = []; act = Call 1 (Fixed (Number (pos 10)) ∷ []) (here result ∷ []); reads = []; writes = here result ∷ [] }
-          ∷ record { node = 2; at = 79; mark = 79; priority = pos 0; needs = Stored (here result) ∷ []; act = Print print_number; reads = here result ∷ []; writes = [] }
-          ∷ record { node = 3; at = 21; mark = 25; priority = pos 0; needs = Stored n ∷ []; act = Cell (two (compare Less) (need 0) (num 2)); reads = n ∷ []; writes = here small ∷ [] }
-          ∷ record { node = 4; at = 21; mark = 21; priority = pos 0; needs = Stored (here small) ∷ []; act = If (need 0) 2 (Some 3); reads = here small ∷ n ∷ []; writes = parameter 0 1 ∷ [] }
-          ∷ record { node = 5; at = 34; mark = 34; priority = pos 0; needs = Stored n1 ∷ []; act = Set r1 (need 0); reads = n1 ∷ []; writes = r1 ∷ [] }
-          ∷ record { node = 6; at = 50; mark = 58; priority = pos 0; needs = Stored n1 ∷ []; act = Cell (two (sum_of (Minus ∷ [])) (need 0) (num 1)); reads = n1 ∷ []; writes = here below1 ∷ [] }
-          ∷ record { node = 7; at = 50; mark = 54; priority = pos 0; needs = []; act = Call 1 (Named (here below1) ∷ []) (here fib1 ∷ []); reads = here below1 ∷ []; writes = here fib1 ∷ [] }
-          ∷ record { node = 8; at = 50; mark = 69; priority = pos 0; needs = Stored n1 ∷ []; act = Cell (two (sum_of (Minus ∷ [])) (need 0) (num 2)); reads = n1 ∷ []; writes = here below2 ∷ [] }
-          ∷ record { node = 9; at = 50; mark = 65; priority = pos 0; needs = []; act = Call 1 (Named (here below2) ∷ []) (here fib2 ∷ []); reads = here below2 ∷ []; writes = here fib2 ∷ [] }
-          ∷ record { node = 10; at = 50; mark = 50; priority = pos 0; needs = Stored (here fib1) ∷ Stored (here fib2) ∷ []; act = Set r1 (two (sum_of (Plus ∷ [])) (need 0) (need 1)); reads = here fib1 ∷ here fib2 ∷ []; writes = r1 ∷ [] }
+          record { node = 1; at = 79; offset = 92; priority = pos 0; needs = []; act = Call 1 (Fixed (Number (pos 10)) ∷ []) (here result ∷ []); reads = []; writes = here result ∷ [] }
+          ∷ record { node = 2; at = 79; offset = 79; priority = pos 0; needs = Stored (here result) ∷ []; act = Print print_number; reads = here result ∷ []; writes = [] }
+          ∷ record { node = 3; at = 21; offset = 25; priority = pos 0; needs = Stored n ∷ []; act = Cell (two (compare Less) (need 0) (num 2)); reads = n ∷ []; writes = here small ∷ [] }
+          ∷ record { node = 4; at = 21; offset = 21; priority = pos 0; needs = Stored (here small) ∷ []; act = If (need 0) 2 (Some 3); reads = here small ∷ n ∷ []; writes = parameter 0 1 ∷ [] }
+          ∷ record { node = 5; at = 34; offset = 34; priority = pos 0; needs = Stored n1 ∷ []; act = Set r1 (need 0); reads = n1 ∷ []; writes = r1 ∷ [] }
+          ∷ record { node = 6; at = 50; offset = 58; priority = pos 0; needs = Stored n1 ∷ []; act = Cell (two (sum_of (Minus ∷ [])) (need 0) (num 1)); reads = n1 ∷ []; writes = here below1 ∷ [] }
+          ∷ record { node = 7; at = 50; offset = 54; priority = pos 0; needs = []; act = Call 1 (Named (here below1) ∷ []) (here fib1 ∷ []); reads = here below1 ∷ []; writes = here fib1 ∷ [] }
+          ∷ record { node = 8; at = 50; offset = 69; priority = pos 0; needs = Stored n1 ∷ []; act = Cell (two (sum_of (Minus ∷ [])) (need 0) (num 2)); reads = n1 ∷ []; writes = here below2 ∷ [] }
+          ∷ record { node = 9; at = 50; offset = 65; priority = pos 0; needs = []; act = Call 1 (Named (here below2) ∷ []) (here fib2 ∷ []); reads = here below2 ∷ []; writes = here fib2 ∷ [] }
+          ∷ record { node = 10; at = 50; offset = 50; priority = pos 0; needs = Stored (here fib1) ∷ Stored (here fib2) ∷ []; act = Set r1 (two (sum_of (Plus ∷ [])) (need 0) (need 1)); reads = here fib1 ∷ here fib2 ∷ []; writes = r1 ∷ [] }
           ∷ [];
       bodies =
           record { opener = ByMain; makes = result ∷ []; entries = 0 ∷ 1 ∷ [] }
@@ -162,11 +162,11 @@ filled_by_call =
     let b = array_parameter 0 1 in
     record {
       entries =
-          record { node = 2; at = 59; mark = 63; priority = pos 0; needs = []; act = Call 1 (Fixed (Number (pos 5)) ∷ []) (here a ∷ []); reads = []; writes = here a ∷ [] }
-          ∷ record { node = 3; at = 72; mark = 72; priority = pos 0; needs = Closed (here a) ∷ []; act = Print (operation (printf (digits ∷ [])) (operand (operation size (operand (need 0) no_operand)) no_operand)); reads = here a ∷ []; writes = [] }
-          ∷ record { node = 4; at = 24; mark = 24; priority = pos 0; needs = Stored n ∷ []; act = Put b (num 0) (need 0); reads = n ∷ []; writes = b ∷ [] }
-          ∷ record { node = 5; at = 34; mark = 41; priority = pos 0; needs = Stored n ∷ []; act = Cell (two (sum_of (Plus ∷ [])) (need 0) (num 1)); reads = n ∷ []; writes = here next ∷ [] }
-          ∷ record { node = 6; at = 34; mark = 34; priority = pos 0; needs = Stored (here next) ∷ []; act = Put b (num 1) (need 0); reads = here next ∷ []; writes = b ∷ [] }
+          record { node = 2; at = 59; offset = 63; priority = pos 0; needs = []; act = Call 1 (Fixed (Number (pos 5)) ∷ []) (here a ∷ []); reads = []; writes = here a ∷ [] }
+          ∷ record { node = 3; at = 72; offset = 72; priority = pos 0; needs = Closed (here a) ∷ []; act = Print (operation (printf (digits ∷ [])) (operand (operation size (operand (need 0) no_operand)) no_operand)); reads = here a ∷ []; writes = [] }
+          ∷ record { node = 4; at = 24; offset = 24; priority = pos 0; needs = Stored n ∷ []; act = InsertElement b (num 0) (need 0); reads = n ∷ []; writes = b ∷ [] }
+          ∷ record { node = 5; at = 34; offset = 41; priority = pos 0; needs = Stored n ∷ []; act = Cell (two (sum_of (Plus ∷ [])) (need 0) (num 1)); reads = n ∷ []; writes = here next ∷ [] }
+          ∷ record { node = 6; at = 34; offset = 34; priority = pos 0; needs = Stored (here next) ∷ []; act = InsertElement b (num 1) (need 0); reads = here next ∷ []; writes = b ∷ [] }
           ∷ [];
       bodies =
           record { opener = ByMain; makes = a ∷ []; entries = 0 ∷ 1 ∷ [] }
@@ -180,8 +180,8 @@ assigned_twice =
     let x = scalar 1 in
     record {
       entries =
-          record { node = 2; at = 7; mark = 7; priority = pos 0; needs = []; act = Set (here x) (num 1); reads = []; writes = here x ∷ [] }
-          ∷ record { node = 3; at = 14; mark = 14; priority = pos 0; needs = []; act = Set (here x) (num 2); reads = []; writes = here x ∷ [] }
+          record { node = 2; at = 7; offset = 7; priority = pos 0; needs = []; act = Set (here x) (num 1); reads = []; writes = here x ∷ [] }
+          ∷ record { node = 3; at = 14; offset = 14; priority = pos 0; needs = []; act = Set (here x) (num 2); reads = []; writes = here x ∷ [] }
           ∷ [];
       bodies =
           record { opener = ByMain; makes = x ∷ []; entries = 0 ∷ 1 ∷ [] }
@@ -195,8 +195,8 @@ loop_without_right =
     let i = scalar 3 in
     record {
       entries =
-          record { node = 2; at = 9; mark = 9; priority = pos 0; needs = []; act = Range (num 1) (num 5) (num 1) (record { body = 1; value = 3; turn = None }); reads = []; writes = [] }
-          ∷ record { node = 4; at = 30; mark = 30; priority = pos 0; needs = Stored (here i) ∷ []; act = Put (outer a) (need 0) (need 0); reads = here i ∷ []; writes = outer a ∷ [] }
+          record { node = 2; at = 9; offset = 9; priority = pos 0; needs = []; act = Range (num 1) (num 5) (num 1) (record { body = 1; value = 3; turn = None }); reads = []; writes = [] }
+          ∷ record { node = 4; at = 30; offset = 30; priority = pos 0; needs = Stored (here i) ∷ []; act = InsertElement (outer a) (need 0) (need 0); reads = here i ∷ []; writes = outer a ∷ [] }
           ∷ [];
       bodies =
           record { opener = ByMain; makes = a ∷ []; entries = 0 ∷ [] }
@@ -210,9 +210,9 @@ one_output_twice =
     let p = scalar 1 in
     record {
       entries =
-          record { node = 2; at = 46; mark = 55; priority = pos 0; needs = []; act = Call 1 [] (here p ∷ here p ∷ []); reads = []; writes = here p ∷ [] }
-          ∷ record { node = 3; at = 23; mark = 23; priority = pos 0; needs = []; act = Set (parameter 0 0) (num 1); reads = []; writes = parameter 0 0 ∷ [] }
-          ∷ record { node = 4; at = 30; mark = 30; priority = pos 0; needs = []; act = Set (parameter 0 1) (num 2); reads = []; writes = parameter 0 1 ∷ [] }
+          record { node = 2; at = 46; offset = 55; priority = pos 0; needs = []; act = Call 1 [] (here p ∷ here p ∷ []); reads = []; writes = here p ∷ [] }
+          ∷ record { node = 3; at = 23; offset = 23; priority = pos 0; needs = []; act = Set (parameter 0 0) (num 1); reads = []; writes = parameter 0 0 ∷ [] }
+          ∷ record { node = 4; at = 30; offset = 30; priority = pos 0; needs = []; act = Set (parameter 0 1) (num 2); reads = []; writes = parameter 0 1 ∷ [] }
           ∷ [];
       bodies =
           record { opener = ByMain; makes = p ∷ []; entries = 0 ∷ [] }
@@ -226,7 +226,7 @@ name_undeclared =
     let x = scalar 1 in
     record {
       entries =
-          record { node = 2; at = 0; mark = 0; priority = pos 0; needs = Stored (here x) ∷ []; act = Print print_number; reads = here x ∷ []; writes = [] }
+          record { node = 2; at = 0; offset = 0; priority = pos 0; needs = Stored (here x) ∷ []; act = Print print_number; reads = here x ∷ []; writes = [] }
           ∷ [];
       bodies =
           record { opener = ByMain; makes = []; entries = 0 ∷ [] }
@@ -240,8 +240,8 @@ assigned_in_loop =
     let i = scalar 3 in
     record {
       entries =
-          record { node = 2; at = 7; mark = 7; priority = pos 0; needs = []; act = Range (num 1) (num 3) (num 1) (record { body = 1; value = 3; turn = None }); reads = []; writes = here x ∷ [] }
-          ∷ record { node = 4; at = 28; mark = 28; priority = pos 0; needs = Stored (here i) ∷ []; act = Set (outer x) (need 0); reads = here i ∷ []; writes = outer x ∷ [] }
+          record { node = 2; at = 7; offset = 7; priority = pos 0; needs = []; act = Range (num 1) (num 3) (num 1) (record { body = 1; value = 3; turn = None }); reads = []; writes = here x ∷ [] }
+          ∷ record { node = 4; at = 28; offset = 28; priority = pos 0; needs = Stored (here i) ∷ []; act = Set (outer x) (need 0); reads = here i ∷ []; writes = outer x ∷ [] }
           ∷ [];
       bodies =
           record { opener = ByMain; makes = x ∷ []; entries = 0 ∷ [] }
@@ -255,8 +255,8 @@ loop_variable_assigned =
     let i = scalar 3 in
     record {
       entries =
-          record { node = 2; at = 0; mark = 0; priority = pos 0; needs = []; act = Range (num 1) (num 3) (num 1) (record { body = 1; value = 3; turn = None }); reads = []; writes = [] }
-          ∷ record { node = 4; at = 21; mark = 21; priority = pos 0; needs = []; act = Set (here i) (num 1); reads = []; writes = here i ∷ [] }
+          record { node = 2; at = 0; offset = 0; priority = pos 0; needs = []; act = Range (num 1) (num 3) (num 1) (record { body = 1; value = 3; turn = None }); reads = []; writes = [] }
+          ∷ record { node = 4; at = 21; offset = 21; priority = pos 0; needs = []; act = Set (here i) (num 1); reads = []; writes = here i ∷ [] }
           ∷ [];
       bodies =
           record { opener = ByMain; makes = []; entries = 0 ∷ [] }
@@ -270,7 +270,7 @@ entry_twice =
     let x = scalar 1 in
     record {
       entries =
-          record { node = 2; at = 7; mark = 7; priority = pos 0; needs = []; act = Set (here x) (num 1); reads = []; writes = here x ∷ [] }
+          record { node = 2; at = 7; offset = 7; priority = pos 0; needs = []; act = Set (here x) (num 1); reads = []; writes = here x ∷ [] }
           ∷ [];
       bodies =
           record { opener = ByMain; makes = x ∷ []; entries = 0 ∷ 0 ∷ [] }
@@ -283,9 +283,9 @@ opened_by_another =
     let x = scalar 1 in
     record {
       entries =
-          record { node = 2; at = 7; mark = 7; priority = pos 0; needs = []; act = Set (here x) (num 1); reads = []; writes = here x ∷ [] }
-          ∷ record { node = 3; at = 14; mark = 14; priority = pos 0; needs = Stored (here x) ∷ []; act = Wait (record { at = 14; needs = Stored (here x) ∷ [] } ∷ []) 1; reads = here x ∷ []; writes = [] }
-          ∷ record { node = 4; at = 25; mark = 25; priority = pos 0; needs = []; act = Print (operation (printf (Byte 104 ∷ [])) no_operand); reads = []; writes = [] }
+          record { node = 2; at = 7; offset = 7; priority = pos 0; needs = []; act = Set (here x) (num 1); reads = []; writes = here x ∷ [] }
+          ∷ record { node = 3; at = 14; offset = 14; priority = pos 0; needs = Stored (here x) ∷ []; act = Wait (record { at = 14; needs = Stored (here x) ∷ [] } ∷ []) 1; reads = here x ∷ []; writes = [] }
+          ∷ record { node = 4; at = 25; offset = 25; priority = pos 0; needs = []; act = Print (operation (printf (Byte 104 ∷ [])) no_operand); reads = []; writes = [] }
           ∷ [];
       bodies =
           record { opener = ByMain; makes = x ∷ []; entries = 0 ∷ 1 ∷ [] }
@@ -299,7 +299,7 @@ scalar_filled =
     let x = scalar 1 in
     record {
       entries =
-          record { node = 2; at = 7; mark = 7; priority = pos 0; needs = []; act = Fill (here x) (operand (num 1) no_operand); reads = []; writes = here x ∷ [] }
+          record { node = 2; at = 7; offset = 7; priority = pos 0; needs = []; act = Fill (here x) (operand (num 1) no_operand); reads = []; writes = here x ∷ [] }
           ∷ [];
       bodies =
           record { opener = ByMain; makes = x ∷ []; entries = 0 ∷ [] }
@@ -312,7 +312,7 @@ right_without_use =
     let x = scalar 1 in
     record {
       entries =
-          record { node = 2; at = 0; mark = 0; priority = pos 0; needs = []; act = Print (operation (printf (Byte 104 ∷ [])) no_operand); reads = here x ∷ []; writes = [] }
+          record { node = 2; at = 0; offset = 0; priority = pos 0; needs = []; act = Print (operation (printf (Byte 104 ∷ [])) no_operand); reads = here x ∷ []; writes = [] }
           ∷ [];
       bodies =
           record { opener = ByMain; makes = x ∷ []; entries = 0 ∷ [] }
@@ -327,10 +327,10 @@ calls_without_right =
     let b = array_parameter 0 1 in
     record {
       entries =
-          record { node = 2; at = 46; mark = 50; priority = pos 0; needs = []; act = Call 1 (Fixed (Number (pos 0)) ∷ []) (here a ∷ []); reads = []; writes = [] }
-          ∷ record { node = 3; at = 56; mark = 56; priority = pos 0; needs = Closed (here a) ∷ []; act = Print (operation (printf (digits ∷ [])) (operand (operation size (operand (need 0) no_operand)) no_operand)); reads = here a ∷ []; writes = [] }
-          ∷ record { node = 4; at = 21; mark = 27; priority = pos 0; needs = Stored n ∷ []; act = Cell (two (sum_of (Plus ∷ [])) (need 0) (num 1)); reads = n ∷ []; writes = here (scalar 4) ∷ [] }
-          ∷ record { node = 6; at = 21; mark = 25; priority = pos 0; needs = []; act = Call 1 (Named (here (scalar 4)) ∷ []) (b ∷ []); reads = here (scalar 4) ∷ []; writes = [] }
+          record { node = 2; at = 46; offset = 50; priority = pos 0; needs = []; act = Call 1 (Fixed (Number (pos 0)) ∷ []) (here a ∷ []); reads = []; writes = [] }
+          ∷ record { node = 3; at = 56; offset = 56; priority = pos 0; needs = Closed (here a) ∷ []; act = Print (operation (printf (digits ∷ [])) (operand (operation size (operand (need 0) no_operand)) no_operand)); reads = here a ∷ []; writes = [] }
+          ∷ record { node = 4; at = 21; offset = 27; priority = pos 0; needs = Stored n ∷ []; act = Cell (two (sum_of (Plus ∷ [])) (need 0) (num 1)); reads = n ∷ []; writes = here (scalar 4) ∷ [] }
+          ∷ record { node = 6; at = 21; offset = 25; priority = pos 0; needs = []; act = Call 1 (Named (here (scalar 4)) ∷ []) (b ∷ []); reads = here (scalar 4) ∷ []; writes = [] }
           ∷ [];
       bodies =
           record { opener = ByMain; makes = a ∷ []; entries = 0 ∷ 1 ∷ [] }
@@ -346,10 +346,10 @@ filled_without_end =
     let b = array_parameter 0 1 in
     record {
       entries =
-          record { node = 2; at = 46; mark = 50; priority = pos 0; needs = []; act = Call 1 (Fixed (Number (pos 0)) ∷ []) (here a ∷ []); reads = []; writes = here a ∷ [] }
-          ∷ record { node = 3; at = 56; mark = 56; priority = pos 0; needs = Closed (here a) ∷ []; act = Print (operation (printf (digits ∷ [])) (operand (operation size (operand (need 0) no_operand)) no_operand)); reads = here a ∷ []; writes = [] }
-          ∷ record { node = 4; at = 21; mark = 27; priority = pos 0; needs = Stored n ∷ []; act = Cell (two (sum_of (Plus ∷ [])) (need 0) (num 1)); reads = n ∷ []; writes = here (scalar 4) ∷ [] }
-          ∷ record { node = 6; at = 21; mark = 25; priority = pos 0; needs = []; act = Call 1 (Named (here (scalar 4)) ∷ []) (b ∷ []); reads = here (scalar 4) ∷ []; writes = b ∷ [] }
+          record { node = 2; at = 46; offset = 50; priority = pos 0; needs = []; act = Call 1 (Fixed (Number (pos 0)) ∷ []) (here a ∷ []); reads = []; writes = here a ∷ [] }
+          ∷ record { node = 3; at = 56; offset = 56; priority = pos 0; needs = Closed (here a) ∷ []; act = Print (operation (printf (digits ∷ [])) (operand (operation size (operand (need 0) no_operand)) no_operand)); reads = here a ∷ []; writes = [] }
+          ∷ record { node = 4; at = 21; offset = 27; priority = pos 0; needs = Stored n ∷ []; act = Cell (two (sum_of (Plus ∷ [])) (need 0) (num 1)); reads = n ∷ []; writes = here (scalar 4) ∷ [] }
+          ∷ record { node = 6; at = 21; offset = 25; priority = pos 0; needs = []; act = Call 1 (Named (here (scalar 4)) ∷ []) (b ∷ []); reads = here (scalar 4) ∷ []; writes = b ∷ [] }
           ∷ [];
       bodies =
           record { opener = ByMain; makes = a ∷ []; entries = 0 ∷ 1 ∷ [] }
@@ -373,16 +373,16 @@ several_outputs =
     let t = scalar 22 in
     record {
       entries =
-          record { node = 10; at = 80; mark = 80; priority = pos 0; needs = []; act = Fill (here a) (operand (num 1) no_operand); reads = []; writes = here a ∷ [] }
-          ∷ record { node = 11; at = 95; mark = 100; priority = pos 0; needs = []; act = Call 1 (Fixed (Number (pos 5)) ∷ Named (here a) ∷ []) (here c ∷ here x ∷ []); reads = here a ∷ here c ∷ here x ∷ []; writes = here c ∷ here x ∷ [] }
-          ∷ record { node = 12; at = 110; mark = 110; priority = pos 0; needs = []; act = Call 5 (Named (here x) ∷ []) []; reads = []; writes = [] }
-          ∷ record { node = 13; at = 30; mark = 30; priority = pos 0; needs = Closed pa ∷ []; act = Each (record { body = 2; value = 20; turn = Some 21 }); reads = pa ∷ m ∷ []; writes = pb ∷ [] }
-          ∷ record { node = 14; at = 60; mark = 60; priority = pos 0; needs = Closed pb ∷ []; act = Set ps (operation size (operand (need 0) no_operand)); reads = pb ∷ []; writes = ps ∷ [] }
-          ∷ record { node = 15; at = 70; mark = 70; priority = pos 0; needs = Stored ps ∷ []; act = Wait (record { at = 70; needs = Stored ps ∷ [] } ∷ []) 4; reads = ps ∷ []; writes = [] }
-          ∷ record { node = 22; at = 40; mark = 43; priority = pos 0; needs = Stored (here v) ∷ Stored (parameter 1 0) ∷ []; act = Cell (two (compare Less) (need 0) (need 1)); reads = here v ∷ parameter 1 0 ∷ []; writes = here t ∷ [] }
-          ∷ record { node = 16; at = 40; mark = 40; priority = pos 0; needs = Stored (here t) ∷ []; act = If (need 0) 3 None; reads = here t ∷ here k ∷ here v ∷ []; writes = array_parameter 1 2 ∷ [] }
-          ∷ record { node = 17; at = 50; mark = 50; priority = pos 0; needs = Stored (outer k) ∷ Stored (outer v) ∷ []; act = Put (array_parameter 2 2) (need 0) (need 1); reads = outer k ∷ outer v ∷ []; writes = array_parameter 2 2 ∷ [] }
-          ∷ record { node = 18; at = 75; mark = 75; priority = pos 0; needs = Stored ps ∷ []; act = Print print_number; reads = ps ∷ []; writes = [] }
+          record { node = 10; at = 80; offset = 80; priority = pos 0; needs = []; act = Fill (here a) (operand (num 1) no_operand); reads = []; writes = here a ∷ [] }
+          ∷ record { node = 11; at = 95; offset = 100; priority = pos 0; needs = []; act = Call 1 (Fixed (Number (pos 5)) ∷ Named (here a) ∷ []) (here c ∷ here x ∷ []); reads = here a ∷ here c ∷ here x ∷ []; writes = here c ∷ here x ∷ [] }
+          ∷ record { node = 12; at = 110; offset = 110; priority = pos 0; needs = []; act = Call 5 (Named (here x) ∷ []) []; reads = []; writes = [] }
+          ∷ record { node = 13; at = 30; offset = 30; priority = pos 0; needs = Closed pa ∷ []; act = Each (record { body = 2; value = 20; turn = Some 21 }); reads = pa ∷ m ∷ []; writes = pb ∷ [] }
+          ∷ record { node = 14; at = 60; offset = 60; priority = pos 0; needs = Closed pb ∷ []; act = Set ps (operation size (operand (need 0) no_operand)); reads = pb ∷ []; writes = ps ∷ [] }
+          ∷ record { node = 15; at = 70; offset = 70; priority = pos 0; needs = Stored ps ∷ []; act = Wait (record { at = 70; needs = Stored ps ∷ [] } ∷ []) 4; reads = ps ∷ []; writes = [] }
+          ∷ record { node = 22; at = 40; offset = 43; priority = pos 0; needs = Stored (here v) ∷ Stored (parameter 1 0) ∷ []; act = Cell (two (compare Less) (need 0) (need 1)); reads = here v ∷ parameter 1 0 ∷ []; writes = here t ∷ [] }
+          ∷ record { node = 16; at = 40; offset = 40; priority = pos 0; needs = Stored (here t) ∷ []; act = If (need 0) 3 None; reads = here t ∷ here k ∷ here v ∷ []; writes = array_parameter 1 2 ∷ [] }
+          ∷ record { node = 17; at = 50; offset = 50; priority = pos 0; needs = Stored (outer k) ∷ Stored (outer v) ∷ []; act = InsertElement (array_parameter 2 2) (need 0) (need 1); reads = outer k ∷ outer v ∷ []; writes = array_parameter 2 2 ∷ [] }
+          ∷ record { node = 18; at = 75; offset = 75; priority = pos 0; needs = Stored ps ∷ []; act = Print print_number; reads = ps ∷ []; writes = [] }
           ∷ [];
       bodies =
           record { opener = ByMain; makes = a ∷ c ∷ x ∷ []; entries = 0 ∷ 1 ∷ 2 ∷ [] }
@@ -413,24 +413,24 @@ called_everywhere =
     let f2 = scalar 12 in
     record {
       entries =
-          record { node = 30; at = 1; mark = 1; priority = pos 0; needs = []; act = Fill (here a) (operand (num 4) no_operand); reads = []; writes = here a ∷ [] }
-          ∷ record { node = 31; at = 2; mark = 195; priority = pos 0; needs = []; act = Call 1 (Named (here a) ∷ Named (here a) ∷ Fixed (Number (pos 0)) ∷ []) (here p ∷ here q ∷ []); reads = here a ∷ here p ∷ []; writes = here p ∷ here q ∷ [] }
-          ∷ record { node = 32; at = 3; mark = 201; priority = pos 0; needs = []; act = Call 2 (Named (here p) ∷ []) (here o1 ∷ []); reads = here p ∷ []; writes = here o1 ∷ [] }
-          ∷ record { node = 5; at = 3; mark = 201; priority = pos 0; needs = Stored (here o1) ∷ []; act = Cell (need 0); reads = here o1 ∷ []; writes = here c1 ∷ [] }
-          ∷ record { node = 33; at = 3; mark = 200; priority = pos 0; needs = []; act = Call 2 (Named (here c1) ∷ []) (here o2 ∷ []); reads = here c1 ∷ []; writes = here o2 ∷ [] }
-          ∷ record { node = 34; at = 3; mark = 3; priority = pos 0; needs = Stored (here o2) ∷ []; act = Print print_number; reads = here o2 ∷ []; writes = [] }
-          ∷ record { node = 35; at = 4; mark = 210; priority = pos 0; needs = []; act = Call 2 (Named (here q) ∷ []) (here z ∷ []); reads = here q ∷ []; writes = here z ∷ [] }
-          ∷ record { node = 36; at = 220; mark = 220; priority = pos 0; needs = []; act = Call 3 [] []; reads = []; writes = [] }
-          ∷ record { node = 37; at = 225; mark = 225; priority = pos 0; needs = []; act = Range (num 0) (num 2) (num 1) (record { body = 4; value = 8; turn = None }); reads = []; writes = [] }
-          ∷ record { node = 11; at = 10; mark = 12; priority = pos 0; needs = At (array_parameter 0 0) (parameter 0 2) ∷ []; act = Read; reads = array_parameter 0 0 ∷ parameter 0 2 ∷ []; writes = here f1 ∷ [] }
-          ∷ record { node = 38; at = 10; mark = 10; priority = pos 0; needs = Stored (here f1) ∷ []; act = Set (parameter 0 3) (need 0); reads = here f1 ∷ []; writes = parameter 0 3 ∷ [] }
-          ∷ record { node = 12; at = 15; mark = 17; priority = pos 0; needs = AtKey (array_parameter 0 1) (number_key (pos 0)) ∷ []; act = Read; reads = array_parameter 0 1 ∷ []; writes = here f2 ∷ [] }
-          ∷ record { node = 39; at = 15; mark = 15; priority = pos 0; needs = Stored (parameter 0 3) ∷ Stored (here f2) ∷ []; act = Set (parameter 0 4) (two (sum_of (Plus ∷ [])) (need 0) (need 1)); reads = parameter 0 3 ∷ here f2 ∷ []; writes = parameter 0 4 ∷ [] }
-          ∷ record { node = 40; at = 20; mark = 20; priority = pos 0; needs = Stored (parameter 0 0) ∷ []; act = Set (parameter 0 1) (need 0); reads = parameter 0 0 ∷ []; writes = parameter 0 1 ∷ [] }
-          ∷ record { node = 41; at = 228; mark = 230; priority = pos 0; needs = []; act = Call 2 (Named (here i) ∷ []) (here w ∷ []); reads = here i ∷ []; writes = here w ∷ [] }
-          ∷ record { node = 10; at = 240; mark = 244; priority = pos 0; needs = Stored (here i) ∷ []; act = Cell (two equal (need 0) (num 1)); reads = here i ∷ []; writes = here t ∷ [] }
-          ∷ record { node = 42; at = 240; mark = 240; priority = pos 0; needs = Stored (here t) ∷ []; act = If (need 0) 5 None; reads = here t ∷ []; writes = [] }
-          ∷ record { node = 43; at = 250; mark = 250; priority = pos 0; needs = []; act = Call 3 [] []; reads = []; writes = [] }
+          record { node = 30; at = 1; offset = 1; priority = pos 0; needs = []; act = Fill (here a) (operand (num 4) no_operand); reads = []; writes = here a ∷ [] }
+          ∷ record { node = 31; at = 2; offset = 195; priority = pos 0; needs = []; act = Call 1 (Named (here a) ∷ Named (here a) ∷ Fixed (Number (pos 0)) ∷ []) (here p ∷ here q ∷ []); reads = here a ∷ here p ∷ []; writes = here p ∷ here q ∷ [] }
+          ∷ record { node = 32; at = 3; offset = 201; priority = pos 0; needs = []; act = Call 2 (Named (here p) ∷ []) (here o1 ∷ []); reads = here p ∷ []; writes = here o1 ∷ [] }
+          ∷ record { node = 5; at = 3; offset = 201; priority = pos 0; needs = Stored (here o1) ∷ []; act = Cell (need 0); reads = here o1 ∷ []; writes = here c1 ∷ [] }
+          ∷ record { node = 33; at = 3; offset = 200; priority = pos 0; needs = []; act = Call 2 (Named (here c1) ∷ []) (here o2 ∷ []); reads = here c1 ∷ []; writes = here o2 ∷ [] }
+          ∷ record { node = 34; at = 3; offset = 3; priority = pos 0; needs = Stored (here o2) ∷ []; act = Print print_number; reads = here o2 ∷ []; writes = [] }
+          ∷ record { node = 35; at = 4; offset = 210; priority = pos 0; needs = []; act = Call 2 (Named (here q) ∷ []) (here z ∷ []); reads = here q ∷ []; writes = here z ∷ [] }
+          ∷ record { node = 36; at = 220; offset = 220; priority = pos 0; needs = []; act = Call 3 [] []; reads = []; writes = [] }
+          ∷ record { node = 37; at = 225; offset = 225; priority = pos 0; needs = []; act = Range (num 0) (num 2) (num 1) (record { body = 4; value = 8; turn = None }); reads = []; writes = [] }
+          ∷ record { node = 11; at = 10; offset = 12; priority = pos 0; needs = At (array_parameter 0 0) (parameter 0 2) ∷ []; act = Read; reads = array_parameter 0 0 ∷ parameter 0 2 ∷ []; writes = here f1 ∷ [] }
+          ∷ record { node = 38; at = 10; offset = 10; priority = pos 0; needs = Stored (here f1) ∷ []; act = Set (parameter 0 3) (need 0); reads = here f1 ∷ []; writes = parameter 0 3 ∷ [] }
+          ∷ record { node = 12; at = 15; offset = 17; priority = pos 0; needs = AtKey (array_parameter 0 1) (number_key (pos 0)) ∷ []; act = Read; reads = array_parameter 0 1 ∷ []; writes = here f2 ∷ [] }
+          ∷ record { node = 39; at = 15; offset = 15; priority = pos 0; needs = Stored (parameter 0 3) ∷ Stored (here f2) ∷ []; act = Set (parameter 0 4) (two (sum_of (Plus ∷ [])) (need 0) (need 1)); reads = parameter 0 3 ∷ here f2 ∷ []; writes = parameter 0 4 ∷ [] }
+          ∷ record { node = 40; at = 20; offset = 20; priority = pos 0; needs = Stored (parameter 0 0) ∷ []; act = Set (parameter 0 1) (need 0); reads = parameter 0 0 ∷ []; writes = parameter 0 1 ∷ [] }
+          ∷ record { node = 41; at = 228; offset = 230; priority = pos 0; needs = []; act = Call 2 (Named (here i) ∷ []) (here w ∷ []); reads = here i ∷ []; writes = here w ∷ [] }
+          ∷ record { node = 10; at = 240; offset = 244; priority = pos 0; needs = Stored (here i) ∷ []; act = Cell (two equal (need 0) (num 1)); reads = here i ∷ []; writes = here t ∷ [] }
+          ∷ record { node = 42; at = 240; offset = 240; priority = pos 0; needs = Stored (here t) ∷ []; act = If (need 0) 5 None; reads = here t ∷ []; writes = [] }
+          ∷ record { node = 43; at = 250; offset = 250; priority = pos 0; needs = []; act = Call 3 [] []; reads = []; writes = [] }
           ∷ [];
       bodies =
           record { opener = ByMain; makes = a ∷ p ∷ q ∷ o1 ∷ c1 ∷ o2 ∷ z ∷ []; entries = 0 ∷ 1 ∷ 2 ∷ 3 ∷ 4 ∷ 5 ∷ 6 ∷ 7 ∷ 8 ∷ [] }

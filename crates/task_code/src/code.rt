@@ -4,6 +4,7 @@ ghost use Rattle.std.specs.Arc.{arc_value};
 ghost use Rattle.task_code.specs.Code.{entry, body, kind_of};
 ghost use Rattle.task_code.specs.View.{entry_view, body_view};
 ghost use Rattle.task_code.specs.Whole.{IsCode};
+ghost use Rattle.values.specs.Limits.{max_entries};
 
 use crate::draft::Draft;
 use crate::entry::{Entry, Kind, Variable};
@@ -32,8 +33,8 @@ pub struct Body {
     pub entries: Vec<u32>,
 }
 
-/// The code of a script: a whole draft with at most 4,194,304 entries. Entries and bodies are numbered from 0; body 0
-/// is the script.
+/// The code of a script: a whole draft with at most `max_entries` entries. Entries and bodies are numbered from 0; body
+/// 0 is the script.
 ///
 /// Copies share the entries, also across threads.
 #[derive(Drop)]
@@ -58,10 +59,11 @@ impl Model for Code {
 }
 
 impl Code {
-    /// Converts a draft into code. The caller has to prove that the draft is whole and has at most 4,194,304 entries.
+    /// Converts a draft into code. The caller has to prove that the draft is whole and has at most `max_entries`
+    /// entries.
     pub fn of(draft: Draft) -> Code
         requires whole { IsCode draft }
-        requires few { length draft.entries ≤ 4194304 }
+        requires few { length draft.entries ≤ max_entries }
         ensures { result ≡ draft }
     {
         Code { draft }
@@ -78,7 +80,7 @@ impl Code {
     pub fn entry_count(&self) -> usize
         ensures count { result ≡ length self.now.entries }
         ensures whole { IsCode self.now }
-        ensures few { length self.now.entries ≤ 4194304 }
+        ensures few { length self.now.entries ≤ max_entries }
     {
         self.draft.entry_count()
     }

@@ -87,7 +87,7 @@ pub enum Act {
     /// Inserts the elements of an array.
     Copy(Name),
     /// Inserts one element: the index, and the right side.
-    Put(Name, Expr, Expr),
+    InsertElement(Name, Expr, Expr),
     Print(Expr),
     Assert(Expr),
     /// Opens a branch: one body if the condition is true, and an optional one if it is false.
@@ -108,7 +108,7 @@ pub struct Entry {
     /// The offset of the entry's statement, where faults are reported.
     pub at: usize,
     /// The offset that a listing shows, and that the paths of the blocks opened by this entry contain.
-    pub mark: usize,
+    pub offset: usize,
     pub priority: i32,
     pub needs: Vec<Need>,
     pub act: Act,
@@ -127,7 +127,14 @@ impl Act {
             Act::Cell(_) | Act::Set(_, _) | Act::Fill(_, _) | Act::Print(_) | Act::Assert(_) => {
                 Kind::Leaf
             }
-            _ => Kind::Control,
+            Act::Read
+            | Act::Call { .. }
+            | Act::Copy(_)
+            | Act::InsertElement(_, _, _)
+            | Act::If(_, _, _)
+            | Act::Range(_, _, _, _)
+            | Act::Each(_)
+            | Act::Wait(_, _) => Kind::Control,
         }
     }
 }

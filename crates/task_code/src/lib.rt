@@ -23,6 +23,7 @@ ghost use Rattle.task_code.specs.Worked.{hello, used_before_assigned, filled_by_
 ghost use Rattle.task_code.specs.Worked.{assigned_twice, loop_without_right, one_output_twice, name_undeclared, assigned_in_loop, loop_variable_assigned, entry_twice, opened_by_another, scalar_filled, calls_without_right};
 ghost use Rattle.task_code.specs.Worked.{right_without_use, HelloRuns, WaitsForAssignment, SecondWriteFaults, StoresThree, Overflows, PrintsHello, LacksElement, OpensTurns, MeansTen, MeansResult, MeansInner, MeansCallersArray, ComparesTen, Chunks};
 
+pub mod body_numbers;
 pub mod code;
 pub mod draft;
 pub mod entry;

@@ -6,15 +6,17 @@ ghost use Rattle.std.specs.Prelude.{◌≡◌, ◌<◌};
 ghost use Rattle.task_code.specs.View.{event_view};
 ghost use Rattle.dataflow.specs.Events.{worker_of};
 ghost use Rattle.task_code.specs.Packed.{unpacked};
+ghost use Rattle.values.specs.Limits.{max_threads};
 
 use crate::event::Event;
 use std::marker::Model;
+use values::limits::MAX_THREADS;
 
 /// Offset of the mark of an event that ends its item. The mark of an event that begins its item is the worker itself.
-const ENDS: u8 = 64;
+const ENDS: u8 = MAX_THREADS as u8;
 
 /// Offset of the mark of an event that gives its item back.
-const GIVES_BACK: u8 = 128;
+const GIVES_BACK: u8 = 2 * ENDS;
 
 /// An event in nine bytes: eight for the number of its item, and one for the kind of event and the worker.
 #[derive(Clone, Copy, Drop)]
@@ -48,7 +50,7 @@ impl PackedEvent {
     /// Packs an event.
     #[inline(always)]
     pub fn new(event: Event) -> PackedEvent
-        requires { worker_of (event_view event) < 64 }
+        requires { worker_of (event_view event) < max_threads }
         ensures { result ≡ event }
     {
         match event {

@@ -7,12 +7,12 @@ use crate::worlds::FIRST;
 use board_program::lexical_address::NameResolver;
 use board_program::program::{LocalVariable, Program, ResolvedNeed};
 use board_program::variable_index::places_among;
-use data_store::store::DatumKind;
 use std::alloc::Global;
 use std::process::Abort;
 use task_code::code::Code;
 use task_code::entry::{Name, Need, Owned, Variable};
 use tests_codes::codes::{NAME, X, asserted};
+use values::datum_kind::DatumKind;
 use values::key::Key;
 use work_queue::entry::Kind;
 

@@ -4,7 +4,7 @@ use crate::asserts::is_equal;
 use crate::worlds::{ASSERT, FIRST, Fixture, SET, opened_script};
 use board_changes::data_state::DataState;
 use board_instances::instance::{Slot, add_child, datum_at, leave, path_of, slot_at};
-use board_instances::item::{ItemStatus, PackedItem, item_of, mark_item};
+use board_instances::item::{ItemStatus, PackedItem, item_of, set_item_status};
 use board_instances::packed::PackedSlot;
 use board_instances::parent_key::{LastStep, ParentKey};
 use board_instances::pending::{ParentContext, PendingInstance, child_instance, outermost};
@@ -84,7 +84,7 @@ fn names_stand_for_data(rt: HostRuntime) {
 /// The assignment's item waits under its number, and none has the number 0.
 fn set_waits(rt: &impl Abort, rows: &[PackedItem]) {
     let set = item_of(rows, 2).expect(rt, "an item");
-    is_equal(rt, (set.job(), set.mark()), (SET, ItemStatus::Waiting));
+    is_equal(rt, (set.job(), set.status()), (SET, ItemStatus::Waiting));
     is_equal(rt, item_of(rows, 0), None);
 }
 
@@ -98,7 +98,11 @@ fn items_are_packed(rt: &impl Abort) {
 /// The item of what is asserted is ready under its number, which is the last.
 fn assert_is_ready(rt: &impl Abort, rows: &[PackedItem]) {
     let found = item_of(rows, 3).expect(rt, "an item");
-    is_equal(rt, (found.job(), found.mark()), (ASSERT, ItemStatus::Ready));
+    is_equal(
+        rt,
+        (found.job(), found.status()),
+        (ASSERT, ItemStatus::Ready),
+    );
     is_equal(rt, item_of(rows, 4), None);
 }
 
@@ -106,7 +110,7 @@ fn assert_is_ready(rt: &impl Abort, rows: &[PackedItem]) {
 fn items_have_numbers(rt: HostRuntime) {
     let mut data_state = open(&rt, rt.alloc());
     set_waits(&rt, data_state.rows.as_slice());
-    mark_item(data_state.rows.as_mut_slice(), 3, ItemStatus::Ready);
+    set_item_status(data_state.rows.as_mut_slice(), 3, ItemStatus::Ready);
     assert_is_ready(&rt, data_state.rows.as_slice());
     items_are_packed(&rt);
 }

@@ -9,10 +9,11 @@ use board_data::data;
 use board_instances::item::{ItemStatus, ItemTask};
 use board_instances::pending::{PendingInstance, outermost};
 use board_program::program::LocalVariable;
-use data_store::store::{DatumKind, Store};
+use data_store::store::Store;
 use rules::input::Input;
 use std::alloc::{AllocError, Global};
 use std::process::Abort;
+use values::datum_kind::DatumKind;
 use values::value::Scalar;
 
 /// How many instances and data there are.
@@ -28,7 +29,7 @@ fn assert_is_last(rt: &impl Abort, opened: &Fixture) {
     let last = opened.rows.last().expect(rt, "an item");
     is_equal(
         rt,
-        (last.item().job(), last.item().mark()),
+        (last.item().job(), last.item().status()),
         (ASSERT, ItemStatus::Waiting),
     );
     assert!(rt; opened.known.is_empty());

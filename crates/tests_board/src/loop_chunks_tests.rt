@@ -1,7 +1,7 @@
 //! Chunks of the turns of a loop.
 
 use crate::asserts::is_equal;
-use board_effects::loop_chunks::{are_left, chunk_of};
+use values::loop_chunks::{are_left, chunk_of};
 
 #[test]
 fn turns_are_opened_by_chunks(rt: HostRuntime) {

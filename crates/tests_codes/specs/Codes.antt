@@ -7,7 +7,7 @@ use Rattle.values.specs.Operators.{printf}
 
 -- printf(FORMAT); without operands
 abbrev pub print_entry : List FormatPiece → Entry
-print_entry ps = record { node = 1; at = 0; mark = 0; priority = pos 0; needs = []; act = Print (operation (printf ps) no_operand); reads = []; writes = [] }
+print_entry ps = record { node = 1; at = 0; offset = 0; priority = pos 0; needs = []; act = Print (operation (printf ps) no_operand); reads = []; writes = [] }
 
 abbrev pub prints : List FormatPiece → Code
 prints ps = record {
@@ -17,11 +17,11 @@ prints ps = record {
 
 -- x = truth;
 abbrev pub set_entry : Bool → Entry
-set_entry truth = record { node = 2; at = 0; mark = 0; priority = pos 0; needs = []; act = Set (here (scalar 1)) (constant (Truth truth)); reads = []; writes = here (scalar 1) ∷ [] }
+set_entry truth = record { node = 2; at = 0; offset = 0; priority = pos 0; needs = []; act = Set (here (scalar 1)) (constant (Truth truth)); reads = []; writes = here (scalar 1) ∷ [] }
 
 -- assert(x, "");
 abbrev pub assert_entry : Entry
-assert_entry = record { node = 3; at = 18; mark = 18; priority = pos 0; needs = Stored (here (scalar 1)) ∷ []; act = Assert (need 0); reads = here (scalar 1) ∷ []; writes = [] }
+assert_entry = record { node = 3; at = 18; offset = 18; priority = pos 0; needs = Stored (here (scalar 1)) ∷ []; act = Assert (need 0); reads = here (scalar 1) ∷ []; writes = [] }
 
 -- boolean x = truth; assert(x, "");
 abbrev pub asserts : Bool → Code

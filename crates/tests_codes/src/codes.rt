@@ -36,7 +36,7 @@ fn printed_draft(alloc: Global, text: &[u8]) -> Result<Draft, FormatError>
     code.push_entry(Entry {
         node: 1,
         at: 0,
-        mark: 0,
+        offset: 0,
         priority: 0,
         needs: Vec::new(alloc),
         act: printing(alloc, format),
@@ -81,7 +81,7 @@ fn set_truth(alloc: Global, truth: bool) -> Result<Entry, AllocError>
     Ok(Entry {
         node: 2,
         at: 0,
-        mark: 0,
+        offset: 0,
         priority: 0,
         needs: Vec::new(alloc),
         act: Act::Set(NAME, Expr::Constant(Scalar::Truth(truth))),
@@ -104,7 +104,7 @@ fn assert_truth(alloc: Global) -> Result<Entry, AllocError>
     Ok(Entry {
         node: 3,
         at: 18,
-        mark: 18,
+        offset: 18,
         priority: 0,
         needs: Vec::from_array(alloc, [Need::Stored(NAME)])?,
         act: asserting_first(),

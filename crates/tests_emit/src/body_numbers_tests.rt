@@ -1,7 +1,7 @@
 //! Numbers of bodies, one behind the other.
 
 use crate::asserts::is_equal;
-use emit::body_numbers::{behind, next, next_number};
+use task_code::body_numbers::{behind, next, next_number};
 
 #[test]
 fn bodies_are_numbered_behind_those_of_functions(rt: HostRuntime) {

@@ -30,11 +30,11 @@ fn x(up: usize) -> Name {
 }
 
 /// An entry without rights.
-fn bare(alloc: Global, mark: usize, needs: Vec<Need>, act: Act) -> Entry
+fn bare(alloc: Global, offset: usize, needs: Vec<Need>, act: Act) -> Entry
     ensures { entry_view result ≡ record {
       node = 0;
-      at = mark;
-      mark = mark;
+      at = offset;
+      offset = offset;
       priority = pos 0;
       needs = map need_view needs.items;
       act = act_view act;
@@ -44,8 +44,8 @@ fn bare(alloc: Global, mark: usize, needs: Vec<Need>, act: Act) -> Entry
 {
     Entry {
         node: 0,
-        at: mark,
-        mark,
+        at: offset,
+        offset,
         priority: 0,
         needs,
         act,

@@ -160,7 +160,10 @@ fn an_element_is_at_its_index(rt: HostRuntime) {
 
 /// The entry of an element, in a box.
 fn element_entry(rt: &impl Abort, alloc: Global) -> Box<Entry> {
-    let shown = EntryOrigin { node: 4, mark: 14 };
+    let shown = EntryOrigin {
+        node: 4,
+        offset: 14,
+    };
     let made = entry(alloc, STANDING, shown, Vec::new(alloc), Act::Read);
     boxed(rt, alloc, made)
 }
@@ -170,7 +173,7 @@ fn an_entry_stands_as_its_statement(rt: HostRuntime) {
     let made = element_entry(&rt, rt.alloc());
     is_equal(
         &rt,
-        (made.node, made.at, made.mark, made.priority),
+        (made.node, made.at, made.offset, made.priority),
         (4, 8, 14, 3),
     );
 }
@@ -179,7 +182,10 @@ fn an_entry_stands_as_its_statement(rt: HostRuntime) {
 fn put_read(alloc: Global) -> Result<Vec<Entry>, AllocError> {
     let needs = IndexSet::new(alloc);
     let mut entries = Vec::new(alloc);
-    let shown = EntryOrigin { node: 4, mark: 14 };
+    let shown = EntryOrigin {
+        node: 4,
+        offset: 14,
+    };
     push_entry(alloc, &mut entries, STANDING, shown, &needs, Act::Read)?;
     Ok(entries)
 }

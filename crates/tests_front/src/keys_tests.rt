@@ -62,7 +62,7 @@ fn folded(alloc: Global, first: u8, other: u8) -> Result<Key, AllocError> {
 /// The key is the same where it lies elsewhere.
 fn is_seen(rt: &impl Abort, key: &Key, other: &Key) {
     let seen: KeyRef<'_> = key.as_ref();
-    is_equal(rt, seen.mark(), key.mark());
+    is_equal(rt, seen.hash_code(), key.hash_code());
     is_equal(
         rt,
         (seen.is_same(key.as_ref()), seen.is_same(other.as_ref())),
@@ -71,11 +71,11 @@ fn is_seen(rt: &impl Abort, key: &Key, other: &Key) {
 }
 
 #[test]
-fn two_texts_have_one_mark(rt: HostRuntime) {
+fn two_texts_have_one_hash(rt: HostRuntime) {
     let one = folded(rt.alloc(), b'a', b'b').expect(&rt, "memory");
     let other = folded(rt.alloc(), b'b', b'a').expect(&rt, "memory");
-    is_equal(&rt, one.mark(), other.mark());
+    is_equal(&rt, one.hash_code(), other.hash_code());
     is_before(&rt, &one, &other);
     is_seen(&rt, &one, &other);
-    is_equal(&rt, Key::Number(-1).mark(), u64::MAX);
+    is_equal(&rt, Key::Number(-1).hash_code(), u64::MAX);
 }

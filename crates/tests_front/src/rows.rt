@@ -1,6 +1,6 @@
 //! Tables of texts, a row a line: the answer that is wanted, ` | `, and the text.
 
-use explain_warnings::render::{name_of, warnings_of};
+use explain_warnings::render::{code_of, name_of, warnings_of};
 use explain_warnings::warning::Warning;
 use lexer::token::Span;
 use std::alloc::{AllocError, Global};
@@ -54,18 +54,19 @@ fn judgement(alloc: Global, text: &[u8]) -> Result<String, AllocError> {
     }
 }
 
-/// A warning's name, and the bytes where its place begins and ends, behind what is said before.
+/// Appends the code and the name of a warning, and the bytes where its place begins and ends.
 fn add_warning(alloc: Global, warning: Warning, said: &mut String) -> Result<(), AllocError> {
     if !said.is_empty() {
         said.push_str(", ")?;
     }
     let name = name_of(warning.warning_kind);
-    let words = format!(in alloc; "{name} {} {}", warning.at.from, warning.at.to)?;
+    let code = code_of(warning.warning_kind);
+    let words = format!(in alloc; "{code} {name} {} {}", warning.at.from, warning.at.to)?;
     said.push_str(words.as_str())
 }
 
-/// What is odd in a text, in the order of the text.
-fn oddities(alloc: Global, text: &[u8]) -> Result<String, AllocError> {
+/// Returns the warnings of a text, in the order of the text.
+fn all_warnings(alloc: Global, text: &[u8]) -> Result<String, AllocError> {
     let warnings = warnings_of(alloc, text)?;
     if warnings.is_empty() {
         return String::from_str(alloc, "none");
@@ -105,10 +106,10 @@ pub fn are_judged(rt: &impl Abort, alloc: Global, rows: &str) {
     }
 }
 
-/// In the text of each row just this is odd.
+/// The text of each row has just these warnings.
 pub fn are_warned(rt: &impl Abort, alloc: Global, rows: &str) {
     for row in rows.lines() {
         let (wanted, text) = parts(rt, row);
-        is_answered(rt, oddities(alloc, text), wanted, row);
+        is_answered(rt, all_warnings(alloc, text), wanted, row);
     }
 }

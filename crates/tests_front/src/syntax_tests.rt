@@ -7,8 +7,9 @@ use lexer::token::Span;
 use std::alloc::{AllocError, Allocator, Global};
 use std::process::Abort;
 use syntax::error::ParseFault;
-use syntax::parser::{MAX_SOURCE, parse};
+use syntax::parser::parse;
 use syntax_trees::tree::{Expr, ExprKind, Item, Right, Script, StmtKind};
+use values::limits::MAX_SOURCE;
 
 const ACCEPTED: &str = r#"accepted | 
 accepted | printf("hello");

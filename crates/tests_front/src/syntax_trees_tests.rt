@@ -2,9 +2,9 @@
 
 use crate::asserts::is_equal;
 use bumpalo::Bump;
+use language::operators::{base_of_kind, operator_of_kind, repeats};
 use lexer::token::{Span, TokenKind};
 use std::alloc::{AllocError, Allocator, Global};
-use syntax::operators::{base_of_kind, operator_of_kind, repeats};
 use syntax::parser::parse;
 use syntax_trees::tree::{
     Base, Expr, ExprKind, Item, Level, Name, Operator, Right, Script, Stmt, StmtKind,

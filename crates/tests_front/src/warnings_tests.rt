@@ -1,43 +1,78 @@
-//! Scripts in which something is odd, with what it is and where, and scripts in which nothing is.
+//! Scripts with warnings, by code, name and place, and scripts without.
 
 use crate::rows::are_warned;
 
-const ODD: &str = r#"NeverUsed 4 5 | int x;
-NeverUsed 4 6 | int x_ = 1;
-NeverUsed 15 16 | int x = 1; int y = x + x;
-NeverUsed 49 50 | string a = "k"; int A[string]; A[a] = 1; boolean b = A[a] == 1;
-NeverRead 4 5 | int x; x = 1;
-NeverRead 4 5 | int A[]; A[0] = 1;
-NeverRead 4 5 | int A[]; foreach i in [0:1] { A[i] = i; }
-NeverRead 22 23 | boolean b = true; int x; if (b) { x = 1; } else { x = 2; }
-NeverRead 48 49 | (int a, int b) f() { a = 1; b = 2; } int x; int y; (x, y) = f(); printf("%i", x);
-NeverUsed 53 54 | if (true) { int x = 1; printf("%i", x); } else { int x = 2; }
-NeverUsed 43 44 | (int r) f(int n) { int x = n; r = x; } int x = f(1);
-IdleInput 21 22 | (int r) f(int n, int m) { r = n; }
-IdleInput 42 43 | (int r) f(int n) { r = n; } (int r) g(int n) { r = 1; }
-EmptyRange 14 15 | foreach i in [9:0] { }
-EmptyRange 14 15 | foreach i in [9:0:3] { }
-EmptyRange 43 44 | (int r) f(int n) { r = n; foreach v, k in [1:0] { printf("%i", f(v)); } }
-IdleInput 14 15, NeverUsed 23 24, NeverUsed 39 40, EmptyRange 56 57, NeverRead 67 68 | (int r) f(int a) { int b; r = 1; } int c; foreach i in [2:1] { int d; d = i; }"#;
+const ODD: &str = r#"V1 NeverUsed 4 5 | int x;
+V1 NeverUsed 4 6 | int x_ = 1;
+V1 NeverUsed 15 16 | int x = 1; int y = x + x;
+V1 NeverUsed 49 50 | string a = "k"; int A[string]; A[a] = 1; boolean b = A[a] == 1;
+V2 NeverRead 4 5 | int x; x = 1;
+V2 NeverRead 4 5 | int A[]; A[0] = 1;
+V2 NeverRead 4 5 | int A[]; foreach i in [0:1] { A[i] = i; }
+V2 NeverRead 22 23 | boolean b = true; int x; if (b) { x = 1; } else { x = 2; }
+V2 NeverRead 48 49 | (int a, int b) f() { a = 1; b = 2; } int x; int y; (x, y) = f(); printf("%i", x);
+V1 NeverUsed 53 54 | if (true) { int x = 1; printf("%i", x); } else { int x = 2; }
+V1 NeverUsed 43 44 | (int r) f(int n) { int x = n; r = x; } int x = f(1);
+V7 NeverCalled 8 9, V3 IdleInput 21 22 | (int r) f(int n, int m) { r = n; }
+V7 NeverCalled 8 9, V7 NeverCalled 36 37, V3 IdleInput 42 43 | (int r) f(int n) { r = n; } (int r) g(int n) { r = 1; }
+V4 EmptyRange 14 15, V8 EmptyBlock 19 20 | foreach i in [9:0] { }
+V4 EmptyRange 14 15, V8 EmptyBlock 21 22 | foreach i in [9:0:3] { }
+V7 NeverCalled 8 9, V4 EmptyRange 43 44 | (int r) f(int n) { r = n; foreach v, k in [1:0] { printf("%i", f(v)); } }
+V7 NeverCalled 8 9, V3 IdleInput 14 15, V1 NeverUsed 23 24, V1 NeverUsed 39 40, V4 EmptyRange 56 57, V2 NeverRead 67 68 | (int r) f(int a) { int b; r = 1; } int c; foreach i in [2:1] { int d; d = i; }
+V5 ExtraLine 7 12 | printf("a\n");
+V5 ExtraLine 15 21 | @prio=5 printf("%i\n", 1);
+V5 ExtraLine 19 23 | if (true) { printf("\n"); }
+V6 NeverWritten 4 5 | int A[]; printf("%i", A[0]);
+V6 NeverWritten 7 8 | string A[string]; foreach i in [0:1] { printf("%i %s", i, A["k"]); }
+V6 NeverWritten 37 38 | (int r) f(int B[]) { r = B[0]; } int A[]; printf("%i %i", A[1], f(A));
+V7 NeverCalled 3 4 | () f() { printf("x"); }
+V7 NeverCalled 3 4 | () f() { f(); }
+V7 NeverCalled 27 28 | () f() { printf("x"); } () g() { f(); }
+V7 NeverCalled 8 9 | (int r) f(int n) { if (n > 0) { r = f(n - 1); } else { r = 0; } } int f = 1; printf("%i", f);
+V8 EmptyBlock 10 11 | if (true) { } else { printf("x"); }
+V8 EmptyBlock 10 11, V8 EmptyBlock 19 20 | if (true) { } else { }
+V8 EmptyBlock 43 44 | if (true) { printf("x"); } else if (false) { }
+V8 EmptyBlock 20 21 | int x = 1; wait (x) { }
+V8 EmptyBlock 40 41 | foreach i in [0:1] { foreach j in [0:i] { } }
+V9 StepBelowOne 18 19 | foreach i in [0:9:0] { printf("%i", i); }
+V9 StepBelowOne 18 19 | foreach i in [9:0:-1] { printf("%i", i); }
+V10 AlwaysHolds 7 11 | assert(true, "x");
+V11 WaitsForItself 4 5 | int x = x + 1; printf("%i", x);
+V11 WaitsForItself 7 8 | int x; x = 2 * (1 - x); printf("%i", x);
+V11 WaitsForItself 34 35 | boolean b = true; int x; if (b) { x = -x; } else { x = 1; } printf("%i", x);
+V11 WaitsForItself 19 20 | int A[] = [1]; int i = A[i]; printf("%i", i);
+V11 WaitsForItself 7 8 | string s = strcat("a", fromint(toint(s))); printf("%s", s);"#;
 
 #[test]
 fn odd_scripts(rt: HostRuntime) {
     are_warned(&rt, rt.alloc(), ODD);
 }
 
-// A loop's variables have to stand there, and a name that begins with `_` is of one that is meant to be left. The last two are refused.
+// The syntax requires the variables of a loop, and a name that begins with `_` is unused on purpose. The last two are refused.
 const PLAIN: &str = r#"none | 
 none | import io; int x = 1; printf("%i", x);
 none | int _x; int _y = 1; int _; int _A[]; _A[0] = 1;
-none | (int r) f(int _n) { r = 1; }
-none | int x = 1; if (x == 1) { }
-none | int x = 1; wait (x) { }
-none | int A[] = [1]; foreach v, k in A { }
+none | (int r) _f(int _n) { r = 1; }
+none | int x = 1; if (x == 1) { printf("x"); }
+none | int x = 1; wait (x) { printf("x"); }
+none | int A[] = [1]; foreach v, k in A { printf("x"); }
 none | int A[] = [1]; int i = 0; printf("%i", A[i]);
 none | int x = 1; foreach i in [0:1] { if (true) { printf("%i", x); } }
-none | (int r) f(int n) { r = 1; foreach i in [0:n] { } }
-none | foreach i in [0:0] { } foreach i in [9:0:0] { }
-none | int n = 0; foreach i in [9:n] { } foreach i in [n:0] { }
+none | (int r) f(int n) { r = 1; foreach i in [0:n] { printf("x"); } } printf("%i", f(1));
+none | foreach i in [0:0] { printf("x"); }
+none | int n = 0; foreach i in [9:n] { printf("x"); } foreach i in [n:0] { printf("x"); }
+none | printf(""); printf("a\nb"); printf("a\\n"); printf("%s", "a\n");
+none | int A[]; foreach v in A { printf("%i", v); } printf("%i", size(A));
+none | int A[]; A[0] = 1; printf("%i", A[0]);
+none | int _A[]; printf("%i", _A[0]);
+none | (int r[]) f() { r[0] = 1; } int A[]; A = f(); printf("%i", A[0]);
+none | (int r) f(int A[]) { r = A[0]; } int A[] = [1]; printf("%i", f(A));
+none | () f() { g(); } () g() { f(); }
+none | () f() { } f();
+none | int n = 1; foreach i in [0:9:-n] { printf("%i", i); } foreach i in [0:9:1] { printf("%i", i); }
+none | assert(!false, "x"); assert(1 == 1, "true"); boolean b = true; assert(b, "x");
+none | (int r) f(int _n) { r = 1; } int x = f(x); int y = f(y + 1); printf("%i %i", x, y);
+none | int A[]; A[0] = 1; A[1] = A[0]; printf("%i", A[1]);
 none | int x; int y = z;
 none | int x"#;
 

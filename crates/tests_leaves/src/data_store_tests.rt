@@ -3,9 +3,10 @@ ghost use Rattle.data_store.specs.Stores.{IsArrayAt, IsScalarAt};
 
 use crate::asserts::{boxed, holds, is_equal};
 use data_store::refusal::StoreRefusal;
-use data_store::store::{DatumKind, DatumNo, Store};
+use data_store::store::{DatumNo, Store};
 use std::alloc::Global;
 use std::process::Abort;
+use values::datum_kind::DatumKind;
 use values::key::{Key, KeyRef};
 use values::text::Text;
 use values::value::Scalar;

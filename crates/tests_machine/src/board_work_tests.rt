@@ -128,10 +128,10 @@ fn computed_text(rt: &impl Abort, alloc: Global, computed: &ControlResult) -> St
         ControlResult::Fails(_) => String::from_str(alloc, "fails"),
         ControlResult::Gives(scalar) => return scalar_text(rt, alloc, scalar),
         ControlResult::Inserts(map) | ControlResult::Goes(map) => return map_text(rt, alloc, map),
-        ControlResult::Puts(Key::Number(key), Scalar::Number(value)) => {
+        ControlResult::InsertsElement(Key::Number(key), Scalar::Number(value)) => {
             format!(in alloc; "[{key}]={value}")
         }
-        ControlResult::Puts(_, _) => String::from_str(alloc, "puts"),
+        ControlResult::InsertsElement(_, _) => String::from_str(alloc, "puts"),
         ControlResult::Takes(branch) => format!(in alloc; "takes {branch}"),
         ControlResult::Counts(range) => format!(in alloc; "{} from {}", range.count, range.low),
         ControlResult::Opens => String::from_str(alloc, "opens"),
@@ -195,7 +195,7 @@ fn entry(alloc: Global, act: Act) -> Entry {
     Entry {
         node: 1,
         at: 0,
-        mark: 0,
+        offset: 0,
         priority: 0,
         needs: Vec::new(alloc),
         act,
@@ -304,7 +304,7 @@ fn control_items(rt: HostRuntime) {
     comes_to(&rt, alloc, range, five(), "4 from 1");
     let branch = Act::If(expr(&rt, alloc, b"x2<"), 1, None);
     comes_to(&rt, alloc, branch, five(), "takes false");
-    let put = Act::Put(TARGET, expr(&rt, alloc, b"x"), expr(&rt, alloc, b"4"));
+    let put = Act::InsertElement(TARGET, expr(&rt, alloc, b"x"), expr(&rt, alloc, b"4"));
     comes_to(&rt, alloc, put, five(), "[5]=4");
     comes_to(&rt, alloc, Act::Read, five(), "5");
     comes_to(&rt, alloc, Act::Read, Answer::Missing, "no element");
@@ -437,7 +437,7 @@ fn outcomes_are_shared(rt: HostRuntime) {
     );
     let over = ControlResult::Goes(array(&rt, alloc, 1, 2));
     is_shared(&rt, alloc, Outcome::Control(over), "[4]=1[5]=2");
-    let put = ControlResult::Puts(Key::Number(5), Scalar::Number(4));
+    let put = ControlResult::InsertsElement(Key::Number(5), Scalar::Number(4));
     is_shared(&rt, alloc, Outcome::Control(put), "[5]=4");
     is_shared(&rt, alloc, Outcome::Control(ControlResult::Opens), "opens");
 }

@@ -15,11 +15,11 @@ use task_code::entry::{Act, Argument, Entry, Name, Owned, Variable};
 use values::value::Scalar;
 
 /// The call at an offset, with an input and an output.
-fn call(alloc: Global, mark: usize, input: Argument, output: Name) -> Result<Entry, AllocError>
+fn call(alloc: Global, offset: usize, input: Argument, output: Name) -> Result<Entry, AllocError>
     ensures { IfOk result (λ e. entry_view e ≡ record {
       node = 0;
-      at = mark;
-      mark = mark;
+      at = offset;
+      offset = offset;
       priority = pos 0;
       needs = [];
       act = Call 1 (argument_view input ∷ []) (name_view output ∷ []);
@@ -33,8 +33,8 @@ fn call(alloc: Global, mark: usize, input: Argument, output: Name) -> Result<Ent
     outputs.push(output)?;
     Ok(Entry {
         node: 0,
-        at: mark,
-        mark,
+        at: offset,
+        offset,
         priority: 0,
         needs: Vec::new(alloc),
         act: Act::Call {

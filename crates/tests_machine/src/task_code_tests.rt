@@ -68,7 +68,7 @@ fn push(
     let entry = Entry {
         node: place.0,
         at: place.1,
-        mark: place.1,
+        offset: place.1,
         priority: 0,
         needs,
         act,
@@ -226,21 +226,21 @@ fn hello_is_read_and_copied(rt: HostRuntime) {
     assert!(rt; code.body(1).is_none());
 }
 
-/// The mark of a shared entry.
+/// The offset of a shared entry.
 fn shared_mark(rt: &impl Abort, code: &Draft, number: u32) -> Option<usize> {
     let shared = code.share_entry(number).expect(rt, "memory");
-    shared.map(|found| found.mark)
+    shared.map(|found| found.offset)
 }
 
-/// The entry has that kind, `C` or `L`, and that mark.
-fn is_entry(rt: &impl Abort, code: &Draft, number: u32, letter: u8, mark: usize) {
+/// The entry has that kind, `C` or `L`, and that offset.
+fn is_entry(rt: &impl Abort, code: &Draft, number: u32, letter: u8, offset: usize) {
     let kind = if letter == b'C' {
         Kind::Control
     } else {
         Kind::Leaf
     };
     is_equal(rt, (code.kind(number), code.priority(number)), (kind, 0));
-    assert_eq!(rt; shared_mark(rt, code, number), Some(mark), "at {number}");
+    assert_eq!(rt; shared_mark(rt, code, number), Some(offset), "at {number}");
 }
 
 /// The body of the second branch has its opener, and so many entries and variables.
@@ -261,8 +261,8 @@ fn fibonacci_is_read_and_copied(rt: HostRuntime) {
     let code = fibonacci_copy(&rt, rt.alloc());
     assert_eq!(rt; (code.entry_count(), code.body_count()), (10, 4));
     let marks = [92, 79, 25, 21, 34, 58, 54, 69, 65, 50];
-    for (number, (kind, mark)) in b"CLLCLLCLCL".iter().zip(marks.iter()).enumerate() {
-        is_entry(&rt, &code, number as u32, *kind, *mark);
+    for (number, (kind, offset)) in b"CLLCLLCLCL".iter().zip(marks.iter()).enumerate() {
+        is_entry(&rt, &code, number as u32, *kind, *offset);
     }
     has_branch(&rt, &code);
 }

@@ -111,7 +111,7 @@ fn waits_for(code: &Code, number: u32, at: usize, places: &[usize]) -> bool {
             return false;
         }
     }
-    entry.at == at && entry.mark == at
+    entry.at == at && entry.offset == at
 }
 
 /// Returns true if the script's body makes so many scalars, and has the first so many entries.

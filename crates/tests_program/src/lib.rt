@@ -1,5 +1,5 @@
-//! Tests of the crates from a script to its code and its meaning, of the command line, and of the commands, over their public
-//! contracts. Nothing here runs outside of tests.
+//! Tests of the crates from a script to its code, its meaning and its runs, and of the command line, over their public contracts.
+//! Nothing here runs outside of tests.
 #![tactic(auto)]
 
 #[cfg(test)]
@@ -7,11 +7,7 @@ mod arena_tests;
 #[cfg(test)]
 mod asserts;
 #[cfg(test)]
-mod beginnings_tests;
-#[cfg(test)]
 mod code_tests;
-#[cfg(test)]
-mod command_tests;
 #[cfg(test)]
 mod doing;
 #[cfg(test)]
@@ -29,12 +25,10 @@ mod path_faults_tests;
 #[cfg(test)]
 mod refusals_tests;
 #[cfg(test)]
+mod sink;
+#[cfg(test)]
 mod stops_tests;
 #[cfg(test)]
 mod strangers_tests;
 #[cfg(test)]
 mod text_keys_tests;
-#[cfg(test)]
-mod whole_tests;
-#[cfg(test)]
-mod writes_tests;

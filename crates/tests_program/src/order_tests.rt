@@ -2,6 +2,7 @@
 //! written here.
 use crate::asserts::{boxed, holds, is_equal};
 use crate::doing::{code_of, known_of, program_of, report_of};
+use crate::sink::MemorySink;
 use board::Board;
 use board_runs::report::{End, Report};
 use board_runs::step::finish;
@@ -9,7 +10,6 @@ use meaning_outcomes::knowledge::Knowledge;
 use paths::{Fault, StatementInstance};
 use std::alloc::{AllocError, Global};
 use std::process::Abort;
-use swt_command::buffer::Buffer;
 use swt_trace::report::write_report;
 use swt_trace::write::write_trace;
 use task_code::code::Code;
@@ -35,8 +35,8 @@ pub struct RunResults {
 }
 
 /// All that the report says.
-fn told(rt: &impl Abort, alloc: Global, report: &Report) -> Box<Buffer> {
-    let mut out = Buffer::new(alloc);
+fn told(rt: &impl Abort, alloc: Global, report: &Report) -> Box<MemorySink> {
+    let mut out = MemorySink::new(alloc);
     write_report(report, &mut out).expect(rt, "memory");
     boxed(rt, alloc, out)
 }
@@ -56,7 +56,8 @@ fn end_of_lines(lines: &[Text]) -> usize {
 fn has_end(rt: &impl Abort, alloc: Global, report: &Report, ends: &[&[u8]]) -> bool {
     let out = told(rt, alloc, report);
     let end = out
-        .bytes()
+        .bytes
+        .as_slice()
         .get(end_of_lines(report.lines.as_slice())..)
         .unwrap_or(b"");
     ends.contains(&end)
@@ -477,14 +478,14 @@ fn every_order_of_faults(rt: HostRuntime) {
 
 /// The report says this.
 fn tells(rt: &impl Abort, alloc: Global, report: &Report, wanted: &[u8]) {
-    is_equal(rt, told(rt, alloc, report).bytes(), wanted);
+    is_equal(rt, told(rt, alloc, report).bytes.as_slice(), wanted);
 }
 
 /// The report has this trace.
 fn has_events(rt: &impl Abort, alloc: Global, report: &Report, events: &[u8]) {
-    let mut trace = Buffer::new(alloc);
+    let mut trace = MemorySink::new(alloc);
     write_trace(report, &mut trace).expect(rt, "memory");
-    is_equal(rt, trace.bytes(), events);
+    is_equal(rt, trace.bytes.as_slice(), events);
 }
 
 /// A choice picks among the items that can begin, counted round.

@@ -5,13 +5,14 @@ use flow::name::{Name, NameBinding};
 use language::tree::{Keys, Shape};
 use meaning_facts::fact_base::FactBase;
 use meaning_facts::facts::{Fact, Write};
-use meaning_facts::instances::{InstanceBindings, MOST_STEPS};
+use meaning_facts::instances::InstanceBindings;
 use meaning_round::faults::{add_deep, add_deep_items, add_fault};
 use meaning_round::site::LiveStatement;
 use paths::{FaultKind, Step};
 use std::alloc::Global;
 use std::process::Abort;
 use values::key::Key;
+use values::limits::MAX_PATH_STEPS;
 use values::value::Scalar;
 
 /// The node of an array.
@@ -47,7 +48,7 @@ fn opened(rt: &impl Abort, alloc: Global, fact_base: &mut FactBase, instance: us
 /// Opens a block in each block, until no path fits behind the last, and says which that is.
 fn open_all(rt: &impl Abort, alloc: Global, fact_base: &mut FactBase) -> usize {
     let mut last = 0;
-    for _ in 0..MOST_STEPS {
+    for _ in 0..MAX_PATH_STEPS {
         last = opened(rt, alloc, fact_base, last);
     }
     last

@@ -7,12 +7,12 @@ use crate::sink::{Sink, SinkFault, write_all};
 use std::marker::Model;
 
 /// Capacity of a page in bytes.
-pub const ROOM: usize = 4096;
+pub const PAGE_BYTES: usize = 4096;
 
 /// Pending bytes that are to be written to a sink, in a fixed buffer. Does not allocate.
 #[derive(Drop)]
 pub struct Page {
-    bytes: [u8; ROOM],
+    bytes: [u8; PAGE_BYTES],
     len: usize,
 }
 
@@ -31,7 +31,7 @@ impl Page {
         ensures { result ≡ [] }
     {
         Page {
-            bytes: [0; ROOM],
+            bytes: [0; PAGE_BYTES],
             len: 0,
         }
     }
@@ -85,7 +85,7 @@ impl Page {
     fn room(&self) -> usize
         ensures { result + length self.now ≡ 4096 }
     {
-        ROOM - self.len
+        PAGE_BYTES - self.len
     }
 
     /// Appends a text that fits to the pending bytes.

@@ -8,6 +8,7 @@ use Rattle.board_runs.specs.Report.{Tells}
 use Rattle.board_runs.specs.declared.report.Report.{Report}
 use Rattle.workers.specs.declared.run.PoolCount.{PoolCount}
 use Rattle.workers.specs.Threads.{RunsTo}
+use Rattle.values.specs.Limits.{max_threads}
 
 -- The report describes a board whose history is a run of the code within the limit. Each item is begun by a worker of
 -- its kind, and none is given back. The tally of each worker is its number of events. Each newly ready item was offered
@@ -22,6 +23,6 @@ pub record IsReport (C : Code) (limit engines workers : ℕ) (r : Report) (p : P
   pub newly : Newly C board.history (p.offered + p.full)
   pub no_back : backs board.history ≡ 0
   pub tells : Tells board r
-  pub tallies : (w : ℕ) → w < 64 → slice_index r.tallies w ≡ tally board.history w
+  pub tallies : (w : ℕ) → w < max_threads → slice_index r.tallies w ≡ tally board.history w
   pub drawn : p.offered ≡ p.drawn + p.left
   pub few_left : p.left ≤ 96

@@ -10,6 +10,7 @@ use Rattle.workers.specs.declared.audited_board.StopReason.{StopReason}
 use Rattle.task_code.specs.Code.{Code, Control, Kind, Leaf}
 use Rattle.task_code.specs.Machine.{CodeItem, CodeState, CodeStep}
 use Rattle.task_code.specs.System.{code_system, task_kind}
+use Rattle.values.specs.Limits.{max_threads}
 
 -- Engines have the numbers from 0 on and run control items. Workers follow and run leaf items.
 pub record MayRun (engines workers w : ℕ) (kind : Kind) : Type 0 where
@@ -48,7 +49,7 @@ pub record AuditedState : Type 0 where
 pub record IsConsistent (C : Code) (limit engines workers : ℕ) (d : AuditedState) : Type 0 where
   pub code : d.board.code ≡ C
   pub limit_is : d.board.limit ≡ limit
-  pub some : engines + workers ≤ 64
+  pub some : engines + workers ≤ max_threads
   pub counted : length d.board.history ≡ d.events
   pub enabled_total_is : d.enabled_total ≡ d.enabled
   pub fits : d.enabled_total < 2 ^ 64

@@ -11,6 +11,7 @@ ghost use Rattle.dataflow.specs.Machine as Machine;
 ghost use Rattle.workers.specs.StartLog.{AreItems};
 ghost use Rattle.workers.specs.Offering.{AreListed};
 ghost use Rattle.workers.specs.Threads.{MayRun, IsRunWorker, RunsTo};
+ghost use Rattle.values.specs.Limits.{max_threads};
 
 use crate::gate::RunParams;
 use crate::items::{CompletedItem, StartedItem};
@@ -77,7 +78,7 @@ impl<J: RunParams, E: Ledger, N: Ledger> AuditedBoard<J, E, N> {
         enabled: Book<N>,
     ) -> AuditedBoard<J, E, N>
         requires code { (board.code ≡ J.code) × (board.limit ≡ J.limit) }
-        requires some { J.engines + J.workers ≤ 64 }
+        requires some { J.engines + J.workers ≤ max_threads }
         requires first { (board.history ≡ []) × (board.state ≡ start (code_system board.code)) }
         requires empty { (events.total ≡ 0) × (enabled.total ≡ 0) }
         requires opened { opened.seen.book ≡ J.book }
@@ -310,7 +311,7 @@ impl<J: RunParams, E: Ledger, N: Ledger> AuditedBoard<J, E, N> {
         ensures amounts { (events.new.amount ≡ events.old.amount) × (enabled.new.amount ≡ enabled.old.amount) }
         ensures parts { (events.new.parts ≡ events.old.parts) × (enabled.new.parts ≡ enabled.old.parts) }
         ensures bounds { (events.new.amount < 2 ^ 64) × (enabled.new.amount < 2 ^ 64) }
-        ensures few { J.engines + J.workers ≤ 64 }
+        ensures few { J.engines + J.workers ≤ max_threads }
     {
         let _within = self.board.history();
         self.events.audit(events);

@@ -6,7 +6,7 @@ use thiserror::Error;
 /// A fault that ends a run on threads without a report.
 #[derive(Clone, Copy, PartialEq, Eq, Debug, Drop, Error)]
 pub enum RunFault {
-    /// There is no engine or no worker, or there are more than 64 in total.
+    /// There is no engine or no worker, or there are more than `MAX_THREADS` in total.
     #[error("R1 BadCount")]
     BadCount,
     /// The counts of the threads differ from those of the board, or the board refused an item's own work.

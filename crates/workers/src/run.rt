@@ -6,6 +6,7 @@ ghost use Rattle.pool.specs.Views.{beginner};
 ghost use Rattle.task_code.specs.System.{code_system};
 ghost use Rattle.board_runs.specs.Report.{Reports, Tells};
 ghost use Rattle.workers.specs.Reports.{IsReport};
+ghost use Rattle.values.specs.Limits.{max_threads};
 
 use crate::audited_board::{AuditedBoard, StopReason};
 use crate::fault::RunFault;
@@ -26,6 +27,7 @@ use std::sync::ledger::{Blank, Ledger, Share};
 use std::sync::{Mutex, Wait};
 use std::thread::Threads;
 use task_code::entry::Kind;
+use values::limits::MAX_THREADS;
 use workers_policy::active_threads::ActiveThreads;
 use workers_policy::counters::RunCounters;
 use workers_policy::ready_hints::ReadyHints;
@@ -78,7 +80,7 @@ fn new_idle_workers<J: RunParams, E: Ledger, N: Ledger>(
     events: &mut Share<E>,
     enabled: &mut Share<N>,
 ) -> Result<IdleWorkers<J, E, N>, AllocError>
-    requires places { (engines ≡ J.engines) × (vec_len seats ≡ J.engines + J.workers) × (vec_len seats ≤ 64) }
+    requires places { (engines ≡ J.engines) × (vec_len seats ≡ J.engines + J.workers) × (vec_len seats ≤ max_threads) }
     requires seats { All (λ s. (seat_pool s ≡ J.pool) × (view s ≡ beginner 1)) seats.items }
     requires parts { (events.old.parts ≡ vec_len seats) × (enabled.old.parts ≡ vec_len seats) }
     requires amounts { (events.old.amount ≡ 0) × (enabled.old.amount ≡ 0) }
@@ -146,7 +148,7 @@ fn collect_totals<J: RunParams, E: Ledger, N: Ledger>(
 ) -> Result<RunTotals<J, E, N>, AllocError>
     requires { (events.parts ≡ 0) × (enabled.parts ≡ 0) × (events.amount ≡ 0) × (enabled.amount ≡ 0) }
     ensures seats { IfOk result (λ s. vec_len s.seats ≡ vec_len worker_states) }
-    ensures own { IfOk result (λ s. (w : ℕ) → w < 64 → slice_index s.tallies w ≡ sum_by (λ h. if nat_eq h.worker_state.worker w then h.worker_state.tally else 0) worker_states.items) }
+    ensures own { IfOk result (λ s. (w : ℕ) → w < max_threads → slice_index s.tallies w ≡ sum_by (λ h. if nat_eq h.worker_state.worker w then h.worker_state.tally else 0) worker_states.items) }
 {
     let mut totals = RunTotals::new(alloc, events, enabled);
     for worker_state in worker_states {
@@ -156,10 +158,10 @@ fn collect_totals<J: RunParams, E: Ledger, N: Ledger>(
 }
 
 /// Returns true if the reported tallies equal those that the workers counted.
-fn tallies_match(reported: &[u32; 64], tallies: &[u64; 64]) -> bool
+fn tallies_match(reported: &[u32; MAX_THREADS], tallies: &[u64; MAX_THREADS]) -> bool
     ensures { IsTrue result ↔ (reported.now ≡ tallies.now) }
 {
-    for worker in 0..64usize {
+    for worker in 0..MAX_THREADS {
         if reported[worker] as u64 != tallies[worker] {
             return false;
         }
@@ -204,7 +206,7 @@ fn report(
 /// # Errors
 ///
 /// Returns `Stranger` if they differ.
-fn check_tallies(report: Report, tallies: &[u64; 64]) -> Result<Report, RunFault>
+fn check_tallies(report: Report, tallies: &[u64; MAX_THREADS]) -> Result<Report, RunFault>
     ensures same { IfOk result (λ r. r ≡ report) }
     ensures counted { OnOk result (report.tallies ≡ tallies.now) }
     ensures differs { OnErr result (report.tallies ≢ tallies.now) }
@@ -350,7 +352,7 @@ fn run<
     count: usize,
     gate: &G,
 ) -> Result<(Report, PoolCount), RunFault>
-    requires count { (count ≤ 64) × (engines ≡ J.engines) × (count ≡ J.engines + J.workers) × (vec_len seats ≡ count) × (seats_of pool ≡ count) }
+    requires count { (count ≤ max_threads) × (engines ≡ J.engines) × (count ≡ J.engines + J.workers) × (vec_len seats ≡ count) × (seats_of pool ≡ count) }
     requires ledgers { (events.name ≡ E.name) × (events.parts ≡ E.parts) × (enabled.name ≡ N.name) × (enabled.parts ≡ N.parts) }
     requires parts { (events.parts ≡ count) × (enabled.parts ≡ count) }
     requires pool { pool_id pool ≡ J.pool }
@@ -399,7 +401,7 @@ fn run<
 ///
 /// # Errors
 ///
-/// Returns `BadCount` if and only if there is no engine or no worker, or more than 64 in total. Returns `Spawn` if a
+/// Returns `BadCount` if and only if there is no engine or no worker, or more than `MAX_THREADS` in total. Returns `Spawn` if a
 /// thread could not be started; the other threads then stop. Returns `Stranger` if the counts of the threads differ
 /// from those of the board. Returns `Memory` if an allocation fails: the worker returns its item to the board, and the
 /// run stops.
@@ -414,10 +416,10 @@ pub fn run_threads<R: Threads + Wait + Sync, G: Gate>(
 ) -> Result<(Report, PoolCount), RunFault>
     ensures report { IfOk result (λ r. IsReport program.now limit engines workers r.0 r.1) }
     ensures reports { IfOk result (λ r. Reports program.now limit r.0) }
-    ensures count { (result ≡ Err RunFault.BadCount) ↔ ((engines ≡ 0) ⊎ ((workers ≡ 0) ⊎ (64 < engines + workers))) }
+    ensures count { (result ≡ Err RunFault.BadCount) ↔ ((engines ≡ 0) ⊎ ((workers ≡ 0) ⊎ (max_threads < engines + workers))) }
 {
     let count = engines as usize + workers as usize;
-    if engines == 0 || workers == 0 || count > 64 {
+    if engines == 0 || workers == 0 || count > MAX_THREADS {
         return Err(RunFault::BadCount);
     }
     let _whole = program.code().entry_count();

@@ -2,6 +2,7 @@
 ghost use Rattle.std.specs.Prelude.{◌≡◌, ◌+◌, ◌<◌, ◌^◌, All, length, map, replicate, slice_index, slice_set, sum, vec_capacity, vec_len, OnOk};
 ghost use Rattle.pool.specs.Seats.{view, seat_pool};
 ghost use Rattle.pool.specs.Views.{total};
+ghost use Rattle.values.specs.Limits.{max_threads};
 
 use crate::audited_board::AuditedBoard;
 use crate::gate::RunParams;
@@ -11,6 +12,7 @@ use pool::offers::Offers;
 use std::alloc::{AllocError, Global};
 use std::marker::PhantomData;
 use std::sync::ledger::{Ledger, Share};
+use values::limits::MAX_THREADS;
 
 /// The merged shares, the pool seats and the counts of all workers that were added.
 ///
@@ -22,14 +24,14 @@ pub struct RunTotals<J: RunParams, E: Ledger, N: Ledger> {
     pub enabled: Share<N>,
     pub seats: Vec<PoolSeat>,
     /// Number of events of each worker, as its own state counted them.
-    pub tallies: [u64; 64],
+    pub tallies: [u64; MAX_THREADS],
     pub draws: Vec<u64>,
     pub offered: u64,
     pub full: u64,
     pub lost: u64,
     pub of: PhantomData<J>,
     ghost parts: { (events.parts ≡ vec_len seats) × (enabled.parts ≡ vec_len seats) },
-    ghost sized: { length tallies ≡ 64 },
+    ghost sized: { length tallies ≡ max_threads },
     ghost tallied: { sum tallies ≡ events.amount },
     ghost enabled_total: { enabled.amount ≡ offered + full + lost },
     ghost fits: { enabled.amount < 2 ^ 64 },
@@ -53,13 +55,13 @@ impl<J: RunParams, E: Ledger, N: Ledger> RunTotals<J, E, N> {
     pub fn new(alloc: Global, events: Share<E>, enabled: Share<N>) -> RunTotals<J, E, N>
         requires { (events.parts ≡ 0) × (enabled.parts ≡ 0) × (events.amount ≡ 0) × (enabled.amount ≡ 0) }
         ensures seats { vec_len result.seats ≡ 0 }
-        ensures tallies { result.tallies ≡ replicate 64 0 }
+        ensures tallies { result.tallies ≡ replicate max_threads 0 }
     {
         RunTotals {
             events,
             enabled,
             seats: Vec::new(alloc),
-            tallies: [0; 64],
+            tallies: [0; MAX_THREADS],
             draws: Vec::new(alloc),
             offered: 0,
             full: 0,

@@ -12,7 +12,7 @@ local function diagnostic(told)
     end_lnum = told["end"].line - 1,
     end_col = told["end"].column - 1,
     code = told.code,
-    severity = told.code == "warning" and vim.diagnostic.severity.WARN or vim.diagnostic.severity.ERROR,
+    severity = told.code:sub(1, 1) == "V" and vim.diagnostic.severity.WARN or vim.diagnostic.severity.ERROR,
     source = "swt",
     message = words,
   }

@@ -18,7 +18,7 @@ pub returns-clause-opens : goal.returns-clause-opens
 returns-clause-opens g = λ C i c p x. opens_holds C i c p x
 
 pub returns-clause-turns : goal.returns-clause-turns
-returns-clause-turns g = λ C w mark p q v k nk ts n. turns_hold C w mark p q v k nk ts n
+returns-clause-turns g = λ C w offset p q v k nk ts n. turns_hold C w offset p q v k nk ts n
 
 pub returns-clause-end : goal.returns-clause-end
 returns-clause-end g = λ C I es s run t w n x h. end_counts_of C I es s run t w n x h

@@ -18,6 +18,7 @@ use Rattle.syntax.specs.Readers.{got}
 use Rattle.syntax.specs.Reading.{read_part}
 use Rattle.syntax.proofs.Sizes.{part_fits, rising}
 use Rattle.syntax.proofs.scripts.Scripts.{part_law}
+use Rattle.values.specs.Limits.{max_source}
 
 -- a part has at most two numbers for each token that it takes
 pub part_within : (depth : ℕ) (s : Place) (p : Part) (u : Place) → read_part depth s ≡ got p u → part_size p + 2 * length u.rest ≤ 2 * length s.rest
@@ -47,7 +48,7 @@ begun_tokens bytes ts fault lexed =
     omega arith
 
 -- so the numbers of a text stay below 2^32
-pub begun_short : (bytes : List ℕ) (s : Place) → length bytes ≤ 1048576 → Begins bytes s → 2 * length s.rest + 1 < 2 ^ 32
+pub begun_short : (bytes : List ℕ) (s : Place) → length bytes ≤ max_source → Begins bytes s → 2 * length s.rest + 1 < 2 ^ 32
 begun_short bytes s short begun =
     let few = begun_tokens bytes begun.0 begun.1 begun.2 in
     let all : length s.rest ≡ length begun.0 = ap (λ p. length p.rest) begun.3 in

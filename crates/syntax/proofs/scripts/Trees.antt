@@ -18,6 +18,7 @@ use Rattle.syntax.specs.Reading.{read_script}
 use Rattle.syntax.proofs.combining.Combine.{law_only}
 use Rattle.syntax.proofs.expressions.Expressions.{Ends, ends_of, expr_law}
 use Rattle.syntax.proofs.scripts.Scripts.{one_tree, script_sound, script_refused}
+use Rattle.values.specs.Limits.{max_source, max_nesting}
 
 ends : (u : Place) → u.rest ≡ [] → Ends (kind_at u)
 ends u h = subst (λ ts. Ends (kind_of ts)) (sym h) (ends_of Kind.End refl refl refl)
@@ -42,25 +43,25 @@ one_reading depth bytes ts us t u tokens is tokens' also =
 
 pub one_text : (bytes : List ℕ) (t u : Tree) → Reads bytes t → Reads bytes u → t ≡ u
 one_text bytes t u is also =
-    is.is_numbered ∙ ap (λ p. numbered 1 p) (one_reading 64 bytes is.tokens also.tokens is.parsed also.parsed is.lexed is.is_script also.lexed also.is_script) ∙ sym also.is_numbered
+    is.is_numbered ∙ ap (λ p. numbered 1 p) (one_reading max_nesting bytes is.tokens also.tokens is.parsed also.parsed is.lexed is.is_script also.lexed also.is_script) ∙ sym also.is_numbered
 
 -- tokens with no fault behind them
 pub whole : (bytes : List ℕ) (ts : List Lexeme) → Tokens bytes (map Ok ts ++ []) → Tokens bytes (map Ok ts)
 whole bytes ts lexed = subst (Tokens bytes) (append-nil (map Ok ts)) lexed
 
 -- what is read from the tokens of a text is its tree, with its numbers
-pub reads_text : (bytes : List ℕ) (ts : List Lexeme) (tree : Tree) (u : Place) → length bytes ≤ 1048576 → Tokens bytes (map Ok ts) → read_script 64 (start ts) ≡ got tree u → Reads bytes (numbered 1 tree)
-reads_text bytes ts tree u short lexed read = record { short = short; tokens = ts; lexed = lexed; parsed = tree; is_script = (script_sound 64 ts tree u read).0; is_numbered = refl }
+pub reads_text : (bytes : List ℕ) (ts : List Lexeme) (tree : Tree) (u : Place) → length bytes ≤ max_source → Tokens bytes (map Ok ts) → read_script max_nesting (start ts) ≡ got tree u → Reads bytes (numbered 1 tree)
+reads_text bytes ts tree u short lexed read = record { short = short; tokens = ts; lexed = lexed; parsed = tree; is_script = (script_sound max_nesting ts tree u read).0; is_numbered = refl }
 
 -- a text that is too long has no tree
-pub long_text : (bytes : List ℕ) → 1048576 < length bytes → (t : Tree) → Reads bytes t → ⊥
+pub long_text : (bytes : List ℕ) → max_source < length bytes → (t : Tree) → Reads bytes t → ⊥
 long_text bytes long t is = let short = is.short in omega arith
 
 -- nor has one whose tokens are refused
-pub refused_text : (bytes : List ℕ) (ts : List Lexeme) → Tokens bytes (map Ok ts) → (stop : ParseStop) → read_script 64 (start ts) ≡ refused stop → (t : Tree) → Reads bytes t → ⊥
+pub refused_text : (bytes : List ℕ) (ts : List Lexeme) → Tokens bytes (map Ok ts) → (stop : ParseStop) → read_script max_nesting (start ts) ≡ refused stop → (t : Tree) → Reads bytes t → ⊥
 refused_text bytes ts lexed stop none t is =
     let same = same_tokens is.tokens ts (only_tokens 0 bytes (map Ok is.tokens) is.lexed ∙ sym (only_tokens 0 bytes (map Ok ts) lexed)) in
-    script_refused 64 ts stop none is.parsed (subst (λ xs. IsScript 64 xs is.parsed) same is.is_script)
+    script_refused max_nesting ts stop none is.parsed (subst (λ xs. IsScript max_nesting xs is.parsed) same is.is_script)
 
 no_fault : (ts us : List Lexeme) (f : LexFault) → ◌≡◌ {A = List Item} (map Ok ts) (map Ok us ++ Err f ∷ []) → ⊥
 no_fault [] [] f h = absurd (cc)

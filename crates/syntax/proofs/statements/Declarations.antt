@@ -16,6 +16,7 @@ use Rattle.syntax.specs.Reading.{is_some, base_over, at_type, read_name, read_ty
 use Rattle.syntax.proofs.spellings.Spelling.{spells_true}
 use Rattle.syntax.proofs.combining.Combine.{Law, Any, Tests, Begins, Stops, Sound, got_value, got_place, kind_the, same_kind, the_law, both_law, both_last_law, drop_law, made_law, rule_law, sound_as, sound_choose, choose_first, choose_second, begins_the, not_kind, maybe_law, commas_law, perhaps_law, tests_at, bracket_law, checked_law}
 use Rattle.syntax.proofs.expressions.Expressions.{Ends, ends_of, name_law, expr_law, starts_expr, expr_begins, arguments_over_law}
+use Rattle.values.specs.Limits.{max_priority}
 
 -- TYPES
 
@@ -174,13 +175,13 @@ prio_law =
 
 -- a number token that spells at most a million
 abbrev Is_small_token : Rule Lexeme
-Is_small_token s t u = The Kind.Number s t u × (decimal t.text ≤ 1000000)
+Is_small_token s t u = The Kind.Number s t u × (decimal t.text ≤ max_priority)
 
 pub small_law : Law 1 read_small IsSmall Any
 unfolding read_small
 small_law =
     rule_law (made_law {R = Is_small_token} (λ s t u. decimal t.text)
-    (checked_law (the_law Kind.Number) (λ s t u is holds. (is, leb-true (decimal t.text) 1000000 holds)) (λ s t u is. (is.0, le-leb (decimal t.text) 1000000 is.1))))
+    (checked_law (the_law Kind.Number) (λ s t u is holds. (is, leb-true (decimal t.text) max_priority holds)) (λ s t u is. (is.0, le-leb (decimal t.text) max_priority is.1))))
     (λ s n u (t, is, same). (t, is.0, is.1, same)) (λ s n u (t, is, small, same). (t, (is, small), same))
 
 pub priority_law : Law 1 read_priority IsPriority Any

@@ -22,6 +22,7 @@ use Rattle.syntax.proofs.expressions.Expressions.{operates, tests_operator, oper
 use Rattle.syntax.proofs.statements.Declarations.{type_law, spells_is}
 use Rattle.syntax.proofs.expressions.Forms.{form_same, prefix_zero, prefix_deep}
 use Rattle.syntax.proofs.stopping.Prefixes.{before_of, Opens, Comes, Halts, At, Looks, wider, token, Spells, spells_to, spells_both, spells_drop, spells_made, spells_one, spells_nil, spells_zero, spells_no, token_looks, made_looks, both_here, both_looks, drop_looks, none_of_all, last_both_looks, choose_at, choose_second_at, never_at, maybe_looks, many_here, once_here, commas_looks, perhaps_looks, The_checked, checked_looks, level, level_looks, alike_looks, wider_looks, bracket_looks}
+use Rattle.values.specs.Limits.{max_priority}
 
 -- EXPRESSIONS
 
@@ -290,12 +291,12 @@ prio_looks =
 small_looks : Looks {I = ℕ} true none_of_all read_small (λ i. read_small) (Spells IsSmall)
 unfolding read_small
 small_looks =
-    made_small (checked_looks (λ t. nat_le (decimal t.text) 1000000) Kind.Number (token Kind.Number) refl refl)
+    made_small (checked_looks (λ t. nat_le (decimal t.text) max_priority) Kind.Number (token Kind.Number) refl refl)
   where
-    made_small : Looks {I = ℕ} true none_of_all (checked (λ t. nat_le (decimal t.text) 1000000) (the Kind.Number)) (λ i. checked (λ t. nat_le (decimal t.text) 1000000) (the Kind.Number)) (Spells (The_checked (λ t. nat_le (decimal t.text) 1000000) Kind.Number))
-        → Looks {I = ℕ} true none_of_all (made (λ s t u. decimal t.text) (checked (λ t. nat_le (decimal t.text) 1000000) (the Kind.Number))) (λ i. made (λ s t u. decimal t.text) (checked (λ t. nat_le (decimal t.text) 1000000) (the Kind.Number))) (Spells IsSmall)
+    made_small : Looks {I = ℕ} true none_of_all (checked (λ t. nat_le (decimal t.text) max_priority) (the Kind.Number)) (λ i. checked (λ t. nat_le (decimal t.text) max_priority) (the Kind.Number)) (Spells (The_checked (λ t. nat_le (decimal t.text) max_priority) Kind.Number))
+        → Looks {I = ℕ} true none_of_all (made (λ s t u. decimal t.text) (checked (λ t. nat_le (decimal t.text) max_priority) (the Kind.Number))) (λ i. made (λ s t u. decimal t.text) (checked (λ t. nat_le (decimal t.text) max_priority) (the Kind.Number))) (Spells IsSmall)
     made_small one =
-        wider_looks (λ cs. spells_to {R = Made (λ s t u. decimal t.text) (The_checked (λ t. nat_le (decimal t.text) 1000000) Kind.Number)} {Q = IsSmall} (λ s n u (t, (is, holds), same'). (n, (t, is, leb-true (decimal t.text) 1000000 holds, same'))) cs) (λ k h. h)
+        wider_looks (λ cs. spells_to {R = Made (λ s t u. decimal t.text) (The_checked (λ t. nat_le (decimal t.text) max_priority) Kind.Number)} {Q = IsSmall} (λ s n u (t, (is, holds), same'). (n, (t, is, leb-true (decimal t.text) max_priority holds, same'))) cs) (λ k h. h)
         (made_looks (λ s t u. decimal t.text) one)
 
 pub priority_looks : Looks {I = ℕ} true (λ x. same x Kind.At) read_priority (λ i. read_priority) (Spells IsPriority)

@@ -21,7 +21,7 @@ returns-in-Compute-clause-added g c =
     on_ok_weaker c.add_computed.result
     (λ adds. λ fs all passed room there told.
     subst (λ (f : Form). Added fs s.inputs all s.at s.priority (inner (record { node = cell.node; form = f }) ∷ []) c.args.entries.now.items c.add_computed.new.entries.items) (sym is)
-    (computed_added fs s.inputs all s (record { node = cell.node; mark = cell.at }) (expr_view {A = A} c.in-Compute.expr) c.args.entries.now.items c.add_computed.new.entries.items told (adds (subst (FormRoom s.inputs) is room))))
+    (computed_added fs s.inputs all s (record { node = cell.node; offset = cell.at }) (expr_view {A = A} c.in-Compute.expr) c.args.entries.now.items c.add_computed.new.entries.items told (adds (subst (FormRoom s.inputs) is room))))
     c.add_computed.ensures.entry
 
 pub returns-in_ok-need-in-Read-clause-added : goal.returns-in_ok-need-in-Read-clause-added
@@ -33,7 +33,7 @@ returns-in_ok-need-in-Read-clause-added g c =
     on_ok_weaker c.add_read.result
     (λ adds. λ fs all passed room there told.
     subst (λ (f : Form). Added fs s.inputs all s.at s.priority (inner (record { node = cell.node; form = f }) ∷ []) c.args.entries.now.items c.add_read.new.entries.items) (sym is)
-    (read_added fs s.inputs all c.args.passed.now s (record { node = cell.node; mark = cell.at }) c.in-Read.index (name_view c.in-Read.array) (code_view.need_view c.in_ok-need-in-Read.need) c.args.entries.now.items c.add_read.new.entries.items passed told
+    (read_added fs s.inputs all c.args.passed.now s (record { node = cell.node; offset = cell.at }) c.in-Read.index (name_view c.in-Read.array) (code_view.need_view c.in_ok-need-in-Read.need) c.args.entries.now.items c.add_read.new.entries.items passed told
     (subst (λ (f : Form). inner (record { node = cell.node; form = f }) ∈ all) is there)
     (λ a h. c.in_ok-need-in-Read.ensures a h ∙ ap (λ r. element_at r a) (c.named.ensures (subst (FormRoom s.inputs) is room))) adds))
     c.add_read.ensures
@@ -45,5 +45,5 @@ pub returns-in_ok-need-in-Read-clause-marks : goal.returns-in_ok-need-in-Read-cl
 returns-in_ok-need-in-Read-clause-marks g c =
     let cell = c.args.cell.now in
     on_ok_weaker c.add_read.result
-    (λ adds. marked_one c.args.entries.now.items c.add_read.new.entries.items (made c.args.standing (record { node = cell.node; mark = cell.at }) (code_view.need_view c.in_ok-need-in-Read.need ∷ []) Read) adds)
+    (λ adds. marked_one c.args.entries.now.items c.add_read.new.entries.items (made c.args.standing (record { node = cell.node; offset = cell.at }) (code_view.need_view c.in_ok-need-in-Read.need ∷ []) Read) adds)
     c.add_read.ensures

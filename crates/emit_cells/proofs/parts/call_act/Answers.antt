@@ -17,4 +17,4 @@ returns-clause-calls g c all passed room =
     }
 
 pub returns-clause-unmarked : goal.returns-clause-unmarked
-returns-clause-unmarked g c = λ node mark. refl
+returns-clause-unmarked g c = λ node offset. refl

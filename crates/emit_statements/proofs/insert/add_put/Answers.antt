@@ -1,7 +1,7 @@
 use Rattle.std.proofs.Common.{List, [], ◌∷◌, ◌++◌, ◌∙◌, ap, map, subst, sym, true}
 use Rattle.std.specs.List.{flat_map}
 use Rattle.flow.specs.View.{name_view, outer_view}
-use Rattle.task_code.specs.Code.{Need, Put}
+use Rattle.task_code.specs.Code.{Need, InsertElement}
 use Rattle.task_code.specs.View as code_view
 use Rattle.code_rules.specs.CodeNames.{name_as, over, wanted}
 use Rattle.code_rules.specs.IsCodeOf.{seen_as}
@@ -35,9 +35,9 @@ returns-clause-own g c room priority =
     let array = name_as k true (name_view c.args.array) in
     let place_is = c.in_ok-place.ensures ready room.1.0.1 in
     let value_is = c.in_ok-value.ensures ready room.1.1.1 in
-    let does = ap (λ r. Put r place value) (c.named.ensures room.0) ∙ ap (λ e. Put array e value) place_is ∙ ap (λ e. Put array (over k (map need_of ks) first) e) value_is in
+    let does = ap (λ r. InsertElement r place value) (c.named.ensures room.0) ∙ ap (λ e. InsertElement array e value) place_is ∙ ap (λ e. InsertElement array (over k (map need_of ks) first) e) value_is in
     let listed = subst (λ (ns : List Need). Noted ns ks) (wanted_both k first second) noted in
-    put_added s c.args.statement.node (name_view c.args.array) i o first second ks (Put target place value) c.args.entries.now.items c.push_entry.new.entries.items priority
+    put_added s c.args.statement.node (name_view c.args.array) i o first second ks (InsertElement target place value) c.args.entries.now.items c.push_entry.new.entries.items priority
     (ap (λ t. seen_as t i.cell.node i.cell.form) c.is_outer_plain-plain_index.ensures) (ap (λ t. seen_as t o.cell.node o.cell.form) c.is_outer_plain-plain_right.ensures) listed does
     (c.in_ok-push_entry.ensures.entry (flat_map (wanted k) (first ∷ second ∷ [])) listed)
 

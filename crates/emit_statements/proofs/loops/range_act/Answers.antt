@@ -24,4 +24,4 @@ returns-clause-does g c ready room_low room_high room_step =
     (c.in_ok-step.ensures ready room_step)
 
 pub returns-clause-unmarked : goal.returns-clause-unmarked
-returns-clause-unmarked g c = λ node mark. refl
+returns-clause-unmarked g c = λ node offset. refl

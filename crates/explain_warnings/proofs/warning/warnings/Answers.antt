@@ -10,9 +10,13 @@ use Rattle.explain_warnings.proofs.warning.warnings.Goals as goal
 pub returns : goal.returns
 returns g c =
     IfOk-weaker c.parts.result _ _
-    (λ found said. said ∙ warned_by (table_of c.args.typed.now) (tree_of {A = g.row.A.Denot} c.args.script.now) (is_marked c.as_slice-3.result.now) (is_marked c.as_slice-4.result.now)
-    (λ k. ap (λ marks. is_marked marks k) c.as_slice-3.ensures.value ∙ c.in_ok-read.ensures k
+    (λ found said. said ∙ warned_by (table_of c.args.typed.now) (tree_of {A = g.row.A.Denot} c.args.script.now)
+    (is_marked c.as_slice-4.result.now) (is_marked c.as_slice-5.result.now) (is_marked c.as_slice-6.result.now) (is_marked c.as_slice-7.result.now)
+    (λ k. ap (λ marks. is_marked marks k) c.as_slice-4.ensures.value ∙ c.in_ok-read.ensures k
     ∙ ap (λ ms. uses_local (table_of c.args.typed.now) Is.Read ms k) (c.as_slice.ensures.value ∙ c.in_ok-name_uses.ensures))
-    (λ k. ap (λ marks. is_marked marks k) c.as_slice-4.ensures.value ∙ c.in_ok-written.ensures k
-    ∙ ap (λ ms. uses_local (table_of c.args.typed.now) Is.Written ms k) (c.as_slice-2.ensures.value ∙ c.in_ok-name_uses.ensures)))
+    (λ k. ap (λ marks. is_marked marks k) c.as_slice-5.ensures.value ∙ c.in_ok-written.ensures k
+    ∙ ap (λ ms. uses_local (table_of c.args.typed.now) Is.Written ms k) (c.as_slice-2.ensures.value ∙ c.in_ok-name_uses.ensures))
+    (λ k. ap (λ marks. is_marked marks k) c.as_slice-6.ensures.value ∙ c.in_ok-element_read.ensures k
+    ∙ ap (λ ms. uses_local (table_of c.args.typed.now) Is.ReadElement ms k) (c.as_slice-3.ensures.value ∙ c.in_ok-name_uses.ensures))
+    (λ k. ap (λ marks. is_marked marks k) c.as_slice-7.ensures.value ∙ c.in_ok-called.ensures k))
     c.parts.ensures

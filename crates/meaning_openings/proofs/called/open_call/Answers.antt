@@ -6,7 +6,7 @@ use Rattle.flow.specs.declared.script.Function.{Function}
 use Rattle.flow.specs.View.{block_view, call_view, function_view, names_view}
 use Rattle.language.specs.Core as core
 use Rattle.language.specs.Core.{Core}
-use Rattle.language.specs.Places.{most_steps}
+use Rattle.language.specs.Places.{max_path_steps}
 use Rattle.meaning_facts.specs.declared.instances.InstanceBindings.{InstanceBindings}
 use Rattle.paths.specs.declared.steps.Step.{Step}
 use Rattle.meaning_facts.specs.Paths.{path_of}
@@ -30,7 +30,7 @@ returns-clause-so g c =
     let fv : core.Function = function_view {A = A} c.in-Some.function.now in
     let x : Step = record { offset = c.args.call.now.at; key = Key.Number (pos 0) } in
     let given : InstanceBindings = record { inputs = c.in_ok-places.field-0; outputs = c.in_ok-places-2.field-0; variables = c.new.result } in
-    let short : length (path_of c.args.state.now.fact_base.instances.all.items c.args.instance) < most_steps =
+    let short : length (path_of c.args.state.now.fact_base.instances.all.items c.args.instance) < max_path_steps =
     short_path (length (path_of c.args.state.now.fact_base.instances.all.items c.args.instance)) (sym c.if-is_deep.false ∙ c.is_deep.ensures) in
     let ins : c.in_ok-places.field-0.items ≡ spots c.args.state.now.fact_base.instances.all.items c.args.instance (names_view c.args.call.now.inputs.items) = search rules in
     let outs : c.in_ok-places-2.field-0.items ≡ spots c.args.state.now.fact_base.instances.all.items c.args.instance (names_view c.args.call.now.outputs.items) = search rules in

@@ -1,7 +1,7 @@
 use Rattle.std.proofs.Common.{rules, arith, ◌≡◌, ◌<◌, ℕ, Some, length, subst, sym, ◌∙◌}
 use Rattle.std.proofs.lemmas.Grind.{common_steps}
 use Rattle.flow.specs.View.{action_view, block_view}
-use Rattle.language.specs.Places.{most_steps}
+use Rattle.language.specs.Places.{max_path_steps}
 use Rattle.meaning_cells.specs.Chosen.{block_in, choice_view, count_in}
 use Rattle.meaning_facts.specs.Paths.{path_of}
 use Rattle.meaning_openings.specs.Opening.{AreTurned}
@@ -20,7 +20,7 @@ loop-i-preserved g c =
     let o = choice_view c.args.choice.now in
     let below : c.loop-i.i < count_in (choice_view c.args.choice.now) = grind (arith, common_steps) in
     let block : block_in (action_view {A = g.row.A.Denot} c.args.action.now) (choice_view c.args.choice.now) ≡ Some (block_view {A = g.row.A.Denot} c.in-Some.block.now) = search rules in
-    let short : length (path_of c.args.state.now.fact_base.instances.all.items c.args.instance) < most_steps =
+    let short : length (path_of c.args.state.now.fact_base.instances.all.items c.args.instance) < max_path_steps =
     short_path (length (path_of c.args.state.now.fact_base.instances.all.items c.args.instance)) (sym c.if-is_deep.false ∙ c.is_deep.ensures) in
     record {
       so = λ s n w offsets good node there chosen. turn_next {A = A} s n old mid new c.args.instance c.args.at node x o (block_view {A = A} c.in-Some.block.now) c.loop-i.i good there chosen block short

@@ -11,9 +11,9 @@ returns-in_err-item-clause-none c =
     (sym (behind_two c.args.bytes.now c.in-32.len_at_least) ∙ c.in_ok-worker.ensures.some) c.in_err-item.ensures.none in
     search (rules, none)
 
-pub returns-then-worker-ge64-clause-none : goal.returns-then-worker-ge64-clause-none
-returns-then-worker-ge64-clause-none c =
+pub returns-then-worker-ge-THREADS-clause-none : goal.returns-then-worker-ge-THREADS-clause-none
+returns-then-worker-ge-THREADS-clause-none c =
     out_of_range c.args.bytes.now c.in_ok-worker.behind.now c.in_ok-item.rest.now c.in_ok-worker.worker c.in_ok-item.item
     c.in_ok-worker.ensures.fits c.in_ok-item.ensures.fits
     (sym (behind_two c.args.bytes.now c.in-32.len_at_least) ∙ c.in_ok-worker.ensures.some) c.in_ok-item.ensures.some
-    (elim c.then-worker-ge64.either [ inl far ↦ inl far | inr near ↦ inr near.1 ])
+    (elim c.then-worker-ge-THREADS.either [ inl far ↦ inl far | inr near ↦ inr near.1 ])

@@ -1,7 +1,7 @@
 use Rattle.std.proofs.Common.{refl, subst}
 use Rattle.std.specs.List.{AllZip}
 use Rattle.board_effects.specs.Ended.{code_of, needs_of}
-use Rattle.board_effects.specs.Openings.{IsSpare}
+use Rattle.board_data.specs.Openings.{IsSpare}
 use Rattle.board_effects.proofs.effect.EndingItem.opens_list.Goals as goal
 
 pub returns : goal.returns

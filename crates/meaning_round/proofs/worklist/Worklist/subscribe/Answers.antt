@@ -7,6 +7,6 @@ use Rattle.meaning_round.proofs.worklist.Worklist.subscribe.Goals as goal
 pub loop-event-preserved : goal.loop-event-preserved
 loop-event-preserved c =
     let within : c.loop-event.event-index < length c.args.events.now = grind (arith, common_steps) in
-    let past : WakeEvent = record { place = record { instance = 0; node = 0 }; mark = 0 } in
+    let past : WakeEvent = record { place = record { instance = 0; node = 0 }; hash = 0 } in
     next_called c.args.self.now c.loop-event.self c.call.new.self c.args.number c.args.events.now c.loop-event.event-index past within c.in_ok-call.ensures.called
     c.call.ensures.fresh c.call.ensures.awake c.call.ensures.asleep c.loop-event.invariant
