@@ -1,8 +1,9 @@
 /* An allocator that refuses: loaded in front of the C library's, it refuses the request whose number is in the environment as REFUSE_AT, or
    all from the one in REFUSE_FROM on, counted from 1. At its first refusal it writes a byte to the descriptor in REFUSE_TELL, so that who
    runs the program knows whether anything was refused. At the end it writes to the descriptor in REFUSE_LEFT how many blocks were not given
-   back. As the C library's own does, it sets errno, by which starting a thread tells want of memory from what cannot be. It uses no header,
-   so that any compiler makes it. */
+   back. In front of each line `taken` of standard error it writes how many requests came since the last line that begins with `take none`.
+   As the C library's own does, it sets errno, by which starting a thread tells want of memory from what cannot be. It uses no header, so
+   that any compiler makes it. */
 typedef unsigned long size;
 
 extern void *__libc_malloc(size);
@@ -12,13 +13,13 @@ extern void *__libc_memalign(size, size);
 extern void __libc_free(void *);
 extern char *getenv(const char *);
 extern long atol(const char *);
-extern long write(int, const void *, size);
+extern long __write(int, const void *, size);
 extern int *__errno_location(void);
 
 /* ENOMEM. */
 static const int no_memory = 12;
 
-static long requests, refusals, blocks, at, from, tell;
+static long requests, refusals, blocks, at, from, tell, since;
 static int known;
 
 static long number(const char *name) {
@@ -37,7 +38,7 @@ static int refused(void) {
     if (request != at && (from == 0 || request < from))
         return 0;
     if (__atomic_add_fetch(&refusals, 1, __ATOMIC_SEQ_CST) == 1 && tell)
-        write((int)tell, "", 1);
+        __write((int)tell, "", 1);
     *__errno_location() = no_memory;
     return 1;
 }
@@ -78,15 +79,46 @@ void *realloc(void *old, size bytes) {
     return old ? __libc_realloc(old, bytes) : counted(__libc_malloc(bytes));
 }
 
-__attribute__((destructor)) static void left(void) {
-    long where = number("REFUSE_LEFT"), many = blocks < 0 ? -blocks : blocks, place = 24;
-    char text[24];
-    if (!where)
-        return;
+/* Writes a number with a sign to a descriptor, and a line's end if it is wanted. */
+static void told(int where, long number, int line) {
+    long many = number < 0 ? -number : number, place = 24;
+    char text[25];
+    text[24] = '\n';
     do
         text[--place] = (char)('0' + many % 10);
     while ((many /= 10) > 0);
-    if (blocks < 0)
+    if (number < 0)
         text[--place] = '-';
-    write((int)where, text + place, (size)(24 - place));
+    __write(where, text + place, (size)(24 - place + line));
+}
+
+static int begins(const char *text, size bytes, const char *word) {
+    size at_byte = 0;
+    while (word[at_byte] && at_byte < bytes && text[at_byte] == word[at_byte])
+        at_byte++;
+    return !word[at_byte];
+}
+
+/* Everything that is written passes here. The marks are looked for on standard error alone. */
+long write(int where, const void *text, size bytes) {
+    if (where == 2 && begins(text, bytes, "take none"))
+        since = requests;
+    if (where == 2 && begins(text, bytes, "taken")) {
+        __write(2, "requests: ", 10);
+        told(2, requests - since, 1);
+    }
+    return __write(where, text, bytes);
+}
+
+static void left(void) {
+    long where = number("REFUSE_LEFT");
+    if (where)
+        told((int)where, blocks, 0);
+}
+
+/* A program of the kit ends here, and runs no destructor. */
+__attribute__((noreturn)) void _exit(int status) {
+    left();
+    for (;;)
+        __asm__ volatile("syscall" : : "a"(231L), "D"((long)status) : "rcx", "r11", "memory");
 }

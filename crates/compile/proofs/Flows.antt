@@ -8,9 +8,13 @@ use Rattle.language.specs.Scopes.{Typ, Signature, signatures}
 use Rattle.language.specs.Table.{Table}
 use Rattle.language.specs.Tree.{Declaration, Tree, import, function, single}
 use Rattle.language_accepted.specs.Types.{statement_declarations, body_declarations, tree_declarations}
+use Rattle.flow.specs.Cells.{Anchor, AreAmong, anchors_of}
+use Rattle.flow.specs.Listed.{shown_of}
 use Rattle.flow.specs.Shapes.{Declared, is_array, declared_of, kinds_of}
 use Rattle.flow.specs.View.{core_of}
 use Rattle.flow.specs.declared.script.Flow.{Flow}
+use Rattle.lowering.specs.Listed.{shown}
+use Rattle.lowering.specs.Nodes.{nodes_of}
 use Rattle.lowering.specs.Shapes.{flagged, function_declarations, own_declarations}
 use Rattle.lowering.specs.Shapes as found
 use Rattle.wait_merge.specs.Merged.{IsMerged}
@@ -60,19 +64,32 @@ all_declared tree n b h =
       | inr i ↦ (let r = unflagged (function_declarations tree) n b i in (r.0, functions_there tree r.0 r.1, r.2, r.3))
     ]
 
-pub flow_for : {A : Type 0} (t : Table) (tree : Tree) (lowered flow : Flow A) → core_of lowered ≡ core t tree → declared_of lowered ≡ flagged (own_declarations tree) ++ flagged (function_declarations tree)
-    → kinds_of lowered ≡ map found.kinds_of_signature (signatures tree) → core_of flow ≡ core_of lowered → declared_of flow ≡ declared_of lowered → kinds_of flow ≡ kinds_of lowered → IsMerged flow
-    → IsFlowFor t tree flow
-flow_for t tree lowered flow c d k same_core same_declared same_kinds_of merged = record {
-  core_is = same_core ∙ c;
-  kinds = same_kinds_of ∙ k ∙ map_same found.kinds_of_signature wanted.kinds_of_signature same_kinds (signatures tree);
-  declared = subst (λ (ds : Declared). DeclaredIn ds tree) (sym (same_declared ∙ d)) (all_declared tree);
-  merged = merged;
+-- what `lower` and `merge` owe
+pub record Lowered {A : Type 0} (t : Table) (tree : Tree) (flow : Flow A) : Type 0 where
+  pub core_is : core_of flow ≡ core t tree
+  pub declared_is : declared_of flow ≡ flagged (own_declarations tree) ++ flagged (function_declarations tree)
+  pub kinds_are : kinds_of flow ≡ map found.kinds_of_signature (signatures tree)
+  pub shown_is : shown_of flow ≡ shown tree
+  pub cells_are : AreAmong (anchors_of flow) (nodes_of tree)
+
+pub record Kept {A : Type 0} (lowered flow : Flow A) : Type 0 where
+  pub core_stays : core_of flow ≡ core_of lowered
+  pub declared_stays : declared_of flow ≡ declared_of lowered
+  pub kinds_stay : kinds_of flow ≡ kinds_of lowered
+  pub shown_stays : shown_of flow ≡ shown_of lowered
+  pub cells_stay : anchors_of flow ≡ anchors_of lowered
+  pub merged : IsMerged flow
+
+pub flow_for : {A : Type 0} (t : Table) (tree : Tree) (lowered flow : Flow A) → Lowered t tree lowered → Kept lowered flow → IsFlowFor t tree flow
+flow_for t tree lowered flow l k = record {
+  core_is = k.core_stays ∙ l.core_is;
+  kinds = k.kinds_stay ∙ l.kinds_are ∙ map_same found.kinds_of_signature wanted.kinds_of_signature same_kinds (signatures tree);
+  declared = subst (λ (ds : Declared). DeclaredIn ds tree) (sym (k.declared_stays ∙ l.declared_is)) (all_declared tree);
+  shows = k.shown_stays ∙ l.shown_is;
+  cells = subst (λ (xs : List Anchor). AreAmong xs (nodes_of tree)) (sym k.cells_stay) l.cells_are;
+  merged = k.merged;
 }
 
 -- the same of a tree that is another one
-pub flow_for_same : {A : Type 0} (t : Table) (tree other : Tree) (lowered flow : Flow A) → other ≡ tree → core_of lowered ≡ core t other → declared_of lowered ≡ flagged (own_declarations other) ++ flagged (function_declarations other)
-    → kinds_of lowered ≡ map found.kinds_of_signature (signatures other) → core_of flow ≡ core_of lowered → declared_of flow ≡ declared_of lowered → kinds_of flow ≡ kinds_of lowered → IsMerged flow
-    → IsFlowFor t tree flow
-flow_for_same t tree other lowered flow is c d k same_core same_declared same_kinds_of merged =
-    subst (λ (u : Tree). IsFlowFor t u flow) is (flow_for t other lowered flow c d k same_core same_declared same_kinds_of merged)
+pub flow_for_same : {A : Type 0} (t : Table) (tree other : Tree) (lowered flow : Flow A) → other ≡ tree → Lowered t other lowered → Kept lowered flow → IsFlowFor t tree flow
+flow_for_same t tree other lowered flow is l k = subst (λ (u : Tree). IsFlowFor t u flow) is (flow_for t other lowered flow l k)

@@ -1,5 +1,5 @@
 -- What is emitted for the flow of a script is the script's code, and what every run of it keeps.
-use Rattle.std.proofs.Common.{◌≡◌, ℕ, Bool, ◌≤◌, List, length, map, ap, sym, subst, ◌∙◌, arith}
+use Rattle.std.proofs.Common.{◌≡◌, inl, inr, ℕ, Bool, ◌≤◌, List, length, map, ap, sym, subst, ◌∙◌, arith}
 use Rattle.dataflow.specs.History.{log_of}
 use Rattle.dataflow.proofs.Bound.{events_bound}
 use Rattle.dataflow.proofs.Ends.{same_end}
@@ -13,6 +13,7 @@ use Rattle.language.specs.Core.{Core}
 use Rattle.language.specs.Members.{◌∈◌}
 use Rattle.language.specs.Outcomes.{Clean}
 use Rattle.language.specs.Resolved.{core}
+use Rattle.language.specs.Numbered.{tree_size}
 use Rattle.language.specs.Scopes.{Signature}
 use Rattle.language.specs.Single.{SinglyAssigned}
 use Rattle.language.specs.Table.{Table}
@@ -22,6 +23,7 @@ use Rattle.language_accepted.proofs.Accepted.{placed_formed, values_meant}
 use Rattle.language_accepted.specs.Placed.{IsPlaced}
 use Rattle.language_accepted.proofs.Apart.{read_placed}
 use Rattle.language_accepted.proofs.Formed.{scoped}
+use Rattle.flow.specs.Cells.{AreAmong, anchors_of}
 use Rattle.flow.specs.Shapes.{declared_of, kinds_of}
 use Rattle.flow.specs.View.{core_of}
 use Rattle.flow.specs.declared.script.Flow.{Flow}
@@ -41,6 +43,8 @@ use Rattle.code_laws.proofs.Small.{laid_small}
 use Rattle.code_laws.proofs.Offsets.{accepted_calls}
 use Rattle.compile.proofs.Whole.{exact_rights, headline_emitted, whole_emitted}
 use Rattle.code_laws.specs.Described.{DeclaredIn, KindsOf, is_array_shape, kinds_of_signature}
+use Rattle.emit.specs.Marks.{marks_of}
+use Rattle.lowering.specs.Nodes.{nodes_of}
 use Rattle.fold_laws.specs.Same.{SameCore}
 use Rattle.fold_laws.proofs.Turned.{turned_core}
 use Rattle.fold_laws.proofs.Views.{same_clean}
@@ -52,9 +56,9 @@ use Rattle.constant_fold.proofs.Placed.{folded_placed}
 use Rattle.constant_fold.proofs.Scripts.{core_same}
 use Rattle.constant_fold.proofs.Singly.{singly_assigned}
 use Rattle.constant_fold.proofs.Typed.{folded_typed, signatures_stay}
-use Rattle.compile.specs.Compiled.{IsCompiled, IsFoldedFlowOf, RunsAreLive, RunsGoOn}
+use Rattle.compile.specs.Compiled.{IsCompiled, IsFlowFor, IsFlowOf, IsFoldedFlowOf, IsOfScript, RunsAreLive, RunsGoOn}
 use Rattle.compile.specs.Accepted.{IsAccepted}
-use Rattle.compile.proofs.Sizes.{room_fold, small_fold}
+use Rattle.compile.proofs.Sizes.{fold_fits, read_fits, room_tree, small_fold, small_tree}
 use Rattle.values.specs.Limits.{max_entries}
 
 runs_go_on : (C : Code) → IsCode C → RunsGoOn C
@@ -138,8 +142,8 @@ module _ (src : List ℕ) (t : Table) (tree : Tree) (fs : List Kinds) (ds : List
         bound = run_bound (core t tree) (core t T) same C code_is wf kn is_whole sc ty nodes ex single;
       }
 
-  pub of_tree : IsCompiled src C
-  of_tree = record {
+  pub of_tree : AreAmong (marks_of C.entries) (nodes_of (folded_tree tree)) → IsCompiled src C
+  of_tree marks = record {
     table = t;
     tree = tree;
     accepted = a;
@@ -148,38 +152,85 @@ module _ (src : List ℕ) (t : Table) (tree : Tree) (fs : List Kinds) (ds : List
     whole = is_whole;
     exact = exact_rights C e.rights;
     nodes = accepted_nodes t (folded_tree tree) fs ds C (folds_placed src t tree a) e.laid;
+    marks = marks;
     few = few;
     headline = owes;
     runs = runs_go_on C is_whole;
     live = are_live;
   }
 
--- WHAT THE EMISSION ASKS OF THE FLOW OF A FOLD
+-- WHAT THE EMISSION ASKS OF A FLOW
 
-module _ {A : Type 0} (src : List ℕ) (flow : Flow A) (is : IsFoldedFlowOf src flow) where
-  back : core is.0 (folded_tree is.1) ≡ core_of flow
-  back = sym (is.3).core_is
+-- the flow of a placed, typed and singly assigned tree that is not too large
+pub record Suits {A : Type 0} (flow : Flow A) : Type 0 where
+  pub table : Table
+  pub tree : Tree
+  pub place : IsPlaced tree
+  pub typed : WellTyped tree table
+  pub single : SinglyAssigned (core table tree)
+  pub fits : tree_size tree ≤ 2097152
+  pub is : IsFlowFor table tree flow
 
-  place : IsPlaced (folded_tree is.1)
-  place = folds_placed src is.0 is.1 is.2
+pub written_suits : {A : Type 0} (src : List ℕ) (flow : Flow A) → IsFlowOf src flow → Suits flow
+written_suits src flow is = record {
+  table = is.0;
+  tree = is.1;
+  place = read_placed src is.1 (is.2).reads;
+  typed = (is.2).typed;
+  single = (is.2).single;
+  fits = read_fits src is.1 (is.2).reads;
+  is = is.3;
+}
+
+pub folded_suits : {A : Type 0} (src : List ℕ) (flow : Flow A) → IsFoldedFlowOf src flow → Suits flow
+folded_suits src flow is = record {
+  table = is.0;
+  tree = folded_tree is.1;
+  place = folds_placed src is.0 is.1 is.2;
+  typed = folds_typed src is.0 is.1 is.2;
+  single = folds_single src is.0 is.1 is.2;
+  fits = fold_fits src is.1 (is.2).reads;
+  is = is.3;
+}
+
+pub script_suits : {A : Type 0} (flow : Flow A) → IsOfScript flow → Suits flow
+script_suits flow script = elim script.is [ inl is ↦ written_suits script.src flow is | inr is ↦ folded_suits script.src flow is ]
+
+module _ {A : Type 0} (flow : Flow A) (suits : Suits flow) where
+  back : core suits.table suits.tree ≡ core_of flow
+  back = sym (suits.is).core_is
 
   pub flow_calls : CallsOnce (core_of flow)
-  flow_calls = subst CallsOnce back (accepted_calls is.0 (folded_tree is.1) place)
+  flow_calls = subst CallsOnce back (accepted_calls suits.table suits.tree suits.place)
 
   pub flow_cells : CellsOnce (core_of flow)
-  flow_cells = subst CellsOnce back (accepted_cells is.0 (folded_tree is.1) place)
+  flow_cells = subst CellsOnce back (accepted_cells suits.table suits.tree suits.place)
 
   pub flow_reads : ReadsStand (core_of flow)
-  flow_reads = subst ReadsStand back (reads_stand is.0 (folded_tree is.1))
+  flow_reads = subst ReadsStand back (reads_stand suits.table suits.tree)
 
   pub flow_room : CoreRoom (core_of flow)
-  flow_room = subst CoreRoom back (room_fold src is.0 is.1 (is.2).reads (is.2).typed)
+  flow_room = subst CoreRoom back (room_tree suits.table suits.tree suits.place suits.typed suits.fits)
 
   pub flow_size : size_of (core_of flow) ≤ max_entries
-  flow_size = subst (λ (c : Core). size_of c ≤ max_entries) back (small_fold src is.0 is.1 (is.2).reads)
+  flow_size = subst (λ (c : Core). size_of c ≤ max_entries) back (small_tree suits.table suits.tree suits.fits)
 
-  -- what it gives is the script's code
-  pub compiled : (code : Code) → IsEmitted (core_of flow) (kinds_of flow) (declared_of flow) code → IsCompiled src code
-  compiled code e =
-      of_tree src is.0 is.1 (kinds_of flow) (declared_of flow) code is.2 (kinds_back (kinds_of flow) is.1 (is.3).kinds) (declared_back (declared_of flow) is.1 (is.3).declared)
-      (subst (λ (c : Core). IsEmitted c (kinds_of flow) (declared_of flow) code) (is.3).core_is e)
+  -- what is emitted for it is whole and not too long
+  module _ (code : Code) (e : IsEmitted (core_of flow) (kinds_of flow) (declared_of flow) code) where
+    of_core : IsEmitted (core suits.table suits.tree) (kinds_of flow) (declared_of flow) code
+    of_core = subst (λ (c : Core). IsEmitted c (kinds_of flow) (declared_of flow) code) (suits.is).core_is e
+
+    pub flow_whole : IsCode code
+    flow_whole = whole_emitted suits.table suits.tree (kinds_of flow) (declared_of flow) code suits.place suits.typed suits.single (suits.is).kinds (suits.is).declared of_core
+
+    pub flow_few : length code.entries ≤ max_entries
+    flow_few =
+        let x = laid_small (core suits.table suits.tree) (kinds_of flow) (declared_of flow) code of_core.laid (accepted_cells suits.table suits.tree suits.place) (reads_stand suits.table suits.tree) in
+        let y = small_tree suits.table suits.tree suits.fits in
+        omega arith
+
+-- what is emitted for the flow of a fold is the script's code
+pub compiled : {A : Type 0} (src : List ℕ) (flow : Flow A) (is : IsFoldedFlowOf src flow) (code : Code) → IsEmitted (core_of flow) (kinds_of flow) (declared_of flow) code → AreAmong (marks_of code.entries) (anchors_of flow) → IsCompiled src code
+compiled src flow is code e marks =
+    of_tree src is.0 is.1 (kinds_of flow) (declared_of flow) code is.2 (kinds_back (kinds_of flow) is.1 (is.3).kinds) (declared_back (declared_of flow) is.1 (is.3).declared)
+    (subst (λ (c : Core). IsEmitted c (kinds_of flow) (declared_of flow) code) (is.3).core_is e) (λ x there. (is.3).cells x (marks x there))

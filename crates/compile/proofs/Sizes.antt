@@ -11,6 +11,7 @@ use Rattle.language.specs.Typing.{WellTyped}
 use Rattle.syntax.proofs.Sizes.{script_fits, tokens_fit}
 use Rattle.code_rules.specs.Emitted.{size_of}
 use Rattle.code_rules.specs.Room.{CoreRoom}
+use Rattle.language_accepted.specs.Placed.{IsPlaced}
 use Rattle.language_accepted.proofs.Apart.{read_placed}
 use Rattle.code_laws.proofs.Room.{room_in}
 use Rattle.code_laws.proofs.Sizes.{size_within}
@@ -105,8 +106,14 @@ read_fits src tree r =
     omega arith
 
 -- so the code of its fold has room
-fold_fits : (src : List ℕ) (tree : Tree) → Reads src tree → tree_size (folded_tree tree) ≤ 2097152
+pub fold_fits : (src : List ℕ) (tree : Tree) → Reads src tree → tree_size (folded_tree tree) ≤ 2097152
 fold_fits src tree r = let a = read_fits src tree r in let b = tree_small tree in omega arith
+
+pub small_tree : (t : Table) (tree : Tree) → tree_size tree ≤ 2097152 → size_of (core t tree) ≤ max_entries
+small_tree t tree fits = let a = size_within t tree in omega arith
+
+pub room_tree : (t : Table) (tree : Tree) → IsPlaced tree → WellTyped tree t → tree_size tree ≤ 2097152 → CoreRoom (core t tree)
+room_tree t tree place typed fits = (let light : 2 * tree_size tree < 2 ^ 30 = omega arith in room_in t tree place typed light)
 
 pub small_fold : (src : List ℕ) (t : Table) (tree : Tree) → Reads src tree → size_of (core t (folded_tree tree)) ≤ max_entries
 small_fold src t tree r = let a = size_within t (folded_tree tree) in let b = fold_fits src tree r in omega arith

@@ -8,9 +8,13 @@ use Rattle.language.specs.Outcomes.{Clean}
 use Rattle.language.specs.Resolved.{core}
 use Rattle.language.specs.Table.{Table}
 use Rattle.language.specs.Tree.{Tree}
+use Rattle.flow.specs.Cells.{AreAmong, anchors_of}
+use Rattle.flow.specs.Listed.{shown_of}
 use Rattle.flow.specs.Shapes.{declared_of, kinds_of}
 use Rattle.flow.specs.View.{core_of}
 use Rattle.flow.specs.declared.script.Flow.{Flow}
+use Rattle.lowering.specs.Listed.{shown}
+use Rattle.lowering.specs.Nodes.{nodes_of}
 use Rattle.wait_merge.specs.Merged.{IsMerged}
 use Rattle.task_code.specs.Code.{Code}
 use Rattle.task_code.specs.Effects.{Main}
@@ -23,17 +27,20 @@ use Rattle.code_rules.specs.IsCodeOf.{IsCodeOf, Layout}
 use Rattle.code_rules.specs.Laying.{Kinds}
 use Rattle.code_rules.specs.NodesOnce.{NodesOnce}
 use Rattle.code_laws.specs.Described.{DeclaredIn, KindsOf}
+use Rattle.emit.specs.Marks.{marks_of}
 use Rattle.headline.specs.Live.{IsBounded, IsLiveItem}
 use Rattle.constant_fold.specs.Folded.{folded_tree}
 use Rattle.compile.specs.Accepted.{IsAccepted}
 use Rattle.values.specs.Limits.{max_entries}
 
 -- the flow is that of the tree, by this table of its names: its core, which variables, inputs and outputs are arrays,
--- and no waits left to merge
+-- what a listing shows of it, the nodes and offsets of its cells, and no waits left to merge
 pub record IsFlowFor {A : Type 0} (table : Table) (tree : Tree) (flow : Flow A) : Type 0 where
   pub core_is : core_of flow ≡ core table tree
   pub kinds : KindsOf (kinds_of flow) tree
   pub declared : DeclaredIn (declared_of flow) tree
+  pub shows : shown_of flow ≡ shown tree
+  pub cells : AreAmong (anchors_of flow) (nodes_of tree)
   pub merged : IsMerged flow
 
 -- the text is read as a tree that is well typed and singly assigned, and the flow is that tree's
@@ -43,6 +50,11 @@ IsFlowOf src flow = (table : Table) × (tree : Tree) × IsAccepted src table tre
 -- the flow is that of the fold of the text's tree
 abbrev pub IsFoldedFlowOf : {A : Type 0} → List ℕ → Flow A → Type 0
 IsFoldedFlowOf src flow = (table : Table) × (tree : Tree) × IsAccepted src table tree × IsFlowFor table (folded_tree tree) flow
+
+-- the flow of some script, with its waits merged, folded or as it is written
+pub record IsOfScript {A : Type 0} (flow : Flow A) : Type 0 where
+  pub src : List ℕ
+  pub is : IsFlowOf src flow ⊎ IsFoldedFlowOf src flow
 
 -- the code is laid by the rules for the fold of the tree, with its waits merged: one body for each block, with an entry
 -- for each call, each cell that has a datum and each statement that does something, and no others; each entry has
@@ -92,6 +104,8 @@ pub record IsCompiled (src : List ℕ) (code : Code) : Type 0 where
   pub whole : IsCode code
   pub exact : IsExact code
   pub nodes : NodesOnce code
+  -- an entry that computes a cell or reads an element has number and offset of a node of the fold
+  pub marks : AreAmong (marks_of code.entries) (nodes_of (folded_tree tree))
   pub few : length code.entries ≤ max_entries
   pub headline : Headline (core table tree) code
   pub runs : RunsGoOn code

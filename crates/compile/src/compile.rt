@@ -1,9 +1,14 @@
 //! The compilation pipeline: from the bytes of a script to its flow, its code and texts of the code.
-ghost use Rattle.std.specs.Prelude.{IfOk, IfErr, IsOk};
+ghost use Rattle.std.specs.Prelude.{◌≡◌, ℕ, List, IfOk, IfErr, IsOk};
+ghost use Rattle.code_rules.specs.Emitted.{IsEmitted};
 ghost use Rattle.constant_fold.specs.Folded.{folded_tree};
+ghost use Rattle.emit.specs.Marks.{marks_of};
+ghost use Rattle.flow.specs.Cells.{AreAmong, anchors_of};
+ghost use Rattle.flow.specs.Shapes.{declared_of, kinds_of};
+ghost use Rattle.flow.specs.View.{core_of};
 ghost use Rattle.syntax_trees.specs.View.{tree_of};
 ghost use Rattle.types.specs.Typed.{table_of};
-ghost use Rattle.compile.specs.Compiled.{IsCompiled, IsFlowFor, IsFlowOf, IsFoldedFlowOf};
+ghost use Rattle.compile.specs.Compiled.{IsCompiled, IsFlowFor, IsFlowOf, IsFoldedFlowOf, IsOfScript};
 ghost use Rattle.compile.specs.Accepted.{IsScript, IsUnfit};
 
 use crate::check::{Accepted, accept};
@@ -72,7 +77,11 @@ pub fn read_folded<A: Allocator + Clone>(
 }
 
 /// Returns the flow of an accepted script, with folded literal expressions and merged waits.
-fn folded_flow_of<A: Allocator + Clone>(
+///
+/// # Errors
+///
+/// Returns `AllocError` if an allocation fails.
+pub fn folded_flow_of<A: Allocator + Clone>(
     machine: Global,
     accepted: Accepted<A>,
 ) -> Result<Flow<A>, AllocError>
@@ -94,6 +103,27 @@ pub struct Compiled<A: Allocator> {
     pub code: Code,
 }
 
+/// Emits the code of the flow of an accepted script, including the rights of each entry.
+///
+/// # Errors
+///
+/// Returns `AllocError` if an allocation fails. There is no other error.
+pub fn with_rights<A: Allocator>(machine: Global, flow: Flow<A>) -> Result<Compiled<A>, AllocError>
+    requires { IsOfScript flow }
+    ensures flow { IfOk result (λ compiled. compiled.flow ≡ flow) }
+    ensures emitted { IfOk result (λ compiled. IsEmitted (core_of flow) (kinds_of flow) (declared_of flow) compiled.code) }
+    ensures marks { IfOk result (λ compiled. AreAmong (marks_of compiled.code.entries) (anchors_of flow)) }
+    ensures code { IfOk result (λ compiled. (src : List ℕ) → IsFoldedFlowOf src flow → IsCompiled src compiled.code) }
+{
+    match emit(machine, &flow) {
+        Ok(draft) => Ok(Compiled {
+            flow,
+            code: Code::of(draft),
+        }),
+        Err(fault) => Err(fault),
+    }
+}
+
 /// Compiles a script to its flow, with folded literal expressions, and its code. The tree and the flow are allocated in
 /// `alloc`, the code in the machine's memory.
 ///
@@ -110,11 +140,8 @@ pub fn with_flow<A: Allocator + Clone>(
     ensures unfit { IfErr result (λ fault. IsUnfit src.now fault) }
 {
     let flow = read_folded(machine, alloc, src)?;
-    match emit(machine, &flow) {
-        Ok(draft) => Ok(Compiled {
-            flow,
-            code: Code::of(draft),
-        }),
+    match with_rights(machine, flow) {
+        Ok(compiled) => Ok(compiled),
         Err(_) => Err(CompileFault::Memory),
     }
 }

@@ -9,6 +9,9 @@ ghost use Rattle.code_rules.specs.Laying.{Kinds};
 ghost use Rattle.compile.specs.Compiled.{IsCompiled};
 ghost use Rattle.compile.specs.Accepted.{IsAccepted};
 ghost use Rattle.constant_fold.specs.Folded.{folded_tree};
+ghost use Rattle.emit.specs.Marks.{marks_of};
+ghost use Rattle.flow.specs.Cells.{AreAmong};
+ghost use Rattle.lowering.specs.Nodes.{nodes_of};
 ghost use Rattle.std.specs.Prelude.{◌≡◌, ℕ, Bool, List, []};
 ghost use Rattle.headline.specs.Headline.{Agrees, IsAll};
 ghost use Rattle.language.specs.Outcomes.{Clean};
@@ -22,13 +25,15 @@ ghost use Rattle.task_code.specs.Runs.{Blocked};
 ghost use Rattle.task_code.specs.System.{code_system};
 ghost use Rattle.code_laws.specs.Described.{DeclaredIn, KindsOf};
 
-/// Proves that code emitted for the fold of an accepted script is the compiled code of the text.
+/// Proves that code emitted for the fold of an accepted script, with the offsets of the fold's nodes, is the compiled
+/// code of the text.
 ///
 /// The code is laid by the rules for the core of the folded tree, with exactly the rights that its entries lead to.
 /// Every run of it satisfies the headline of the script, and the code has all properties of `IsCompiled`.
 pub fn emitted_code_is_compiled()
     ensures { (src : List ℕ) (t : Table) (tree : Tree) (fs : List Kinds) (ds : List (ℕ × Bool)) (code : Code) → IsAccepted src t tree
-        → KindsOf fs tree → DeclaredIn ds tree → IsEmitted (core t (folded_tree tree)) fs ds code → IsCompiled src code }
+        → KindsOf fs tree → DeclaredIn ds tree → IsEmitted (core t (folded_tree tree)) fs ds code
+        → AreAmong (marks_of code.entries) (nodes_of (folded_tree tree)) → IsCompiled src code }
 {}
 
 /// Proves that the guarantees of a script's runs hold for every naming of data.

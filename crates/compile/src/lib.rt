@@ -40,3 +40,4 @@ pub mod check;
 pub mod compile;
 pub mod fault;
 pub mod laws;
+pub mod steps;

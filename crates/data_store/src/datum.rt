@@ -133,6 +133,7 @@ impl Datum {
         requires { IsArray self.old.content }
         ensures ok { OnOk result (self.new ≡ with_array (with_room n) self.old) }
         ensures succeeds { n ≤ (array_in self.old.content).room → n ≤ (array_in self.old.content).text_room → IsOk result }
+        ensures err { OnErr result (self.new ≡ self.old) }
     {
         match &mut self.content {
             Content::OfArray(elements) => elements.reserve(alloc, n),

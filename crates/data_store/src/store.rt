@@ -146,6 +146,7 @@ impl Store {
         requires { IsArrayAt self.old d }
         ensures ok { OnOk result (self.new ≡ changed d (with_array (arrays.with_room n)) self.old) }
         ensures succeeds { n ≤ (array_at self.old d).room → n ≤ (array_at self.old d).text_room → IsOk result }
+        ensures err { OnErr result (self.new ≡ self.old) }
     {
         let alloc = self.alloc;
         self.cells[d].reserve(alloc, n)

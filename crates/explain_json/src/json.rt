@@ -1,7 +1,6 @@
 //! Conversion of a refusal or of warnings to JSON objects, one a line.
 
-use explain_refusals::diagnostic::{Diagnostic, refusal_of};
-use explain_refusals::explanation::{Hint, Note};
+use explain_all::mistakes::{Diagnostic, Hint, Mistakes, Note, mistakes_of};
 use explain_text::line_index::LineIndex;
 use explain_text::position::{Position, position_of};
 use explain_text::words::write_place;
@@ -11,7 +10,8 @@ use lexer::token::Span;
 use serde_json::{Value, json};
 use std::alloc::{AllocError, Global};
 
-/// Returns the refusal of a text as a JSON object without a line end, or `None` if the text is accepted.
+/// Returns the mistakes of a text as JSON objects in the order of the text, each on a line of its own, or `None` if the
+/// text is accepted.
 ///
 /// The object has the file, the span, the code and name of the rule, the message, a hint or `null`, and the related
 /// spans.
@@ -19,24 +19,52 @@ use std::alloc::{AllocError, Global};
 /// # Errors
 ///
 /// Returns `AllocError` if an allocation fails.
-pub fn json_line(alloc: Global, file: &str, text: &[u8]) -> Result<Option<String>, AllocError> {
-    match refusal_of(alloc, text)? {
+pub fn json_lines(alloc: Global, file: &str, text: &[u8]) -> Result<Option<Vec<u8>>, AllocError> {
+    match mistakes_of(alloc, text)? {
         None => Ok(None),
-        Some(refusal) => {
-            let line = line_of(alloc, file, text, &refusal)?;
-            Ok(Some(line))
+        Some(mistakes) => {
+            let lines = lines_of(alloc, file, text, &mistakes)?;
+            Ok(Some(lines))
         }
     }
 }
 
-fn line_of(
+/// Returns the lines of mistakes in the order of the text.
+fn lines_of(
     alloc: Global,
     file: &str,
     text: &[u8],
+    mistakes: &Mistakes,
+) -> Result<Vec<u8>, AllocError> {
+    let mut out = Vec::new(alloc);
+    let first = &mistakes.first;
+    let mut is_first_told = false;
+    for mistake in &mistakes.further.told {
+        if !is_first_told && first.at.from <= mistake.at.from {
+            add_line(alloc, &mut out, file, text, first)?;
+            is_first_told = true;
+        }
+        add_line(alloc, &mut out, file, text, mistake)?;
+    }
+    if !is_first_told {
+        add_line(alloc, &mut out, file, text, first)?;
+    }
+    Ok(out)
+}
+
+/// Appends the line of a refusal.
+fn add_line(
+    alloc: Global,
+    out: &mut Vec<u8>,
+    file: &str,
+    text: &[u8],
     refusal: &Diagnostic,
-) -> Result<String, AllocError> {
+) -> Result<(), AllocError> {
     let described = described(alloc, file, text, refusal)?;
-    described.to_string(alloc)
+    let line = described.to_string(alloc)?;
+    out.extend_from_slice(line.as_bytes())?;
+    out.push(b'\n')?;
+    Ok(())
 }
 
 /// Converts a refusal to a JSON object.

@@ -1,1 +1,1 @@
-mod Verdicts
+pub mod Verdicts

@@ -1,5 +1,5 @@
 -- What is known of a text that was read as a tree, and checked.
-use Rattle.std.proofs.Common.{◌≡◌, ℕ, List, ◌∷◌, ◌++◌, length, Some, inl, inr}
+use Rattle.std.proofs.Common.{◌≡◌, ◌∙◌, ap, ℕ, List, ◌∷◌, ◌++◌, length, Some, inl, inr, append_assoc}
 use Rattle.std.specs.Prelude.{◌≢◌, min}
 use Rattle.lexer.specs.declared.token.Span.{Span}
 use Rattle.language.specs.Numbered.{numbered}
@@ -38,6 +38,16 @@ accepted src tree t reads typed single =
 pub begins : (file src words rest : List ℕ) (at : Span) (p : Position) → IsPosition src (min at.from (length src)) p
     → words ≡ place_text file p ++ 58 ∷ 32 ∷ rest → BeginsAt file src at words
 begins file src words rest at p position is = record { position = p; is_position = position; rest = rest; is = is }
+
+-- words that begin with a place still do so if others follow
+pub begins_more : (file src words more all : List ℕ) (at : Span) → BeginsAt file src at words → all ≡ words ++ more → BeginsAt file src at all
+begins_more file src words more all at begun is =
+    record {
+      position = begun.position;
+      is_position = begun.is_position;
+      rest = begun.rest ++ more;
+      is = is ∙ ap (λ ws. ws ++ more) begun.is ∙ append_assoc (place_text file begun.position) (58 ∷ 32 ∷ begun.rest) more;
+    }
 
 -- words on a place where the text is refused
 pub explains : (file src words : List ℕ) (at : Span) → IsRefusedAt src at → BeginsAt file src at words → Explains file src words

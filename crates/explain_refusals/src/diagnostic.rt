@@ -13,6 +13,7 @@ use crate::explanation::{Explanation, Hint, Note};
 use crate::texts::told_of_text;
 use assign_check::fault::AssignFault;
 use explain_names::refused_script::RefusedScript;
+pub use explain_searches::declared::write_declaration;
 use explain_text::position::position_of;
 use explain_text::quote::add_quote;
 use explain_text::words::add_place;
@@ -145,8 +146,12 @@ pub fn explained(alloc: Global, file: &str, text: &[u8]) -> Result<Option<Vec<u8
 }
 
 /// Formats a refusal: its place, followed by the rule and the explanation.
+///
+/// # Errors
+///
+/// Returns `AllocError` if an allocation fails.
 #[tactic(auto, using(crate::proofs::Verdicts::begins))]
-fn shown(
+pub fn shown(
     alloc: Global,
     file: &str,
     text: &[u8],

@@ -8,7 +8,7 @@ use Rattle.language.specs.Tree.{Part, Tree}
 use Rattle.explain_warnings.specs.declared.name_use.NameUseKind.TheVariants as Is
 use Rattle.explain_warnings.specs.Mentions.{part_mentions, tree_mentions}
 use Rattle.explain_warnings.specs.Marks.{uses_local, calls_other, position_of, counted, is_called}
-use Rattle.explain_warnings.specs.Warnings.{Uses, parts_warnings, warnings}
+use Rattle.explain_warnings.specs.Warnings.{Uses, tree_warnings, warnings}
 
 -- the first of three in front of the second
 or_forward : (a b c : Bool) → (a || (b || c)) ≡ ((b || a) || c)
@@ -76,9 +76,9 @@ uses_by read written element_read called = record { read = read; written = writt
 pub warned_by : (t : Table) (tree : Tree) (read written element_read called : ℕ → Bool)
     → ((k : ℕ) → read k ≡ uses_local t Is.Read (tree_mentions tree) k) → ((k : ℕ) → written k ≡ uses_local t Is.Written (tree_mentions tree) k)
     → ((k : ℕ) → element_read k ≡ uses_local t Is.ReadElement (tree_mentions tree) k) → ((k : ℕ) → called k ≡ is_called t 0 tree k)
-    → parts_warnings t (uses_by read written element_read called) 0 tree ≡ warnings t tree
+    → tree_warnings t (uses_by read written element_read called) tree ≡ warnings t tree
 warned_by t tree read written element_read called reads writes elements calls =
-    ap (λ (f : ℕ → Bool). parts_warnings t (uses_by f written element_read called) 0 tree) (fun_ext reads)
-    ∙ ap (λ (f : ℕ → Bool). parts_warnings t (uses_by (uses_local t Is.Read (tree_mentions tree)) f element_read called) 0 tree) (fun_ext writes)
-    ∙ ap (λ (f : ℕ → Bool). parts_warnings t (uses_by (uses_local t Is.Read (tree_mentions tree)) (uses_local t Is.Written (tree_mentions tree)) f called) 0 tree) (fun_ext elements)
-    ∙ ap (λ (f : ℕ → Bool). parts_warnings t (uses_by (uses_local t Is.Read (tree_mentions tree)) (uses_local t Is.Written (tree_mentions tree)) (uses_local t Is.ReadElement (tree_mentions tree)) f) 0 tree) (fun_ext calls)
+    ap (λ (f : ℕ → Bool). tree_warnings t (uses_by f written element_read called) tree) (fun_ext reads)
+    ∙ ap (λ (f : ℕ → Bool). tree_warnings t (uses_by (uses_local t Is.Read (tree_mentions tree)) f element_read called) tree) (fun_ext writes)
+    ∙ ap (λ (f : ℕ → Bool). tree_warnings t (uses_by (uses_local t Is.Read (tree_mentions tree)) (uses_local t Is.Written (tree_mentions tree)) f called) tree) (fun_ext elements)
+    ∙ ap (λ (f : ℕ → Bool). tree_warnings t (uses_by (uses_local t Is.Read (tree_mentions tree)) (uses_local t Is.Written (tree_mentions tree)) (uses_local t Is.ReadElement (tree_mentions tree)) f) tree) (fun_ext calls)

@@ -1,6 +1,9 @@
 pub mod Forms
+pub mod Guards
 pub mod Marks
 pub mod Mentions
+pub mod Occurrences
+pub mod Repeats
 pub mod View
 pub mod WarningNames
 pub mod Warnings

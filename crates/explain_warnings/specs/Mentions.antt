@@ -5,25 +5,18 @@ use Rattle.language.specs.declared.tree.Shape.{Shape}
 use Rattle.language.specs.declared.tree.Shape.TheVariants.{Scalar, Array}
 use Rattle.language.specs.Tree.{Word, Declaration, Expression, expression, Form, number, text, truth, variable, element, call, prefixed, chain, Expressions, no_expressions, and_expression, expressions_of, RightSide, value, list, Calling, Over, array, range, Statement, statement, Command, declare, assign, write, assign_all, calls, choice, choice_else, loop, waits, Body, body, Statements, no_statements, and_statement, Part, Tree, import, function, single}
 use Rattle.explain_warnings.specs.declared.name_use.NameUseKind.{NameUseKind}
-use Rattle.explain_warnings.specs.declared.name_use.NameUseKind.TheVariants.{Declared, DeclaredArray, Read, ReadElement, Written, Called, EmptyRange, ExtraLine, EmptyBlock, StepBelowOne, AlwaysHolds, WaitsForItself}
+use Rattle.explain_warnings.specs.declared.name_use.NameUseKind.TheVariants.{Declared, DeclaredArray, Read, ReadElement, Written, Called, EmptyRange, ExtraLine, EmptyBlock, StepBelowOne, AlwaysHolds, WaitsForItself, IdleGuard}
 use Rattle.explain_warnings.specs.declared.name_use.NameUse.{NameUse}
+use Rattle.explain_warnings.specs.Guards.{guards_nothing}
+use Rattle.explain_warnings.specs.Repeats.{repeats}
+pub use Rattle.explain_warnings.specs.Occurrences.{name_use, at_expression, noted}
 use Rattle.explain_warnings.specs.Forms.{is_empty, below_one, is_extra_line, always_holds, is_without, right_needs}
-
-abbrev pub name_use : NameUseKind → Word → NameUse
-name_use k w = record { kind = k; number = w.number; at = w.span }
-
-abbrev pub at_expression : NameUseKind → Expression → NameUse
-at_expression k (expression nd f) = record { kind = k; number = nd.number; at = nd.first }
-
--- an occurrence, if the condition holds
-abbrev pub noted : Bool → NameUse → List NameUse
-noted holds m = if holds then m ∷ [] else []
 
 -- EXPRESSIONS
 
 abbrev mutual
   pub reads_of : Expression → List NameUse
-  reads_of (expression nd f) = form_reads f
+  reads_of (expression nd f) = noted (guards_nothing f) (record { kind = IdleGuard; number = nd.number; at = nd.first }) ++ form_reads f
 
   pub form_reads : Form → List NameUse
   form_reads (number z) = []
@@ -100,9 +93,9 @@ over_mentions (range low high step) = emptiness low high step ++ (reads_of low +
 abbrev pub byte_at : ℕ → Span
 byte_at from = record { from = from; to = min (from + 1) 18446744073709551615 }
 
--- a block without a statement, at its brace
+-- a block without a statement, at its brace, and the keys that two of its statements write
 abbrev pub block_mistakes : Body → List NameUse
-block_mistakes (body from ss) = noted (is_without ss) (record { kind = EmptyBlock; number = 0; at = byte_at from })
+block_mistakes (body from ss) = noted (is_without ss) (record { kind = EmptyBlock; number = 0; at = byte_at from }) ++ repeats [] ss
 
 abbrev mutual
   pub mentions_in : Statement → List NameUse
@@ -130,7 +123,7 @@ abbrev mutual
 
 -- a function may be without a statement
 abbrev pub function_mentions : Body → List NameUse
-function_mentions (body from ss) = all_mentions ss
+function_mentions (body from ss) = repeats [] ss ++ all_mentions ss
 
 -- the occurrences in all statements, including those in functions
 abbrev pub part_mentions : Part → List NameUse

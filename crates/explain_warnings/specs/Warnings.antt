@@ -9,10 +9,11 @@ use Rattle.explain_warnings.specs.declared.name_use.NameUseKind.{NameUseKind}
 use Rattle.explain_warnings.specs.declared.name_use.NameUseKind.TheVariants as Is
 use Rattle.explain_warnings.specs.declared.name_use.NameUse.{NameUse}
 use Rattle.explain_warnings.specs.declared.warning.WarningKind.{WarningKind}
-use Rattle.explain_warnings.specs.declared.warning.WarningKind.TheVariants.{NeverUsed, NeverRead, IdleInput, EmptyRange, ExtraLine, NeverWritten, NeverCalled, EmptyBlock, StepBelowOne, AlwaysHolds, WaitsForItself}
+use Rattle.explain_warnings.specs.declared.warning.WarningKind.TheVariants.{NeverUsed, NeverRead, IdleInput, EmptyRange, ExtraLine, NeverWritten, NeverCalled, EmptyBlock, StepBelowOne, AlwaysHolds, WaitsForItself, KeyTwice, IdleGuard}
 use Rattle.explain_warnings.specs.declared.warning.Warning.{Warning}
 use Rattle.explain_warnings.specs.Mentions.{is_spared, mentions_in, function_mentions, tree_mentions}
 use Rattle.explain_warnings.specs.Marks.{uses_local, uses_input, counted, is_called}
+use Rattle.explain_warnings.specs.Repeats.{tree_repeats}
 
 abbrev pub warned : Option WarningKind → Span → List Warning
 warned None at = []
@@ -48,6 +49,8 @@ warning_by Is.EmptyBlock u n = Some EmptyBlock
 warning_by Is.StepBelowOne u n = Some StepBelowOne
 warning_by Is.AlwaysHolds u n = Some AlwaysHolds
 warning_by Is.WaitsForItself u n = Some WaitsForItself
+warning_by Is.KeyTwice u n = Some KeyTwice
+warning_by Is.IdleGuard u n = Some IdleGuard
 
 abbrev pub warning_at : Uses → NameUse → Option WarningKind
 warning_at u m = warning_by m.kind u m.number
@@ -91,9 +94,14 @@ uses_in t tree = record {
   called = is_called t 0 tree;
 }
 
--- all warnings of a script, in the order of its text
+-- the keys that two statements outside of all functions write, then the warnings of the parts
+abbrev pub tree_warnings : Table → Uses → Tree → List Warning
+tree_warnings t u tree = warnings_at u (tree_repeats [] tree) ++ parts_warnings t u 0 tree
+
+-- all warnings of a script, in the order of its text; those of keys that two statements write stand before the others
+-- of their list
 abbrev pub warnings : Table → Tree → List Warning
-warnings t tree = parts_warnings t (uses_in t tree) 0 tree
+warnings t tree = tree_warnings t (uses_in t tree) tree
 
 -- the text parses to a tree that is well typed by this table of its names, and these are the warnings of the tree
 pub record AreOfTree (src : List ℕ) (found : List Warning) : Type 0 where

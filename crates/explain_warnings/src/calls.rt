@@ -95,7 +95,7 @@ fn mark_part<A: Allocator>(
         || specs.calls_other (table_of typed.now) (specs.position_of position (part_of item.now)) (part_mentions (part_of item.now)) k)) }
 {
     let mut name_uses = Vec::new(alloc);
-    part(item, &mut name_uses)?;
+    part(alloc, item, &mut name_uses)?;
     mark_others(
         typed,
         position_of(position, item),

@@ -7,10 +7,12 @@
 
 mod calls;
 mod forms;
+mod guards;
 mod marks;
 pub mod name_use;
 mod name_uses;
 mod needs;
 mod reads;
 pub mod render;
+mod repeats;
 pub mod warning;

@@ -29,6 +29,10 @@ pub enum NameUseKind {
     AlwaysHolds,
     /// An assignment whose right side needs the variable that it assigns.
     WaitsForItself,
+    /// A write of an element under a literal under which a statement before it in the same list writes one.
+    KeyTwice,
+    /// A chain of `&&` or `||` of which one operand is to guard a division in the next.
+    IdleGuard,
 }
 
 /// An occurrence: its kind, its place, and the number of the name or of the node at that place, which is 0 for a brace.

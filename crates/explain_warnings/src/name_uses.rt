@@ -7,7 +7,8 @@ ghost use Rattle.explain_warnings.specs.Mentions as specs;
 use crate::forms::{always_holds, below_one, is_empty, is_extra_line};
 use crate::name_use::{NameUse, NameUseKind};
 use crate::needs::right_needs;
-use crate::reads::{add, add_all, read, read_call, read_right};
+use crate::reads::{add, add_all, at_expression, note, read, read_call, read_right};
+use crate::repeats::list_repeats;
 use lexer::token::Span;
 use std::alloc::{AllocError, Allocator, Global};
 use syntax_trees::tree::{
@@ -23,30 +24,36 @@ pub fn tree_mentions<A: Allocator>(
 {
     let mut name_uses = Vec::new(alloc);
     for item in &script.items {
-        part(item, &mut name_uses)?;
+        part(alloc, item, &mut name_uses)?;
     }
     Ok(name_uses)
 }
 
 /// Appends the occurrences in a part.
-pub fn part<A: Allocator>(item: &Item<A>, name_uses: &mut Vec<NameUse>) -> Result<(), AllocError>
+pub fn part<A: Allocator>(
+    alloc: Global,
+    item: &Item<A>,
+    name_uses: &mut Vec<NameUse>,
+) -> Result<(), AllocError>
     ensures { OnOk result (name_uses.new.items ≡ name_uses.old.items ++ specs.part_mentions (part_of item.now)) }
 {
     match item {
         Item::Import(_) => Ok(()),
-        Item::Function(one) => function_body(&one.body, name_uses),
-        Item::Statement(one) => statement(one, name_uses),
+        Item::Function(one) => function_body(alloc, &one.body, name_uses),
+        Item::Statement(one) => statement(alloc, one, name_uses),
     }
 }
 
 /// Appends the occurrences in the statements of a function.
 pub fn function_body<A: Allocator>(
+    alloc: Global,
     body: &Block<A>,
     name_uses: &mut Vec<NameUse>,
 ) -> Result<(), AllocError>
     ensures { OnOk result (name_uses.new.items ≡ name_uses.old.items ++ specs.function_mentions (body_view body.now)) }
 {
-    each(&body.statements, name_uses)
+    list_repeats(alloc, &body.statements, name_uses)?;
+    each(alloc, &body.statements, name_uses)
 }
 
 /// Returns true if a name begins with `_`, which marks a variable as unused on purpose.
@@ -56,27 +63,6 @@ pub fn is_spared(name: &[u8]) -> bool
     match name {
         [first, ..] => *first == b'_',
         [] => false,
-    }
-}
-
-/// Appends an occurrence, if the condition holds.
-fn note(holds: bool, name_use: NameUse, name_uses: &mut Vec<NameUse>) -> Result<(), AllocError>
-    ensures { OnOk result (name_uses.new.items ≡ name_uses.old.items ++ specs.noted holds name_use) }
-{
-    if holds {
-        name_uses.push(name_use)?;
-    }
-    Ok(())
-}
-
-/// Returns the occurrence of an expression.
-fn at_expression<A: Allocator>(kind: NameUseKind, expr: &Expr<A>) -> NameUse
-    ensures { result ≡ specs.at_expression kind (expression_view expr.now) }
-{
-    NameUse {
-        kind,
-        number: expr.number,
-        at: expr.first,
     }
 }
 
@@ -287,17 +273,22 @@ fn source<A: Allocator>(source: &Source<A>, name_uses: &mut Vec<NameUse>) -> Res
 /// Appends the occurrences in a statement.
 #[cycle(stmt)]
 pub fn statement<A: Allocator>(
+    alloc: Global,
     stmt: &Stmt<A>,
     name_uses: &mut Vec<NameUse>,
 ) -> Result<(), AllocError>
     ensures { OnOk result (name_uses.new.items ≡ name_uses.old.items ++ specs.mentions_in (statement_view stmt.now)) }
 {
-    command(&stmt.kind, name_uses)
+    command(alloc, &stmt.kind, name_uses)
 }
 
 /// Appends the occurrences in a statement by its form.
 #[cycle(stmt)]
-fn command<A: Allocator>(kind: &StmtKind<A>, name_uses: &mut Vec<NameUse>) -> Result<(), AllocError>
+fn command<A: Allocator>(
+    alloc: Global,
+    kind: &StmtKind<A>,
+    name_uses: &mut Vec<NameUse>,
+) -> Result<(), AllocError>
     ensures { OnOk result (name_uses.new.items ≡ name_uses.old.items ++ specs.command_mentions (command_view kind.now)) }
 {
     match kind {
@@ -308,25 +299,27 @@ fn command<A: Allocator>(kind: &StmtKind<A>, name_uses: &mut Vec<NameUse>) -> Re
         StmtKind::Call(_, one) => call(one, name_uses),
         StmtKind::If(test, then, other) => {
             read(test, name_uses)?;
-            block(then, name_uses)?;
+            block(alloc, then, name_uses)?;
             match other {
                 None => Ok(()),
-                Some(other) => block(other, name_uses),
+                Some(other) => block(alloc, other, name_uses),
             }
         }
         StmtKind::Foreach(header, body) => {
             source(&header.source, name_uses)?;
-            block(body, name_uses)
+            block(alloc, body, name_uses)
         }
         StmtKind::Wait(names, body) => {
             add_all(NameUseKind::Read, names, name_uses)?;
-            block(body, name_uses)
+            block(alloc, body, name_uses)
         }
     }
 }
 
-/// Appends an occurrence for a block without statements, at its brace.
+/// Appends an occurrence for a block without statements, at its brace, and those of keys that two of its statements
+/// write.
 fn block_mistakes<A: Allocator>(
+    alloc: Global,
     body: &Block<A>,
     name_uses: &mut Vec<NameUse>,
 ) -> Result<(), AllocError>
@@ -342,28 +335,34 @@ fn block_mistakes<A: Allocator>(
         number: 0,
         at: brace,
     };
-    note(body.statements.is_empty(), name_use, name_uses)
+    note(body.statements.is_empty(), name_use, name_uses)?;
+    list_repeats(alloc, &body.statements, name_uses)
 }
 
 /// Appends the occurrences in a block.
 #[cycle(stmt)]
-fn block<A: Allocator>(body: &Block<A>, name_uses: &mut Vec<NameUse>) -> Result<(), AllocError>
+fn block<A: Allocator>(
+    alloc: Global,
+    body: &Block<A>,
+    name_uses: &mut Vec<NameUse>,
+) -> Result<(), AllocError>
     ensures { OnOk result (name_uses.new.items ≡ name_uses.old.items ++ specs.body_mentions (body_view body.now)) }
 {
-    block_mistakes(body, name_uses)?;
-    each(&body.statements, name_uses)
+    block_mistakes(alloc, body, name_uses)?;
+    each(alloc, &body.statements, name_uses)
 }
 
 /// Appends the occurrences in statements in order.
 #[cycle(stmt)]
 fn each<A: Allocator>(
+    alloc: Global,
     statements: &Vec<Stmt<A>, A>,
     name_uses: &mut Vec<NameUse>,
 ) -> Result<(), AllocError>
     ensures { OnOk result (name_uses.new.items ≡ name_uses.old.items ++ specs.all_mentions (trees.statements_of (map statement_view statements.now.items))) }
 {
     for stmt in statements {
-        statement(stmt, name_uses)?;
+        statement(alloc, stmt, name_uses)?;
     }
     Ok(())
 }

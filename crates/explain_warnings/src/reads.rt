@@ -4,9 +4,31 @@ ghost use Rattle.syntax_trees.specs.View.{word_of, words_view, expression_view, 
 ghost use Rattle.language.specs.Tree.{expressions_of};
 ghost use Rattle.explain_warnings.specs.Mentions as specs;
 
+use crate::guards::guards_nothing;
 use crate::name_use::{NameUse, NameUseKind};
 use std::alloc::{AllocError, Allocator};
 use syntax_trees::tree::{Call, Expr, ExprKind, Name, Right};
+
+/// Appends an occurrence, if the condition holds.
+pub fn note(holds: bool, name_use: NameUse, name_uses: &mut Vec<NameUse>) -> Result<(), AllocError>
+    ensures { OnOk result (name_uses.new.items ≡ name_uses.old.items ++ specs.noted holds name_use) }
+{
+    if holds {
+        name_uses.push(name_use)?;
+    }
+    Ok(())
+}
+
+/// Returns the occurrence of an expression.
+pub fn at_expression<A: Allocator>(kind: NameUseKind, expr: &Expr<A>) -> NameUse
+    ensures { result ≡ specs.at_expression kind (expression_view expr.now) }
+{
+    NameUse {
+        kind,
+        number: expr.number,
+        at: expr.first,
+    }
+}
 
 /// Appends an occurrence of a name.
 pub fn add<A: Allocator>(
@@ -47,11 +69,17 @@ fn add_element<A: Allocator>(name: &Name<A>, name_uses: &mut Vec<NameUse>) -> Re
     add(NameUseKind::ReadElement, name, name_uses)
 }
 
-/// Appends the reads of an expression, and the functions that it calls.
+/// Appends the reads of an expression, the functions that it calls, and its mistakes.
 #[cycle(read)]
 pub fn read<A: Allocator>(expr: &Expr<A>, name_uses: &mut Vec<NameUse>) -> Result<(), AllocError>
     ensures { OnOk result (name_uses.new.items ≡ name_uses.old.items ++ specs.reads_of (expression_view expr.now)) }
 {
+    let is_idle = guards_nothing(&expr.kind);
+    note(
+        is_idle,
+        at_expression(NameUseKind::IdleGuard, expr),
+        name_uses,
+    )?;
     read_form(&expr.kind, name_uses)
 }
 

@@ -60,8 +60,9 @@ fn begins_with_name(warning_kind: WarningKind) -> bool {
     match warning_kind {
         WarningKind::NeverUsed | WarningKind::NeverRead | WarningKind::IdleInput => true,
         WarningKind::NeverWritten | WarningKind::NeverCalled | WarningKind::WaitsForItself => true,
+        WarningKind::KeyTwice => true,
         WarningKind::EmptyRange | WarningKind::ExtraLine | WarningKind::EmptyBlock => false,
-        WarningKind::StepBelowOne | WarningKind::AlwaysHolds => false,
+        WarningKind::StepBelowOne | WarningKind::AlwaysHolds | WarningKind::IdleGuard => false,
     }
 }
 
@@ -78,6 +79,10 @@ fn words_of(warning_kind: WarningKind) -> &'static str {
         WarningKind::StepBelowOne => "a step below 1 is a fault",
         WarningKind::AlwaysHolds => "this assertion always holds",
         WarningKind::WaitsForItself => "waits for itself: its value is computed from itself",
+        WarningKind::KeyTwice => "gets this element twice, which is a fault",
+        WarningKind::IdleGuard => {
+            "this comparison does not guard the division after it: both sides are computed"
+        }
     }
 }
 
@@ -101,6 +106,12 @@ pub fn hint_of(warning_kind: WarningKind) -> &'static str {
         WarningKind::WaitsForItself => {
             "a variable has one value: give the new value a name of its own, as int y = x + 1;"
         }
+        WarningKind::KeyTwice => {
+            "an element has one value: write it under another key, or into an array of its own"
+        }
+        WarningKind::IdleGuard => {
+            "a divisor of 0 is a fault: put the division into the block of an if, as if (n != 0) { .. }"
+        }
     }
 }
 
@@ -120,6 +131,8 @@ pub fn code_of(warning_kind: WarningKind) -> &'static str
         WarningKind::StepBelowOne => "V9",
         WarningKind::AlwaysHolds => "V10",
         WarningKind::WaitsForItself => "V11",
+        WarningKind::KeyTwice => "V12",
+        WarningKind::IdleGuard => "V13",
     }
 }
 
@@ -139,6 +152,8 @@ pub fn name_of(warning_kind: WarningKind) -> &'static str
         WarningKind::StepBelowOne => "StepBelowOne",
         WarningKind::AlwaysHolds => "AlwaysHolds",
         WarningKind::WaitsForItself => "WaitsForItself",
+        WarningKind::KeyTwice => "KeyTwice",
+        WarningKind::IdleGuard => "IdleGuard",
     }
 }
 

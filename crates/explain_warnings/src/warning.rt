@@ -13,6 +13,7 @@ use crate::calls::{called_marks, is_function};
 use crate::marks::{input_marks, is_marked, local_marks};
 use crate::name_use::{NameUse, NameUseKind};
 use crate::name_uses::{function_body, is_spared, statement, tree_mentions};
+use crate::repeats::tree_repeats;
 use lexer::token::Span;
 use std::alloc::{AllocError, Allocator, Global};
 use syntax_trees::tree::{Decl, Function, Item, Name, Script};
@@ -43,6 +44,10 @@ pub enum WarningKind {
     AlwaysHolds,
     /// An assignment that needs the variable that it assigns.
     WaitsForItself,
+    /// A key of an array that two statements of one list write.
+    KeyTwice,
+    /// A comparison with 0 that is to guard a division.
+    IdleGuard,
 }
 
 /// A warning with its place: a name, the beginning of an expression, or a brace.
@@ -62,7 +67,8 @@ struct NamesInUse<'a> {
     called: &'a [bool],
 }
 
-/// Returns the warnings of a well typed script in the order of its text. `typed`: the table of its names.
+/// Returns the warnings of a well typed script in the order of its text. `typed`: the table of its names. Those of keys
+/// that two statements write stand before the others of their list.
 ///
 /// Names that begin with `_` and loop variables count as used.
 ///
@@ -87,18 +93,23 @@ pub fn warnings<A: Allocator>(
         element_read: element_read.as_slice(),
         called: called.as_slice(),
     };
-    parts(alloc, typed, &uses, script)
+    let repeats = tree_repeats(alloc, script)?;
+    parts(alloc, typed, &uses, repeats.as_slice(), script)
 }
 
+/// Returns the warnings at the occurrences outside of all functions that stand first, and those of the parts.
 fn parts<A: Allocator>(
     alloc: Global,
     typed: &Typed,
     uses: &NamesInUse<'_>,
+    first: &[NameUse],
     script: &Script<A>,
 ) -> Result<Vec<Warning>, AllocError>
-    ensures { IfOk result (λ found. found.items ≡ specs.parts_warnings (table_of typed.now) (uses_of uses.now) 0 (tree_of script.now)) }
+    ensures { IfOk result (λ found. found.items ≡ specs.warnings_at (uses_of uses.now) first.now
+        ++ specs.parts_warnings (table_of typed.now) (uses_of uses.now) 0 (tree_of script.now)) }
 {
     let mut found = Vec::new(alloc);
+    write_all(uses, first, &mut found)?;
     let mut position = 0;
     for item in &script.items {
         part(alloc, typed, uses, position, item, &mut found)?;
@@ -126,7 +137,7 @@ fn part<A: Allocator>(
         Item::Function(one) => function(alloc, typed, uses, position, one, found),
         Item::Statement(one) => {
             let mut name_uses = Vec::new(alloc);
-            statement(one, &mut name_uses)?;
+            statement(alloc, one, &mut name_uses)?;
             write_all(uses, name_uses.as_slice(), found)
         }
     }
@@ -146,7 +157,7 @@ fn function<A: Allocator>(
 {
     uncalled(is_marked(uses.called, position), &function.name, found)?;
     let mut name_uses = Vec::new(alloc);
-    function_body(&function.body, &mut name_uses)?;
+    function_body(alloc, &function.body, &mut name_uses)?;
     let read = input_marks(alloc, typed, NameUseKind::Read, name_uses.as_slice())?;
     idle_inputs(read.as_slice(), &function.inputs, found)?;
     write_all(uses, name_uses.as_slice(), found)
@@ -240,6 +251,8 @@ fn warning_at(uses: &NamesInUse<'_>, name_use: NameUse) -> Option<WarningKind>
         NameUseKind::StepBelowOne => Some(WarningKind::StepBelowOne),
         NameUseKind::AlwaysHolds => Some(WarningKind::AlwaysHolds),
         NameUseKind::WaitsForItself => Some(WarningKind::WaitsForItself),
+        NameUseKind::KeyTwice => Some(WarningKind::KeyTwice),
+        NameUseKind::IdleGuard => Some(WarningKind::IdleGuard),
     }
 }
 

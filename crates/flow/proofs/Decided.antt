@@ -9,7 +9,7 @@ use Rattle.language.specs.Parts.{block_list, parts, part_calls}
 use Rattle.language.proofs.Members.{either, to_left, to_right}
 use Rattle.flow.specs.Names.{form_names, names_used, Opened, opens, own_names, part_names}
 use Rattle.flow.specs.Tests.{are_declared, declares, fits, fits_inside, fits_stmt, function_fits, is_declared, is_fit, is_whole, leads, part_fits, parts_fit}
-use Rattle.flow.specs.Whole.{Declares, IsDeclared, IsWhole, IsWithin, in_wait, of_function, of_script, opened, Owner, opened_owner, script_owner, times}
+use Rattle.flow.specs.Whole.{Declares, IsDeclared, IsWhole, IsWithin, in_content, in_wait, of_function, of_script, opened, Owner, opened_owner, script_owner, times}
 
 -- TESTS OF LISTS
 
@@ -151,7 +151,7 @@ module _ (s : Core) where
   within_fits : {os : List Owner} {b : Block} → is_whole s ≡ true → IsWithin s os b → fits os count b ≡ true
   within_fits h of_script = (both (fits (script_owner s ∷ []) count s.body) (list_all (function_fits count) s.functions) h).0
   within_fits h (of_function i e) = all_at (function_fits count) s.functions i (both (fits (script_owner s ∷ []) count s.body) (list_all (function_fits count) s.functions) h).1 e
-  within_fits h (in_wait {os = os} {b = b} {c = c} {xs = xs} w m) = (both (is_fit os count (wait xs c)) (fits os count c) (stmt_in os count b (within_fits h w) m)).1
+  within_fits h (in_wait {os = os} {b = b} {c = c} {xs = xs} w m) = (both (is_fit os count (wait xs c)) (fits (in_content c os) count c) (stmt_in os count b (within_fits h w) m)).1
   within_fits h (opened {os = os} {b = b} {a = a} w m i) = opened_in os count a (both (is_fit os count a) (fits_inside os count a) (stmt_in os count b (within_fits h w) m)).1 i
 
   own_fits : {os : List Owner} {b : Block} {at k : ℕ} {a : Action} → is_whole s ≡ true → IsWithin s os b → stmt at k a ∈ block_list b → is_fit os count a ≡ true

@@ -16,7 +16,7 @@ use Rattle.language.specs.Parts.{outer_parts}
 use Rattle.language.specs.Resolved.{awaited_as}
 use Rattle.flow.specs.Names.{awaited_name, expr_names, exprs_names}
 use Rattle.flow.specs.Tests.{are_declared, fits, fits_inside, fits_stmt, function_fits, headers_fit, is_declared, is_fit, part_fits, parts_fit}
-use Rattle.flow.specs.Whole.{Owner}
+use Rattle.flow.specs.Whole.{Owner, in_content}
 use Rattle.flow.proofs.Times.{view_statement}
 
 pub and_true : {a : Bool} (b : Bool) → a ≡ true → a && b ≡ b
@@ -103,14 +103,23 @@ pub headers_step : {A : Type 0} (os : List Owner) (hs : List (Header A)) (i : �
     → headers_fit os (drop i hs) ≡ are_declared os (names_view (get_or hs i d).names.items) && headers_fit os (drop (i + 1) hs)
 headers_step os hs i d l = ap (headers_fit os) (drop_more hs i d l)
 
+-- a block that is one `wait` declares nothing
+one_wait : {A : Type 0} (os : List Owner) (h : Header A) (hs : List (Header A)) (b : core.Block) → in_content (waits_around (h ∷ hs) b) os ≡ os
+one_wait [] h hs b = refl
+one_wait (o ∷ os) h hs b = refl
+
 -- waits one in another fit where each waits for what is declared, and what is in the innermost fits
-pub waits_fit : {A : Type 0} (os : List Owner) (fs : ℕ) (hs : List (Header A)) (b : core.Block) → fits os fs (waits_around hs b) ≡ headers_fit os hs && fits os fs b
+pub waits_fit : {A : Type 0} (os : List Owner) (fs : ℕ) (hs : List (Header A)) (b : core.Block)
+    → fits (in_content (waits_around hs b) os) fs (waits_around hs b) ≡ headers_fit os hs && fits (in_content b os) fs b
 waits_fit os fs [] b = refl
-waits_fit os fs (h ∷ hs) b =
-    and_one ((are_declared os (map awaited_name (map awaited_view h.names.items)) && true) && fits os fs (waits_around hs b))
-    ∙ ap (λ z. z && fits os fs (waits_around hs b)) (and_one (are_declared os (map awaited_name (map awaited_view h.names.items))) ∙ ap (are_declared os) (awaited_names h.names.items))
+waits_fit {A} os fs (h ∷ hs) b =
+    let around = waits_around hs b in
+    let inner = fits (in_content around os) fs around in
+    ap (λ z. fits z fs (waits_around (h ∷ hs) b)) (one_wait os h hs b)
+    ∙ and_one ((are_declared os (map awaited_name (map awaited_view h.names.items)) && true) && inner)
+    ∙ ap (λ z. z && inner) (and_one (are_declared os (map awaited_name (map awaited_view h.names.items))) ∙ ap (are_declared os) (awaited_names h.names.items))
     ∙ ap (λ z. are_declared os (names_view h.names.items) && z) (waits_fit os fs hs b)
-    ∙ sym (and_assoc (are_declared os (names_view h.names.items)) (headers_fit os hs) (fits os fs b))
+    ∙ sym (and_assoc (are_declared os (names_view h.names.items)) (headers_fit os hs) (fits (in_content b os) fs b))
 
 pub length-map : {X Y : Type 0} (f : X → Y) (xs : List X) → length (map f xs) ≡ length xs
 length-map f [] = refl

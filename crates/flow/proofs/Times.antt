@@ -89,15 +89,6 @@ stmts_step A ss i d l =
     ap (λ (z : List (Statement A)). block_nodes (block_of (statements_view z))) (drop_more ss i d l)
     ∙ ap (λ (z : core.Stmt). stmt_nodes z ++ block_nodes (block_of (statements_view (drop (i + 1) ss)))) (view_statement A (get_or ss i d))
 
--- what stands in waits one in another is declared round them
-pub waits_nodes : {A : Type 0} (hs : List (Header A)) (b : core.Block) → block_nodes (waits_around hs b) ≡ block_nodes b
-waits_nodes [] b = refl
-waits_nodes (h ∷ hs) b = append_none (block_nodes (waits_around hs b)) ∙ waits_nodes hs b
-  where
-    append_none : (xs : List ℕ) → xs ++ [] ≡ xs
-    append_none [] = refl
-    append_none (x ∷ xs) = ap (λ z. x ∷ z) (append_none xs)
-
 flat_append : (xs ys : List core.Part) → flat_map part_nodes (xs ++ ys) ≡ flat_map part_nodes xs ++ flat_map part_nodes ys
 flat_append [] ys = refl
 flat_append (x ∷ xs) ys = ap (λ z. part_nodes x ++ z) (flat_append xs ys) ∙ sym (append-assoc (part_nodes x) (flat_map part_nodes xs) (flat_map part_nodes ys))

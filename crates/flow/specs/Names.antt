@@ -57,20 +57,18 @@ abbrev pub part_nodes : Part → List ℕ
 part_nodes (inner c) = c.node ∷ []
 part_nodes (calls c) = flat_map here_nodes c.outputs
 
--- the content of a `wait` declares in the block around it
-abbrev mutual
-  pub action_nodes : Action → List ℕ
-  action_nodes (declare v) = v ∷ []
-  action_nodes (call_alone p ps c) = flat_map part_nodes ps
-  action_nodes (wait xs b) = block_nodes b
-  action_nodes a = flat_map part_nodes (outer_parts (outers a))
+-- a `wait` declares nothing: its content is a block of its own
+abbrev pub action_nodes : Action → List ℕ
+action_nodes (declare v) = v ∷ []
+action_nodes (call_alone p ps c) = flat_map part_nodes ps
+action_nodes a = flat_map part_nodes (outer_parts (outers a))
 
-  pub stmt_nodes : Stmt → List ℕ
-  stmt_nodes (stmt at n a) = action_nodes a
+abbrev pub stmt_nodes : Stmt → List ℕ
+stmt_nodes (stmt at n a) = action_nodes a
 
-  pub block_nodes : Block → List ℕ
-  block_nodes no_stmts = []
-  block_nodes (stmts s b) = stmt_nodes s ++ block_nodes b
+abbrev pub block_nodes : Block → List ℕ
+block_nodes no_stmts = []
+block_nodes (stmts s b) = stmt_nodes s ++ block_nodes b
 
 -- BLOCKS THAT A STATEMENT OPENS
 

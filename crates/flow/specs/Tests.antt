@@ -6,7 +6,7 @@ use Rattle.language.specs.Parts.{parts}
 use Rattle.flow.specs.declared.statement.Header.{Header}
 use Rattle.flow.specs.View.{names_view}
 use Rattle.flow.specs.Names.{form_names, own_names}
-use Rattle.flow.specs.Whole.{Owner, times, opened_owner, script_owner, function_owner}
+use Rattle.flow.specs.Whole.{Owner, times, opened_owner, script_owner, function_owner, in_content}
 
 abbrev pub is_one : ℕ → Bool
 is_one n = nat_eq n 1
@@ -46,7 +46,7 @@ abbrev mutual
   fits_inside os fs (choose c b d) = fits (opened_owner (record { variables = []; block = b }) ∷ os) fs b && fits (opened_owner (record { variables = []; block = d }) ∷ os) fs d
   fits_inside os fs (range lo hi st v k b) = fits (opened_owner (record { variables = v ∷ option_to_list k; block = b }) ∷ os) fs b
   fits_inside os fs (each a v k b) = fits (opened_owner (record { variables = v ∷ option_to_list k; block = b }) ∷ os) fs b
-  fits_inside os fs (wait xs b) = fits os fs b
+  fits_inside os fs (wait xs b) = fits (in_content b os) fs b
   fits_inside os fs _ = true
 
   pub fits_stmt : List Owner → ℕ → Stmt → Bool

@@ -31,11 +31,17 @@ Declares o (local n) = times n o.nodes ≡ 1
 Declares o (input i) = i < o.inputs
 Declares o (output i) = i < o.outputs
 
+-- the owners of names in the content of a `wait`, given those around the `wait`. A name counts no step for a `wait`, so
+-- what the content declares joins the innermost owner, for the content alone
+abbrev pub in_content : Block → List Owner → List Owner
+in_content c [] = []
+in_content c (o ∷ os) = record { inputs = o.inputs; outputs = o.outputs; nodes = block_nodes c ++ o.nodes } ∷ os
+
 -- a block of a script, with the owners of names around it, innermost first
 pub data IsWithin (s : Core) : List Owner → Block → Type 0 where
   of_script : IsWithin s (script_owner s ∷ []) s.body
   of_function : (i : ℕ) {f : Function} → slice_get s.functions i ≡ Some f → IsWithin s (function_owner f ∷ []) f.body
-  in_wait : {os : List Owner} {b c : Block} {at n : ℕ} {xs : List Awaited} → IsWithin s os b → stmt at n (wait xs c) ∈ block_list b → IsWithin s os c
+  in_wait : {os : List Owner} {b c : Block} {at n : ℕ} {xs : List Awaited} → IsWithin s os b → stmt at n (wait xs c) ∈ block_list b → IsWithin s (in_content c os) c
   opened : {os : List Owner} {b : Block} {at n : ℕ} {a : Action} {o : Opened} → IsWithin s os b → stmt at n a ∈ block_list b → o ∈ opens a → IsWithin s (opened_owner o ∷ os) o.block
 
 -- the name is declared once, in the block that it refers to

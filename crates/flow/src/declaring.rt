@@ -4,7 +4,7 @@ ghost use Rattle.std.specs.List.{flat_map};
 ghost use Rattle.flow.specs.View.{action_view, block_view, name_view, names_view, outer_view, part_view, parts_view};
 ghost use Rattle.language.specs.Parts.{outer_parts};
 ghost use Rattle.flow.specs.Names.{action_nodes, block_nodes, here_nodes, part_nodes};
-ghost use Rattle.flow.specs.Viewed.{plus, times_as};
+ghost use Rattle.flow.specs.Viewed.{is_once, plus, times_as};
 
 use crate::cell::{CellPart, OuterCell};
 use crate::name::{Name, NameBinding};
@@ -30,6 +30,12 @@ impl Multiplicity {
             _ => Multiplicity::Often,
         }
     }
+
+    pub(crate) fn is_once(self) -> bool
+        ensures { result ≡ is_once self }
+    {
+        matches!(self, Multiplicity::Once)
+    }
 }
 
 /// Returns `Once` if the variable has this node, otherwise `Never`.
@@ -42,8 +48,7 @@ pub(crate) fn times_of_variable(node: u32, variable: Option<u32>) -> Multiplicit
     }
 }
 
-/// Returns how often a statement declares a node in the instance of its own block. A `wait` includes its content.
-#[cycle(block)]
+/// Returns how often a statement declares a node in its own block. The content of a `wait` is a block of its own.
 fn times_in_action<A: Allocator>(node: u32, action: &Action<A>) -> Multiplicity
     ensures { result ≡ times_as node (action_nodes (action_view action.now)) }
 {
@@ -58,13 +63,11 @@ fn times_in_action<A: Allocator>(node: u32, action: &Action<A>) -> Multiplicity
         Action::When { condition, .. } => times_in_outer(node, condition),
         Action::Choose { condition, .. } => times_in_outer(node, condition),
         Action::Range { range, .. } => times_in_range(node, range),
-        Action::Each { .. } => Multiplicity::Never,
-        Action::Wait { content, .. } => times_in_block(node, content),
+        Action::Each { .. } | Action::Wait { .. } => Multiplicity::Never,
     }
 }
 
-/// Returns how often an instance of a block declares a node.
-#[cycle(block)]
+/// Returns how often a block declares a node, without the contents of its `wait` statements.
 pub(crate) fn times_in_block<A: Allocator>(node: u32, block: &Block<A>) -> Multiplicity
     ensures { result ≡ times_as node (block_nodes (block_view block.now)) }
 {

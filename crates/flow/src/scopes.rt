@@ -1,9 +1,9 @@
-//! Scopes that declare names: a linked list of blocks, from the innermost outwards.
+//! Scopes that declare names: a linked list of blocks and contents of waits, from the innermost outwards.
 ghost use Rattle.std.specs.Prelude.{◌≡◌, ◌++◌, length, option_to_list};
 ghost use Rattle.flow.specs.View.{block_view, owned_view, name_view};
 ghost use Rattle.flow.specs.Names.{block_nodes};
-ghost use Rattle.flow.specs.Tests.{declares, leads, is_declared};
-ghost use Rattle.flow.specs.Viewed.{owner_of, owners_of, times_as};
+ghost use Rattle.flow.specs.Tests.{leads, is_declared};
+ghost use Rattle.flow.specs.Viewed.{inputs_within, outputs_within, owner_of, owners_of, times_as, times_within};
 
 use crate::declaring::{Multiplicity, times_in_block, times_of_variable};
 use crate::name::{Name, NameBinding};
@@ -21,12 +21,13 @@ pub(crate) struct Scope<'a, A: Allocator> {
     pub block: &'a Block<A>,
 }
 
-/// The scopes around a statement, innermost first.
+/// The scopes around a statement, innermost first. A name counts no step for the content of a `wait`.
 #[cycle(scopes)]
 #[derive(Drop)]
 pub(crate) enum Scopes<'a, A: Allocator> {
     End,
     Within(Scope<'a, A>, &'a Scopes<'a, A>),
+    Content(&'a Block<A>, &'a Scopes<'a, A>),
 }
 
 /// Returns true if the block that a name refers to declares the name exactly once.
@@ -37,29 +38,72 @@ pub(crate) fn is_declared<'a, A: Allocator>(scopes: &Scopes<'a, A>, name: Name) 
 }
 
 /// Returns true if the block that is `up` blocks further out declares the binding exactly once.
+#[tactic(auto, using(crate::proofs::Outwards::leads_content))]
 fn leads<'a, A: Allocator>(scopes: &Scopes<'a, A>, up: usize, what: NameBinding) -> bool
     ensures { result ≡ leads (owners_of scopes.now) up (owned_view what) }
 {
+    if up == 0 {
+        return declares(scopes, what);
+    }
     match scopes {
         Scopes::End => false,
-        Scopes::Within(scope, outer) => {
-            if up == 0 {
-                declares(scope, what)
-            } else {
-                leads(*outer, up - 1, what)
-            }
+        Scopes::Within(_, outer) => leads(*outer, up - 1, what),
+        Scopes::Content(_, outer) => leads(*outer, up, what),
+    }
+}
+
+/// Returns true if the innermost block, with the contents of waits in it, declares the binding exactly once.
+#[tactic(auto, using(crate::proofs::Outwards::leads_local, crate::proofs::Outwards::leads_input, crate::proofs::Outwards::leads_output))]
+fn declares<'a, A: Allocator>(scopes: &Scopes<'a, A>, what: NameBinding) -> bool
+    ensures { result ≡ leads (owners_of scopes.now) 0 (owned_view what) }
+{
+    match what {
+        NameBinding::Local(node) => times_within(scopes, node, Multiplicity::Never).is_once(),
+        NameBinding::Input(i) => i < inputs_within(scopes),
+        NameBinding::Output(i) => i < outputs_within(scopes),
+    }
+}
+
+/// Returns how often the innermost block and the contents of waits in it declare a node, added to `before`.
+#[tactic(auto, using(crate::proofs::Outwards::times_content))]
+fn times_within<'a, A: Allocator>(
+    scopes: &Scopes<'a, A>,
+    node: u32,
+    before: Multiplicity,
+) -> Multiplicity
+    ensures { result ≡ times_within node before (owners_of scopes.now) }
+{
+    match scopes {
+        Scopes::End => Multiplicity::Never,
+        Scopes::Within(scope, _) => before.and(times_in_scope(scope, node)),
+        Scopes::Content(content, outer) => {
+            let more = before.and(times_in_block(node, *content));
+            times_within(*outer, node, more)
         }
     }
 }
 
-/// Returns true if a block declares the binding exactly once.
-fn declares<'a, A: Allocator>(scope: &Scope<'a, A>, what: NameBinding) -> bool
-    ensures { result ≡ declares (owner_of scope.now) (owned_view what) }
+/// Returns the number of inputs of the function whose body the innermost block is.
+#[tactic(auto, using(crate::proofs::Outwards::inputs_content))]
+fn inputs_within<'a, A: Allocator>(scopes: &Scopes<'a, A>) -> usize
+    ensures { result ≡ inputs_within (owners_of scopes.now) }
 {
-    match what {
-        NameBinding::Local(node) => times_in_scope(scope, node) == Multiplicity::Once,
-        NameBinding::Input(i) => i < scope.inputs,
-        NameBinding::Output(i) => i < scope.outputs,
+    match scopes {
+        Scopes::End => 0,
+        Scopes::Within(scope, _) => scope.inputs,
+        Scopes::Content(_, outer) => inputs_within(*outer),
+    }
+}
+
+/// Returns the number of outputs of the function whose body the innermost block is.
+#[tactic(auto, using(crate::proofs::Outwards::outputs_content))]
+fn outputs_within<'a, A: Allocator>(scopes: &Scopes<'a, A>) -> usize
+    ensures { result ≡ outputs_within (owners_of scopes.now) }
+{
+    match scopes {
+        Scopes::End => 0,
+        Scopes::Within(scope, _) => scope.outputs,
+        Scopes::Content(_, outer) => outputs_within(*outer),
     }
 }
 

@@ -4,7 +4,7 @@ ghost use Rattle.std.specs.List.{list_all};
 ghost use Rattle.flow.specs.View.{action_view, block_view, core_of, function_view, statement_view};
 ghost use Rattle.flow.specs.Tests.{fits, fits_inside, fits_stmt, function_fits, headers_fit, is_whole};
 ghost use Rattle.flow.specs.Viewed.{owner_of, owners_of};
-ghost use Rattle.flow.specs.Whole.{IsWhole, opened_owner};
+ghost use Rattle.flow.specs.Whole.{IsWhole, in_content, opened_owner};
 
 use crate::naming::{are_names_fit, is_fit};
 use crate::scopes::{Scope, Scopes};
@@ -94,7 +94,8 @@ fn are_blocks_fit<'a, A: Allocator>(
             is_block_fit(&inside, functions, body)
         }
         Action::Wait { inner, content, .. } => {
-            are_headers_fit(scopes, inner) && is_block_fit(scopes, functions, content)
+            let inside = within_wait(&*content, &*scopes);
+            are_headers_fit(scopes, inner) && is_block_fit(&inside, functions, content)
         }
         Action::Declare(_)
         | Action::Call { .. }
@@ -146,6 +147,14 @@ fn are_headers_fit<'a, A: Allocator>(scopes: &Scopes<'a, A>, headers: &Vec<Heade
         }
     }
     true
+}
+
+/// Creates the scopes of the content of a `wait`.
+#[tactic(auto, using(crate::proofs::Outwards::owners_content))]
+fn within_wait<'a, A: Allocator>(content: &'a Block<A>, outer: &'a Scopes<'a, A>) -> Scopes<'a, A>
+    ensures { owners_of result ≡ in_content (block_view content.now) (owners_of outer.now) }
+{
+    Scopes::Content(content, outer)
 }
 
 /// Creates the scope of a nested block, with the variables of its loop.

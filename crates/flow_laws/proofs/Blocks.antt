@@ -1,5 +1,5 @@
 -- In typed blocks each name stands for what the block declares that it leads to.
-use Rattle.std.specs.Prelude.{◌≡◌, ℕ, zero, suc, ◌+◌, ◌<◌, List, [], ◌∷◌, map, Option, Some, None, option_map, option_to_list, length, slice_get, refl}
+use Rattle.std.specs.Prelude.{◌≡◌, ℕ, zero, suc, ◌+◌, ◌<◌, List, [], ◌∷◌, ◌++◌, map, Option, Some, None, option_map, option_to_list, length, slice_get, refl}
 use Rattle.std.specs.List.{flat_map}
 use Rattle.std.proofs.Common.{inl, inr, sym, subst, arith}
 use Rattle.language.specs.declared.tree.Base.{Base}
@@ -18,7 +18,7 @@ use Rattle.language.proofs.Members.{split_in, to_left, to_right}
 use Rattle.language_accepted.proofs.Placed.{Sees, IsPlain}
 use Rattle.language_accepted.proofs.Placing.{deeper_of}
 use Rattle.flow.specs.Names.{names_used, part_nodes, action_nodes, block_nodes, Opened, opens}
-use Rattle.flow.specs.Whole.{Owner, opened_owner, script_owner, function_owner, IsWithin, of_script, of_function, in_wait, opened}
+use Rattle.flow.specs.Whole.{Owner, opened_owner, script_owner, function_owner, in_content, IsWithin, of_script, of_function, in_wait, opened}
 use Rattle.flow_laws.proofs.Known.{Known, of_scope, of_part}
 use Rattle.flow_laws.proofs.Expressions.{seen}
 use Rattle.flow_laws.proofs.Statements.{before, Fit, Plain, right_fits, write_fits, several_fits, called_fits, when_fits, choose_fits, loop_fits, wait_fits}
@@ -42,7 +42,7 @@ abbrev mutual
   ClearInside os (choose c b d) = Clear (opened_owner (record { variables = []; block = b }) ∷ os) b × Clear (opened_owner (record { variables = []; block = d }) ∷ os) d
   ClearInside os (range lo hi st v k b) = Clear (opened_owner (record { variables = v ∷ option_to_list k; block = b }) ∷ os) b
   ClearInside os (each a v k b) = Clear (opened_owner (record { variables = v ∷ option_to_list k; block = b }) ∷ os) b
-  ClearInside os (wait xs b) = Clear os b
+  ClearInside os (wait xs b) = Clear (in_content b os) b
   ClearInside os _ = Unit {0}
 
   pub ClearStmt : List Owner → Stmt → Type 0
@@ -65,6 +65,30 @@ deeper_stands g o os k v m =
     let r = deeper_of g v m in
     let s = k r.0 r.1 in
     subst (λ (x : Name). Stands (o ∷ os) x) (sym r.2) (record { owner = s.owner; there = s.there; has = s.has })
+
+-- an owner of names in the content of a `wait`
+abbrev waiting : Block → Owner → Owner
+waiting c o = record { inputs = o.inputs; outputs = o.outputs; nodes = block_nodes c ++ o.nodes }
+
+has_more : (c : Block) (o : Owner) (w : Owned) → Has o w → Has (waiting c o) w
+has_more c o (local n) h = to_right (block_nodes c) o.nodes h
+has_more c o (input i) h = h
+has_more c o (output i) h = h
+
+same_owner : {x y : Owner} → Some x ≡ Some y → x ≡ y
+same_owner h = cc
+
+owner_inside : (c : Block) (o : Owner) (os : List Owner) (k : ℕ) (w : Owned) (p : Owner) → slice_get (o ∷ os) k ≡ Some p → Has p w
+    → (q : Owner) × (slice_get (waiting c o ∷ os) k ≡ Some q) × Has q w
+owner_inside c o os zero w p e h = (waiting c o, refl, has_more c o w (subst (λ (z : Owner). Has z w) (sym (same_owner e)) h))
+owner_inside c o os (suc k) w p e h = (p, e, h)
+
+-- what stands around a `wait` stands in its content
+content_stands : (g : Scope) (c : Block) (o : Owner) (os : List Owner) → ScopeStands g (o ∷ os) → ScopeStands g (waiting c o ∷ os)
+content_stands g c o os k v m =
+    let s = k v m in
+    let r = owner_inside c o os v.refers_to.up v.refers_to.what s.owner s.there s.has in
+    record { owner = r.0; there = r.1; has = r.2 }
 
 -- a variable is added that this block declares
 own_stands : (g : Scope) (w : Word) (τ : Typ) (o : Owner) (os : List Owner) → w.number ∈ o.nodes → ScopeStands g (o ∷ os) → ScopeStands (own w τ ∷ g) (o ∷ os)
@@ -207,7 +231,7 @@ module _ (fs : List Signature) (t : Table) where
     statement_clear (statement nd (waits ws d)) g h b o os k f (rules.wait_statement names typed) behind =
         let c = block_of t d in
         headed nd.first.from nd.number (wait (map (awaited t) ws) c) b g o os (wait_fits fs t g c names)
-        (body_clear d g o os k (λ n m. f n (to_left (block_nodes c) (block_nodes b) m)) typed) k f (λ z. behind k z)
+        (body_clear d g (waiting c o) os (content_stands g c o os k) (λ n m. to_left (block_nodes c) o.nodes m) typed) k f (λ z. behind k z)
 
   -- SCRIPTS
 

@@ -14,7 +14,7 @@ use Rattle.language.proofs.TreeNumbers.{hit, hit_self, times, times-append, time
 use Rattle.language_accepted.proofs.Rising.{here_or_none}
 use Rattle.flow.specs.Names.{nodes_here, here_nodes, part_nodes, action_nodes, block_nodes, Opened, opens}
 use Rattle.flow.specs.Whole as counted
-use Rattle.flow.specs.Whole.{Owner, opened_owner, script_owner, function_owner, IsWithin, of_script, of_function, in_wait, opened}
+use Rattle.flow.specs.Whole.{Owner, opened_owner, script_owner, function_owner, in_content, IsWithin, of_script, of_function, in_wait, opened}
 
 -- the two ways to count
 no_both : {A : Type 0} {b : Bool} → b ≡ true → b ≡ false → A
@@ -89,29 +89,28 @@ module _ (n : ℕ) where
       let z = times-append n (roles_of a) (hidden_of a) in
       omega arith
 
-  mutual
-    action_few : (a : Action) → times n (action_nodes a) ≤ inside a
-    action_few (declare v) = omega arith
-    action_few (call_alone p ps c) = let e = cells_alone ps c in let h = own_few (call_alone p ps c) ps (omega arith) in omega arith
-    action_few (assign x e) = let h = own_few (assign x e) (parts (assign x e)) (omega arith) in omega arith
-    action_few (fill x e) = let h = own_few (fill x e) (parts (fill x e)) (omega arith) in omega arith
-    action_few (insert x k e) = let h = own_few (insert x k e) (parts (insert x k e)) (omega arith) in omega arith
-    action_few (print p e) = let h = own_few (print p e) (parts (print p e)) (omega arith) in omega arith
-    action_few (assert p e) = let h = own_few (assert p e) (parts (assert p e)) (omega arith) in omega arith
-    action_few (when c b) = let h = own_few (when c b) (parts (when c b)) (omega arith) in omega arith
-    action_few (choose c b d) = let h = own_few (choose c b d) (parts (choose c b d)) (omega arith) in omega arith
-    action_few (range lo hi st v k b) = let h = own_few (range lo hi st v k b) (parts (range lo hi st v k b)) (omega arith) in omega arith
-    action_few (each x v k b) = omega arith
-    action_few (wait xs b) = let h = block_few b in let i = with_inner b in omega arith
+  action_few : (a : Action) → times n (action_nodes a) ≤ times n (tested.action_nodes a)
+  action_few (declare v) = omega arith
+  action_few (call_alone p ps c) = let e = cells_alone ps c in let h = own_few (call_alone p ps c) ps (omega arith) in omega arith
+  action_few (assign x e) = let h = own_few (assign x e) (parts (assign x e)) (omega arith) in omega arith
+  action_few (fill x e) = let h = own_few (fill x e) (parts (fill x e)) (omega arith) in omega arith
+  action_few (insert x k e) = let h = own_few (insert x k e) (parts (insert x k e)) (omega arith) in omega arith
+  action_few (print p e) = let h = own_few (print p e) (parts (print p e)) (omega arith) in omega arith
+  action_few (assert p e) = let h = own_few (assert p e) (parts (assert p e)) (omega arith) in omega arith
+  action_few (when c b) = let h = own_few (when c b) (parts (when c b)) (omega arith) in omega arith
+  action_few (choose c b d) = let h = own_few (choose c b d) (parts (choose c b d)) (omega arith) in omega arith
+  action_few (range lo hi st v k b) = let h = own_few (range lo hi st v k b) (parts (range lo hi st v k b)) (omega arith) in omega arith
+  action_few (each x v k b) = omega arith
+  action_few (wait xs b) = omega arith
 
-    pub block_few : (b : Block) → times n (block_nodes b) ≤ whole b
-    block_few no_stmts = omega arith
-    block_few (stmts (stmt at m a) b) =
-        let h = action_few a in
-        let k = block_few b in
-        let f = front at m a b in
-        let x = times-append n (action_nodes a) (block_nodes b) in
-        omega arith
+  block_few : (b : Block) → times n (block_nodes b) ≤ times n (tested.block_nodes b)
+  block_few no_stmts = omega arith
+  block_few (stmts (stmt at m a) b) =
+      let h = action_few a in
+      let k = block_few b in
+      let x = times-append n (action_nodes a) (block_nodes b) in
+      let y = times-append n (tested.action_nodes a) (tested.block_nodes b) in
+      omega arith
 
   -- BLOCKS
 
@@ -125,6 +124,22 @@ module _ (n : ℕ) where
       elim (split_in i) [
         | inl e ↦ subst (λ (z : Action). inside z ≤ whole (stmts (stmt at' m' a') b)) (sym (action_same e)) (omega arith)
         | inr j ↦ (let r = stmt_within b j in omega arith)
+      ]
+
+  -- the blocks that a statement opens are below its block
+  abbrev below : Block → ℕ
+  below b = times n (flat tested.block_nodes (blocks_below b))
+
+  abbrev opening : Action → ℕ
+  opening a = times n (flat tested.block_nodes (blocks_inside a))
+
+  opening_below : {at m : ℕ} {a : Action} (b : Block) → stmt at m a ∈ block_list b → opening a ≤ below b
+  opening_below no_stmts i = elim i [ ]
+  opening_below {a = a} (stmts (stmt at' m' a') b) i =
+      let y = times-flat tested.block_nodes n (blocks_inside a') (blocks_below b) in
+      elim (split_in i) [
+        | inl e ↦ subst (λ (z : Action). opening z ≤ below (stmts (stmt at' m' a') b)) (sym (action_same e)) (omega arith)
+        | inr j ↦ (let r = opening_below b j in omega arith)
       ]
 
   variables_times : (v : ℕ) (k : Option ℕ) → times n (v ∷ option_to_list k) ≡ times n (with_turn v k)
@@ -221,14 +236,39 @@ module _ (n : ℕ) where
   none_few zero p e = absurd (cc (e))
   none_few (suc i) p e = absurd (cc (e))
 
-  pub owners_few : (s : Core) → total s ≤ 1 → {os : List Owner} {b : Block} → IsWithin s os b → OwnersFew os
-  owners_few s l of_script = let f = block_few s.body in let w = block_within s of_script in one_few (script_owner s) [] (omega arith) none_few
-  owners_few s l (of_function i {f = f} e) = let h = block_few f.body in let w = block_within s (of_function i {f = f} e) in one_few (function_owner f) [] (omega arith) none_few
-  owners_few s l (in_wait w m) = owners_few s l w
-  owners_few s l (opened {os = os} {b = b} {a = a} {o = o} w m i) =
+  -- what the innermost owner of a block declares, with all that stands below the block
+  abbrev within : List Owner → ℕ
+  within [] = 0
+  within (o ∷ os) = times n o.nodes
+
+  content_within : (c : Block) (os : List Owner) → within (in_content c os) ≤ times n (block_nodes c) + within os
+  content_within c [] = omega arith
+  content_within c (o ∷ os) = let x = times-append n (block_nodes c) o.nodes in omega arith
+
+  owner_within : (s : Core) {os : List Owner} {b : Block} → IsWithin s os b → within os + below b ≤ total s
+  owner_within s of_script = let f = block_few s.body in let w = block_within s of_script in omega arith
+  owner_within s (of_function i {f = f} e) = let h = block_few f.body in let w = block_within s (of_function i {f = f} e) in omega arith
+  owner_within s (in_wait {os = os} {b = b} {c = c} {xs = xs} w m) =
+      let r = owner_within s w in
+      let f = block_few c in
+      let x = opening_below b m in
+      let y = with_inner c in
+      let z = content_within c os in
+      omega arith
+  owner_within s (opened {b = b} {a = a} {o = o} w m i) =
       let f = block_few o.block in
       let r = block_within s w in
       let x = stmt_within b m in
       let y = opened_within a o i in
       let z = times-append n o.variables (block_nodes o.block) in
-      one_few (opened_owner o) os (omega arith) (owners_few s l w)
+      omega arith
+
+  content_few : (c : Block) (os : List Owner) → within (in_content c os) ≤ 1 → OwnersFew os → OwnersFew (in_content c os)
+  content_few c [] l h = none_few
+  content_few c (o ∷ os) l h = one_few (record { inputs = o.inputs; outputs = o.outputs; nodes = block_nodes c ++ o.nodes }) os l (λ k p e. h (suc k) p e)
+
+  pub owners_few : (s : Core) → total s ≤ 1 → {os : List Owner} {b : Block} → IsWithin s os b → OwnersFew os
+  owners_few s l of_script = let w = owner_within s of_script in one_few (script_owner s) [] (omega arith) none_few
+  owners_few s l (of_function i {f = f} e) = let w = owner_within s (of_function i {f = f} e) in one_few (function_owner f) [] (omega arith) none_few
+  owners_few s l (in_wait {os = os} {c = c} w m) = let i = owner_within s (in_wait w m) in content_few c os (omega arith) (owners_few s l w)
+  owners_few s l (opened {os = os} {o = o} w m i) = let r = owner_within s (opened w m i) in one_few (opened_owner o) os (omega arith) (owners_few s l w)

@@ -69,7 +69,7 @@ fn write_ending(
     if ended.is(Status::Refused) || ended.is_checked() {
         kept.tell_checked();
         write_counts(rt, kept, ended.line);
-    } else if !kept.tells_json() {
+    } else if kept.tells_text() {
         let mut text = Vec::new(rt.alloc());
         add_end(rt.alloc(), kept, ended, reason, &mut text)?;
         // If this cannot be written, the status is enough.
@@ -88,7 +88,7 @@ fn write_counts(rt: &HostRuntime, kept: &SourceCache<'_>, line: &Line) {
         return;
     };
     let count = files.as_slice().len();
-    if count > 1 && !kept.tells_json() && !kept.lacks() {
+    if count > 1 && kept.tells_text() && !kept.lacks() {
         let accepted = kept.accepted();
         // If this cannot be written, the status is enough.
         let _ = eprintln!(rt; "swt: {accepted} of {count} files are accepted");

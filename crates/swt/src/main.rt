@@ -7,8 +7,7 @@ ghost use Rattle.swt_arguments.specs.declared.fault.LineFault.TheVariants.{Usage
 ghost use Rattle.swt_command.specs.Sinks.{Given, held};
 ghost use Rattle.swt_command.specs.Troubles.{trouble_line};
 ghost use Rattle.swt_status.specs.declared.failure.CommandFailure.TheVariants.{Memory};
-ghost use Rattle.swt_process.specs.Ends.{Ends};
-ghost use Rattle.swt_process.specs.Process.{IsProcess};
+ghost use Rattle.swt_process.specs.Process.{IsProcess, Obeys};
 ghost use Rattle.swt.specs.Keepers.{events_of};
 ghost use Rattle.swt.specs.Outputs.{failures_of, taken_of};
 ghost use Rattle.host_system.specs.Streams as Streams;
@@ -44,7 +43,7 @@ use swt_arguments::nearest::meant;
 use swt_arguments::request::Request;
 use swt_arguments::word::Word;
 use swt_command::trouble::write_failure;
-use swt_process::program::program;
+use swt_process::request::execute;
 use swt_process::words::read_words;
 use swt_status::failure::CommandFailure;
 use swt_status::status::Status;
@@ -98,7 +97,7 @@ fn perform<'r, R: Threads + Wait + Sync>(
     requires changes { changes (events_of host) ≡ [] }
     requires out { failures_of out.old < u64.MAX }
     requires err { Streams.failures_of err.old < u64.MAX }
-    ensures ends { Ends request.now.line (events_of result.1)
+    ensures obeys { Obeys request.now (events_of result.1)
         (held (taken_of out.old) (failures_of out.old)) (held (taken_of out.new) (failures_of out.new))
         (held (Streams.taken_of err.old) (Streams.failures_of err.old)) (held (Streams.taken_of err.new) (Streams.failures_of err.new))
         result.0 }
@@ -110,8 +109,17 @@ fn perform<'r, R: Threads + Wait + Sync>(
     host.want(request);
     out.want(request.explain);
     let number = process::id(rt.process());
-    let (status, mut host) = program(threads, rt.alloc(), host, number, line, &reporter, out, err);
-    if request.explain || request.json {
+    let (status, mut host) = execute(
+        threads,
+        rt.alloc(),
+        host,
+        number,
+        request,
+        &reporter,
+        out,
+        err,
+    );
+    if request.explain || request.json || request.deny {
         host.explain(CommandResult {
             line,
             all: request.all,

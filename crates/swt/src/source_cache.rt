@@ -1,9 +1,9 @@
 //! Cache of the files that were read, for explanations.
 
-use explain_json::json::{json_line, warning_lines};
-use explain_refusals::diagnostic::explained;
+use explain_all::explain::all_explained;
+use explain_json::json::{json_lines, warning_lines};
 use explain_warnings::render;
-use std::alloc::{AllocError, Global};
+use std::alloc::AllocError;
 use std::io::Write;
 use swt_arguments::line::Line;
 use swt_arguments::request::Request;
@@ -18,9 +18,9 @@ enum CachePolicy {
 }
 
 impl CachePolicy {
-    /// Returns the policy for a request: the files that may have to be explained.
+    /// Returns the policy for a request: the files that may have to be explained, or whose warnings are denied.
     fn by(request: &Request) -> CachePolicy {
-        if !request.explain && !request.json {
+        if !request.explain && !request.json && !request.deny {
             return CachePolicy::Nothing;
         }
         match &request.line {
@@ -42,6 +42,8 @@ struct SourceFile {
 pub struct SourceCache<'r> {
     rt: &'r HostRuntime,
     wanted: CachePolicy,
+    /// Whether refusals and other ends are explained.
+    explain: bool,
     /// Whether refusals and warnings are reported as JSON.
     json: bool,
     sources: Vec<SourceFile>,
@@ -59,6 +61,7 @@ impl<'r> SourceCache<'r> {
         SourceCache {
             rt,
             wanted: CachePolicy::Nothing,
+            explain: false,
             json: false,
             sources: Vec::new(rt.alloc()),
             opened: 0,
@@ -70,6 +73,7 @@ impl<'r> SourceCache<'r> {
     /// Sets which files are kept for this request.
     pub fn want(&mut self, request: &Request) {
         self.wanted = CachePolicy::by(request);
+        self.explain = request.explain;
         self.json = request.json;
     }
 
@@ -78,9 +82,9 @@ impl<'r> SourceCache<'r> {
         self.rt
     }
 
-    /// Returns true if refusals and warnings are reported as JSON.
-    pub fn tells_json(&self) -> bool {
-        self.json
+    /// Returns true if the end of a command is explained as text.
+    pub fn tells_text(&self) -> bool {
+        self.explain && !self.json
     }
 
     /// Returns the name of the last file if it could not be read.
@@ -186,35 +190,38 @@ impl<'r> SourceCache<'r> {
     fn told_checked(&self) -> Result<bool, AllocError> {
         match self.first() {
             Some((name, text)) if self.json => write_json(self.rt, name, text),
-            Some((name, text)) => write_checked(self.rt, self.rt.alloc(), name, text),
+            Some((name, text)) => write_checked(self.rt, self.explain, name, text),
             None => Ok(false),
         }
     }
 }
 
-/// Reports the refusal of a text on standard error, or its warnings if it is accepted. Returns true if it is accepted.
+/// Reports the warnings of an accepted text on standard error, or its mistakes if refusals are explained. Returns
+/// true if the text is accepted.
 fn write_checked(
     rt: &HostRuntime,
-    alloc: Global,
+    explain: bool,
     name: &str,
     text: &[u8],
 ) -> Result<bool, AllocError> {
-    if let Some(refusal) = explained(alloc, name, text)? {
-        // If this cannot be written, the status is enough.
-        let _ = rt.stderr().write_all(refusal.as_slice());
+    if let Some(mistakes) = all_explained(rt.alloc(), name, text)? {
+        if explain {
+            // If this cannot be written, the status is enough.
+            let _ = rt.stderr().write_all(mistakes.as_slice());
+        }
         return Ok(false);
     }
-    let warnings = render::explained(alloc, name, text)?;
+    let warnings = render::explained(rt.alloc(), name, text)?;
     let _ = rt.stderr().write_all(warnings.as_slice());
     Ok(true)
 }
 
-/// Reports the refusal of a text on standard error, or its warnings if it is accepted, as lines of JSON. Returns true if
-/// it is accepted.
+/// Reports the mistakes of a text on standard error, or its warnings if it is accepted, as lines of JSON. Returns
+/// true if the text is accepted.
 fn write_json(rt: &HostRuntime, name: &str, text: &[u8]) -> Result<bool, AllocError> {
-    if let Some(refusal) = json_line(rt.alloc(), name, text)? {
+    if let Some(mistakes) = json_lines(rt.alloc(), name, text)? {
         // If this cannot be written, the status is enough.
-        let _ = eprintln!(rt; "{refusal}");
+        let _ = rt.stderr().write_all(mistakes.as_slice());
         return Ok(false);
     }
     let lines = warning_lines(rt.alloc(), name, text)?;

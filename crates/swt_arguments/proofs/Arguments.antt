@@ -69,7 +69,7 @@ option_word c w e = each_option c IsWord (all c) w e
   where
     all : (c : Command) → EachOf IsWord (options_of c)
     all Check = tt
-    all Code = tt
+    all Code = (record { long = refl; no_end = refl; is_marked = refl; no_file = refl; file_not = refl }, tt)
     all Replay = tt
     all Mean = (record { long = refl; no_end = refl; is_marked = refl; no_file = refl; file_not = refl }, tt)
     all Run = (
@@ -150,7 +150,14 @@ shape_for c = (built (app_with (options_of c))).top
 
 pub is_reader : (c : Command) → IsReader c (shape_for c)
 is_reader Check = record { once = refl; unknown = λ w named e. refl; file_at = refl; file_id = refl; long = λ w e. absurd (true≢false (sym e)); id = λ w e. absurd (true≢false (sym e)) }
-is_reader Code = record { once = refl; unknown = λ w named e. refl; file_at = refl; file_id = refl; long = λ w e. absurd (true≢false (sym e)); id = λ w e. absurd (true≢false (sym e)) }
+is_reader Code = record {
+  once = refl;
+  unknown = λ w named e. rw (name_unlike w (codes "after") named (or_parts _ _ e).0) refl;
+  file_at = refl;
+  file_id = refl;
+  long = each_option Code (λ w. arg_by_long (shape_for Code).rules (drop 2 w) ≡ Some (option_arg w)) (refl, tt);
+  id = each_option Code (λ w. arg_by_id (shape_for Code).rules w ≡ Some (option_arg w)) (refl, tt);
+}
 is_reader Replay = record { once = refl; unknown = λ w named e. refl; file_at = refl; file_id = refl; long = λ w e. absurd (true≢false (sym e)); id = λ w e. absurd (true≢false (sym e)) }
 is_reader Mean = record {
   once = refl;
@@ -189,7 +196,7 @@ plain_option c w e = each_option c (λ v. is_name v ≡ true) (all c) w e
   where
     all : (c : Command) → EachOf (λ v. is_name v ≡ true) (options_of c)
     all Check = tt
-    all Code = tt
+    all Code = (refl, tt)
     all Replay = tt
     all Mean = (refl, tt)
     all Run = (refl, (refl, (refl, (refl, tt))))

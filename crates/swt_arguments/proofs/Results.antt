@@ -17,9 +17,11 @@ use Rattle.clap.specs.Walk.{Walk, idle, settled, walked, with_default, finished,
 use Rattle.clap.specs.Faults.{check_fault, defaults_fault, fault_of, is_simple_and_free, level_fault, settle_fault, walk_fault}
 use Rattle.clap.specs.Kinds.{HasKind, IsAmong, Kinds, or_else}
 use Rattle.clap.specs.declared.error.kind.ErrorKind.TheVariants as kind
+use Rattle.swt_arguments.specs.declared.code_form.CodeForm.{CodeForm}
 use Rattle.swt_arguments.specs.declared.command.Command.{Command}
 use Rattle.swt_arguments.specs.declared.command.Command.TheVariants.{Check, Mean, Code, Run, Replay}
 use Rattle.swt_arguments.specs.Commands.{has_option, options_of}
+use Rattle.swt_arguments.specs.Forms.{with_passes}
 use Rattle.swt_arguments.specs.Numbers.{number_given}
 use Rattle.swt_arguments.specs.Words.{Answers, well_formed, files_in, input_once, only, written, values_of}
 use Rattle.swt_arguments.specs.Lines.{command_line, formed_line, run_line}
@@ -66,7 +68,7 @@ pub record IsPlainApp (a : App) : Type 0 where
 
 pub plain_app : (c : Command) → IsPlainApp (app_with (options_of c))
 plain_app Check = record { simple = refl; subs = refl; bare = refl; defaults = (refl, tt); checks = λ rows. refl }
-plain_app Code = record { simple = refl; subs = refl; bare = refl; defaults = (refl, tt); checks = λ rows. refl }
+plain_app Code = record { simple = refl; subs = refl; bare = refl; defaults = (refl, (refl, tt)); checks = λ rows. refl }
 plain_app Replay = record { simple = refl; subs = refl; bare = refl; defaults = (refl, tt); checks = λ rows. refl }
 plain_app Mean = record { simple = refl; subs = refl; bare = refl; defaults = (refl, (refl, tt)); checks = λ rows. refl }
 plain_app Run = record { simple = refl; subs = refl; bare = refl; defaults = (refl, (refl, (refl, (refl, (refl, tt))))); checks = λ rows. refl }
@@ -198,16 +200,21 @@ twice_text [] h = absurd (omega arith)
 twice_text (v ∷ []) h = absurd (omega arith)
 twice_text (v ∷ w ∷ vs) h = refl
 
+twice_pass : (given : Option CodeForm) (vs : List Text) → 2 ≤ length vs → with_passes given vs ≡ None
+twice_pass given [] h = absurd (omega arith)
+twice_pass given (v ∷ []) h = absurd (omega arith)
+twice_pass given (v ∷ w ∷ vs) h = refl
+
 and_then_none : {T U : Type 0} (o : Option T) → option_and_then {T = T} {U = U} (λ _. None) o ≡ None
 and_then_none None = refl
 and_then_none (Some x) = refl
 
-twice_line : (c : Command) (ws fs : List Text) (n : ℕ) (o : Text) → has_option c o ≡ true → 2 ≤ length (values_of o false ws) → command_line c ws fs n ≡ None
+twice_line : (c : Command) (ws fs : List Text) (n : Option CodeForm) (o : Text) → has_option c o ≡ true → 2 ≤ length (values_of o false ws) → command_line c ws fs n ≡ None
 twice_line c ws fs n o is = each_option c (λ p. 2 ≤ length (values_of p false ws) → command_line c ws fs n ≡ None) (all c) o is
   where
     all : (d : Command) → EachOf (λ p. 2 ≤ length (values_of p false ws) → command_line d ws fs n ≡ None) (options_of d)
     all Check = tt
-    all Code = tt
+    all Code = (λ h. rw (twice_pass n (values_of (codes "--after") false ws) h) (and_then_none (only fs)), tt)
     all Replay = tt
     all Mean = (λ h. rw (twice_number 1 4294967295 1000000 (values_of (codes "--rounds") false ws) h) (and_then_none (only fs)), tt)
     all Run = (
@@ -221,23 +228,23 @@ twice_line c ws fs n o is = each_option c (λ p. 2 ≤ length (values_of p false
       ),
     )
 
-no_line : (c : Command) (ws behind : List Text) (n : ℕ) → IsRead c ws (Err Usage) → formed_line c ws behind n ≡ None
+no_line : (c : Command) (ws behind : List Text) (n : Option CodeForm) → IsRead c ws (Err Usage) → formed_line c ws behind n ≡ None
 no_line c ws behind n (inl form) = rw form refl
 no_line c ws behind n (inr twice) =
     rw (twice_line c ws (files_in false ws ++ behind) n twice.0 twice.1 twice.2) (one_way (well_formed c false ws && input_once (files_in false ws ++ behind)) None)
 
-answer_at : (c : Command) (ws behind : List Text) (n : ℕ) (fault : LineFault) → IsRead c ws (Err fault) → Answers {A = Line} (formed_line c ws behind n) (Err fault)
+answer_at : (c : Command) (ws behind : List Text) (n : Option CodeForm) (fault : LineFault) → IsRead c ws (Err fault) → Answers {A = Line} (formed_line c ws behind n) (Err fault)
 answer_at c ws behind n Usage is = no_line c ws behind n is
 answer_at c ws behind n Memory is = tt
 
 -- what was not read is no line
-pub failed_line : (c : Command) (ws behind : List Text) (n : ℕ) (fault : LineFault) (r : Result Line LineFault) → IsRead c ws (Err fault) → IsErrAnd r (λ y. y ≡ fault)
+pub failed_line : (c : Command) (ws behind : List Text) (n : Option CodeForm) (fault : LineFault) (r : Result Line LineFault) → IsRead c ws (Err fault) → IsErrAnd r (λ y. y ≡ fault)
     → Answers (formed_line c ws behind n) r
 failed_line c ws behind n fault (Ok line) is h = absurd h
 failed_line c ws behind n fault (Err y) is h = rw h (answer_at c ws behind n fault is)
 
 -- what a run's words and files give is its line
-run_is : (ws behind files : List Text) (n : ℕ) (m : ArgMatches) → Holds Run ws m → files ≡ files_given m ++ behind → input_once files ≡ true
+run_is : (ws behind files : List Text) (n : Option CodeForm) (m : ArgMatches) → Holds Run ws m → files ≡ files_given m ++ behind → input_once files ≡ true
     → formed_line Run ws behind n
     ≡ run_line files (values_given m (codes "--engines")) (values_given m (codes "--workers")) (values_given m (codes "--steps")) (values_given m (codes "--trace"))
 run_is ws behind files n m holds are once =
@@ -253,7 +260,7 @@ run_is ws behind files n m holds are once =
       holds.values (codes "--trace") refl,
     ) refl
 
-pub run_answers : (c : Command) (ws behind files : List Text) (n : ℕ) (m : ArgMatches) (r : Result Line LineFault) → c ≡ Run → Holds c ws m
+pub run_answers : (c : Command) (ws behind files : List Text) (n : Option CodeForm) (m : ArgMatches) (r : Result Line LineFault) → c ≡ Run → Holds c ws m
     → files ≡ files_given m ++ behind → input_once files ≡ true
     → Answers {A = Line} (run_line files (values_given m (codes "--engines")) (values_given m (codes "--workers")) (values_given m (codes "--steps")) (values_given m (codes "--trace"))) r
     → Answers {A = Line} (formed_line c ws behind n) r

@@ -19,8 +19,8 @@ command_of w =
 abbrev pub options_of : Command → List (List ℕ)
 options_of Mean = codes "--rounds" ∷ []
 options_of Run = codes "--engines" ∷ codes "--workers" ∷ codes "--steps" ∷ codes "--trace" ∷ []
+options_of Code = codes "--after" ∷ []
 options_of Check = []
-options_of Code = []
 options_of Replay = []
 
 -- the options that request an explanation, in short or in full
@@ -29,8 +29,8 @@ explain_flags = codes "--explain" ∷ codes "--explain=all" ∷ []
 
 -- the options of a command without a value
 abbrev pub flags_of : Command → List (List ℕ)
-flags_of Code = codes "--dot" ∷ explain_flags
-flags_of Check = codes "--json" ∷ explain_flags
+flags_of Code = codes "--dot" ∷ codes "--draw" ∷ explain_flags
+flags_of Check = codes "--json" ∷ codes "--deny-warnings" ∷ explain_flags
 flags_of Mean = codes "--progress" ∷ explain_flags
 flags_of Run = codes "--progress" ∷ explain_flags
 flags_of Replay = explain_flags

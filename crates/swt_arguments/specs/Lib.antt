@@ -1,5 +1,6 @@
 pub mod Commands
 pub mod Words
+pub mod Forms
 pub mod Lines
 pub mod Requests
 pub mod Reader

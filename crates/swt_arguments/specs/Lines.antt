@@ -1,11 +1,13 @@
 -- The line that the words after a command form.
 use Rattle.std.specs.Prelude.{ℕ, ◌-◌, ◌≤◌, List, [], ◌∷◌, ◌++◌, ◌&&◌, false, Option, Some, None, option_and_then, if◌then◌else◌, codes}
+use Rattle.swt_arguments.specs.declared.code_form.CodeForm.{CodeForm}
 use Rattle.swt_arguments.specs.declared.command.Command.{Command}
 use Rattle.swt_arguments.specs.declared.command.Command.TheVariants as command
 use Rattle.swt_arguments.specs.declared.line.Line.{Line}
 use Rattle.swt_arguments.specs.declared.line.Line.TheVariants.{Check, Mean, Code, Run, Replay}
+use Rattle.swt_arguments.specs.Forms.{with_passes}
 use Rattle.swt_arguments.specs.Numbers.{number_given}
-use Rattle.swt_arguments.specs.Words.{well_formed, files_in, flag_given, input_once, values_of, only, written}
+use Rattle.swt_arguments.specs.Words.{well_formed, files_in, input_once, values_of, only, written}
 use Rattle.values.specs.Limits.{max_events, max_threads}
 
 -- `check`, with one or more files
@@ -21,9 +23,13 @@ mean_line files rounds =
     (number_given 1 4294967295 1000000 rounds))
     (only files)
 
--- `code`, with its file, and as a drawing if `--dot` is given
-abbrev pub code_line : List (List ℕ) → ℕ → Option Line
-code_line files dots = option_and_then (λ file. option_and_then (λ dot. Some (Code file dot)) (flag_given dots)) (only files)
+-- `code`, with its file and the form in which it is printed, by its other options and the values of `--after`
+abbrev pub code_line : List (List ℕ) → Option CodeForm → List (List ℕ) → Option Line
+code_line files given passes =
+    option_and_then (λ file.
+    option_and_then (λ form. Some (Code file form))
+    (with_passes given passes))
+    (only files)
 
 -- `run`, with its file and the values of the engines, the workers, the steps and the trace
 abbrev pub run_line : List (List ℕ) → List (List ℕ) → List (List ℕ) → List (List ℕ) → List (List ℕ) → Option Line
@@ -46,26 +52,26 @@ replay_line (f ∷ []) = None
 replay_line (f ∷ t ∷ []) = Some (Replay f t)
 replay_line (f ∷ t ∷ u ∷ ws) = None
 
--- a command with the words after it, its files, and the number of its options without a value
-abbrev pub command_line : Command → List (List ℕ) → List (List ℕ) → ℕ → Option Line
-command_line command.Check ws files flags = check_line files
-command_line command.Mean ws files flags = mean_line files (values_of (codes "--rounds") false ws)
-command_line command.Code ws files flags = code_line files flags
-command_line command.Run ws files flags = run_line files (values_of (codes "--engines") false ws) (values_of (codes "--workers") false ws)
+-- a command with the words after it, its files, and the form that its options without a value ask for
+abbrev pub command_line : Command → List (List ℕ) → List (List ℕ) → Option CodeForm → Option Line
+command_line command.Check ws files form = check_line files
+command_line command.Mean ws files form = mean_line files (values_of (codes "--rounds") false ws)
+command_line command.Code ws files form = code_line files form (values_of (codes "--after") false ws)
+command_line command.Run ws files form = run_line files (values_of (codes "--engines") false ws) (values_of (codes "--workers") false ws)
     (values_of (codes "--steps") false ws) (values_of (codes "--trace") false ws)
-command_line command.Replay ws files flags = replay_line files
+command_line command.Replay ws files form = replay_line files
 
 -- the line of these words followed by these files, if the words are well formed and standard input is named at most
 -- once
-abbrev pub formed_line : Command → List (List ℕ) → List (List ℕ) → ℕ → Option Line
-formed_line c ws behind flags =
-    if well_formed c false ws && input_once (files_in false ws ++ behind) then command_line c ws (files_in false ws ++ behind) flags else None
+abbrev pub formed_line : Command → List (List ℕ) → List (List ℕ) → Option CodeForm → Option Line
+formed_line c ws behind form =
+    if well_formed c false ws && input_once (files_in false ws ++ behind) then command_line c ws (files_in false ws ++ behind) form else None
 
 -- the input files of a line, in order
 abbrev pub files_of : Line → List (List ℕ)
 files_of (Check files) = files
 files_of (Mean file rounds) = file ∷ []
-files_of (Code file dot) = file ∷ []
+files_of (Code file form) = file ∷ []
 files_of (Run file engines workers steps trace) = file ∷ []
 files_of (Replay file trace) = file ∷ trace ∷ []
 
@@ -73,6 +79,6 @@ files_of (Replay file trace) = file ∷ trace ∷ []
 abbrev pub IsInRange : Line → Type 0
 IsInRange (Check files) = Unit {0}
 IsInRange (Mean file rounds) = (1 ≤ rounds) × (rounds ≤ 4294967295)
-IsInRange (Code file dot) = Unit {0}
+IsInRange (Code file form) = Unit {0}
 IsInRange (Run file engines workers steps trace) = (1 ≤ engines) × (engines ≤ max_threads - 1) × (1 ≤ workers) × (workers ≤ max_threads - 1) × (steps ≤ max_events)
 IsInRange (Replay file trace) = Unit {0}

@@ -1,10 +1,11 @@
 -- The request of the words after the program's name: a line, and whether to explain, in short or in full, to show
--- progress, and to report refusals as JSON.
+-- progress, to report refusals as JSON, and to deny warnings.
 use Rattle.std.specs.Prelude.{ℕ, Bool, true, false, List, [], ◌∷◌, Option, Some, None, codes, option_and_then}
 use Rattle.swt_arguments.specs.declared.command.Command.{Command}
 use Rattle.swt_arguments.specs.declared.command.Command.TheVariants.{Check, Mean, Code, Run, Replay}
 use Rattle.swt_arguments.specs.declared.request.Request.{Request}
 use Rattle.swt_arguments.specs.Commands.{command_of}
+use Rattle.swt_arguments.specs.Forms.{form_given}
 use Rattle.swt_arguments.specs.Lines.{formed_line}
 use Rattle.swt_arguments.specs.Words.{all_divided, before_dashes, behind_dashes, flag_given, often, unflagged}
 
@@ -38,6 +39,14 @@ json_given Code ws = Some false
 json_given Run ws = Some false
 json_given Replay ws = Some false
 
+-- whether an accepted script with a warning counts as refused, for `check` only
+abbrev pub deny_given : Command → List (List ℕ) → Option Bool
+deny_given Check ws = flag_given (often (codes "--deny-warnings") ws)
+deny_given Mean ws = Some false
+deny_given Code ws = Some false
+deny_given Run ws = Some false
+deny_given Replay ws = Some false
+
 -- a command with its options and files, followed by more files
 abbrev pub request_with : Command → List (List ℕ) → List (List ℕ) → Option Request
 request_with c ws behind =
@@ -45,12 +54,14 @@ request_with c ws behind =
     option_and_then (λ explain.
     option_and_then (λ all.
     option_and_then (λ progress.
-    option_and_then (λ json. Some (record { line = line; explain = explain; all = all; progress = progress; json = json }))
+    option_and_then (λ json.
+    option_and_then (λ deny. Some (record { line = line; explain = explain; all = all; progress = progress; json = json; deny = deny }))
+    (deny_given c ws))
     (json_given c ws))
     (progress_given c ws))
     (all_given ws))
     (explain_given ws))
-    (formed_line c (all_divided c (unflagged c ws)) behind (often (codes "--dot") ws))
+    (formed_line c (all_divided c (unflagged c ws)) behind (form_given ws))
 
 -- a command with these words after it
 abbrev pub behind_command : Command → List (List ℕ) → Option Request

@@ -3,6 +3,7 @@
 use crate::command::{Command, explains};
 use crate::line::MAX_OF_A_KIND;
 use crate::option_number::number_within;
+use crate::pass::Pass;
 use crate::request::divided;
 use crate::word::Word;
 use crate::words::is;
@@ -24,6 +25,8 @@ pub enum ArgumentErrorKind {
     Twice,
     /// The word is not a number in this range, given as minimum and maximum.
     NotWithin(u32, u32),
+    /// The word is not the name of a pass.
+    NotAPass,
     /// The word is a file, and the command already has all its files.
     OneTooMany(Command),
     /// The command has too few files.
@@ -64,6 +67,7 @@ impl fmt::Display for ArgumentError<'_> {
             ArgumentErrorKind::NoValue => write_word(f, word, " has no value behind it"),
             ArgumentErrorKind::Twice => write_word(f, word, " stands twice"),
             ArgumentErrorKind::NotWithin(least, most) => write_range(f, word, least, most),
+            ArgumentErrorKind::NotAPass => write_word(f, word, NO_PASS),
             ArgumentErrorKind::OneTooMany(command) => {
                 write_command(f, word, " is one file too many for ", command.name())
             }
@@ -77,6 +81,9 @@ impl fmt::Display for ArgumentError<'_> {
         }
     }
 }
+
+/// The reason why a word is not the value of `--after`, with the values that it has.
+const NO_PASS: &str = " is no pass: write parse, types, fold, lower, merge or emit";
 
 /// Writes a word, followed by the reason why it is wrong.
 fn write_word<W: fmt::Write>(f: &mut fmt::Formatter<W>, word: &str, wrong: &str) -> fmt::Result {
@@ -206,12 +213,21 @@ fn twice<'a>(command: Command, word: &'a str, before: &[Word]) -> Option<Argumen
 }
 
 /// Returns true if a word equals `option`, or is `option` with a value. The two forms of `--explain` count as the same
-/// option.
+/// option, and so do `--dot`, `--draw` and `--after`.
 fn names(command: Command, word: &str, option: &str) -> bool {
     match divided(command, word) {
-        Some((other, _)) => is(other, option),
-        None => is(word, option) || (explains(word) && explains(option)),
+        Some((other, _)) => is(other, option) || (shows(other) && shows(option)),
+        None => {
+            is(word, option)
+                || (explains(word) && explains(option))
+                || (shows(word) && shows(option))
+        }
     }
+}
+
+/// Returns true if a word is `--dot`, `--draw` or `--after`, of which one can be given.
+fn shows(word: &str) -> bool {
+    is(word, "--dot") || is(word, "--draw") || is(word, "--after")
 }
 
 fn wrong_option<'a>(command: Command, word: &'a str, before: &[Word]) -> Option<ArgumentError<'a>> {
@@ -237,6 +253,9 @@ fn wrong_option<'a>(command: Command, word: &'a str, before: &[Word]) -> Option<
 }
 
 fn wrong_value<'a>(option: &'a str, value: &'a str) -> Option<ArgumentError<'a>> {
+    if is(option, "--after") {
+        return wrong_pass(option, value);
+    }
     let Some((least, most)) = range_of(option) else {
         return wrong_name(value);
     };
@@ -248,6 +267,20 @@ fn wrong_value<'a>(option: &'a str, value: &'a str) -> Option<ArgumentError<'a>>
         None => Some(ArgumentError {
             word: value,
             wrong: ArgumentErrorKind::NotWithin(least, most),
+        }),
+    }
+}
+
+/// Returns an error if the value of `--after` is not the name of a pass.
+fn wrong_pass<'a>(option: &'a str, value: &'a str) -> Option<ArgumentError<'a>> {
+    if value.is_empty() {
+        return Some(no_value(option));
+    }
+    match Pass::of(value) {
+        Some(_) => None,
+        None => Some(ArgumentError {
+            word: value,
+            wrong: ArgumentErrorKind::NotAPass,
         }),
     }
 }

@@ -13,7 +13,7 @@ pub enum Command {
     Check,
     /// Prints the meaning of a script.
     Mean,
-    /// Lists a script's code.
+    /// Lists or draws a script's code, or shows the script after a pass.
     Code,
     /// Runs a script.
     Run,
@@ -46,8 +46,8 @@ impl Command {
         ensures { result ≡ is_flag self word.now }
     {
         match self {
-            Command::Code => is(word, "--dot") || explains(word),
-            Command::Check => is(word, "--json") || explains(word),
+            Command::Code => is(word, "--dot") || is(word, "--draw") || explains(word),
+            Command::Check => is(word, "--json") || is(word, "--deny-warnings") || explains(word),
             Command::Run | Command::Mean => is(word, "--progress") || explains(word),
             Command::Replay => explains(word),
         }
@@ -59,13 +59,14 @@ impl Command {
     {
         match self {
             Command::Mean => is(word, "--rounds"),
+            Command::Code => is(word, "--after"),
             Command::Run => {
                 is(word, "--engines")
                     || is(word, "--workers")
                     || is(word, "--steps")
                     || is(word, "--trace")
             }
-            Command::Check | Command::Code | Command::Replay => false,
+            Command::Check | Command::Replay => false,
         }
     }
 
@@ -85,10 +86,10 @@ impl Command {
     /// Returns the options of the command, those with a value first.
     pub fn options(self) -> &'static [&'static str] {
         match self {
-            Command::Check => &["--explain", "--json"],
+            Command::Check => &["--explain", "--json", "--deny-warnings"],
             Command::Replay => &["--explain"],
             Command::Mean => &["--rounds", "--explain", "--progress"],
-            Command::Code => &["--dot", "--explain"],
+            Command::Code => &["--after", "--dot", "--draw", "--explain"],
             Command::Run => &[
                 "--engines",
                 "--workers",

@@ -12,11 +12,13 @@
 #![tactic(auto)]
 
 pub mod argument_error;
+pub mod code_form;
 pub mod command;
 pub mod fault;
 pub mod line;
 pub mod nearest;
 pub mod option_number;
+pub mod pass;
 mod reading;
 pub mod request;
 pub mod word;

@@ -6,6 +6,7 @@ ghost use Rattle.swt_arguments.specs.Reader.{files_given, values_given};
 ghost use Rattle.swt_arguments.specs.Lines.{formed_line, check_line, mean_line, code_line, run_line, replay_line, files_of, IsInRange};
 ghost use Rattle.values.specs.Limits.{max_threads};
 
+use crate::code_form::{CodeForm, with_passes};
 use crate::command::Command;
 use crate::fault::LineFault;
 use crate::word::Word;
@@ -52,10 +53,10 @@ pub enum Line {
         file: Word,
         rounds: u32,
     },
-    /// Lists a script's code. With `dot`, draws it in the language of `dot` instead.
+    /// Prints a script's code in this form.
     Code {
         file: Word,
-        dot: bool,
+        form: CodeForm,
     },
     /// Runs a script for at most `steps` events, and writes its trace if a file for it is named.
     Run {
@@ -109,16 +110,16 @@ fn copies(alloc: Global, words: &[Word]) -> Result<Vec<Word>, AllocError>
     Ok(copies)
 }
 
-/// Parses the line of a command. `words` are its options and files, `behind` the files after `--`, and `flags` counts
-/// the occurrences of `--dot`.
+/// Parses the line of a command. `words` are its options and files, `behind` the files after `--`, and `form` is the
+/// form that the options of `code` without a value ask for, if they ask for one.
 pub fn read(
     alloc: Global,
     command: Command,
     words: &[Word],
     behind: &[Word],
-    flags: usize,
+    form: Option<CodeForm>,
 ) -> Result<Line, LineFault>
-    ensures line { Answers (formed_line command words.now behind.now flags) result }
+    ensures line { Answers (formed_line command words.now behind.now form) result }
     ensures in_range { IfOk result IsInRange }
 {
     let matches = reading::read(alloc, command, words)?;
@@ -129,7 +130,7 @@ pub fn read(
     match command {
         Command::Check => read_check(files),
         Command::Mean => read_mean(alloc, &files, &matches),
-        Command::Code => read_code(alloc, &files, flags),
+        Command::Code => read_code(alloc, &files, form, &matches),
         Command::Run => read_run(alloc, &files, &matches),
         Command::Replay => read_replay(alloc, &files),
     }
@@ -167,13 +168,20 @@ fn read_mean(alloc: Global, files: &[Word], matches: &ArgMatches) -> Result<Line
     Ok(Line::Mean { file, rounds })
 }
 
-fn read_code(alloc: Global, files: &[Word], dots: usize) -> Result<Line, LineFault>
-    ensures line { Answers (code_line files.now dots) result }
+fn read_code(
+    alloc: Global,
+    files: &[Word],
+    given: Option<CodeForm>,
+    matches: &ArgMatches,
+) -> Result<Line, LineFault>
+    ensures line { Answers (code_line files.now given (values_given matches.now (codes "--after"))) result }
     ensures in_range { IfOk result IsInRange }
 {
     let file = words::only(alloc, files)?;
-    let dot = words::flag(dots)?;
-    Ok(Line::Code { file, dot })
+    match with_passes(given, matches.get_str("--after")) {
+        Some(form) => Ok(Line::Code { file, form }),
+        None => Err(LineFault::Usage),
+    }
 }
 
 fn read_run(alloc: Global, files: &[Word], matches: &ArgMatches) -> Result<Line, LineFault>

@@ -3,7 +3,7 @@ ghost use Rattle.std.specs.Prelude.{◌≡◌, [], ◌∷◌, IfOk, Some, codes,
 ghost use Rattle.std.specs.List.{list_all};
 ghost use Rattle.clap.specs.Words.{app_of, with_rule};
 ghost use Rattle.swt_arguments.specs.Commands.{options_of};
-ghost use Rattle.swt_arguments.specs.declared.command.Command.TheVariants.{Check, Mean, Run};
+ghost use Rattle.swt_arguments.specs.declared.command.Command.TheVariants.{Check, Code, Mean, Run};
 ghost use Rattle.swt_arguments.specs.Reader.{IsRead, app_with, files_given, is_plain, option_rule};
 
 use crate::command::Command;
@@ -57,7 +57,8 @@ fn reader<'a>(alloc: Global, command: Command) -> Result<clap::Command<'a>, Allo
     ensures { IfOk result (λ reader. app_of reader ≡ app_with (options_of command)) }
 {
     match command {
-        Command::Check | Command::Code | Command::Replay => bare(alloc),
+        Command::Check | Command::Replay => bare(alloc),
+        Command::Code => code_reader(alloc),
         Command::Mean => mean_reader(alloc),
         Command::Run => run_reader(alloc),
     }
@@ -79,6 +80,13 @@ fn mean_reader<'a>(alloc: Global) -> Result<clap::Command<'a>, AllocError>
     ensures { IfOk result (λ reader. app_of reader ≡ app_with (options_of Mean)) }
 {
     with_option(alloc, bare(alloc)?, "--rounds", "rounds")
+}
+
+/// Creates the reader of `code`.
+fn code_reader<'a>(alloc: Global) -> Result<clap::Command<'a>, AllocError>
+    ensures { IfOk result (λ reader. app_of reader ≡ app_with (options_of Code)) }
+{
+    with_option(alloc, bare(alloc)?, "--after", "after")
 }
 
 /// Creates the reader of `run`.

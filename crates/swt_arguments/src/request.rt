@@ -1,9 +1,11 @@
 //! A parsed command line.
-ghost use Rattle.std.specs.Prelude.{◌≡◌, [], ◌∷◌, codes, IfOk, MatchOption};
+ghost use Rattle.std.specs.Prelude.{◌≡◌, [], ◌∷◌, IfOk, MatchOption};
+ghost use Rattle.swt_arguments.specs.Forms.{form_given};
 ghost use Rattle.swt_arguments.specs.Lines.{formed_line, IsInRange};
-ghost use Rattle.swt_arguments.specs.Requests.{all_given, behind_command, explain_given, json_given, one_given, progress_given, request_of, request_with};
-ghost use Rattle.swt_arguments.specs.Words.{all_divided, before_dashes, behind_dashes, divided, often, unflagged, Answers};
+ghost use Rattle.swt_arguments.specs.Requests.{all_given, behind_command, deny_given, explain_given, json_given, one_given, progress_given, request_of, request_with};
+ghost use Rattle.swt_arguments.specs.Words.{all_divided, before_dashes, behind_dashes, divided, unflagged, Answers};
 
+use crate::code_form::form_given;
 use crate::command::Command;
 use crate::fault::LineFault;
 use crate::line::{self, Line};
@@ -23,6 +25,8 @@ pub struct Request {
     pub progress: bool,
     /// Whether to report refusals as JSON.
     pub json: bool,
+    /// Whether an accepted script with a warning counts as refused.
+    pub deny: bool,
 }
 
 impl Request {
@@ -68,12 +72,14 @@ fn read_parts(
     let all = explains_all(words)?;
     let progress = shows_progress(command, words)?;
     let json = tells_json(command, words)?;
+    let deny = denies_warnings(command, words)?;
     Ok(Request {
         line,
         explain,
         all,
         progress,
         json,
+        deny,
     })
 }
 
@@ -85,18 +91,12 @@ fn read_line(
     behind: &[Word],
 ) -> Result<Line, LineFault>
     ensures line { Answers (formed_line command (all_divided command (unflagged command words.now)) behind.now
-        (often (codes "--dot") words.now)) result }
+        (form_given words.now)) result }
     ensures in_range { IfOk result IsInRange }
 {
     let others = unflagged(alloc, command, words)?;
     let parts = all_divided(alloc, command, others.as_slice())?;
-    line::read(
-        alloc,
-        command,
-        parts.as_slice(),
-        behind,
-        words::often("--dot", words),
-    )
+    line::read(alloc, command, parts.as_slice(), behind, form_given(words))
 }
 
 /// Returns the words before the first `--`.
@@ -212,6 +212,16 @@ fn tells_json(command: Command, words: &[Word]) -> Result<bool, LineFault>
 {
     match command {
         Command::Check => words::flag(words::often("--json", words)),
+        Command::Mean | Command::Code | Command::Run | Command::Replay => Ok(false),
+    }
+}
+
+/// Returns true if `--deny-warnings` is given to `check`. `Usage` if it is repeated.
+fn denies_warnings(command: Command, words: &[Word]) -> Result<bool, LineFault>
+    ensures { Answers (deny_given command words.now) result }
+{
+    match command {
+        Command::Check => words::flag(words::often("--deny-warnings", words)),
         Command::Mean | Command::Code | Command::Run | Command::Replay => Ok(false),
     }
 }

@@ -153,7 +153,7 @@ listing_refused files (Err stop) out new d e =
 does_refused : (line : Line) (files : Files) (done : Result Status CommandStop) (out out_new trace trace_new : Held) → Does line files done out out_new trace trace_new → number_of (status_of done) ≡ 1 → SomeRefused files
 does_refused (Lines.Check names) files done out out_new trace trace_new d e = check_refused names files done out out_new d.0 e
 does_refused (Lines.Mean file rounds) files done out out_new trace trace_new d e = mean_refused files rounds done out out_new d.0 e
-does_refused (Lines.Code file dot) files done out out_new trace trace_new d e = listing_refused files done out out_new d.0 e
+does_refused (Lines.Code file form) files done out out_new trace trace_new d e = listing_refused files done out out_new d.0 e
 does_refused (Lines.Run file engines workers steps wanted) files done out out_new trace trace_new d e = run_refused files engines workers steps (is_some wanted) done out out_new trace trace_new d e
 does_refused (Lines.Replay file events) files done out out_new trace trace_new d e = replay_refused files done out out_new d.0 e
 
@@ -199,7 +199,7 @@ replay_usage files (Err stop) out new d e = bad_count_replay files stop.place ou
 does_usage : (line : Line) (files : Files) (done : Result Status CommandStop) (out out_new trace trace_new : Held) → Does line files done out out_new trace trace_new → number_of (status_of done) ≡ 2 → AsksBadly line
 does_usage (Lines.Check names) files done out out_new trace trace_new d e = check_usage names files done out out_new d.0 e
 does_usage (Lines.Mean file rounds) files done out out_new trace trace_new d e = mean_usage files rounds done out out_new d.0 e
-does_usage (Lines.Code file dot) files done out out_new trace trace_new d e = listing_usage files done out out_new d.0 e
+does_usage (Lines.Code file form) files done out out_new trace trace_new d e = listing_usage files done out out_new d.0 e
 does_usage (Lines.Run file engines workers steps wanted) files done out out_new trace trace_new d e = run_usage files engines workers steps (is_some wanted) done out out_new trace trace_new d e
 does_usage (Lines.Replay file events) files done out out_new trace trace_new d e = replay_usage files done out out_new d.0 e
 

@@ -87,7 +87,7 @@ ended (Lines.Check names) files (Ok status) out out_new trace trace_new d h =
 ended (Lines.Mean file rounds) files (Ok status) out out_new trace trace_new d h =
     let m = d.0.1.2 in
     informed m.told ((d.0.1.0, d.0.1.1, m.is_told), subst (λ (text : List ℕ). Took out text out_new) m.text_is d.0.2) (ap number_of m.status_is)
-ended (Lines.Code file dot) files (Ok status) out out_new trace trace_new d h = accepted (ap number_of d.0.0) d.0.1.0
+ended (Lines.Code file form) files (Ok status) out out_new trace trace_new d h = accepted (ap number_of d.0.0) d.0.1.0
 ended (Lines.Run file engines workers steps wanted) files (Ok status) out out_new trace trace_new d h = reported d.0 (d.1, d.3) (ap number_of d.2)
 ended (Lines.Replay file events) files (Ok status) out out_new trace trace_new d h = reported d.0.0 (d.0.1, d.0.3) (ap number_of d.0.2)
 ended line files (Err stop) out out_new trace trace_new d h = absurd (not_stopped stop.trouble h)

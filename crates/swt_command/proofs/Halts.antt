@@ -8,6 +8,7 @@ use Rattle.paths.specs.declared.statements.StatementInstance.{StatementInstance}
 use Rattle.board_runs.specs.declared.report.End.{End}
 use Rattle.board_runs.specs.declared.report.End.TheVariants as Was
 use Rattle.board_runs.specs.declared.report.Report.{Report}
+use Rattle.swt_arguments.specs.declared.code_form.CodeForm.{CodeForm}
 use Rattle.swt_arguments.specs.Lines.{files_of}
 use Rattle.swt_arguments.specs.declared.line.Line.{Line}
 use Rattle.swt_arguments.specs.declared.line.Line.TheVariants as Lines
@@ -87,7 +88,7 @@ over (Lines.Mean file rounds) files status out out_new trace trace_new d = recor
   trace_same = same d.1;
   first = λ l z. readable d.0.1.1.1 z;
 }
-over (Lines.Code file dot) files status out out_new trace trace_new d = record {
+over (Lines.Code file form) files status out out_new trace trace_new d = record {
   low = below d.0.0 (omega arith);
   out_same = d.0.1.1.1.1;
   trace_same = same d.1;
@@ -161,19 +162,19 @@ mean_stop file files rounds limit out new trace trace_new k Is.Memory h = kept (
 mean_stop file files rounds limit out new trace trace_new k Is.Unprinted h = lost refl h.3.1
 mean_stop file files rounds limit out new trace trace_new k Is.Untraced h = kept (at_file (Lines.Mean file rounds) files Is.Untraced h.0) h.1 (same h.1) k
 
-listing_stop : (file : List ℕ) (files : Files) (dot : Bool) (out new trace trace_new : Held) → Kept trace trace_new → (t : CommandFailure) → StopsListing files t out new
-    → Halted (Lines.Code file dot) files t out new trace trace_new
-listing_stop file files dot out new trace trace_new k Is.Unread h = kept (at_file (Lines.Code file dot) files Is.Unread h.0) h.1 (same h.1) k
-listing_stop file files dot out new trace trace_new k (Is.Refused r) h = kept (at_file (Lines.Code file dot) files (Is.Refused r) h.0) h.1 (same h.1) k
-listing_stop file files dot out new trace trace_new k (Is.BadLine n) h = kept (at_file (Lines.Code file dot) files (Is.BadLine n) h.0) h.1 (same h.1) k
-listing_stop file files dot out new trace trace_new k (Is.NotARun n) h = kept (at_file (Lines.Code file dot) files (Is.NotARun n) h.0) h.1 (same h.1) k
-listing_stop file files dot out new trace trace_new k (Is.WrongEnd n) h = kept (at_file (Lines.Code file dot) files (Is.WrongEnd n) h.0) h.1 (same h.1) k
-listing_stop file files dot out new trace trace_new k Is.BadCount h = kept (at_file (Lines.Code file dot) files Is.BadCount h.0) h.1 (same h.1) k
-listing_stop file files dot out new trace trace_new k Is.NoThread h = kept (at_file (Lines.Code file dot) files Is.NoThread h.0) h.1 (same h.1) k
-listing_stop file files dot out new trace trace_new k Is.Stranger h = kept (at_file (Lines.Code file dot) files Is.Stranger h.0) h.1 (same h.1) k
-listing_stop file files dot out new trace trace_new k Is.Memory h = kept (at_file (Lines.Code file dot) files Is.Memory h.0) h.1 (same h.1) k
-listing_stop file files dot out new trace trace_new k Is.Unprinted h = lost refl h.1.1.1
-listing_stop file files dot out new trace trace_new k Is.Untraced h = kept (at_file (Lines.Code file dot) files Is.Untraced h.0) h.1 (same h.1) k
+listing_stop : (file : List ℕ) (files : Files) (form : CodeForm) (out new trace trace_new : Held) → Kept trace trace_new → (t : CommandFailure) → StopsListing files t out new
+    → Halted (Lines.Code file form) files t out new trace trace_new
+listing_stop file files form out new trace trace_new k Is.Unread h = kept (at_file (Lines.Code file form) files Is.Unread h.0) h.1 (same h.1) k
+listing_stop file files form out new trace trace_new k (Is.Refused r) h = kept (at_file (Lines.Code file form) files (Is.Refused r) h.0) h.1 (same h.1) k
+listing_stop file files form out new trace trace_new k (Is.BadLine n) h = kept (at_file (Lines.Code file form) files (Is.BadLine n) h.0) h.1 (same h.1) k
+listing_stop file files form out new trace trace_new k (Is.NotARun n) h = kept (at_file (Lines.Code file form) files (Is.NotARun n) h.0) h.1 (same h.1) k
+listing_stop file files form out new trace trace_new k (Is.WrongEnd n) h = kept (at_file (Lines.Code file form) files (Is.WrongEnd n) h.0) h.1 (same h.1) k
+listing_stop file files form out new trace trace_new k Is.BadCount h = kept (at_file (Lines.Code file form) files Is.BadCount h.0) h.1 (same h.1) k
+listing_stop file files form out new trace trace_new k Is.NoThread h = kept (at_file (Lines.Code file form) files Is.NoThread h.0) h.1 (same h.1) k
+listing_stop file files form out new trace trace_new k Is.Stranger h = kept (at_file (Lines.Code file form) files Is.Stranger h.0) h.1 (same h.1) k
+listing_stop file files form out new trace trace_new k Is.Memory h = kept (at_file (Lines.Code file form) files Is.Memory h.0) h.1 (same h.1) k
+listing_stop file files form out new trace trace_new k Is.Unprinted h = lost refl h.1.1.1
+listing_stop file files form out new trace trace_new k Is.Untraced h = kept (at_file (Lines.Code file form) files Is.Untraced h.0) h.1 (same h.1) k
 
 -- RUN
 
@@ -300,7 +301,7 @@ halted (Lines.Check names) files stop out new trace trace_new d =
     let mid = d.0.3.0 in
     check_stop names files vs out mid new trace trace_new (omega (arith, d.0.1, d.0.2)) d.0.3.1 d.1 (name_at names stop.place) (source_of files stop.place) (ap (source_of files) d.0.1) stop.trouble d.0.3.2
 halted (Lines.Mean file rounds) files stop out new trace trace_new d = mean_stop file files rounds rounds out new trace trace_new d.1 stop.trouble d.0.1
-halted (Lines.Code file dot) files stop out new trace trace_new d = listing_stop file files dot out new trace trace_new d.1 stop.trouble d.0.1
+halted (Lines.Code file form) files stop out new trace trace_new d = listing_stop file files form out new trace trace_new d.1 stop.trouble d.0.1
 halted (Lines.Run file engines workers steps wanted) files stop out new trace trace_new d = run_stop file files engines workers steps wanted out new trace trace_new stop.trouble d.1
 halted (Lines.Replay file events) files stop out new trace trace_new d = replay_stop file events files out new trace trace_new d.1 stop.place stop.trouble d.0
 
@@ -353,7 +354,7 @@ module _ (line : Line) (files : Files) (out out_new err err_new trace trace_new 
 reads_some : (line : Line) (files : Files) (stop : CommandStop) (out new trace trace_new : Held) → Does line files (Err stop) out new trace trace_new → 0 < length (files_of line)
 reads_some (Lines.Check names) files stop out new trace trace_new d = omega (arith, d.0.2)
 reads_some (Lines.Mean file rounds) files stop out new trace trace_new d = omega arith
-reads_some (Lines.Code file dot) files stop out new trace trace_new d = omega arith
+reads_some (Lines.Code file form) files stop out new trace trace_new d = omega arith
 reads_some (Lines.Run file engines workers steps wanted) files stop out new trace trace_new d = omega arith
 reads_some (Lines.Replay file events) files stop out new trace trace_new d = omega arith
 

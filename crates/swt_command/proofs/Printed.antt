@@ -91,6 +91,6 @@ meant_by files code r (src, read, w) t = (
 pub printed_meant : (line : Line) (files : Files) (r : Report) (out new : Held) → Reported line files r out new → IsMeantBy files r
 printed_meant (Lines.Check names) files r out new h = absurd h
 printed_meant (Lines.Mean file rounds) files r out new h = absurd h
-printed_meant (Lines.Code file dot) files r out new h = absurd h
+printed_meant (Lines.Code file form) files r out new h = absurd h
 printed_meant (Lines.Run file engines workers steps wanted) files r out new h = meant_by files h.0.0 r h.0.1 (of_threads h.0.0 steps engines workers r h.0.3.0 h.0.3.1)
 printed_meant (Lines.Replay file events) files r out new h = meant_by files h.0.0 r h.0.1 (of_one h.0.0 _ r h.0.2.2.reports)

@@ -33,7 +33,7 @@ SomeRefused files = (place : ℕ) × (r : Refusal) × (src : List ℕ) × (sourc
 abbrev pub AsksBadly : Line → Type 0
 AsksBadly (Check names) = ⊥
 AsksBadly (Mean file rounds) = ⊥
-AsksBadly (Code file dot) = ⊥
+AsksBadly (Code file form) = ⊥
 AsksBadly (Run file engines workers steps wanted) = IsBadCount engines workers
 AsksBadly (Replay file events) = ⊥
 
@@ -53,7 +53,7 @@ Informed _ files t out new = ⊥
 -- every file is an accepted script
 abbrev pub Accepted : Line → Files → Type 0
 Accepted (Check names) files = (place : ℕ) → place < length names → IsAcceptedAt files place
-Accepted (Code file dot) files = IsAcceptedAt files 0
+Accepted (Code file form) files = IsAcceptedAt files 0
 Accepted _ files = ⊥
 
 -- ENDS OF COMMANDS THAT WERE NOT STOPPED

@@ -19,7 +19,7 @@ use Rattle.swt_command.specs.Troubles.{trouble_line}
 abbrev pub Does : Line → Files → Result Status CommandStop → (out out_new trace trace_new : Held) → Type 0
 Does (Check names) files done out out_new trace trace_new = Checks names files done out out_new × Kept trace trace_new
 Does (Mean file rounds) files done out out_new trace trace_new = Means files rounds done out out_new × Kept trace trace_new
-Does (Code file dot) files done out out_new trace trace_new = Lists files done out out_new × Kept trace trace_new
+Does (Code file form) files done out out_new trace trace_new = Lists files done out out_new × Kept trace trace_new
 Does (Run file engines workers steps wanted) files done out out_new trace trace_new =
     Runs files engines workers steps (is_some wanted) done out out_new trace trace_new
 Does (Replay file events) files done out out_new trace trace_new = Replays files done out out_new × Kept trace trace_new

@@ -90,7 +90,7 @@ fn perform<R: Threads + Wait + Sync, G: Gate + RoundObserver, O: Sink, S: Sink>(
                 rt, alloc, arena, files, *engines, *workers, *steps, is_wanted, gate, out, trace,
             )
         }
-        Line::Code { dot, .. } => code(alloc, arena, files, *dot, out),
+        Line::Code { form, .. } => code(alloc, arena, files, *form, out),
         Line::Replay { .. } => replay(alloc, arena, files, out),
     }
 }

@@ -12,6 +12,8 @@ pub mod laws;
 mod mean;
 pub mod meaning_summary;
 mod parts;
+mod passes;
+mod pictures;
 pub mod replay_laws;
 mod run;
 pub mod scripts;

@@ -62,7 +62,7 @@ pub(crate) fn worked_out<W: RoundObserver>(
 /// # Errors
 ///
 /// Returns `Unread`, `Refused` or `Memory`.
-fn flow_of<'a>(
+pub(crate) fn flow_of<'a>(
     alloc: Global,
     arena: &'a Bump,
     files: &[Option<Vec<u8>>],

@@ -1,2 +1,2 @@
-pub mod Stages
+pub mod Scripts
 pub mod Words

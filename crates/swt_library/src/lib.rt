@@ -21,6 +21,7 @@ pub use flow::script::Flow;
 pub use lexer::fault::LexFault;
 pub use lexer::token::Span;
 pub use meaning_outcomes::knowledge::Knowledge;
+pub use swt_arguments::code_form::CodeForm;
 pub use swt_arguments::fault::LineFault;
 pub use swt_arguments::line::Line;
 pub use swt_trace::fault::{ReplayFault, WriteError};

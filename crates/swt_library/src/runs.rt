@@ -30,8 +30,7 @@ use workers::run::{self, PoolCount};
 pub fn new_board(alloc: Global, code: CompiledScript, limit: u32) -> Result<Board, AllocError>
     ensures { IfOk result (λ board. board ≡ starts code.program limit) }
 {
-    let CompiledScript { program, text: _ } = code;
-    Board::new(alloc, program, limit)
+    Board::new(alloc, code.into_program(), limit)
 }
 
 /// Runs the code on one thread, to its end or for at most `limit` events.
@@ -51,7 +50,7 @@ pub fn run_one(
     ensures turns { IfOk result (λ report. (board : Seen) × RanTo choices.now (starts code.now.program limit) board × Tells board report) }
     ensures reports { IfOk result (Reports code.now.program limit) }
 {
-    board_runs::one::run_one(alloc, &code.program, choices, limit)
+    board_runs::one::run_one(alloc, code.program(), choices, limit)
 }
 
 /// Runs the code on threads for at most `limit` events. Engines run control items, workers run leaf items, and the gate
@@ -74,7 +73,7 @@ pub fn run_threads<R: Threads + Wait + Sync, G: Gate>(
     ensures reports { IfOk result (λ r. Reports code.now.program limit r.0) }
     ensures count { (result ≡ Err RunFault.BadCount) ↔ ((engines ≡ 0) ⊎ ((workers ≡ 0) ⊎ (max_threads < engines + workers))) }
 {
-    run::run_threads(rt, alloc, &code.program, engines, workers, limit, gate)
+    run::run_threads(rt, alloc, code.program(), engines, workers, limit, gate)
 }
 
 /// Replays the events of a trace on the code and returns the report of that run. Its limit is the number of events.
@@ -93,5 +92,5 @@ pub fn replay(alloc: Global, code: &CompiledScript, trace: &[u8]) -> Result<Repo
     ensures again { (report : Report) → IsTraceOf code.now.program trace.now report → IfOk result (SameReport report) }
     ensures only_memory { (report : Report) → IsTraceOf code.now.program trace.now report → IfErr result (λ fault. fault ≡ ReplayFault.Memory) }
 {
-    swt_trace::replay::replay(alloc, code.program.code(), trace)
+    swt_trace::replay::replay(alloc, code.program().code(), trace)
 }

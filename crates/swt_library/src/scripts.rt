@@ -9,17 +9,52 @@ use board_program::program::Program;
 use compile::compile::with_flow;
 use compile::fault::CompileFault;
 use std::alloc::{AllocError, Allocator, Global};
+use std::marker::Model;
 use swt_trace::fault::WriteError;
 use values::sink::{Sink, write_all};
 
 /// The code of a script, with its precomputed tables and the text of its listing. It does not borrow a syntax tree.
 #[derive(Drop)]
 pub struct CompiledScript {
-    pub program: Program,
-    pub text: Vec<u8>,
+    program: Program,
+    text: Vec<u8>,
+}
+
+impl Model for CompiledScript {
+    ghost use Rattle.std.specs.Coded.{codes};
+    ghost use Rattle.task_code.specs.Tokens.{expr_code, exprs_code};
+    ghost use Rattle.swt_library.specs.Scripts.{ListedCode};
+
+    ghost Value = { ListedCode };
+
+    ghost coded = { Prim.hlevel (codes, expr_code (Prim.hlevel codes), exprs_code (Prim.hlevel codes)) };
+
+    ghost view = { λ c. record { program = c.program; text = c.text.items } };
 }
 
 impl CompiledScript {
+    /// Joins a program and the text of its listing.
+    pub(crate) fn of(program: Program, text: Vec<u8>) -> CompiledScript
+        ensures { result ≡ record { program = program; text = text.items } }
+    {
+        CompiledScript { program, text }
+    }
+
+    /// Returns the code, with its tables.
+    pub fn program(&self) -> &Program
+        ensures { result.now ≡ self.now.program }
+    {
+        &self.program
+    }
+
+    /// Returns the code, with its tables, without the listing.
+    pub fn into_program(self) -> Program
+        ensures { result ≡ self.program }
+    {
+        let CompiledScript { program, text: _ } = self;
+        program
+    }
+
     /// Creates a copy of the code. The entries are shared; the listing is copied.
     ///
     /// # Errors
@@ -27,7 +62,7 @@ impl CompiledScript {
     /// Returns `AllocError` if an allocation fails.
     pub fn copy(&self) -> Result<CompiledScript, AllocError>
         ensures program { IfOk result (λ code. code.program ≡ self.now.program) }
-        ensures text { IfOk result (λ code. code.text.items ≡ self.now.text.items) }
+        ensures text { IfOk result (λ code. code.text ≡ self.now.text) }
     {
         let alloc = *self.text.allocator();
         let program = self.program.share()?;
@@ -42,8 +77,8 @@ impl CompiledScript {
     /// Returns `Write` if a write fails. The sink has then received a prefix of the listing.
     pub fn listing<W: Sink>(&self, sink: &mut W) -> Result<(), WriteError>
         requires { W.failures sink.old < u64.MAX }
-        ensures ok { OnOk result (W.taken sink.new ≡ W.taken sink.old ++ self.now.text.items) }
-        ensures err { OnErr result (Beginning (W.taken sink.old) self.now.text.items (W.taken sink.new)) }
+        ensures ok { OnOk result (W.taken sink.new ≡ W.taken sink.old ++ self.now.text) }
+        ensures err { OnErr result (Beginning (W.taken sink.old) self.now.text (W.taken sink.new)) }
         ensures failed { OnErr result (W.failures sink.old < W.failures sink.new) }
         ensures none_failed { OnOk result (W.failures sink.new ≡ W.failures sink.old) }
     {

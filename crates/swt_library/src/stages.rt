@@ -3,7 +3,11 @@ ghost use Rattle.std.specs.Prelude.{◌≡◌, ◌≢◌, ◌≤◌, ◌++◌, [
 ghost use Rattle.assign_check.specs.Breaks.{Breaks, IsTyped};
 ghost use Rattle.assign_check.specs.Faults as faults;
 ghost use Rattle.code_rules.specs.Emitted.{IsEmitted};
-ghost use Rattle.compile.specs.Compiled.{IsCompiled, IsFoldedFlowOf};
+ghost use Rattle.compile.specs.Compiled.{IsCompiled, IsFoldedFlowOf, IsOfScript};
+ghost use Rattle.constant_fold.specs.Folded.{folded_tree};
+ghost use Rattle.emit.specs.Marks.{marks_of};
+ghost use Rattle.flow.specs.Cells.{AreAmong, anchors_of};
+ghost use Rattle.flow.specs.Listed.{shown_of};
 ghost use Rattle.flow.specs.Shapes.{declared_of, kinds_of};
 ghost use Rattle.flow.specs.View.{core_of};
 ghost use Rattle.language.specs.Reads.{Reads};
@@ -11,32 +15,34 @@ ghost use Rattle.language.specs.Resolved.{core};
 ghost use Rattle.language.specs.Scopes.{signatures};
 ghost use Rattle.language.specs.Single.{SinglyAssigned};
 ghost use Rattle.language.specs.Typing.{WellTyped};
+ghost use Rattle.lowering.specs.Listed.{shown};
+ghost use Rattle.lowering.specs.Nodes.{nodes_of};
 ghost use Rattle.lowering.specs.Shapes.{flagged, function_declarations, kinds_of_signature, own_declarations};
 ghost use Rattle.meaning_outcomes.specs.Known.{IsKnowledgeOf};
 ghost use Rattle.syntax_trees.specs.View.{tree_of};
 ghost use Rattle.types.specs.Typed.{table_of};
-ghost use Rattle.swt_library.specs.Stages.{IsOfScript};
 
 use crate::scripts::CompiledScript;
 use assign_check::fault::AssignFault;
 use board_program::program::Program;
 use code_listing::text::listing;
 pub use compile::check::{Accepted, accept};
-use compile::compile::Compiled;
-pub use constant_fold::fold;
+use compile::compile::{Compiled, with_rights};
 use flow::script::Flow;
 use meaning_outcomes::knowledge::Knowledge;
 use std::alloc::{AllocError, Allocator, Global};
 pub use syntax::parser::parse;
 use syntax_trees::tree::Script;
-use task_code::code;
 pub use types::check;
 use types::typed::Typed;
 pub use wait_merge::merge;
 
-/// Evidence that `check_single` accepted a script. It has no content: what names refer to is in the table of types.
+/// Evidence that `check_single` accepted a script, which alone makes one. It has no content: what names refer to is in
+/// the table of types.
 #[derive(Clone, Copy, Debug, PartialEq, Eq, Drop)]
-pub struct Single;
+pub struct Single {
+    checked: (),
+}
 
 /// Checks single assignment of a script, given the names resolved by the type check.
 ///
@@ -64,9 +70,24 @@ pub fn check_single<A: Allocator>(
         → (other : AssignFault) → Breaks (table_of typed.now) (tree_of script.now) other → faults.precedes other fault ≡ false) }
 {
     match assign_check::check(alloc, script, typed) {
-        Ok(()) => Ok(Single),
+        Ok(()) => Ok(Single { checked: () }),
         Err(fault) => Err(fault),
     }
+}
+
+/// Returns the script with its expressions of literals folded. New literals are allocated where the script is.
+///
+/// # Errors
+///
+/// Returns `AllocError` if an allocation fails. There is no other error.
+pub fn fold<A: Allocator + Clone>(
+    machine: Global,
+    script: Script<A>,
+) -> Result<Script<A>, AllocError>
+    ensures { IfOk result (λ folded. tree_of folded ≡ folded_tree (tree_of script)) }
+{
+    let alloc = script.items.allocator().clone()?;
+    constant_fold::fold(machine, alloc, script)
 }
 
 /// Lowers a singly assigned script to its flow, allocated in `alloc`.
@@ -84,12 +105,14 @@ pub fn lower<A: Allocator + Clone>(
     ensures declared { IfOk result (λ flow.
         declared_of flow ≡ flagged (own_declarations (tree_of script.now)) ++ flagged (function_declarations (tree_of script.now))) }
     ensures kinds { IfOk result (λ flow. kinds_of flow ≡ map kinds_of_signature (signatures (tree_of script.now))) }
+    ensures shown { IfOk result (λ flow. shown_of flow ≡ shown (tree_of script.now)) }
+    ensures cells { IfOk result (λ flow. AreAmong (anchors_of flow) (nodes_of (tree_of script.now))) }
 {
     lowering::lower(alloc, script, typed)
 }
 
-/// Emits the code of the flow of an accepted script, including the rights of each entry. The flow must be folded,
-/// lowered and merged.
+/// Emits the code of the flow of an accepted script, including the rights of each entry. The flow must be lowered and
+/// merged; the script may be folded before.
 ///
 /// # Errors
 ///
@@ -98,15 +121,10 @@ pub fn rights<A: Allocator>(machine: Global, flow: Flow<A>) -> Result<Compiled<A
     requires { IsOfScript flow }
     ensures flow { IfOk result (λ counted. counted.flow ≡ flow) }
     ensures emitted { IfOk result (λ counted. IsEmitted (core_of flow) (kinds_of flow) (declared_of flow) counted.code) }
+    ensures marks { IfOk result (λ counted. AreAmong (marks_of counted.code.entries) (anchors_of flow)) }
     ensures code { IfOk result (λ counted. (src : List ℕ) → IsFoldedFlowOf src flow → IsCompiled src counted.code) }
 {
-    match emit::emit(machine, &flow) {
-        Ok(draft) => Ok(Compiled {
-            flow,
-            code: code::Code::of(draft),
-        }),
-        Err(fault) => Err(fault),
-    }
+    with_rights(machine, flow)
 }
 
 /// Creates the script's code from emitted code, with its tables and its listing.
@@ -123,7 +141,7 @@ pub fn emit<A: Allocator>(
     let text = listing(machine, &counted.flow, &counted.code)?;
     let copy = counted.code.copy()?;
     let program = Program::new(machine, copy)?;
-    Ok(CompiledScript { program, text })
+    Ok(CompiledScript::of(program, text))
 }
 
 /// Computes the facts about a script that are known after `limit` rounds, or after fewer if no further round adds a

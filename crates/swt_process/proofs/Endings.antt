@@ -84,7 +84,7 @@ does_nothing : (line : Line) (files : Files) (ended : Result Status CommandStop)
     → (is_reported (number_of (status_of ended)) ≡ true → ⊥) → trace.failures ≡ 0 → new.failures ≡ 0 → Kept trace new
 does_nothing (Check names) files ended out out_new trace new d n e f = d.1
 does_nothing (Mean file rounds) files ended out out_new trace new d n e f = d.1
-does_nothing (Code file dot) files ended out out_new trace new d n e f = d.1
+does_nothing (Code file form) files ended out out_new trace new d n e f = d.1
 does_nothing (Run file engines workers steps wanted) files ended out out_new trace new d n e f = run_traces files engines workers steps _ ended out out_new trace new d n e f
 does_nothing (Replay file events) files ended out out_new trace new d n e f = d.1
 
@@ -117,7 +117,7 @@ run_untraced files engines workers steps (Some w) ended out out_new trace new n 
 does_untraced : (line : Line) (files : Files) (ended : Result Status CommandStop) (out out_new trace new : Held) → trace_of line ≡ None → Does line files ended out out_new trace new → Kept trace new
 does_untraced (Check names) files ended out out_new trace new n d = d.1
 does_untraced (Mean file rounds) files ended out out_new trace new n d = d.1
-does_untraced (Code file dot) files ended out out_new trace new n d = d.1
+does_untraced (Code file form) files ended out out_new trace new n d = d.1
 does_untraced (Run file engines workers steps wanted) files ended out out_new trace new n d = run_untraced files engines workers steps wanted ended out out_new trace new n d
 does_untraced (Replay file events) files ended out out_new trace new n d = d.1
 

@@ -9,7 +9,7 @@ abbrev pub trace_of : Line → Option (List ℕ)
 trace_of (Run file engines workers steps wanted) = wanted
 trace_of (Check names) = None
 trace_of (Mean file rounds) = None
-trace_of (Code file dot) = None
+trace_of (Code file form) = None
 trace_of (Replay file trace) = None
 
 -- the name whose links were resolved

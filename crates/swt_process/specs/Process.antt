@@ -7,6 +7,7 @@ use Rattle.swt_status.specs.declared.failure.CommandFailure.TheVariants.{Memory}
 use Rattle.swt_command.specs.Sinks.{Held, Given, Kept}
 use Rattle.swt_command.specs.Troubles.{trouble_line}
 use Rattle.swt_process.specs.Ends.{Ends}
+use Rattle.swt_process.specs.Warned.{Concludes, denies_for}
 
 -- the request of the words, once all have been read
 abbrev pub requested : List Event → Option Request
@@ -24,11 +25,19 @@ pub record Declined (h : List Event) (out out_new err err_new : Held) (status : 
   pub unprinted : Kept out out_new
   pub declines : Declines h err err_new status
 
--- the request of the words was executed, and its line ended by its contract
+-- the line of the request ended by its contract with this number, and then the process with this status, where warnings
+-- may be denied
+pub record Obeys (request : Request) (h : List Event) (out out_new err err_new : Held) (status : ℕ) : Type 0 where
+  pub number : ℕ
+  pub mid : Held
+  pub ends : Ends request.line h out out_new err mid number
+  pub concludes : Concludes (denies_for request.line request.deny) (reads h) number mid err_new status
+
+-- the request of the words was executed
 pub record Obeyed (h : List Event) (out out_new err err_new : Held) (status : ℕ) : Type 0 where
   pub request : Request
   pub requested_is : requested h ≡ Some request
-  pub ends : Ends request.line h out out_new err err_new status
+  pub obeys : Obeys request h out out_new err err_new status
 
 -- a process with this history of its machine, the contents of standard output and standard error before and after, and
 -- its status

@@ -11,7 +11,7 @@ pub use Rattle.values.specs.Limits.{max_source}
 abbrev pub most_at : Line → ℕ → ℕ
 most_at (Check names) place = max_source
 most_at (Mean file rounds) place = max_source
-most_at (Code file dot) place = max_source
+most_at (Code file form) place = max_source
 most_at (Run file engines workers steps wanted) place = max_source
 most_at (Replay file trace) zero = max_source
 most_at (Replay file trace) (suc place) = 18446744073709551614
@@ -48,7 +48,7 @@ pub record EndsReading (names : List (List ℕ)) (files : Files) (number : ℕ) 
 abbrev pub StopsReading : Line → Files → (number : ℕ) → List Read → Type 0
 StopsReading (Check names) files number rs = EndsReading names files number rs
 StopsReading (Mean file rounds) files number rs = ⊥
-StopsReading (Code file dot) files number rs = ⊥
+StopsReading (Code file form) files number rs = ⊥
 StopsReading (Run file engines workers steps wanted) files number rs = ⊥
 StopsReading (Replay file trace) files number rs = ⊥
 

@@ -1,12 +1,14 @@
 //! The command `check`, with one file in memory at a time.
-ghost use Rattle.std.specs.Prelude.{◌≡◌, ◌<◌, [], OnOk};
+ghost use Rattle.std.specs.Prelude.{◌≡◌, ◌<◌, ℕ, Bool, [], OnOk};
 ghost use Rattle.host.specs.Events.{asked, changes, inputs, links, reads};
 ghost use Rattle.swt_arguments.specs.declared.line.Line.TheVariants.{Check};
 ghost use Rattle.swt_command.specs.Files.{name_at};
-ghost use Rattle.swt_command.specs.Sinks.{held};
+ghost use Rattle.swt_command.specs.Sinks.{Held, Kept, held};
 ghost use Rattle.swt_process.specs.Each.{ChecksEach, IsChecked};
 ghost use Rattle.swt_process.specs.Ends.{Ran};
+ghost use Rattle.swt_process.specs.Warned.{Concludes, IsJudged, IsNoted, Notes};
 
+use crate::warnings::WarningState;
 use bumpalo::Bump;
 use host::Host;
 use host::identity::Identity;
@@ -43,12 +45,53 @@ pub fn check_files<H: Host, O: Sink, E: Sink>(
         (held (E.taken err.old) (E.failures err.old)) (held (E.taken err.new) (E.failures err.new)) result }
     ensures asked { asked (H.history host.new) ≡ asked (H.history host.old) }
 {
-    match check_each(host, alloc, names, out) {
-        Ok(status) => status.number(),
+    check_all(host, alloc, names, false, out, err)
+}
+
+/// Reads and checks each file as `check_files` does. If `denies` and all files are accepted, the status depends on
+/// their warnings: it is 1 if a file has one, and 6 if an allocation failed before one was found.
+pub fn check_all<H: Host, O: Sink, E: Sink>(
+    host: &mut H,
+    alloc: Global,
+    names: &[Word],
+    denies: bool,
+    out: &mut O,
+    err: &mut E,
+) -> u8
+    requires reads { reads (H.history host.old) ≡ [] }
+    requires links { links (H.history host.old) ≡ [] }
+    requires inputs { inputs (H.history host.old) ≡ [] }
+    requires changes { changes (H.history host.old) ≡ [] }
+    requires out { O.failures out.old < u64.MAX }
+    requires err { E.failures err.old < u64.MAX }
+    ensures ran { (number : ℕ) × (mid : Held) × Ran (Check names.now) (H.history host.new)
+        (held (O.taken out.old) (O.failures out.old)) (held (O.taken out.new) (O.failures out.new))
+        (held (E.taken err.old) (E.failures err.old)) mid number
+        × Concludes denies (reads (H.history host.new)) number mid (held (E.taken err.new) (E.failures err.new)) result }
+    ensures asked { asked (H.history host.new) ≡ asked (H.history host.old) }
+{
+    let mut warnings = WarningState::new(denies);
+    match check_each(host, alloc, names, &mut warnings, out) {
+        Ok(status) => conclude(status.number(), warnings, err),
         Err(stop) => {
             let _ = write_failure(stop.trouble, name_at(names, stop.place), err);
             stop.trouble.status().number()
         }
+    }
+}
+
+/// Returns the exit status of a check with this status that was not stopped, by the warnings of its files.
+fn conclude<E: Sink>(number: u8, warnings: WarningState, err: &mut E) -> u8
+    requires { E.failures err.old < u64.MAX }
+    ensures refused { 0 < number → (result ≡ number)
+        × Kept (held (E.taken err.old) (E.failures err.old)) (held (E.taken err.new) (E.failures err.new)) }
+    ensures accepted { number ≡ 0 → IsJudged warnings
+        (held (E.taken err.old) (E.failures err.old)) (held (E.taken err.new) (E.failures err.new)) result }
+{
+    if number == 0 {
+        warnings.judge(err)
+    } else {
+        number
     }
 }
 
@@ -62,7 +105,7 @@ fn name_at(names: &[Word], place: usize) -> &str
     }
 }
 
-/// Reads each file and writes its verdict.
+/// Reads each file, writes its verdict, and searches it for warnings if `warnings` depends on it.
 ///
 /// # Errors
 ///
@@ -72,6 +115,7 @@ fn check_each<H: Host, O: Sink>(
     host: &mut H,
     alloc: Global,
     names: &[Word],
+    warnings: &mut WarningState,
     out: &mut O,
 ) -> Result<Status, CommandStop>
     requires reads { reads (H.history host.old) ≡ [] }
@@ -79,6 +123,7 @@ fn check_each<H: Host, O: Sink>(
     requires out { O.failures out.old < u64.MAX }
     ensures each { ChecksEach names.now (reads (H.history host.new)) result
         (held (O.taken out.old) (O.failures out.old)) (held (O.taken out.new) (O.failures out.new)) }
+    ensures noted { (denies : Bool) → IsNoted denies warnings.old [] → OnOk result (IsNoted denies warnings.new (reads (H.history host.new))) }
     ensures asked { asked (H.history host.new) ≡ asked (H.history host.old) }
     ensures links { links (H.history host.new) ≡ links (H.history host.old) }
     ensures changes { changes (H.history host.new) ≡ changes (H.history host.old) }
@@ -86,7 +131,14 @@ fn check_each<H: Host, O: Sink>(
     let mut known = Vec::new(alloc);
     let mut status = Status::Done;
     for place in 0..names.len() {
-        match check_next(host, alloc, &mut known, names[place].as_str(), out) {
+        match check_next(
+            host,
+            alloc,
+            &mut known,
+            names[place].as_str(),
+            warnings,
+            out,
+        ) {
             Ok(refusal) => status = after(refusal, status),
             Err(trouble) => return Err(CommandStop { place, trouble }),
         }
@@ -94,7 +146,8 @@ fn check_each<H: Host, O: Sink>(
     Ok(status)
 }
 
-/// Reads the file of this name, writes its verdict, and returns its refusal, or `None` if it is accepted.
+/// Reads the file of this name, writes its verdict, and returns its refusal, or `None` if it is accepted. Then
+/// searches the file for warnings if `warnings` depends on it.
 ///
 /// The identity of a file that could be opened is appended to `known`.
 ///
@@ -107,6 +160,7 @@ fn check_next<H: Host, O: Sink>(
     alloc: Global,
     known: &mut Vec<Identity>,
     name: &str,
+    warnings: &mut WarningState,
     out: &mut O,
 ) -> Result<Option<Refusal>, CommandFailure>
     requires known { known.old.items ≡ inputs (H.history host.old) }
@@ -114,6 +168,7 @@ fn check_next<H: Host, O: Sink>(
     ensures checked { IsChecked name.now (reads (H.history host.old)) (reads (H.history host.new)) result
         (held (O.taken out.old) (O.failures out.old)) (held (O.taken out.new) (O.failures out.new)) }
     ensures known { OnOk result (known.new.items ≡ inputs (H.history host.new)) }
+    ensures noted { OnOk result (Notes (reads (H.history host.old)) (reads (H.history host.new)) warnings.old warnings.new) }
     ensures asked { asked (H.history host.new) ≡ asked (H.history host.old) }
     ensures links { links (H.history host.new) ≡ links (H.history host.old) }
     ensures changes { changes (H.history host.new) ≡ changes (H.history host.old) }
@@ -124,5 +179,7 @@ fn check_next<H: Host, O: Sink>(
     };
     let arena = Bump::new(alloc);
     let files = [file];
-    check_file(alloc, &arena, name, &files, 0, out)
+    let refusal = check_file(alloc, &arena, name, &files, 0, out)?;
+    *warnings = warnings.after(alloc, &files);
+    Ok(refusal)
 }

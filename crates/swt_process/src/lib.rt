@@ -7,5 +7,7 @@ pub mod each;
 pub mod files;
 pub mod place;
 pub mod program;
+pub mod request;
 mod traced;
+pub mod warnings;
 pub mod words;

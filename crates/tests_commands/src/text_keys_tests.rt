@@ -1,4 +1,4 @@
-//! Arrays that are keyed by texts: runs with their replays, each of which comes to what is meant.
+//! Arrays with texts as keys: runs and their replays, each compared with the expected output.
 
 use crate::asserts::holds;
 use crate::whole_tests::{run_to, runs_to};
@@ -47,7 +47,7 @@ const WHOLE: [(&[u8], &[u8], u8); 3] = [
     ),
 ];
 
-/// The blocked turns of a loop over texts are told by the bytes of these, and not by how a path spells them.
+/// The blocked turns of a loop over texts are printed in the order of their bytes, not of their spelling in a path.
 const BY_BYTES: (&[u8], &[u8], u8) = (
     b"int A[string]; A[\"a\"] = 1; A[\"\\n\"] = 2; A[\"!\"] = 3; int y; int z; y = z; z = y; foreach v, k in A { printf(\"%i\", y); }",
     b"swt: blocked 66 /\nswt: blocked 73 /\nswt: blocked 100 /80.\"\\n\"\nswt: blocked 100 /80.\"!\"\nswt: blocked 100 /80.\"a\"\n",

@@ -6,6 +6,8 @@ mod asserts;
 #[cfg(test)]
 mod assign_check_tests;
 #[cfg(test)]
+mod drawing_tests;
+#[cfg(test)]
 mod flows;
 #[cfg(test)]
 mod keys_tests;

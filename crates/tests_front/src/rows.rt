@@ -79,7 +79,7 @@ fn all_warnings(alloc: Global, text: &[u8]) -> Result<String, AllocError> {
 }
 
 /// What a row wants, and its text.
-fn parts<'a>(rt: &impl Abort, row: &'a str) -> (&'a str, &'a [u8]) {
+pub fn parts<'a>(rt: &impl Abort, row: &'a str) -> (&'a str, &'a [u8]) {
     let (wanted, text) = row.split_once(" | ").expect(rt, "a row has two parts");
     (wanted, text.as_bytes())
 }

@@ -41,7 +41,17 @@ V11 WaitsForItself 4 5 | int x = x + 1; printf("%i", x);
 V11 WaitsForItself 7 8 | int x; x = 2 * (1 - x); printf("%i", x);
 V11 WaitsForItself 34 35 | boolean b = true; int x; if (b) { x = -x; } else { x = 1; } printf("%i", x);
 V11 WaitsForItself 19 20 | int A[] = [1]; int i = A[i]; printf("%i", i);
-V11 WaitsForItself 7 8 | string s = strcat("a", fromint(toint(s))); printf("%s", s);"#;
+V11 WaitsForItself 7 8 | string s = strcat("a", fromint(toint(s))); printf("%s", s);
+V12 KeyTwice 19 20 | int A[]; A[0] = 1; A[0] = 2; printf("%i", A[0]);
+V12 KeyTwice 19 20, V12 KeyTwice 29 30 | int A[]; A[0] = 1; A[0] = 2; A[0] = 3; printf("%i", A[0]);
+V12 KeyTwice 32 33 | string A[string]; A["k"] = "x"; A["k"] = "y"; printf("%s", A["k"]);
+V12 KeyTwice 31 32 | int A[]; if (true) { A[1] = 1; A[1] = 2; } printf("%i", A[1]);
+V12 KeyTwice 26 27 | (int r[]) f() { r[0] = 1; r[0] = 2; } int A[]; A = f(); printf("%i", A[0]);
+V12 KeyTwice 43 44 | int A[]; A[0] = 1; () f() { printf("x"); } A[0] = 2; f(); printf("%i", A[0]);
+V13 IdleGuard 15 16 | int n = 2; if (n != 0 && 10 %/ n > 1) { printf("x"); }
+V13 IdleGuard 15 16 | int n = 2; if (n == 0 || 10 %% n > 1) { printf("x"); }
+V13 IdleGuard 15 16 | int n = 2; if (0 != n && 3 > 4 * 10 %/ n) { printf("x"); }
+V13 IdleGuard 18 22 | int n = 2; assert(true && n != 0 && 1 == toint(fromint(7 %/ n)), "x");"#;
 
 #[test]
 fn odd_scripts(rt: HostRuntime) {
@@ -73,6 +83,17 @@ none | int n = 1; foreach i in [0:9:-n] { printf("%i", i); } foreach i in [0:9:1
 none | assert(!false, "x"); assert(1 == 1, "true"); boolean b = true; assert(b, "x");
 none | (int r) f(int _n) { r = 1; } int x = f(x); int y = f(y + 1); printf("%i %i", x, y);
 none | int A[]; A[0] = 1; A[1] = A[0]; printf("%i", A[1]);
+none | int A[]; A[0] = 1; A[1] = 2; printf("%i %i", A[0], A[1]);
+none | int A[]; int B[]; A[0] = 1; B[0] = 2; printf("%i %i", A[0], B[0]);
+none | int A[]; boolean b = true; if (b) { A[0] = 1; } else { A[0] = 2; } printf("%i", A[0]);
+none | int A[]; boolean b = true; A[0] = 1; if (b) { A[0] = 2; } printf("%i", A[0]);
+none | int A[]; A[0] = 1; int i = 0; A[i] = 2; printf("%i", A[0]);
+none | int n = 2; if (n != 0) { printf("%i", 10 %/ n); }
+none | int n = 2; if (n != 0 || 10 %/ n > 1) { printf("x"); }
+none | int n = 2; if (10 %/ n > 1 && n != 0) { printf("x"); }
+none | int n = 2; if (n != 1 && 10 %/ n > 1) { printf("x"); }
+none | int n = 2; if (n != 0 && n %/ 10 > 1) { printf("x"); }
+none | int n = 2; int m = 3; if (m != 0 && 10 %/ n > m) { printf("x"); }
 none | int x; int y = z;
 none | int x"#;
 

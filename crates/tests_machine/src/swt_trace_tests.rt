@@ -480,3 +480,12 @@ fn another_end_is_refused_last(rt: HostRuntime) {
     is_refused(&rt, rt.alloc(), stray, ReplayFault::BadLine(4));
     is_refused(&rt, rt.alloc(), "E 0 1\nQ\n", ReplayFault::NotARun(2));
 }
+
+/// Each worker counts its own events: those of the item that was given back, and those of the worker that took it then.
+#[test]
+fn a_replay_counts_the_events_of_each_worker(rt: HostRuntime) {
+    let lines = "B 0 1\nK 0 1\nB 5 1\nE 5 1\nB 1 2\nE 1 2\n";
+    let report = replayed(&rt, rt.alloc(), lines).expect(&rt, "a run");
+    assert!(rt; matches!(report.end, End::Quiet));
+    assert!(rt; matches!(report.tallies.as_slice(), [2, 2, 0, 0, 0, 2, ..]));
+}

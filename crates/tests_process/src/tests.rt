@@ -9,7 +9,7 @@ use std::thread::Threads;
 use swt_arguments::fault::LineFault;
 use swt_command::buffer::Buffer;
 use swt_command::unobserved::Unobserved;
-use swt_process::program::program;
+use swt_process::request::execute;
 use swt_process::words::read_request;
 
 /// The number of the process.
@@ -60,12 +60,12 @@ fn came_of<R: Threads + Wait + Sync>(
     let request = read_request(&mut fake, alloc)?;
     let mut out = Buffer::new(alloc);
     let mut err = Buffer::new(alloc);
-    let (status, fake) = program(
+    let (status, fake) = execute(
         rt,
         alloc,
         fake,
         PROCESS,
-        &request.line,
+        &request,
         &Unobserved,
         &mut out,
         &mut err,
@@ -158,6 +158,24 @@ fn checks_one_after_another(rt: HostRuntime) -> Result<(), LineFault> {
     assert_eq!(rt; came.status, 7);
     assert_eq!(rt; came.out.bytes(), b"s: accepted\n".as_slice());
     assert_eq!(rt; came.err.bytes(), b"swt: cannot read lost\n".as_slice());
+    Ok(())
+}
+
+/// A check of files of which one has a warning is refused where warnings are denied.
+#[test]
+fn denies_warnings(rt: HostRuntime) -> Result<(), LineFault> {
+    let alloc = rt.alloc();
+    let mut fake = machine(alloc, 100, 0, &["check", "--deny-warnings", "s", "w"])?;
+    fake.add("s", SCRIPT)?;
+    fake.add("w", b"int x = 1;")?;
+    let came = came_of(&rt, alloc, fake)?;
+    assert_eq!(rt; came.status, 1);
+    assert_eq!(rt; came.out.bytes(), b"s: accepted\nw: accepted\n".as_slice());
+    assert_eq!(rt; came.err.bytes(), b"".as_slice());
+    let mut fake = machine(alloc, 100, 0, &["check", "--deny-warnings", "s"])?;
+    fake.add("s", SCRIPT)?;
+    let came = came_of(&rt, alloc, fake)?;
+    assert_eq!(rt; came.status, 0);
     Ok(())
 }
 

@@ -29,6 +29,8 @@ mod sink;
 #[cfg(test)]
 mod stops_tests;
 #[cfg(test)]
+mod stored_tests;
+#[cfg(test)]
 mod strangers_tests;
 #[cfg(test)]
 mod text_keys_tests;

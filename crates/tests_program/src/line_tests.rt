@@ -4,10 +4,12 @@ use crate::doing::{command_of, request_of, words_of};
 use std::alloc::{AllocError, Global};
 use std::process::Abort;
 use swt_arguments::argument_error::{ArgumentError, first_wrong};
+use swt_arguments::code_form::CodeForm;
 use swt_arguments::command::Command;
 use swt_arguments::fault::LineFault;
 use swt_arguments::line::Line;
 use swt_arguments::nearest::meant;
+use swt_arguments::pass::Pass;
 use swt_arguments::request::Request;
 use swt_arguments::word::Word;
 
@@ -62,14 +64,28 @@ fn shown_run(
     format!(in alloc; "run {file} {engines} {workers} {steps} {trace}")
 }
 
+/// The word for a form, with a space in front.
+fn shown_form(form: CodeForm) -> &'static str {
+    match form {
+        CodeForm::Listing => "",
+        CodeForm::Graph => " dot",
+        CodeForm::Drawing => " draw",
+        CodeForm::After(Pass::Parse) => " parse",
+        CodeForm::After(Pass::Types) => " types",
+        CodeForm::After(Pass::Fold) => " fold",
+        CodeForm::After(Pass::Lower) => " lower",
+        CodeForm::After(Pass::Merge) => " merge",
+        CodeForm::After(Pass::Emit) => " emit",
+    }
+}
+
 /// What a line asks for, in one text.
 fn shown_line(alloc: Global, line: &Line) -> Result<String, AllocError> {
     match line {
         Line::Check { files } => checked(alloc, files.as_slice()),
         Line::Mean { file, rounds } => { format!(in alloc; "mean {} {}", file.as_str(), rounds) }
-        Line::Code { file, dot } => {
-            let form = if *dot { " dot" } else { "" };
-            format!(in alloc; "code {}{}", file.as_str(), form)
+        Line::Code { file, form } => {
+            format!(in alloc; "code {}{}", file.as_str(), shown_form(*form))
         }
         Line::Run {
             file,
@@ -97,6 +113,9 @@ fn add_options(text: &mut String, request: &Request) -> Result<(), AllocError> {
     }
     if request.json {
         text.push_str(" json")?;
+    }
+    if request.deny {
+        text.push_str(" deny")?;
     }
     Ok(())
 }
@@ -153,11 +172,20 @@ mean a 4294967295 | mean --rounds 4294967295 a
 code a | code a
 code a dot | code a --dot
 code a dot | code --dot a
+code a draw | code a --draw
+code a parse | code a --after parse
+code a types | code --after types a
+code a fold | code a --after=fold
+code a lower | code --after lower -- a
+code a merge explain | code --explain a --after merge
+code a emit | code a --after emit
 run a 1 3 10000000 none | run a
 run a 2 63 0 t | run --trace t --engines 2 a --steps 0 --workers 63
 replay a t | replay a t
 check a explain | check --explain a
 check a json | check a --json
+check a b deny | check a --deny-warnings b
+check a explain json deny | check --deny-warnings --json a --explain
 check a b explain json | check --json a --explain b
 code a explain | code a --explain
 mean a 1000000 explain | mean a --explain
@@ -194,6 +222,16 @@ mean a --steps 1
 code
 code --dot
 code --dot a --dot
+code --dot a --draw
+code a --after
+code a --after parsed
+code a --after=
+code a --after Parse
+code a --after parse --after types
+code a --dot --after parse
+code a --after=emit --draw
+code --after parse
+mean a --after parse
 mean a --dot
 code a b
 run
@@ -208,6 +246,8 @@ run a --engines 1 --engines 1
 run a --trace
 run a --trace --steps 1
 check --json a --json
+check --deny-warnings a --deny-warnings
+run a --deny-warnings
 run a --json
 run --explain a --explain
 run --explain a --explain=all
@@ -393,6 +433,14 @@ swt: --steps has no value behind it | run --steps --engines 1 a
 swt: 64 is no number from 1 to 63 | run a --workers 64
 swt: many is no number from 1 to 4294967295 | mean a --rounds many
 swt: --dot stands twice | code a --dot --dot
+swt: --draw stands twice | code a --dot --draw
+swt: parsed is no pass: write parse, types, fold, lower, merge or emit | code a --after parsed
+swt: x is no pass: write parse, types, fold, lower, merge or emit | code --after=x a
+swt: --after has no value behind it | code a --after
+swt: --after has no value behind it | code a --after=
+swt: --after stands twice | code a --after parse --after=emit
+swt: --after stands twice | code a --draw --after parse
+swt: --dot stands twice | code a --after parse --dot
 swt: b is one file too many for mean | mean a b
 swt: check wants one file or more | check
 swt: replay wants a file and its trace | replay a
@@ -435,6 +483,8 @@ none | walk a
 --explain | run a --explian
 --workers | run a --work 2
 --rounds | mean a --round=3
+--after | code a --aftr parse
+--deny-warnings | check a --deny-warning
 none | check a --steps 1
 none | mean a b";
 
@@ -468,7 +518,7 @@ fn fault_text(rt: &impl Abort, alloc: Global, fault: LineFault) -> String {
 #[test]
 fn usage_has_a_text(rt: HostRuntime) {
     let usage = fault_text(&rt, rt.alloc(), LineFault::Usage);
-    let first = "usage: swt check FILE.. [--explain] [--json]\n";
+    let first = "usage: swt check FILE.. [--explain] [--json] [--deny-warnings]\n";
     holds(&rt, usage.as_str().starts_with(first));
 }
 

@@ -1,4 +1,4 @@
-//! Arrays that are keyed by texts: every order of some scripts, where each comes to what is meant.
+//! Arrays with texts as keys: every order in which some scripts can run, each compared with the expected output.
 
 use crate::order_tests::{RunResults, always};
 use tests_codes::scripts::two_texts_of_one_hash;

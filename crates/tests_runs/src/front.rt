@@ -2,6 +2,8 @@
 ghost use Rattle.std.specs.Prelude.{◌≡◌, ◌++◌, [], ℕ, map, IfOk, IfSome};
 ghost use Rattle.assign_check.specs.Faults.{faults};
 ghost use Rattle.constant_fold.specs.Folded.{folded_tree};
+ghost use Rattle.flow.specs.Cells.{AreAmong, anchors_of};
+ghost use Rattle.flow.specs.Listed.{shown_of};
 ghost use Rattle.flow.specs.Shapes.{declared_of, kinds_of};
 ghost use Rattle.flow.specs.View.{core_of};
 ghost use Rattle.language.specs.Numbered.{numbered};
@@ -10,6 +12,8 @@ ghost use Rattle.language.specs.Resolved.{core};
 ghost use Rattle.language.specs.Scopes.{signatures};
 ghost use Rattle.language.specs.Tree.{Tree};
 ghost use Rattle.language.specs.Typing.{WellTyped};
+ghost use Rattle.lowering.specs.Listed.{shown};
+ghost use Rattle.lowering.specs.Nodes.{nodes_of};
 ghost use Rattle.lowering.specs.Shapes.{flagged, function_declarations, kinds_of_signature, own_declarations};
 ghost use Rattle.syntax_trees.specs.View.{tree_of};
 ghost use Rattle.types.specs.Typed.{table_of};
@@ -210,7 +214,7 @@ fn folded<A: Allocator + Clone>(
         let Some(copy) = copied(rt, alloc, script)? else {
             return Ok(None);
         };
-        match stages::fold(machine, alloc.clone()?, copy) {
+        match stages::fold(machine, copy) {
             Ok(folded) => return Ok(Some(folded)),
             Err(_) => note(rt, "fold")?,
         }
@@ -230,6 +234,8 @@ fn lowered<A: Allocator + Clone>(
     ensures declared { IfOk result (λ found. IfSome found (λ flow.
         declared_of flow ≡ flagged (own_declarations (tree_of script.now)) ++ flagged (function_declarations (tree_of script.now)))) }
     ensures kinds { IfOk result (λ found. IfSome found (λ flow. kinds_of flow ≡ map kinds_of_signature (signatures (tree_of script.now)))) }
+    ensures shown { IfOk result (λ found. IfSome found (λ flow. shown_of flow ≡ shown (tree_of script.now))) }
+    ensures cells { IfOk result (λ found. IfSome found (λ flow. AreAmong (anchors_of flow) (nodes_of (tree_of script.now)))) }
 {
     for _ in 0..TRIES {
         match stages::lower(alloc.clone()?, script, typed, single) {
@@ -252,6 +258,8 @@ fn merged<A: Allocator + Clone>(
     ensures declared { IfOk result (λ found. IfSome found (λ flow.
         declared_of flow ≡ flagged (own_declarations (tree_of script.now)) ++ flagged (function_declarations (tree_of script.now)))) }
     ensures kinds { IfOk result (λ found. IfSome found (λ flow. kinds_of flow ≡ map kinds_of_signature (signatures (tree_of script.now)))) }
+    ensures shown { IfOk result (λ found. IfSome found (λ flow. shown_of flow ≡ shown (tree_of script.now))) }
+    ensures cells { IfOk result (λ found. IfSome found (λ flow. AreAmong (anchors_of flow) (nodes_of (tree_of script.now)))) }
     ensures merged { IfOk result (λ found. IfSome found (λ flow. IsMerged flow)) }
 {
     for _ in 0..TRIES {

@@ -5,7 +5,7 @@
 //! report with those that are stored. `library` takes no script: it lists, runs and replays one of its own. `stages`, `arena`, `runs` and
 //! `threads` make each call of a part of the way once if no memory is refused. Standard output then has the listing of the code that
 //! `stages` or `arena` makes; of `runs` three reports: of a board that is moved by hand, of a run on one thread, and of its trace run again;
-//! and of `threads` that of the run. A refused call is named on standard error and made again, so standard output stays the same. A line that
+//! and of `threads` that of the run. `takes_none` makes the calls that take no memory, and prints nothing. A refused call is named on standard error and made again, so standard output stays the same. A line that
 //! begins with `wrong` says what is wrong.
 #![tactic(auto)]
 
@@ -17,6 +17,7 @@ mod runs;
 mod scripts;
 mod sink;
 mod stored;
+mod takes_none;
 mod told;
 
 use crate::scripts::script_of;
@@ -36,6 +37,7 @@ enum Stage {
     Arena,
     Runs,
     OnThreads,
+    TakesNone,
 }
 
 impl Stage {
@@ -48,6 +50,7 @@ impl Stage {
             "arena" => Some(Stage::Arena),
             "runs" => Some(Stage::Runs),
             "threads" => Some(Stage::OnThreads),
+            "takes_none" => Some(Stage::TakesNone),
             _ => None,
         }
     }
@@ -83,7 +86,9 @@ fn try_name<R: Threads + Wait + Sync>(
     match part {
         Stage::Stages => front::try_stages(rt, alloc, &alloc, script),
         Stage::Arena => try_in_arena(rt, alloc, script),
-        Stage::Runs | Stage::OnThreads => try_runs(rt, threads, alloc, script, part),
+        Stage::Runs | Stage::OnThreads | Stage::TakesNone => {
+            try_runs(rt, threads, alloc, script, part)
+        }
         Stage::Histories | Stage::Library => told::wrong(rt, "this part has no calls"),
     }
 }
@@ -104,6 +109,7 @@ fn try_runs<R: Threads + Wait + Sync>(
 ) -> io::Result<()> {
     match front::compiled(rt, alloc, &alloc, script)? {
         Some(code) => run_code(rt, threads, alloc, &code, part),
+        None if part == Stage::TakesNone => Ok(()),
         None => told::wrong(rt, "no code"),
     }
 }
@@ -118,6 +124,9 @@ fn run_code<R: Threads + Wait + Sync>(
 ) -> io::Result<()> {
     if part == Stage::OnThreads {
         return runs::try_threads(rt, threads, alloc, code);
+    }
+    if part == Stage::TakesNone {
+        return takes_none::try_calls(rt, alloc, code);
     }
     hand::try_board(rt, alloc, code)?;
     runs::try_one_thread(rt, alloc, code)

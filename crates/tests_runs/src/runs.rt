@@ -71,7 +71,7 @@ fn again(
     Ok(None)
 }
 
-/// Runs code on two threads and prints the report. Where a thread could not be started there was no memory for it.
+/// Runs code on two threads and prints the report. Memory that is refused to a thread's start is told apart from other memory.
 pub fn try_threads<R: Threads + Wait + Sync>(
     rt: &HostRuntime,
     threads: &R,
@@ -81,7 +81,8 @@ pub fn try_threads<R: Threads + Wait + Sync>(
     for _ in 0..TRIES {
         match run_threads(threads, alloc, code, 1, 1, LIMIT, &DirectGate) {
             Ok((report, _)) => return print_report(rt, &report),
-            Err(RunFault::Memory | RunFault::Spawn) => note(rt, "run_threads")?,
+            Err(RunFault::Memory) => note(rt, "run_threads")?,
+            Err(RunFault::Spawn) => note(rt, "start of a thread")?,
             Err(_) => return wrong(rt, "no run on threads"),
         }
     }

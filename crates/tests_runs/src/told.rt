@@ -11,6 +11,16 @@ pub fn note(rt: &HostRuntime, call: &str) -> io::Result<()> {
     eprintln!(rt; "refused: {call}")
 }
 
+/// The mark before calls that take no memory, with their names. The allocator of `.ci/refused` counts requests from here on.
+pub fn calls_begin(rt: &HostRuntime, calls: &str) -> io::Result<()> {
+    eprintln!(rt; "take none: {calls}")
+}
+
+/// The mark after them, where the allocator writes its count.
+pub fn calls_end(rt: &HostRuntime) -> io::Result<()> {
+    eprintln!(rt; "taken")
+}
+
 /// Says what is wrong.
 pub fn wrong(rt: &HostRuntime, what: &str) -> io::Result<()> {
     println!(rt; "wrong: {what}")

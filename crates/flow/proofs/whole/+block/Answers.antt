@@ -1,4 +1,4 @@
-use Rattle.std.proofs.Common.{rules, arith, ◌≡◌, ◌<◌, ◌+◌, length, true, false, get_or, drop, sym, ap, ◌∙◌}
+use Rattle.std.proofs.Common.{rules, arith, List, ◌≡◌, ◌<◌, ◌+◌, length, true, false, get_or, drop, sym, ap, ◌∙◌}
 use Rattle.std.proofs.lemmas.Grind.{common_steps}
 use Rattle.flow.specs.declared.statement.Block.{Block, out-Block}
 use Rattle.flow.specs.declared.statement.Statement.{Statement, out-Statement}
@@ -6,6 +6,7 @@ use Rattle.flow.specs.View.{action_view, block_view, block_of, statement_view, s
 use Rattle.flow.specs.Tests.{fits, fits_inside, fits_stmt, headers_fit}
 use Rattle.flow.specs.Viewed.{owners_of}
 use Rattle.flow.proofs.Fits.{and_true, and_false, stmts_step, stmt_fits, waits_fit}
+use Rattle.flow.specs.Whole.{Owner, in_content}
 use Rattle.flow.proofs.Times.{view_wait}
 use Rattle.flow.proofs.whole.+block.Goals as goal
 
@@ -17,8 +18,10 @@ are_blocks_fit-returns-then-are_headers_fit g t c =
     let inside = block_view {A = A} c.in-Wait.content.value in
     let content : c.deref-then-are_headers_fit.result.now ≡ c.in-Wait.content.value = search rules in
     let first : headers_fit os c.in-Wait.inner.items ≡ true = sym c.are_headers_fit.ensures ∙ c.if-are_headers_fit.true in
-    c.is_block_fit-then-are_headers_fit.ensures ∙ ap (λ (z : Block g.row.A.Denot). fits os fs (block_view {A = A} z)) content
-    ∙ sym (and_true (fits os fs inside) first) ∙ sym (waits_fit {A = A} os fs c.in-Wait.inner.items inside)
+    let wide : owners_of {A = g.row.A.Denot} c.within_wait-inside.result ≡ in_content (block_view {A = g.row.A.Denot} c.in-Wait.content.value) (owners_of {A = g.row.A.Denot} c.args.scopes.now) = search (rules, c.within_wait-inside.ensures) in
+    c.is_block_fit-then-are_headers_fit.ensures ∙ ap (λ (zs : List Owner). fits zs fs (block_view {A = A} c.deref-then-are_headers_fit.result.now)) wide
+    ∙ ap (λ (z : Block g.row.A.Denot). fits (in_content inside os) fs (block_view {A = A} z)) content
+    ∙ sym (and_true (fits (in_content inside os) fs inside) first) ∙ sym (waits_fit {A = A} os fs c.in-Wait.inner.items inside)
     ∙ ap (fits_inside os fs) (sym (ap (action_view {A = A}) c.in-Wait.is ∙ view_wait c.in-Wait.names c.in-Wait.inner c.in-Wait.content))
 
 pub are_blocks_fit-returns-else-are_headers_fit : goal.are_blocks_fit-returns-else-are_headers_fit
@@ -29,7 +32,7 @@ are_blocks_fit-returns-else-are_headers_fit g t c =
     let inside = block_view {A = A} c.in-Wait.content.value in
     let first : headers_fit os c.in-Wait.inner.items ≡ false = sym c.are_headers_fit.ensures ∙ c.if-are_headers_fit.false in
     c.if-are_headers_fit.false
-    ∙ and_false (fits os fs inside) first ∙ sym (waits_fit {A = A} os fs c.in-Wait.inner.items inside)
+    ∙ and_false (fits (in_content inside os) fs inside) first ∙ sym (waits_fit {A = A} os fs c.in-Wait.inner.items inside)
     ∙ ap (fits_inside os fs) (sym (ap (action_view {A = A}) c.in-Wait.is ∙ view_wait c.in-Wait.names c.in-Wait.inner c.in-Wait.content))
 
 pub is_statement_fit-returns-then-is_fit : goal.is_statement_fit-returns-then-is_fit

@@ -1,8 +1,10 @@
-use Rattle.std.proofs.Common.{◌∙◌, sym, refl, subst, ◌+◌, [], ◌∷◌}
-use Rattle.host.specs.Events.{reads}
+use Rattle.std.proofs.Common.{◌∙◌, sym, refl, subst, ◌+◌, List, [], ◌∷◌}
+use Rattle.host.specs.Events.{Read, reads}
 use Rattle.swt_status.specs.declared.status.Status.{Status}
 use Rattle.swt_command.specs.Checks.{IsSaid}
 use Rattle.swt_command.specs.Sinks.{Held, held}
+use Rattle.swt_process.specs.Warned.{IsNoted}
+use Rattle.swt_process.proofs.Denying.{noted_next}
 use Rattle.swt_process.proofs.InTurn.{Judging, at_first, at_next, at_stop}
 use Rattle.swt_process.proofs.each.check_each.Goals as goal
 
@@ -11,6 +13,7 @@ loop-place-init g c = record {
   judging = at_first c.args.names.now (reads (g.H.Host.history c.args.host.now)) (held (g.O.Sink.taken c.args.out.now) (g.O.Sink.failures c.args.out.now)) c.requires.reads;
   failures = refl;
   known = c.new-known.ensures.items ∙ sym c.requires.inputs;
+  noted = λ denies n. subst (λ (rs : List Read). IsNoted denies c.args.warnings.now rs) (sym c.requires.reads) n;
   asked = refl;
   links = refl;
   changes = refl;
@@ -35,6 +38,7 @@ loop-place-preserved g c =
           c.loop-place-test.true (c.as_str.ensures ∙ c.index-names-place.is) c.in-Ok.ensures.checked);
       failures = said.1.1 ∙ inv.failures;
       known = c.in-Ok.ensures.known;
+      noted = λ denies n. noted_next denies c.loop-place.warnings c.check_next.new.warnings (reads (g.H.Host.history c.loop-place.host)) now (inv.noted denies n) c.in-Ok.ensures.noted;
       asked = c.check_next.ensures.asked ∙ inv.asked;
       links = c.check_next.ensures.links ∙ inv.links;
       changes = c.check_next.ensures.changes ∙ inv.changes;

@@ -1,24 +1,15 @@
 use Rattle.std.proofs.Common.{rules, arith, ◌≡◌, ◌<◌, ◌+◌, length, get_or, drop, sym, ap, ◌∙◌}
 use Rattle.std.proofs.lemmas.Grind.{common_steps}
-use Rattle.flow.specs.declared.statement.Block.{Block, out-Block}
+use Rattle.flow.specs.declared.statement.Block.{out-Block}
 use Rattle.flow.specs.declared.statement.Statement.{Statement, out-Statement}
 use Rattle.flow.specs.View.{action_view, block_view, block_of, statements_view}
 use Rattle.flow.specs.Names.{action_nodes, block_nodes}
 use Rattle.flow.specs.Viewed.{plus, times_as}
-use Rattle.flow.proofs.Times.{one_more, stmts_step, view_wait, waits_nodes}
-use Rattle.flow.proofs.declaring.+block.Goals as goal
+use Rattle.flow.proofs.Times.{one_more, stmts_step}
+use Rattle.flow.proofs.declaring.times_in_block.Goals as goal
 
-pub times_in_action-returns-in-Wait : goal.times_in_action-returns-in-Wait
-times_in_action-returns-in-Wait g t c =
-    let A = g.row.A.Denot in
-    let n = c.args.node in
-    let content : c.deref-in-Wait.result.now ≡ c.in-Wait.content.value = search rules in
-    c.times_in_block.ensures ∙ ap (λ (z : Block g.row.A.Denot). times_as n (block_nodes (block_view {A = A} z))) content
-    ∙ ap (times_as n) (sym (waits_nodes {A = A} c.in-Wait.inner.items (block_view {A = A} c.in-Wait.content.value)))
-    ∙ ap (λ z. times_as n (action_nodes z)) (sym (ap (action_view {A = A}) c.in-Wait.is ∙ view_wait c.in-Wait.names c.in-Wait.inner c.in-Wait.content))
-
-pub times_in_block-loop-statement-preserved : goal.times_in_block-loop-statement-preserved
-times_in_block-loop-statement-preserved g t c =
+pub loop-statement-preserved : goal.loop-statement-preserved
+loop-statement-preserved g c =
     let A = g.row.A.Denot in
     let n = c.args.node in
     let ss = (out-Block A c.args.block.now).statements.items in
