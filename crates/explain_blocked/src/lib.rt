@@ -5,19 +5,25 @@
 #![tactic(auto)]
 
 pub mod blocked;
+pub mod causes;
 mod components;
 pub mod context;
-mod cycles;
-mod graph;
+pub mod cycles;
+pub mod graph;
 pub mod index;
-mod inputs;
-mod list;
+pub mod inputs;
+pub mod list;
 pub mod names;
-mod numbers;
+pub mod numbers;
 pub mod path;
-mod remedies;
+pub mod remedies;
+pub mod selection;
 pub mod sites;
 pub mod value_text;
-mod wait_graph;
-mod wait_groups;
+pub mod wait_graph;
+pub mod wait_groups;
 pub mod writers;
+
+pub use explain_inputs::blocked_statement::{BlockedStatement, instance_at};
+pub use explain_inputs::input::{StatementInput, add_form, inputs_of};
+pub use meaning_outcomes::knowledge::{BlockedId, Knowledge};

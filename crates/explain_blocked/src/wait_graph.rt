@@ -1,7 +1,7 @@
-//! The wait graph of blocked statements, and its root causes.
+//! The wait graph of blocked statements.
 
 use crate::context::ExplainContext;
-use crate::graph::{Components, Graph};
+use crate::graph::Graph;
 use crate::inputs::{is_own_cell, missing_in_cell, target_of};
 use crate::numbers::{NONE, NodeNumbers};
 use crate::writers::WriteTarget;
@@ -63,7 +63,13 @@ impl WaitGraph {
             self.note_inputs(context, i, waiting.instance, waiting.missing.as_slice())?;
         }
         let numbers = numbers_of(context, listed)?;
-        self.note_targets(context, &numbers)
+        self.note_targets(context, &numbers)?;
+        self.graph.sort()
+    }
+
+    /// Returns the number of statements.
+    pub fn statements(&self) -> usize {
+        self.statements
     }
 
     /// Returns true if a node is a statement.
@@ -139,43 +145,6 @@ impl WaitGraph {
             }
         }
         Ok(())
-    }
-
-    /// Returns for each statement whether it is a root cause: no other component that contains a statement is
-    /// reachable from its own.
-    ///
-    /// A root cause thus waits for other blocked statements only if they wait for it in turn.
-    pub fn causes(&self, alloc: Global, parts: &Components) -> Result<Vec<bool>, AllocError> {
-        let mut holds = NodeNumbers::new(alloc, self.graph.len())?;
-        let mut leaves = NodeNumbers::new(alloc, self.graph.len())?;
-        for node in &parts.order {
-            let part = parts.part.at(*node);
-            if self.leaves(parts, &holds, *node) {
-                leaves.put(part, 1);
-                holds.put(part, 1);
-            }
-            if self.is_statement(*node) {
-                holds.put(part, 1);
-            }
-        }
-        let mut causes = Vec::new(alloc);
-        for number in 0..self.statements {
-            causes.push(leaves.at(parts.part.at(number)) == NONE)?;
-        }
-        Ok(causes)
-    }
-
-    /// Returns true if a node has an edge to another component from which a statement is reachable. `holds` marks
-    /// these components.
-    fn leaves(&self, parts: &Components, holds: &NodeNumbers, node: usize) -> bool {
-        let own = parts.part.at(node);
-        for to in self.graph.successors(node) {
-            let part = parts.part.at(*to);
-            if part != own && holds.at(part) != NONE {
-                return true;
-            }
-        }
-        false
     }
 }
 

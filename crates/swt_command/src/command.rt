@@ -1,12 +1,15 @@
 //! The entry point of all commands.
 ghost use Rattle.std.specs.Prelude.{◌≡◌, ◌<◌, ◌∷◌, []};
 ghost use Rattle.swt_arguments.specs.Lines.{files_of};
+ghost use Rattle.swt_status.specs.Statuses.{number_of};
+ghost use Rattle.swt_command.specs.EndOf.{IsEndOf, ended_as, status_of_end};
 ghost use Rattle.swt_command.specs.Files.{contents, name_at};
 ghost use Rattle.swt_command.specs.Owes.{Does, Owes};
 ghost use Rattle.swt_command.specs.Sinks.{held};
 
 use crate::check::check_files;
 use crate::code::code;
+use crate::end::CommandEnd;
 use crate::mean::mean;
 use crate::run::{replay, run};
 use crate::trouble::write_failure;
@@ -17,13 +20,12 @@ use std::sync::Wait;
 use std::thread::Threads;
 use swt_arguments::line::Line;
 use swt_arguments::word::Word;
-use swt_status::status::Status;
-use swt_status::stop::CommandStop;
 use values::sink::Sink;
 use workers::gate::Gate;
 
-/// Runs the command of the line on its input files and returns the exit status of the process. `files` holds the bytes
-/// of each input file of the line, in order, or `None` for a file that could not be read.
+/// Runs the command of the line on its input files. Returns the exit status of the process, and what the command came
+/// to. `files` holds the bytes of each input file of the line, in order, or `None` for a file that could not be read.
+/// The board of a run, or the facts of a meaning, are part of the end if `keeps`.
 ///
 /// Output goes to `out`, and the error message of a failed command to `err`. The trace of a run goes to `trace` if the
 /// line requests one. Syntax trees lie in the arena. A failed write to `err` does not change the status.
@@ -36,48 +38,61 @@ pub fn command<R: Threads + Wait + Sync, G: Gate + RoundObserver, O: Sink, E: Si
     arena: &mut Bump,
     line: &Line,
     files: &[Option<Vec<u8>>],
+    keeps: bool,
     gate: &G,
     out: &mut O,
     err: &mut E,
     trace: &mut S,
-) -> u8
+) -> (u8, CommandEnd)
     requires out { O.failures out.old < u64.MAX }
     requires err { E.failures err.old < u64.MAX }
     requires trace { S.failures trace.old < u64.MAX }
-    ensures { Owes line.now (contents files.now)
+    ensures owes { Owes line.now (contents files.now)
         (held (O.taken out.old) (O.failures out.old)) (held (O.taken out.new) (O.failures out.new))
         (held (E.taken err.old) (E.failures err.old)) (held (E.taken err.new) (E.failures err.new))
-        (held (S.taken trace.old) (S.failures trace.old)) (held (S.taken trace.new) (S.failures trace.new)) result }
+        (held (S.taken trace.old) (S.failures trace.old)) (held (S.taken trace.new) (S.failures trace.new)) result.0 }
+    ensures end { IsEndOf line.now (contents files.now) keeps result.1 }
+    ensures status { result.0 ≡ number_of (status_of_end result.1) }
 {
-    match perform(rt, alloc, arena, line, files, gate, out, trace) {
-        Ok(status) => status.number(),
-        Err(stop) => {
-            let _ = write_failure(stop.trouble, name_of(line, stop.place), err);
-            stop.trouble.status().number()
-        }
+    let end = perform(rt, alloc, arena, line, files, keeps, gate, out, trace);
+    if let Some(stop) = end.stop() {
+        let _ = write_failure(stop.trouble, name_of(line, stop.place), err);
     }
+    (end.status().number(), end)
 }
 
-/// Runs the command of the line.
+/// Runs the command of the line. Returns what it came to.
 fn perform<R: Threads + Wait + Sync, G: Gate + RoundObserver, O: Sink, S: Sink>(
     rt: &R,
     alloc: Global,
     arena: &mut Bump,
     line: &Line,
     files: &[Option<Vec<u8>>],
+    keeps: bool,
     gate: &G,
     out: &mut O,
     trace: &mut S,
-) -> Result<Status, CommandStop>
+) -> CommandEnd
     requires out { O.failures out.old < u64.MAX }
     requires trace { S.failures trace.old < u64.MAX }
-    ensures { Does line.now (contents files.now) result
+    ensures does { Does line.now (contents files.now) (ended_as result)
         (held (O.taken out.old) (O.failures out.old)) (held (O.taken out.new) (O.failures out.new))
         (held (S.taken trace.old) (S.failures trace.old)) (held (S.taken trace.new) (S.failures trace.new)) }
+    ensures end { IsEndOf line.now (contents files.now) keeps result }
 {
     match line {
-        Line::Check { files: names } => check_files(alloc, arena, names.as_slice(), files, out),
-        Line::Mean { rounds, .. } => mean(alloc, arena, files, gate, *rounds, out),
+        Line::Check { files: names } => {
+            match check_files(alloc, arena, names.as_slice(), files, out) {
+                Ok(status) => CommandEnd::Checked(status),
+                Err(stop) => CommandEnd::Failed(stop),
+            }
+        }
+        Line::Mean { rounds, .. } => {
+            match mean(alloc, arena, files, gate, *rounds, keeps, out) {
+                Ok(told) => CommandEnd::Meaning(told),
+                Err(stop) => CommandEnd::Failed(stop),
+            }
+        }
         Line::Run {
             engines,
             workers,
@@ -86,12 +101,22 @@ fn perform<R: Threads + Wait + Sync, G: Gate + RoundObserver, O: Sink, S: Sink>(
             ..
         } => {
             let is_wanted = wanted.is_some();
-            run(
-                rt, alloc, arena, files, *engines, *workers, *steps, is_wanted, gate, out, trace,
-            )
+            match run(
+                rt, alloc, arena, files, *engines, *workers, *steps, is_wanted, keeps, gate, out,
+                trace,
+            ) {
+                Ok(run) => CommandEnd::Run(run),
+                Err(stop) => CommandEnd::Failed(stop),
+            }
         }
-        Line::Code { form, .. } => code(alloc, arena, files, *form, out),
-        Line::Replay { .. } => replay(alloc, arena, files, out),
+        Line::Code { form, .. } => match code(alloc, arena, files, *form, out) {
+            Ok(text) => CommandEnd::Listing(text),
+            Err(stop) => CommandEnd::Failed(stop),
+        },
+        Line::Replay { .. } => match replay(alloc, arena, files, keeps, out) {
+            Ok(run) => CommandEnd::Replay(run),
+            Err(refused) => CommandEnd::RefusedTrace(refused),
+        },
     }
 }
 

@@ -1,0 +1,64 @@
+-- What a command came to, as its caller owns it.
+use Rattle.std.specs.Prelude.{◌≡◌, ◌↔◌, ◌∷◌, [], ℕ, Bool, true, List, Option, Some, None, Result, Ok, Err, IfSome, IsSome}
+use Rattle.task_code.specs.Code.{Code}
+use Rattle.board_runs.specs.Stopped.{IsStopped}
+use Rattle.board_runs.specs.declared.stopped.StoppedRun.{StoppedRun}
+use Rattle.swt_arguments.specs.declared.line.Line.{Line}
+use Rattle.swt_arguments.specs.declared.line.Line.TheVariants as Lines
+use Rattle.swt_status.specs.declared.status.Status.{Status}
+use Rattle.swt_status.specs.declared.status.Status.TheVariants.{Done}
+use Rattle.swt_status.specs.declared.stop.CommandStop.{CommandStop}
+use Rattle.swt_status.specs.declared.trace.RefusedTrace.{RefusedTrace}
+use Rattle.swt_status.specs.Statuses.{report_status}
+use Rattle.swt_status.specs.Troubles.{trouble_status}
+use Rattle.swt_trace.specs.Refused.{IsRefusedBy}
+use Rattle.swt_command.specs.declared.end.CommandEnd.{CommandEnd}
+use Rattle.swt_command.specs.declared.end.CommandEnd.TheVariants as End
+use Rattle.swt_command.specs.Files.{Files, HasCode, source_of}
+use Rattle.swt_command.specs.Listings.{IsAcceptedAt}
+use Rattle.swt_command.specs.Means.{IsKept, ToldOf, mean_status}
+use Rattle.swt_command.specs.Runs.{Ran, Replayed}
+
+-- the status of a command that returns something else
+abbrev pub with_status : {A : Type 0} → (A → Status) → Result A CommandStop → Result Status CommandStop
+with_status f (Ok a) = Ok (f a)
+with_status f (Err stop) = Err stop
+
+-- the status of a replay
+abbrev pub replay_status : Result StoppedRun RefusedTrace → Result Status CommandStop
+replay_status (Ok run) = Ok (report_status run.report)
+replay_status (Err refused) = Err refused.stop
+
+-- the failure that ended a command, if it failed
+abbrev pub stop_of : CommandEnd → Option CommandStop
+stop_of (End.RefusedTrace refused) = Some refused.stop
+stop_of (End.Failed stop) = Some stop
+stop_of _ = None
+
+-- the status of an end
+abbrev pub status_of_end : CommandEnd → Status
+status_of_end (End.Checked status) = status
+status_of_end (End.Meaning told) = mean_status told.summary
+status_of_end (End.Listing text) = Done
+status_of_end (End.Run run) = report_status run.report
+status_of_end (End.Replay run) = report_status run.report
+status_of_end (End.RefusedTrace refused) = trouble_status refused.stop.trouble
+status_of_end (End.Failed stop) = trouble_status stop.trouble
+
+-- the end as the contracts of the commands have it
+abbrev pub ended_as : CommandEnd → Result Status CommandStop
+ended_as (End.RefusedTrace refused) = Err refused.stop
+ended_as (End.Failed stop) = Err stop
+ended_as end = Ok (status_of_end end)
+
+-- the end is one of the line's command on these files; a board or a meaning is in it exactly if it is wanted
+abbrev pub IsEndOf : Line → Files → (keeps : Bool) → CommandEnd → Type 0
+IsEndOf (Lines.Check names) files keeps (End.Checked status) = Unit {0}
+IsEndOf (Lines.Mean file rounds) files keeps (End.Meaning told) = ToldOf files rounds told.summary × IsKept files rounds keeps told.known
+IsEndOf (Lines.Code file dot) files keeps (End.Listing text) = IsAcceptedAt files 0
+IsEndOf (Lines.Run file engines workers steps trace) files keeps (End.Run run) = Ran files engines workers steps run.report × IsStopped keeps run
+IsEndOf (Lines.Replay file events) files keeps (End.Replay run) = Replayed files run.report × IsStopped keeps run
+IsEndOf (Lines.Replay file events) files keeps (End.RefusedTrace refused) =
+    IfSome refused.board (λ board. (code : Code) × HasCode files 0 code × ((bytes : List ℕ) × (source_of files 1 ≡ Some bytes) × IsRefusedBy code bytes keeps refused.event board))
+IsEndOf line files keeps (End.Failed stop) = Unit {0}
+IsEndOf _ files keeps _ = ⊥

@@ -1,0 +1,86 @@
+use Rattle.std.proofs.Common.{rules, arith, ◌≡◌, ◌∙◌, ap, sym, subst, refl, Some, ℕ, List, length}
+use Rattle.task_code.specs.Code.{Code}
+use Rattle.task_code.specs.declared.event.Event.{Event}
+use Rattle.board.specs.Board.{Seen}
+use Rattle.board_runs.specs.Report.{Reports}
+use Rattle.swt_trace.specs.declared.fault.ReplayFault.TheVariants.{Memory, NotARun}
+use Rattle.swt_trace.specs.Replay.{IsFirstNoStep, ReplaysTo}
+use Rattle.swt_trace.specs.Report.{ending_of}
+use Rattle.swt_trace.specs.Trace.{IsTrace}
+use Rattle.swt_trace.proofs.Again.{its_trace, not_refused, not_wrong, read_refused, same_again}
+use Rattle.swt_trace.proofs.Faults.{end_alone, end_no_step, no_other, of_fault}
+use Rattle.swt_trace.proofs.Replays.{replayed, wrong_end}
+use Rattle.swt_trace.proofs.replay.replay_to_stop.Goals as goal
+use Rattle.std.proofs.lemmas.Result.{IfOk-weaker}
+
+pub run_behind-requires-clause-trace : goal.run_behind-requires-clause-trace
+run_behind-requires-clause-trace c =
+    (c.args.trace.now, c.in_ok-told.told.ending, subst (λ (es : List Event). IsTrace c.args.trace.now es c.in_ok-told.told.ending) (sym c.as_slice.ensures.value) c.in_ok-told.ensures.ok)
+
+-- where reading is refused
+
+pub returns-in_err-told-clause-only_memory : goal.returns-in_err-told-clause-only_memory
+returns-in_err-told-clause-only_memory c = λ r t.
+    let refused = read_refused c.args.code.now c.args.trace.now r t c.in_err-told.field-0.0 c.in_err-told.ensures.bad in
+    search (rules, refused)
+
+-- where an event is
+
+pub returns-in_err-run-clause-no_step : goal.returns-in_err-run-clause-no_step
+returns-in_err-run-clause-no_step c =
+    let code = ap (λ (b : Seen). b.code) c.in_ok-board.ensures ∙ c.in_ok-program.ensures ∙ c.in_ok-copy.ensures in
+    let trace = subst (λ (es : List Event). IsTrace c.args.trace.now es c.in_ok-told.told.ending) (sym c.as_slice.ensures.value) c.in_ok-told.ensures.ok in
+    let step : (n : ℕ) → c.in_err-run.field-0.0 ≡ NotARun n → IsFirstNoStep c.args.code.now c.args.trace.now n =
+    λ n e. subst (λ (C : Code). IsFirstNoStep C c.args.trace.now n) code (c.in_err-run.ensures.no_step n e c.args.trace.now c.in_ok-told.told.ending trace) in
+    search (rules, step)
+
+pub returns-in_err-run-clause-only_memory : goal.returns-in_err-run-clause-only_memory
+returns-in_err-run-clause-only_memory c = λ r t.
+    let code = ap (λ (b : Seen). b.code) c.in_ok-board.ensures ∙ c.in_ok-program.ensures ∙ c.in_ok-copy.ensures in
+    let trace = subst (λ (es : List Event). IsTrace c.args.trace.now es c.in_ok-told.told.ending) (sym c.as_slice.ensures.value) c.in_ok-told.ensures.ok in
+    let refused : c.in_err-run.field-0.0 ≡ Memory =
+    no_other c.in_err-run.field-0.0 c.in_err-run.ensures.bad
+    (λ n e. not_refused c.args.code.now c.entry_count-whole.ensures.whole c.args.trace.now t.limit r (Some (ending_of r.end)) (its_trace c.args.code.now c.args.trace.now r t) t.reports n
+    (subst (λ (C : Code). IsFirstNoStep C c.args.trace.now n) code (c.in_err-run.ensures.no_step n e c.args.trace.now c.in_ok-told.told.ending trace)))
+    c.in_err-run.ensures.wrong in
+    search (rules, refused)
+
+-- where there is a report of the events of the trace
+
+pub returns-clause-report : goal.returns-clause-report
+returns-clause-report c =
+    let code = ap (λ (b : Seen). b.code) c.in_ok-board.ensures ∙ c.in_ok-program.ensures ∙ c.in_ok-copy.ensures in
+    let told = c.in_ok-told.told in
+    let r = c.in_ok-run.run.report in
+    let reports : Reports c.args.code.now (length told.events.items) r =
+    subst (λ (es : List Event). Reports c.args.code.now (length es) r) c.as_slice.ensures.value (subst (λ (C : Code). Reports C (length c.as_slice.result.now) r) code c.in_ok-run.ensures.reports) in
+    IfOk-weaker c.ended_as.result _ (ReplaysTo c.args.code.now c.args.trace.now)
+    (λ s h. replayed c.args.code.now c.args.trace.now told.events.items told.ending r s c.in_ok-told.ensures.ok (c.in_ok-run.ensures.history ∙ c.as_slice.ensures.value) reports h.0 h.1) c.ended_as.ensures.ok
+
+pub returns-clause-bad : goal.returns-clause-bad
+returns-clause-bad c = of_fault c.ended_as.result _ _ _ (λ f h k n e. absurd (end_alone f _ n h.0 e)) c.ended_as.ensures.err c.ended_as.ensures.err
+
+pub returns-clause-no_step : goal.returns-clause-no_step
+returns-clause-no_step c = of_fault c.ended_as.result _ _ _ (λ f h k n e. absurd (end_no_step f _ n h.0 e)) c.ended_as.ensures.err c.ended_as.ensures.err
+
+pub returns-clause-wrong : goal.returns-clause-wrong
+returns-clause-wrong c =
+    let code = ap (λ (b : Seen). b.code) c.in_ok-board.ensures ∙ c.in_ok-program.ensures ∙ c.in_ok-copy.ensures in
+    let told = c.in_ok-told.told in
+    let r = c.in_ok-run.run.report in
+    let reports : Reports c.args.code.now (length told.events.items) r =
+    subst (λ (es : List Event). Reports c.args.code.now (length es) r) c.as_slice.ensures.value (subst (λ (C : Code). Reports C (length c.as_slice.result.now) r) code c.in_ok-run.ensures.reports) in
+    of_fault c.ended_as.result _ _ _
+    (λ f h k n e. wrong_end c.args.code.now c.args.trace.now told.events.items told.ending r _ n c.in_ok-told.ensures.ok (c.in_ok-run.ensures.history ∙ c.as_slice.ensures.value) reports h.1
+    (grind arith) (sym h.0 ∙ e))
+    c.ended_as.ensures.err c.ended_as.ensures.err
+
+pub returns-clause-again : goal.returns-clause-again
+returns-clause-again c = λ r t.
+    IfOk-weaker c.ended_as.result _ _ (λ s h. same_again c.args.code.now c.args.trace.now r t c.entry_count-whole.ensures.whole s h) (returns-clause-report c)
+
+pub returns-clause-only_memory : goal.returns-clause-only_memory
+returns-clause-only_memory c = λ r t.
+    of_fault c.ended_as.result _ _ _
+    (λ f h k. absurd (not_wrong c.args.code.now c.entry_count-whole.ensures.whole c.args.trace.now t.limit r (Some (ending_of r.end)) (its_trace c.args.code.now c.args.trace.now r t) t.reports refl _ (k _ h.0)))
+    c.ended_as.ensures.err (returns-clause-wrong c)
