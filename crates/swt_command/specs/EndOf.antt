@@ -51,14 +51,18 @@ ended_as (End.RefusedTrace refused) = Err refused.stop
 ended_as (End.Failed stop) = Err stop
 ended_as end = Ok (status_of_end end)
 
+-- the board of a refused trace was kept because that was wanted, and is the one at which the trace was refused
+abbrev pub IsRefusal : Files → (keeps : Bool) → RefusedTrace → Type 0
+IsRefusal files keeps refused =
+    IfSome refused.board (λ board. (code : Code) × HasCode files 0 code × ((bytes : List ℕ) × (source_of files 1 ≡ Some bytes) × IsRefusedBy code bytes keeps refused.event board))
+
 -- the end is one of the line's command on these files; a board or a meaning is in it exactly if it is wanted
 abbrev pub IsEndOf : Line → Files → (keeps : Bool) → CommandEnd → Type 0
 IsEndOf (Lines.Check names) files keeps (End.Checked status) = Unit {0}
 IsEndOf (Lines.Mean file rounds) files keeps (End.Meaning told) = ToldOf files rounds told.summary × IsKept files rounds keeps told.known
-IsEndOf (Lines.Code file dot) files keeps (End.Listing text) = IsAcceptedAt files 0
+IsEndOf (Lines.Code file form) files keeps (End.Listing text) = IsAcceptedAt files 0
 IsEndOf (Lines.Run file engines workers steps trace) files keeps (End.Run run) = Ran files engines workers steps run.report × IsStopped keeps run
 IsEndOf (Lines.Replay file events) files keeps (End.Replay run) = Replayed files run.report × IsStopped keeps run
-IsEndOf (Lines.Replay file events) files keeps (End.RefusedTrace refused) =
-    IfSome refused.board (λ board. (code : Code) × HasCode files 0 code × ((bytes : List ℕ) × (source_of files 1 ≡ Some bytes) × IsRefusedBy code bytes keeps refused.event board))
+IsEndOf (Lines.Replay file events) files keeps (End.RefusedTrace refused) = IsRefusal files keeps refused
 IsEndOf line files keeps (End.Failed stop) = Unit {0}
 IsEndOf _ files keeps _ = ⊥

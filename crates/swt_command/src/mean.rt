@@ -1,11 +1,11 @@
 //! The command `mean`: prints the meaning of a script.
-ghost use Rattle.std.specs.Prelude.{◌≡◌, ◌<◌, ◌++◌, MatchResult, OnOk, OnErr};
+ghost use Rattle.std.specs.Prelude.{◌≡◌, ◌<◌, ◌++◌, IfOk, OnOk, OnErr};
 ghost use Rattle.std.specs.List.{flat_map};
 ghost use Rattle.values.specs.Sinks.{Beginning};
 ghost use Rattle.swt_trace.specs.Report.{fault_line};
 ghost use Rattle.swt_command.specs.EndOf.{with_status};
 ghost use Rattle.swt_command.specs.Files.{contents};
-ghost use Rattle.swt_command.specs.Means.{Means, cut_line, known_text, mean_status, mean_text};
+ghost use Rattle.swt_command.specs.Means.{IsKept, Means, ToldOf, cut_line, known_text, mean_status, mean_text};
 ghost use Rattle.swt_command.specs.Sinks.{Writes, held};
 
 use crate::meaning_summary::{MeaningEnd, MeaningSummary, worked_out};
@@ -36,8 +36,9 @@ pub fn mean<W: RoundObserver, O: Sink>(
     out: &mut O,
 ) -> Result<MeaningEnd, CommandStop>
     requires { O.failures out.old < u64.MAX }
-    ensures { Means (contents files.now) limit (with_status (λ end. mean_status end.summary) result) (held (O.taken out.old) (O.failures out.old))
+    ensures means { Means (contents files.now) limit (with_status (λ end. mean_status end.summary) result) (held (O.taken out.old) (O.failures out.old))
         (held (O.taken out.new) (O.failures out.new)) }
+    ensures told { IfOk result (λ end. ToldOf (contents files.now) limit end.summary × IsKept (contents files.now) limit keeps end.known) }
 {
     let told = worked_out(alloc, arena, files, watch, limit, keeps)?;
     match write_told(&told.summary, limit, out) {

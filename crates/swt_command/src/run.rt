@@ -1,9 +1,9 @@
 //! The commands `run` and `replay`.
-ghost use Rattle.std.specs.Prelude.{◌≡◌, ◌<◌, true, None, IfOk, MatchResult};
+ghost use Rattle.std.specs.Prelude.{◌≡◌, ◌<◌, true, None, IfErr, IfOk, MatchResult};
 ghost use Rattle.board_runs.specs.Stopped.{IsStopped};
 ghost use Rattle.swt_trace.specs.Report.{TraceOf};
 ghost use Rattle.swt_status.specs.Statuses.{report_status};
-ghost use Rattle.swt_command.specs.EndOf.{replay_status, with_status};
+ghost use Rattle.swt_command.specs.EndOf.{IsRefusal, replay_status, with_status};
 ghost use Rattle.swt_command.specs.Files.{contents};
 ghost use Rattle.swt_command.specs.Runs.{Ran, Replayed, Replays, Runs, StopsBeforeReplay, StopsBeforeRun, Traces};
 ghost use Rattle.swt_command.specs.Sinks.{Lost, held};
@@ -158,6 +158,7 @@ pub fn replay<O: Sink>(
     ensures replays { Replays (contents files.now) (replay_status result) (held (O.taken out.old) (O.failures out.old))
         (held (O.taken out.new) (O.failures out.new)) }
     ensures replayed { IfOk result (λ run. Replayed (contents files.now) run.report × IsStopped keeps run) }
+    ensures refused { IfErr result (IsRefusal (contents files.now) keeps) }
 {
     let run = replayed(alloc, arena, files, keeps)?;
     match write_report(&run.report, out) {
@@ -189,7 +190,7 @@ fn replayed(
     keeps: bool,
 ) -> Result<StoppedRun, RefusedTrace>
     ensures { MatchResult result (λ run. Replayed (contents files.now) run.report × IsStopped keeps run)
-        (λ refused. StopsBeforeReplay (contents files.now) refused.stop.place refused.stop.trouble) }
+        (λ refused. StopsBeforeReplay (contents files.now) refused.stop.place refused.stop.trouble × IsRefusal (contents files.now) keeps refused) }
 {
     let code = match code_of(alloc, arena, files) {
         Ok(code) => code,

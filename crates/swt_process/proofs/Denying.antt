@@ -71,6 +71,10 @@ undenied names h out new err mid err_new number status ran (inl (x, s, k)) =
     subst (λ (n : ℕ). Ran (Check names) h out new err err_new n) (sym s) (subst (λ (m : Held). Ran (Check names) h out new err m number) (sym k) ran)
 undenied names h out new err mid err_new number status ran (inr (e, z, d)) = absurd (true≢false (sym e))
 
+pub same_number : (rs : List Read) (mid err : Held) (number status : ℕ) → Concludes false rs number mid err status → status ≡ number
+same_number rs mid err number status (inl (x, s, k)) = s
+same_number rs mid err number status (inr (e, z, d)) = absurd (true≢false (sym e))
+
 -- a check ends by the state after its files
 pub obeys_check : (request : Request) (names : List (List ℕ)) (h : List Event) (out new err err_new : Held) (status : ℕ) → request.line ≡ Check names
     → (number : ℕ) × (mid : Held) × Ran (Check names) h out new err mid number × Concludes request.deny (reads h) number mid err_new status → Obeys request h out new err err_new status

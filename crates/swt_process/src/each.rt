@@ -96,10 +96,10 @@ pub fn check_all<H: Host, V: VerdictObserver, O: Sink, E: Sink>(
 {
     let mut warnings = WarningState::new(denies);
     match check_each(host, alloc, names, &mut warnings, observer, out) {
-        Ok(status) => {
-            let number = conclude(status.number(), warnings, err);
-            (number, CommandEnd::Checked(status))
-        }
+        Ok(status) => (
+            conclude(status.number(), warnings, err),
+            CommandEnd::Checked(status),
+        ),
         Err(stop) => {
             let _ = write_failure(stop.trouble, name_at(names, stop.place), err);
             (stop.trouble.status().number(), CommandEnd::Failed(stop))

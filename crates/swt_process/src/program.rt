@@ -80,8 +80,8 @@ fn read<H: Host>(
 /// The board of a run, or the facts of a meaning, are part of the end if `keeps`.
 ///
 /// The files of `check` are read, checked and reported one after the other, so that only one is in memory; `observer`
-/// receives each of them with its verdict. For any other command all files are read first. It then runs with one arena for all syntax trees, and its trace is moved to
-/// its final name.
+/// receives each of them with its verdict. For any other command all files are read first. It then runs with one arena
+/// for all syntax trees, and its trace is moved to its final name.
 pub fn program<
     R: Threads + Wait + Sync,
     G: Gate + RoundObserver,

@@ -55,9 +55,15 @@ pub fn execute<
     let mut host = host;
     match &request.line {
         Line::Check { files } => {
-            let names = files.as_slice();
-            let (status, end) =
-                check_all(&mut host, alloc, names, request.deny, observer, out, err);
+            let (status, end) = check_all(
+                &mut host,
+                alloc,
+                files.as_slice(),
+                request.deny,
+                observer,
+                out,
+                err,
+            );
             ProcessEnd {
                 status,
                 end,

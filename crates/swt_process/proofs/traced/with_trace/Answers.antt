@@ -7,7 +7,7 @@ use Rattle.swt_command.specs.Sinks.{Held, held}
 use Rattle.swt_command.specs.Troubles.{trouble_line}
 use Rattle.swt_command.proofs.Sinks.{given as given_by}
 use Rattle.swt_process.specs.Ends.{Did}
-use Rattle.swt_process.proofs.Endings.{did_close, did_lose, did_stop, quiet, same_held, untraced}
+use Rattle.swt_process.proofs.Endings.{did_close, did_lose, did_stop, process_end, quiet, same_held, untraced}
 use Rattle.swt_process.proofs.Unchanged.{none_given, none_replaced, none_unsafe}
 use Rattle.swt_process.proofs.traced.with_trace.Goals as goal
 
@@ -103,3 +103,9 @@ returns-then-is_reported-clause-unchanged g c = λ n.
     c.finish-is_kept.ensures.unchanged
     (ap (λ (t : Held). t.bytes) kept ∙ ap given c.new-trace.ensures.history ∙ none_given (g.H.Host.history c.args.host) c.requires.none)
     (ap (λ (t : Held). t.failures) kept ∙ c.new-trace.ensures.failures) ∙ c.requires.changed
+
+pub returns-then-is_kept-clause-end : goal.returns-then-is_kept-clause-end
+returns-then-is_kept-clause-end g c = process_end c.args.line.now (contents c.args.files.now) c.args.keeps c.command-status.result.1 c.command-status.ensures.end
+
+pub returns-clause-end : goal.returns-clause-end
+returns-clause-end g c = process_end c.args.line.now (contents c.args.files.now) c.args.keeps c.command-status.result.1 c.command-status.ensures.end
