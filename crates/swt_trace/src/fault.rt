@@ -99,7 +99,7 @@ impl Drop for RefusedReplay {
 }
 
 impl RefusedReplay {
-    ghost use Rattle.std.specs.Prelude.{◌≡◌};
+    ghost use Rattle.std.specs.Prelude.{◌≡◌, None};
 
     /// Returns the fault, the board and the event.
     pub fn into_parts(self) -> (ReplayFault, Option<Board>, Option<Event>)
@@ -116,7 +116,10 @@ impl RefusedReplay {
     }
 
     /// Creates the refusal of a replay of which no board is left.
-    fn alone(fault: ReplayFault) -> RefusedReplay {
+    pub(crate) fn alone(fault: ReplayFault) -> RefusedReplay
+        ensures fault { result.fault ≡ fault }
+        ensures board { result.board ≡ None }
+    {
         RefusedReplay {
             fault,
             board: None,

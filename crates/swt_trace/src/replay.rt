@@ -1,5 +1,5 @@
 //! Replay of a trace on the code of its script.
-ghost use Rattle.std.specs.Prelude.{◌≡◌, ◌<◌, ◌+◌, Some, slice_get, IfSome, ℕ, List, [], length, map, Option, IfOk, IfErr, OnOk};
+ghost use Rattle.std.specs.Prelude.{◌≡◌, ◌<◌, ℕ, List, [], length, map, Option, true, IfSome, IfOk, IfErr, OnOk};
 ghost use Rattle.dataflow.specs.Machine.{Back, Begin, End};
 ghost use Rattle.task_code.specs.View.{event_view};
 ghost use Rattle.board.specs.Board.{IsWorker};
@@ -10,7 +10,7 @@ ghost use Rattle.board_runs.specs.Same.{SameReport};
 ghost use Rattle.board_runs.specs.Stopped.{IsStopped};
 ghost use Rattle.swt_trace.specs.declared.ending.Ending.{Ending};
 ghost use Rattle.swt_trace.specs.Replay.{IsFirstNoStep, IsNamed, IsTraceOf, IsWrongEnd, ReplaysTo, Takes};
-ghost use Rattle.swt_trace.specs.Refused.{IsRefusedBy};
+ghost use Rattle.swt_trace.specs.Refused.{IsRefusedBy, IsSoFar};
 
 use crate::ending::Ending;
 use crate::fault::{RefusedReplay, ReplayFault};
@@ -115,20 +115,19 @@ fn run_behind(
     }
 }
 
-/// Returns the refusal of the first event that is not a step, with the board before it if that is wanted.
+/// Returns the refusal of the first event that is not a step, with the board before it if that is wanted. No board is
+/// left for want of memory.
 fn refused_at(fault: ReplayFault, board: Board, events: &[Event], keeps: bool) -> RefusedReplay
     ensures fault { result.fault ≡ fault }
-    ensures board { IfSome result.board (λ left. left ≡ board) }
-    ensures event { IfSome result.event (λ event. (n : ℕ) → fault ≡ ReplayFault.NotARun (n + 2) → slice_get events.now n ≡ Some event) }
+    ensures board { IfSome result.board (λ left. (left ≡ board) × (keeps ≡ true) × ((n : ℕ) × (fault ≡ ReplayFault.NotARun n))) }
 {
-    let event = match fault {
-        ReplayFault::NotARun(line) => events.get(line.saturating_sub(2) as usize).copied(),
-        _ => None,
-    };
-    RefusedReplay {
-        fault,
-        board: if keeps { Some(board) } else { None },
-        event,
+    match fault {
+        ReplayFault::NotARun(line) if keeps => RefusedReplay {
+            fault,
+            board: Some(board),
+            event: events.get(line.saturating_sub(2) as usize).copied(),
+        },
+        _ => RefusedReplay::alone(fault),
     }
 }
 
@@ -165,6 +164,8 @@ fn take_all(board: &mut Board, events: &[Event]) -> Result<(), ReplayFault>
     ensures wrong { IfErr result (λ fault. (n : ℕ) → fault ≡ ReplayFault.WrongEnd n → ⊥) }
     ensures no_step { IfErr result (λ fault. (n : ℕ) → fault ≡ ReplayFault.NotARun n
         → (bytes : List ℕ) (e : Option Ending) → IsTrace bytes events.now e → IsFirstNoStep board.old.code bytes n) }
+    ensures left { IfErr result (λ fault. (n : ℕ) → fault ≡ ReplayFault.NotARun n
+        → (board.new.code ≡ board.old.code) × IsSoFar events.now board.new.history) }
 {
     for (place, event) in events.iter().enumerate() {
         if !take_step(board, event)? {

@@ -9,6 +9,7 @@ use Rattle.swt_trace.specs.Report.{ending_of}
 use Rattle.swt_trace.specs.Trace.{IsTrace}
 use Rattle.swt_trace.proofs.Again.{its_trace, not_refused, not_wrong, read_refused, same_again}
 use Rattle.swt_trace.proofs.Faults.{end_alone, end_no_step, no_other, of_fault}
+use Rattle.swt_trace.proofs.Refusals.{other_end}
 use Rattle.swt_trace.proofs.Replays.{replayed, wrong_end}
 use Rattle.swt_trace.proofs.replay.replay_to_stop.Goals as goal
 use Rattle.std.proofs.lemmas.Result.{IfOk-weaker}
@@ -84,3 +85,14 @@ returns-clause-only_memory c = λ r t.
     of_fault c.ended_as.result _ _ _
     (λ f h k. absurd (not_wrong c.args.code.now c.entry_count-whole.ensures.whole c.args.trace.now t.limit r (Some (ending_of r.end)) (its_trace c.args.code.now c.args.trace.now r t) t.reports refl _ (k _ h.0)))
     c.ended_as.ensures.err (returns-clause-wrong c)
+
+pub returns-clause-left : goal.returns-clause-left
+returns-clause-left c =
+    let code = ap (λ (b : Seen). b.code) c.in_ok-board.ensures ∙ c.in_ok-program.ensures ∙ c.in_ok-copy.ensures in
+    let told = c.in_ok-told.told in
+    let run = c.in_ok-run.run in
+    let reports : Reports c.args.code.now (length told.events.items) run.report =
+    subst (λ (es : List Event). Reports c.args.code.now (length es) run.report) c.as_slice.ensures.value
+    (subst (λ (C : Code). Reports C (length c.as_slice.result.now) run.report) code c.in_ok-run.ensures.reports) in
+    other_end c.args.code.now c.args.trace.now c.args.keeps told.events.items told.ending run _ c.ended_as.result c.in_ok-told.ensures.ok (c.in_ok-run.ensures.history ∙ c.as_slice.ensures.value) reports
+    c.in_ok-run.ensures.kept (λ f h. h.1) c.ended_as.ensures.err
