@@ -4,7 +4,7 @@ use Rattle.std.specs.Prelude.{IfNone, IfOk, IfSome, Result, Vec, if◌then◌els
 use Rattle.std.proofs.lemmas.List.{length-map, reverse-reverse}
 use Rattle.dataflow.specs.System.{In, Input}
 use Rattle.dataflow.specs.Machine.{Event, IsKnown}
-use Rattle.board_history.specs.Fields.{Counted, Does, Frame, Job, Over, Ready, Row, Running, Script, Status, Waiting, Want, is_over, is_running, item_before, items_from, path_of, row_of, running_in, task_of}
+use Rattle.board_history.specs.Fields.{Counted, Does, Frame, Job, Over, Ready, Row, Running, Script, Status, Waiting, Want, is_over, is_running, item_before, items_from, path_of, row_of, running_in, slot_at, task_of}
 use Rattle.board_history.specs.Stands.{Stands}
 use Rattle.board_history.proofs.EndedNames.{Resolved}
 use Rattle.board_history.proofs.Marking.{IsItem, RowIs, item, status_is}
@@ -317,10 +317,13 @@ module _ (a : Inside) (s : IsSound a) where
       let f = home C s.whole es a.core s.stand n l.instance l.entry l.chunk (row_as l.instance l.entry l.chunk (status_view l.status)) there refl (live_status l.status live) in
       record {
         i = l.entry;
-        body = f.0.body;
         path = path_of fs l.instance;
         stands = stands_as n l.instance l.entry l.chunk (status_view l.status) (live_item l.status live) there;
+        only = λ j p st. stands_here n l.instance l.entry l.chunk (status_view l.status) there j p st;
         program = program;
+        frame = f.0;
+        there = ap (λ z. slot_at (frames_view z.slots) v.at) instances ∙ ap (λ (z : ℕ). slot_at fs z) at ∙ f.1;
+        inside = f.2;
         missing = λ m inn.
             subst (λ (z : ℕ). (wanted_missed C (cells_view v.store.now.cells) (led_slot (frames_view v.instances.now.slots) z) (wanted_in C f.0.body m) ≡ []) ↔ IsNeedKnown (seen_of a) (path_of fs l.instance) m) (sym at)
             (subst (λ z. (wanted_missed C (cells_view v.store.now.cells) (led_slot (frames_view z.slots) l.instance) (wanted_in C f.0.body m) ≡ []) ↔ IsNeedKnown (seen_of a) (path_of fs l.instance) m) (sym instances)

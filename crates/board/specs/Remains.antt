@@ -4,7 +4,8 @@ use Rattle.dataflow.specs.System.{In, Input}
 use Rattle.dataflow.specs.Machine.{Holds, IsKnown}
 use Rattle.values.specs.declared.key.Key.{Key}
 use Rattle.values.specs.declared.value.Scalar.{Scalar}
-use Rattle.task_code.specs.Code.{Code, Need, entry}
+use Rattle.board_history.specs.Fields.{Frame, slot_at}
+use Rattle.task_code.specs.Code.{Code, Need, body, entry}
 use Rattle.task_code.specs.Effects.{Item}
 use Rattle.task_code.specs.Machine.{CodeItem, CodeState, Enabled}
 use Rattle.task_code.specs.Places.{Place, Step as CodeStep}
@@ -64,10 +65,13 @@ IsNeedKnown b path n = (x : Input Place Key) → In x (inputs_at b.code path n) 
 -- known
 pub record Sees (b : Seen) (number : ℕ) (environment : Environment) : Type 0 where
   pub i : ℕ
-  pub body : ℕ
   pub path : List CodeStep
   pub stands : StandsAt b number i path
+  pub only : (j : ℕ) (p : List CodeStep) → StandsAt b number j p → (i ≡ j) × (path ≡ p)
   pub program : environment.program.now ≡ b.code
+  pub frame : Frame
+  pub there : slot_at (frames_view environment.instances.now.slots) environment.at ≡ Some frame
+  pub inside : In i (body b.code frame.body).entries
   pub missing : (n : Need) → In n (entry b.code i).needs
-      → (wanted_missed b.code (cells_view environment.store.now.cells) (led_slot (frames_view environment.instances.now.slots) environment.at) (wanted_in b.code body n) ≡ [])
+      → (wanted_missed b.code (cells_view environment.store.now.cells) (led_slot (frames_view environment.instances.now.slots) environment.at) (wanted_in b.code frame.body n) ≡ [])
       ↔ IsNeedKnown b path n

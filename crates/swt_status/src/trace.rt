@@ -3,7 +3,7 @@ ghost use Rattle.std.specs.Prelude.{◌≡◌, Some, IfSome, MatchResult};
 ghost use Rattle.board_runs.specs.Stopped.{IsStopped};
 ghost use Rattle.swt_trace.specs.Refused.{IsRefusedBy};
 ghost use Rattle.swt_trace.specs.Replay.{ReplaysTo};
-ghost use Rattle.swt_status.specs.Traces.{StopsAtTrace};
+ghost use Rattle.swt_status.specs.Traces.{StopsAtTrace, replay_failure};
 
 use crate::failure::CommandFailure;
 use crate::stop::CommandStop;
@@ -82,7 +82,9 @@ pub fn run_of_trace(
 }
 
 /// Converts the fault of a replay into the command failure.
-fn failure_of(fault: ReplayFault) -> CommandFailure {
+fn failure_of(fault: ReplayFault) -> CommandFailure
+    ensures { result ≡ replay_failure fault }
+{
     match fault {
         ReplayFault::BadLine(line) => CommandFailure::BadLine(line),
         ReplayFault::NotARun(line) => CommandFailure::NotARun(line),

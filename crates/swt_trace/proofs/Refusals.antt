@@ -1,6 +1,6 @@
 -- The board that a refused replay leaves.
 use Rattle.std.proofs.Common.{◌≡◌, ◌∙◌, ◌++◌, sym, ap, subst, ℕ, Bool, true, false, Option, Some, None, List, [], length, map, take, drop, get_or}
-use Rattle.std.specs.Prelude.{IfErr, IfSome, IsSome, Result, Ok, Err}
+use Rattle.std.specs.Prelude.{IfErr, IfSome, IsErrAnd, IsSome, Result, Ok, Err}
 use Rattle.std.proofs.lemmas.List.{append-nil, map-append, take-append-drop}
 use Rattle.dataflow.specs.Machine as Machine
 use Rattle.task_code.specs.declared.event.Event.{Event}
@@ -14,7 +14,7 @@ use Rattle.board_runs.specs.Stopped.{IsStopped}
 use Rattle.swt_trace.specs.declared.ending.Ending.{Ending}
 use Rattle.swt_trace.specs.declared.fault.RefusedReplay.{RefusedReplay}
 use Rattle.swt_trace.specs.declared.fault.ReplayFault.{ReplayFault}
-use Rattle.swt_trace.specs.declared.fault.ReplayFault.TheVariants.{NotARun}
+use Rattle.swt_trace.specs.declared.fault.ReplayFault.TheVariants.{Memory, NotARun}
 use Rattle.swt_trace.specs.Refused.{IsRefusedBy, IsSoFar}
 use Rattle.swt_trace.specs.Replay.{Takes}
 use Rattle.swt_trace.specs.Trace.{IsTrace}
@@ -35,11 +35,11 @@ left_at C items place d old new taken code history takes refused =
     (ap (λ (b : Seen). b.code) t.0 ∙ code, in_front items place new.history (ap (λ (b : Seen). b.history) t.0 ∙ history))
 
 -- which is returned
-pub refused_by : (C : Code) (bytes : List ℕ) (keeps : Bool) (event : Option Event) (events : List Event) (ending : Option Ending) (fault : ReplayFault) (o : Option Seen) (board : Seen)
+pub refused_by : (C : Code) (keeps : Bool) (event : Option Event) (events : List Event) (fault : ReplayFault) (o : Option Seen) (board : Seen)
     → IfSome o (λ left. (left ≡ board) × (keeps ≡ true) × ((n : ℕ) × (fault ≡ NotARun n))) → ((n : ℕ) → fault ≡ NotARun n → (board.code ≡ C) × IsSoFar events board.history)
-    → IsTrace bytes events ending → IfSome o (λ left. IsRefusedBy C bytes keeps event left)
-refused_by C bytes keeps event events ending fault None board h l trace = tt
-refused_by C bytes keeps event events ending fault (Some left) board (same, wanted, n, is) l trace =
+    → IfSome o (λ left. (bytes : List ℕ) (e : Option Ending) → IsTrace bytes events e → IsRefusedBy C bytes keeps event left)
+refused_by C keeps event events fault None board h l = tt
+refused_by C keeps event events fault (Some left) board (same, wanted, n, is) l = λ bytes ending trace.
     let x = l n is in record {
       wanted = wanted;
       code = ap (λ (b : Seen). b.code) same ∙ x.0;
@@ -48,6 +48,21 @@ refused_by C bytes keeps event events ending fault (Some left) board (same, want
       trace = trace;
       so_far = subst (λ (h : List Machine.Event). IsSoFar events h) (sym (ap (λ (b : Seen). b.history) same)) x.1;
     }
+
+pub left_of_trace : (C D : Code) (bytes : List ℕ) (keeps : Bool) (event : Option Event) (events : List Event) (ending : Option Ending) (o : Option Seen) → D ≡ C
+    → IfSome o (λ left. (text : List ℕ) (e : Option Ending) → IsTrace text events e → IsRefusedBy D text keeps event left) → IsTrace bytes events ending
+    → IfSome o (λ left. IsRefusedBy C bytes keeps event left)
+left_of_trace C D bytes keeps event events ending None same h trace = tt
+left_of_trace C D bytes keeps event events ending (Some left) same h trace = subst (λ (K : Code). IsRefusedBy K bytes keeps event left) same (h bytes ending trace)
+
+-- and none is left for want of memory
+pub none_left : (o : Option Seen) (P : Seen → Type 0) → o ≡ None → IfSome o P
+none_left o P e = subst (λ (q : Option Seen). IfSome q P) (sym e) tt
+
+pub for_memory : {T : Type 0} (r : Result T RefusedReplay) (Q : RefusedReplay → Type 0) → IsErrAnd r (λ x. (x.fault ≡ Memory) × (x.board ≡ None))
+    → ((x : RefusedReplay) → x.fault ≡ Memory → x.board ≡ None → Q x) → IfErr r Q
+for_memory (Ok x) Q h f = tt
+for_memory (Err x) Q h f = f x h.0 h.1
 
 -- all events, where another end is named
 all_events : (C : Code) (bytes : List ℕ) (keeps : Bool) (event : Option Event) (events : List Event) (ending : Option Ending) (r : Report) (o : Option Seen)
