@@ -1,6 +1,6 @@
 -- The items that have not ended, as a board shows them.
 use Rattle.std.proofs.Common.{◌≡◌, ◌⊎◌, ◌↔◌, inl, inr, ℕ, zero, suc, ◌+◌, ◌<◌, ◌≤◌, Bool, true, false, List, [], ◌∷◌, length, map, refl, sym, ap, ◌∙◌, subst, Option, None, Some, Ok, Err, arith}
-use Rattle.std.specs.Prelude.{IfNone, IfOk, IfSome, Result, Vec, if◌then◌else◌, reverse}
+use Rattle.std.specs.Prelude.{IfNone, IfOk, IfSome, Result, Vec, if◌then◌else◌, option_map, reverse}
 use Rattle.std.proofs.lemmas.List.{length-map, reverse-reverse}
 use Rattle.dataflow.specs.System.{In, Input}
 use Rattle.dataflow.specs.Machine.{Event, IsKnown}
@@ -30,7 +30,7 @@ use Rattle.paths.specs.declared.steps.Step.{Step}
 use Rattle.board.specs.History.{state_of}
 use Rattle.board.specs.Inside.{IsSound, seen_of}
 use Rattle.board.specs.Remains.{AreSoManyRunning, HasStatus, IsBlockedItem, IsLeft, IsNeedKnown, IsNoneLeft, IsPathOf, Sees, StandsAt}
-use Rattle.board.specs.Stuck.{Place, blocked_job, blocked_row}
+use Rattle.board.specs.Stuck.{Place, at_place, blocked_job, blocked_row}
 use Rattle.board.specs.View.{fields_view}
 use Rattle.board.specs.declared.board.Board.TheInside.{Inside}
 use Rattle.board.specs.declared.remains.LeftItem.{LeftItem}
@@ -299,6 +299,17 @@ module _ (a : Inside) (s : IsSound a) where
           let counted = subst (λ z. counts (entry C z).act ≡ true) (sym same.0) b.3 in
           let stands = subst (λ z. IsBlockedAt C (IsKnown (code_system C) x.state) (path_of fs k) (entry C z).act (entry C z).at at) (sym same.0) (subst (λ z. IsBlockedAt C (IsKnown (code_system C) x.state) z (entry C b.0).act (entry C b.0).at at) (sym same.1) (subst (λ (t : CodeState). IsBlockedAt C (IsKnown (code_system C) t) b.1 (entry C b.0).act (entry C b.0).at at) here b.4)) in
           none_some (sym h ∙ ap (λ z. if z then None else blocked_job C fs cs r.job) o ∙ ap (blocked_job C fs cs) q ∙ blocked_here C s.whole es a.core s.stand n k e c r there q live at counted stands)
+
+  pub offset_found : (n : ℕ) (r : Row) → row_of rows n ≡ Some r → (o : Option (ℕ × ℕ)) (f : Option ℕ) → f ≡ option_map (λ (q : ℕ × ℕ). q.1) o
+      → option_map (λ (q : ℕ × ℕ). at_place q.1 (path_of fs q.0)) o ≡ blocked_row C fs cs r → IfSome f (λ at. IsBlockedItem (seen_of a) n at)
+  offset_found n r there None f e h = subst (λ (z : Option ℕ). IfSome z (λ at. IsBlockedItem (seen_of a) n at)) (sym e) tt
+  offset_found n r there (Some q) f e h =
+      subst (λ (z : Option ℕ). IfSome z (λ at. IsBlockedItem (seen_of a) n at)) (sym e) (blocked_told n r there (at_place q.1 (path_of fs q.0)) (sym h))
+
+  pub no_offset : (n : ℕ) (r : Row) → row_of rows n ≡ Some r → (o : Option (ℕ × ℕ)) (f : Option ℕ) → f ≡ option_map (λ (q : ℕ × ℕ). q.1) o
+      → option_map (λ (q : ℕ × ℕ). at_place q.1 (path_of fs q.0)) o ≡ blocked_row C fs cs r → IfNone f ((at : ℕ) → IsBlockedItem (seen_of a) n at → ⊥)
+  no_offset n r there None f e h = subst (λ (z : Option ℕ). IfNone z ((at : ℕ) → IsBlockedItem (seen_of a) n at → ⊥)) (sym e) (not_blocked n r there (sym h))
+  no_offset n r there (Some q) f e h = subst (λ (z : Option ℕ). IfNone z ((at : ℕ) → IsBlockedItem (seen_of a) n at → ⊥)) (sym e) tt
 
   pub nothing_blocked : (n : ℕ) → row_of rows n ≡ None → (at : ℕ) → IsBlockedItem (seen_of a) n at → ⊥
   nothing_blocked n there at b = nothing_told n there b.0 b.1 b.2

@@ -2,7 +2,7 @@
 //!
 //! Each accepted event is appended to the history. A refused call changes nothing, apart from `perform` when it fails
 //! after its Begin.
-ghost use Rattle.std.specs.Prelude.{ℕ, ℤ, ◌+◌, ◌≡◌, ◌⊎◌, ◌<◌, ◌≤◌, ◌^◌, ◌∷◌, [], map, length, vec_len, MatchBool, IfOk, IfErr, IfSome, IfNone, OnOk, OnErr, IsTrue, ◌↔◌, None, Some, slice_get};
+ghost use Rattle.std.specs.Prelude.{ℕ, ℤ, ◌+◌, ◌≡◌, ◌⊎◌, ◌<◌, ◌≤◌, ◌^◌, ◌∷◌, [], map, length, vec_len, MatchBool, IfOk, IfErr, IfSome, IfNone, OnOk, OnErr, IsTrue, ◌↔◌, None, Some, option_map, slice_get};
 ghost use Rattle.dataflow.specs.Machine.{start};
 ghost use Rattle.dataflow.specs.Machine as Machine;
 ghost use Rattle.task_code.specs.Machine.{CodeItem, DataAreExact, Quiet, Run, run_log};
@@ -640,13 +640,23 @@ impl Board {
         ensures some { IfOk result (λ found. IfSome found (λ at. IsBlockedItem self.now number at)) }
         ensures none { IfOk result (λ found. IfNone found ((at : ℕ) → IsBlockedItem self.now number at → ⊥)) }
     {
-        let Some(row) = item_of(self.core.items.rows.as_slice(), number) else {
-            return Ok(None);
-        };
-        match self.core.blocked_at(&self.program, row)? {
-            Some((_instance, at)) => Ok(Some(at)),
+        match item_of(self.core.items.rows.as_slice(), number) {
+            Some(row) => {
+                let found = self.core.blocked_at(&self.program, row)?;
+                Ok(offset_in(found))
+            }
             None => Ok(None),
         }
+    }
+}
+
+/// Returns the offset of an instance and an offset.
+fn offset_in(found: Option<(usize, usize)>) -> Option<usize>
+    ensures { result ≡ option_map (λ (p : ℕ × ℕ). p.1) found }
+{
+    match found {
+        Some((_instance, at)) => Some(at),
+        None => None,
     }
 }
 

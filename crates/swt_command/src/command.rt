@@ -4,7 +4,7 @@ ghost use Rattle.swt_arguments.specs.Lines.{files_of};
 ghost use Rattle.swt_status.specs.Statuses.{number_of};
 ghost use Rattle.swt_command.specs.EndOf.{IsEndOf, ended_as, status_of_end};
 ghost use Rattle.swt_command.specs.Files.{contents, name_at};
-ghost use Rattle.swt_command.specs.Owes.{Does, Owes};
+ghost use Rattle.swt_command.specs.Owes.{Does, Owes, Says};
 ghost use Rattle.swt_command.specs.Sinks.{held};
 
 use crate::check::check_files;
@@ -55,10 +55,21 @@ pub fn command<R: Threads + Wait + Sync, G: Gate + RoundObserver, O: Sink, E: Si
     ensures status { result.0 ≡ number_of (status_of_end result.1) }
 {
     let end = perform(rt, alloc, arena, line, files, keeps, gate, out, trace);
-    if let Some(stop) = end.stop() {
-        let _ = write_failure(stop.trouble, name_of(line, stop.place), err);
-    }
+    report_stop(line, &end, err);
     (end.status().number(), end)
+}
+
+/// Writes the error message of a command that failed.
+fn report_stop<E: Sink>(line: &Line, end: &CommandEnd, err: &mut E)
+    requires { E.failures err.old < u64.MAX }
+    ensures { Says line.now (ended_as end.now) (held (E.taken err.old) (E.failures err.old)) (held (E.taken err.new) (E.failures err.new)) }
+{
+    match end.stop() {
+        Some(stop) => {
+            let _ = write_failure(stop.trouble, name_of(line, stop.place), err);
+        }
+        None => {}
+    }
 }
 
 /// Runs the command of the line. Returns what it came to.
