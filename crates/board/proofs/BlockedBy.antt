@@ -87,7 +87,7 @@ plain_in m (n ∷ ns) h = by (plain_in m ns) (is_same_plain m n) refl h
     by f false e k = (let x = f k in (x.0, inr x.1))
 
 module _ (C : Code) (I : IsCode C) where
-  headers_plain : (e : ℕ) (hs : List Header) (b : ℕ) → (entry C e).act ≡ Wait hs b → (h : Header) → In h hs → (m : Need) → In m h.needs → (is_plain m ≡ true) × In m (entry C e).needs
+  pub headers_plain : (e : ℕ) (hs : List Header) (b : ℕ) → (entry C e).act ≡ Wait hs b → (h : Header) → In h hs → (m : Need) → In m h.needs → (is_plain m ≡ true) × In m (entry C e).needs
   headers_plain e hs b a h i m j =
       let shape = (and_parts (list_all _ (entry C e).needs) (has_shape (entry C e).act (entry C e).needs) (I.shape e)).1 in
       let headers : has_headers hs (entry C e).needs ≡ true = subst (λ z. has_shape z (entry C e).needs ≡ true) a shape in

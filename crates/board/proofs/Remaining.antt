@@ -332,12 +332,12 @@ module _ (a : Inside) (s : IsSound a) where
         stands = stands_as n l.instance l.entry l.chunk (status_view l.status) (live_item l.status live) there;
         only = λ j p st. stands_here n l.instance l.entry l.chunk (status_view l.status) there j p st;
         program = program;
-        frame = f.0;
-        there = ap (λ z. slot_at (frames_view z.slots) v.at) instances ∙ ap (λ (z : ℕ). slot_at fs z) at ∙ f.1;
-        inside = f.2;
+        body = f.0.body;
+        body_is = ap (option_map (λ (g : Frame). g.body)) (ap (λ z. slot_at (frames_view z.slots) v.at) instances ∙ ap (λ (z : ℕ). slot_at fs z) at ∙ f.1);
         missing = λ m inn.
-            subst (λ (z : ℕ). (wanted_missed C (cells_view v.store.now.cells) (led_slot (frames_view v.instances.now.slots) z) (wanted_in C f.0.body m) ≡ []) ↔ IsNeedKnown (seen_of a) (path_of fs l.instance) m) (sym at)
+            subst (λ (z : Code). (wanted_missed z (cells_view v.store.now.cells) (led_slot (frames_view v.instances.now.slots) v.at) (wanted_in z f.0.body m) ≡ []) ↔ IsNeedKnown (seen_of a) (path_of fs l.instance) m) (sym program)
+            (subst (λ (z : ℕ). (wanted_missed C (cells_view v.store.now.cells) (led_slot (frames_view v.instances.now.slots) z) (wanted_in C f.0.body m) ≡ []) ↔ IsNeedKnown (seen_of a) (path_of fs l.instance) m) (sym at)
             (subst (λ z. (wanted_missed C (cells_view v.store.now.cells) (led_slot (frames_view z.slots) l.instance) (wanted_in C f.0.body m) ≡ []) ↔ IsNeedKnown (seen_of a) (path_of fs l.instance) m) (sym instances)
             (subst (λ z. (wanted_missed C (cells_view z.cells) (led_slot fs l.instance) (wanted_in C f.0.body m) ≡ []) ↔ IsNeedKnown (seen_of a) (path_of fs l.instance) m) (sym store)
-            (needed n l.instance l.entry l.chunk f.0.body (res C s.whole es a.core s.stand n l.instance l.entry l.chunk (row_as l.instance l.entry l.chunk (status_view l.status)) there refl (live_status l.status live)) m inn)));
+            (needed n l.instance l.entry l.chunk f.0.body (res C s.whole es a.core s.stand n l.instance l.entry l.chunk (row_as l.instance l.entry l.chunk (status_view l.status)) there refl (live_status l.status live)) m inn))));
       }

@@ -1,11 +1,11 @@
 -- What a board holds of the items that have not ended.
-use Rattle.std.specs.Prelude.{◌≡◌, ◌↔◌, ℕ, true, List, [], map, option_copied, reverse, Some, None, Option, length}
+use Rattle.std.specs.Prelude.{◌≡◌, ◌↔◌, ℕ, true, List, [], reverse, Some, None, Option, option_map, length}
 use Rattle.dataflow.specs.System.{In, Input}
 use Rattle.dataflow.specs.Machine.{Holds, IsKnown}
 use Rattle.values.specs.declared.key.Key.{Key}
 use Rattle.values.specs.declared.value.Scalar.{Scalar}
-use Rattle.board_history.specs.Fields.{Frame, slot_at}
-use Rattle.task_code.specs.Code.{Code, Need, body, entry}
+use Rattle.board_history.specs.Fields.{Frame, Want, slot_at}
+use Rattle.task_code.specs.Code.{Code, Need, entry}
 use Rattle.task_code.specs.Effects.{Item}
 use Rattle.task_code.specs.Machine.{CodeItem, CodeState, Enabled}
 use Rattle.task_code.specs.Places.{Place, Step as CodeStep}
@@ -61,6 +61,14 @@ IsBlockedItem b number at = (i : ℕ) × ((path : List CodeStep) × StandsAt b n
 abbrev pub IsNeedKnown : Seen → List CodeStep → Need → Type 0
 IsNeedKnown b path n = (x : Input Place Key) → In x (inputs_at b.code path n) → IsKnown (code_system b.code) b.state x
 
+-- the body whose names an environment resolves
+abbrev pub body_in : Environment → Option ℕ
+body_in v = option_map (λ (f : Frame). f.body) (slot_at (frames_view v.instances.now.slots) v.at)
+
+-- the inputs that a need of an entry of this body misses by an environment
+abbrev pub missed_in : Environment → ℕ → Need → List (Want ℕ)
+missed_in v body n = wanted_missed v.program.now (cells_view v.store.now.cells) (led_slot (frames_view v.instances.now.slots) v.at) (wanted_in v.program.now body n)
+
 -- the environment answers for the needs of the item's entry as the state does: a need misses no input exactly if it is
 -- known
 pub record Sees (b : Seen) (number : ℕ) (environment : Environment) : Type 0 where
@@ -69,9 +77,6 @@ pub record Sees (b : Seen) (number : ℕ) (environment : Environment) : Type 0 w
   pub stands : StandsAt b number i path
   pub only : (j : ℕ) (p : List CodeStep) → StandsAt b number j p → (i ≡ j) × (path ≡ p)
   pub program : environment.program.now ≡ b.code
-  pub frame : Frame
-  pub there : slot_at (frames_view environment.instances.now.slots) environment.at ≡ Some frame
-  pub inside : In i (body b.code frame.body).entries
-  pub missing : (n : Need) → In n (entry b.code i).needs
-      → (wanted_missed b.code (cells_view environment.store.now.cells) (led_slot (frames_view environment.instances.now.slots) environment.at) (wanted_in b.code frame.body n) ≡ [])
-      ↔ IsNeedKnown b path n
+  pub body : ℕ
+  pub body_is : body_in environment ≡ Some body
+  pub missing : (n : Need) → In n (entry b.code i).needs → (missed_in environment body n ≡ []) ↔ IsNeedKnown b path n

@@ -1,15 +1,20 @@
 //! The inputs of an item that are not known on the board.
-ghost use Rattle.std.specs.Prelude.{IfOk};
-ghost use Rattle.explain_board.specs.Missing.{AreMissing};
+ghost use Rattle.std.specs.Prelude.{◌≡◌, map, IfOk, OnOk};
+ghost use Rattle.board.specs.Remains.{body_in};
+ghost use Rattle.board_data.specs.View.{cells_view};
+ghost use Rattle.board_data.specs.Wanted.{wanted_missed};
+ghost use Rattle.board_instances.specs.Names.{led_slot};
+ghost use Rattle.board_instances.specs.View.{frames_view};
+ghost use Rattle.task_code.specs.View.{header_view, need_view};
+ghost use Rattle.explain_board.specs.Missing.{AreAdded, AreMissing, IsAdded, needs_of_header, needs_of_headers};
 
 use board::Board;
-use board::remains::LeftItem;
 use board_data::inputs::Environment;
 use board_program::program::ResolvedNeed;
 use rules::input::Input;
 use std::alloc::{AllocError, Global};
 use task_code::code::Code;
-use task_code::entry::{Act, Entry, Need, Owned};
+use task_code::entry::{Act, Header, Need, Owned};
 use task_code::expr::Expr;
 use values::key::KeyRef;
 use values::value::Scalar;
@@ -67,94 +72,116 @@ impl<'b> UnknownNeeds<'b> {
     }
 
     /// Returns the inputs of an item that are not known, in the order of its needs. For a `wait` that is blocked at an
-    /// offset, they are those of the header there.
+    /// offset, they are those of the header there. An item that has ended has none.
     ///
     /// # Errors
     ///
     /// Returns `AllocError` if an allocation fails.
-    pub fn of_item(
-        &self,
-        number: u64,
-        item: LeftItem,
-        at: usize,
-    ) -> Result<Vec<MissingNeed<'b>>, AllocError>
+    pub fn of_item(&self, number: u64, at: usize) -> Result<Vec<MissingNeed<'b>>, AllocError>
         ensures { IfOk result (λ found. AreMissing self.now.board.now number at found.items) }
     {
-        let mut found = Vec::new(self.alloc);
         let board: &'b Board = self.board;
-        let Some(entry) = board.code().entry(item.entry) else {
+        let _whole = board.code().entry_count();
+        let mut found = Vec::new(self.alloc);
+        let Some(environment) = board.environment(number) else {
             return Ok(found);
         };
-        let Some(environment) = board.environment(number) else {
+        let Some(own) = board.entry_of(number) else {
+            return Ok(found);
+        };
+        let Some(body) = body_of(environment) else {
+            return Ok(found);
+        };
+        let Some(entry) = board.code().entry(own) else {
             return Ok(found);
         };
         match &entry.act {
             Act::Wait(headers, _) => {
-                for header in headers {
-                    if header.at == at {
-                        self.add_header(environment, header.needs.as_slice(), &mut found)?;
-                    }
-                }
+                add_headers(environment, body, headers.as_slice(), at, &mut found)?;
             }
-            _ => self.add_needs(environment, item.entry, entry, &mut found)?,
+            _ => add_needs(environment, body, entry.needs.as_slice(), &mut found)?,
         }
         Ok(found)
     }
 
-    /// Returns the inputs of an item that are not known, in the order of the needs of its entry.
+    /// Returns the inputs of an item that are not known, in the order of the needs of its entry. An item that has ended
+    /// has none.
     ///
     /// # Errors
     ///
     /// Returns `AllocError` if an allocation fails.
-    pub fn of_entry(
-        &self,
-        number: u64,
-        item: LeftItem,
-    ) -> Result<Vec<MissingNeed<'b>>, AllocError> {
-        let mut found = Vec::new(self.alloc);
+    pub fn of_entry(&self, number: u64) -> Result<Vec<MissingNeed<'b>>, AllocError> {
         let board: &'b Board = self.board;
-        if let (Some(entry), Some(environment)) = (
-            board.code().entry(item.entry),
-            board.environment(number),
-        ) {
-            self.add_needs(environment, item.entry, entry, &mut found)?;
+        let mut found = Vec::new(self.alloc);
+        let (Some(environment), Some(own)) = (board.environment(number), board.entry_of(number))
+        else {
+            return Ok(found);
+        };
+        if let (Some(body), Some(entry)) = (body_of(environment), board.code().entry(own)) {
+            add_needs(environment, body, entry.needs.as_slice(), &mut found)?;
         }
         Ok(found)
     }
+}
 
-    fn add_needs(
-        &self,
-        environment: Environment<'b>,
-        number: u32,
-        entry: &'b Entry,
-        found: &mut Vec<MissingNeed<'b>>,
-    ) -> Result<(), AllocError> {
-        let Some(table) = environment.program.entry(number) else {
-            return Ok(());
-        };
-        for (i, need) in entry.needs.iter().enumerate() {
-            if let Some(wanted) = table.needs.as_slice().get(i) {
-                add_missing(environment, need, i, wanted, found)?;
-            }
-        }
+/// Returns the body whose names an environment resolves.
+#[tactic(auto, using(board_instances::proofs::Frames::frame_there))]
+fn body_of(environment: Environment<'_>) -> Option<u32>
+    ensures { result ≡ body_in environment.entry }
+{
+    match environment.instances.get(environment.at) {
+        Some(instance) => Some(instance.body),
+        None => None,
+    }
+}
+
+/// Appends the needs of the headers at an offset that have a missing input.
+fn add_headers<'b>(
+    environment: Environment<'b>,
+    body: u32,
+    headers: &'b [Header],
+    at: usize,
+    found: &mut Vec<MissingNeed<'b>>,
+) -> Result<(), AllocError>
+    ensures { OnOk result (AreAdded environment.entry body (needs_of_headers at (map header_view headers.entry.now)) found.old.items found.new.items) }
+{
+    for header in headers {
+        add_header(environment, body, header, at, found)?;
+    }
+    Ok(())
+}
+
+/// Appends the needs of a header that have a missing input, if it is at this offset.
+fn add_header<'b>(
+    environment: Environment<'b>,
+    body: u32,
+    header: &'b Header,
+    at: usize,
+    found: &mut Vec<MissingNeed<'b>>,
+) -> Result<(), AllocError>
+    ensures { OnOk result (AreAdded environment.entry body (needs_of_header at (header_view header.entry.now)) found.old.items found.new.items) }
+{
+    if header.at == at {
+        add_needs(environment, body, header.needs.as_slice(), found)
+    } else {
         Ok(())
     }
+}
 
-    fn add_header(
-        &self,
-        environment: Environment<'b>,
-        needs: &'b [Need],
-        found: &mut Vec<MissingNeed<'b>>,
-    ) -> Result<(), AllocError> {
-        let Some(instance) = environment.instances.get(environment.at) else {
-            return Ok(());
-        };
-        for (i, need) in needs.iter().enumerate() {
-            let wanted = environment.program.wanted(instance.body, need)?;
-            add_missing(environment, need, i, &wanted, found)?;
-        }
-        Ok(())
+/// Appends the needs that have a missing input.
+fn add_needs<'b>(
+    environment: Environment<'b>,
+    body: u32,
+    needs: &'b [Need],
+    found: &mut Vec<MissingNeed<'b>>,
+) -> Result<(), AllocError>
+    ensures { OnOk result (AreAdded environment.entry body (map need_view needs.entry.now) found.old.items found.new.items) }
+{
+    for (place, need) in needs.iter().enumerate() {
+        let wanted = environment.program.wanted(body, need)?;
+        add_missing(environment, need, place, &wanted, found)?;
     }
+    Ok(())
 }
 
 /// Appends a need, if it has a missing input.
@@ -164,11 +191,28 @@ fn add_missing<'b>(
     place: usize,
     wanted: &ResolvedNeed,
     found: &mut Vec<MissingNeed<'b>>,
-) -> Result<(), AllocError> {
+) -> Result<(), AllocError>
+    ensures { OnOk result (IsAdded (wanted_missed environment.entry.program.now (cells_view environment.entry.store.now.cells)
+        (led_slot (frames_view environment.entry.instances.now.slots) environment.entry.at) wanted.now) (need_view need.entry.now) found.old.items found.new.items) }
+{
     let Some(input) = environment.missing(wanted) else {
         return Ok(());
     };
-    let missing = match input {
+    found.push(missing_need(environment, need, place, wanted, input))?;
+    Ok(())
+}
+
+/// Returns what is missing of a need.
+fn missing_need<'b>(
+    environment: Environment<'b>,
+    need: &'b Need,
+    place: usize,
+    wanted: &ResolvedNeed,
+    input: Input,
+) -> MissingNeed<'b>
+    ensures { result.need.now ≡ need.entry.now }
+{
+    match input {
         Input::Element(datum, mark) => MissingNeed {
             need,
             place,
@@ -192,9 +236,7 @@ fn add_missing<'b>(
                 index: None,
             },
         },
-    };
-    found.push(missing)?;
-    Ok(())
+    }
 }
 
 /// Returns for each node whether it is that of a cell or of an element read.

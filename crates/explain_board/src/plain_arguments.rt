@@ -65,7 +65,7 @@ impl UnassignedScalars {
         one: NumberedItem,
         entry: &'b Entry,
     ) -> Result<(), AllocError> {
-        for unknown in &missing.of_entry(one.number, one.item)? {
+        for unknown in &missing.of_entry(one.number)? {
             if let Need::Stored(name) = unknown.need {
                 self.note(environment, *name)?;
             }

@@ -442,7 +442,7 @@ impl<'b, 'a> Waits<'b, 'a> {
                 let Some(one) = self.left.items.get(place).copied() else {
                     break;
                 };
-                let missing = self.missing.of_item(one.number, one.item, statement.at)?;
+                let missing = self.missing.of_item(one.number, statement.at)?;
                 for need in &missing {
                     self.codes.push(code_of(one.item.entry, need))?;
                     self.add_targets(need, inputs, &mut targets)?;
@@ -509,7 +509,7 @@ impl<'b, 'a> Waits<'b, 'a> {
             return Ok(());
         };
         let inputs = inputs_around(self.index, self.board, maker);
-        for need in &self.missing.of_item(maker.number, maker.item, 0)? {
+        for need in &self.missing.of_item(maker.number, 0)? {
             self.add_targets(need, inputs, targets)?;
         }
         Ok(())

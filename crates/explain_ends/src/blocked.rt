@@ -343,7 +343,7 @@ fn add_targets(
     targets: &mut Vec<Target>,
 ) -> Result<(), AllocError> {
     let mut own = Vec::new(*targets.allocator());
-    for need in &waits.missing.of_item(one.number, one.item, at)? {
+    for need in &waits.missing.of_item(one.number, at)? {
         waits.add_targets(need, inputs, &mut own)?;
     }
     for target in own {

@@ -41,7 +41,7 @@ pub fn add_inputs(
     at: usize,
     found: &mut Vec<StatementInput>,
 ) -> Result<(), AllocError> {
-    for need in &missing.of_item(item.one.number, item.one.item, at)? {
+    for need in &missing.of_item(item.one.number, at)? {
         add_input(gathering, missing, item, need, found)?;
     }
     Ok(())

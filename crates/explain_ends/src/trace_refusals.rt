@@ -211,7 +211,7 @@ impl<'b> WaitingItems<'_, '_, 'b> {
         queue: &mut Vec<u64>,
         out: &mut Vec<u8>,
     ) -> Result<(), AllocError> {
-        for need in &self.missing_of(number)? {
+        for need in &self.missing.of_entry(number)? {
             match self.inner_item(number, need) {
                 Some(inner) if inner.item.status == ItemStatus::Waiting => {
                     queue.push(inner.number)?;
@@ -229,14 +229,6 @@ impl<'b> WaitingItems<'_, '_, 'b> {
             }
         }
         Ok(())
-    }
-
-    /// Returns the inputs of an item that are not known. A `wait` waits for those of all its headers.
-    fn missing_of(&self, number: u64) -> Result<Vec<MissingNeed<'b>>, AllocError> {
-        match self.board.left_item(number) {
-            Some(item) => self.missing.of_entry(number, item),
-            None => Ok(Vec::new(self.script.alloc)),
-        }
     }
 
     /// Returns the item that computes a needed value, if it belongs to the same statement.

@@ -421,10 +421,10 @@ pub fn run_threads<R: Threads + Wait + Sync, G: Gate>(
     ensures reports { IfOk result (λ r. Reports program.now limit r.0) }
     ensures count { (result ≡ Err RunFault.BadCount) ↔ ((engines ≡ 0) ⊎ ((workers ≡ 0) ⊎ (max_threads < engines + workers))) }
 {
-    let (run, count) = run_threads_to_stop(
-        rt, alloc, program, engines, workers, limit, gate, false,
-    )?;
-    Ok((run.into_report(), count))
+    match run_threads_to_stop(rt, alloc, program, engines, workers, limit, gate, false) {
+        Ok((run, count)) => Ok((run.into_report(), count)),
+        Err(fault) => Err(fault),
+    }
 }
 
 /// Runs a program on threads, and returns its report with the pool counts, and the board on which it ended if that is
