@@ -66,7 +66,10 @@ abbrev pub body_in : Environment → Option ℕ
 body_in v = option_map (λ (f : Frame). f.body) (slot_at (frames_view v.instances.now.slots) v.at)
 
 -- the inputs that a need of an entry of this body misses by an environment
-abbrev pub missed_in : Environment → ℕ → Need → List (Want ℕ)
+abbrev pub MissedInputs : Type 0
+MissedInputs = List (Want ℕ)
+
+abbrev pub missed_in : Environment → ℕ → Need → MissedInputs
 missed_in v body n = wanted_missed v.program.now (cells_view v.store.now.cells) (led_slot (frames_view v.instances.now.slots) v.at) (wanted_in v.program.now body n)
 
 -- the environment answers for the needs of the item's entry as the state does: a need misses no input exactly if it is

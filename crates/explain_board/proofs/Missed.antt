@@ -11,7 +11,7 @@ use Rattle.task_code.specs.Whole.{IsCode}
 use Rattle.task_code.specs.declared.entry.Header.{Header as DeclaredHeader}
 use Rattle.task_code.specs.declared.entry.Need.{Need as DeclaredNeed}
 use Rattle.board.specs.Board.{Seen}
-use Rattle.board.specs.Remains.{IsLeft, IsNeedKnown, Sees, StandsAt, missed_in}
+use Rattle.board.specs.Remains.{IsNeedKnown, MissedInputs, Sees, StandsAt, missed_in}
 use Rattle.board.proofs.BlockedBy.{headers_plain}
 use Rattle.board_data.specs.declared.inputs.Environment.{Environment}
 use Rattle.explain_board.specs.Missing.{AreAdded, AreMissing, IsAdded, Misses, needs_at, needs_by, needs_of_header, needs_of_headers}
@@ -52,7 +52,7 @@ module _ (v : Environment) (b : ℕ) where
       later : (n : Need) → (m : MissingNeed) × In m mid × (named m ≡ n) → (m : MissingNeed) × In m new × (named m ≡ n)
       later n z = (z.0, c.kept z.0 z.1, z.2)
 
-  one_added : (n : Need) (old new : List MissingNeed) (ws : List _) → missed_in v b n ≡ ws → IsAdded ws n old new → AreAdded v b (n ∷ []) old new
+  one_added : (n : Need) (old new : List MissingNeed) (ws : MissedInputs) → missed_in v b n ≡ ws → IsAdded ws n old new → AreAdded v b (n ∷ []) old new
   one_added n old new [] e h = record {
     each = λ m i. inl (subst (λ (ms : List MissingNeed). In m ms) h i);
     kept = λ m i. subst (λ (ms : List MissingNeed). In m ms) (sym h) i;
