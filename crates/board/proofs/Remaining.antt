@@ -184,7 +184,7 @@ module _ (a : Inside) (s : IsSound a) where
   past_told n r there h = (let i = within rows n r there in let q = next_is in absurd (omega arith))
 
   pub count_told : (n : ℕ) → n ≡ length a.core.items.rows.items → (state_of C es).next ≡ n + 1
-  count_told n h = (let q = next_is in let l = length-map row_view a.core.items.rows.items in omega arith)
+  count_told n h = (let q = next_is in let l = length-map a.core.items.rows.items row_view in omega arith)
 
   pub left_within : (n : ℕ) → n ≡ length a.core.items.rows.items → (number i : ℕ) → IsLeft (seen_of a) number i → (0 < number) × (number ≤ n)
   left_within n h number i left =
@@ -193,7 +193,7 @@ module _ (a : Inside) (s : IsSound a) where
       let p = f.number_is in
       let q = st.number_is in
       let w = within rows (suc f.at) f.row f.there in
-      let l = length-map row_view a.core.items.rows.items in
+      let l = length-map a.core.items.rows.items row_view in
       (omega arith, omega arith)
 
   -- the items that run
@@ -212,12 +212,14 @@ module _ (a : Inside) (s : IsSound a) where
   runners n (r ∷ rs) = run_of n (task_of fs r.job) r.status (runners (suc n) rs)
 
   run_length : (n : ℕ) (t : Task) (m : Status) (is : List CodeItem) (k : ℕ) → length is ≡ k → length (run_of n t m is) ≡ (if is_running m then 1 else 0) + k
-  run_length n t Waiting is k h = h
-  run_length n t Ready is k h = h
-  run_length n t (Running w) is k h = ap suc h
-  run_length n t Over is k h = h
+    unfolding run_of
+  run_length n t Waiting is k h = omega (arith, h)
+  run_length n t Ready is k h = omega (arith, h)
+  run_length n t (Running w) is k h = omega (arith, h)
+  run_length n t Over is k h = omega (arith, h)
 
   runners_length : (n : ℕ) (rs : List Row) → length (runners n rs) ≡ running_in rs
+    unfolding runners
   runners_length n [] = refl
   runners_length n (r ∷ rs) = run_length n (task_of fs r.job) r.status (runners (suc n) rs) (running_in rs) (runners_length (suc n) rs)
 
@@ -228,6 +230,7 @@ module _ (a : Inside) (s : IsSound a) where
   idle_runs n t i h r = none_some (ap (λ (j : CodeItem). j.runs) (sym h) ∙ r.1)
 
   run_in : (n : ℕ) (t : Task) (m : Status) (is js : List CodeItem) (i : CodeItem) → (In i is ↔ (In i js × Runs i)) → In i (run_of n t m is) ↔ (In i (item_before n t m js) × Runs i)
+    unfolding run_of
   run_in n t Waiting is js i h = (λ z. (inr (h.0 z).0, (h.0 z).1), λ z. elim z.0 [ inl e ↦ idle_runs n t i e z.1 | inr g ↦ h.1 (g, z.1) ])
   run_in n t Ready is js i h = (λ z. (inr (h.0 z).0, (h.0 z).1), λ z. elim z.0 [ inl e ↦ idle_runs n t i e z.1 | inr g ↦ h.1 (g, z.1) ])
   run_in n t (Running w) is js i h = (
@@ -237,6 +240,7 @@ module _ (a : Inside) (s : IsSound a) where
   run_in n t Over is js i h = h
 
   runners_in : (n : ℕ) (rs : List Row) (i : CodeItem) → In i (runners n rs) ↔ (In i (items_from fs n rs) × Runs i)
+    unfolding runners
   runners_in n [] i = (λ z. absurd z, λ z. absurd (z.0))
   runners_in n (r ∷ rs) i = run_in n (task_of fs r.job) r.status (runners (suc n) rs) (items_from fs (suc n) rs) i (runners_in (suc n) rs i)
 
@@ -277,10 +281,7 @@ module _ (a : Inside) (s : IsSound a) where
       by_job (Does k e c) q live g =
           let told = job_offset C s.whole es a.core s.stand n k e c r there q live p g in (
             e,
-            path_of fs k,
-            stands_row n k e c r there q live,
-            told.0,
-            subst (λ (t : CodeState). IsBlockedAt C (IsKnown (code_system C) t) (path_of fs k) (entry C e).act (entry C e).at p.at) (sym here) told.1,
+            (path_of fs k, stands_row n k e c r there q live, told.0, subst (λ (t : CodeState). IsBlockedAt C (IsKnown (code_system C) t) (path_of fs k) (entry C e).act (entry C e).at p.at) (sym here) told.1),
           )
 
       by_status : (b : Bool) → is_over r.status ≡ b → (if b then None else blocked_job C fs cs r.job) ≡ Some p → IsBlockedItem (seen_of a) n p.at
@@ -291,13 +292,13 @@ module _ (a : Inside) (s : IsSound a) where
   not_blocked n r there h at b = by (is_over r.status) refl r.job refl
     where
       by : (v : Bool) → is_over r.status ≡ v → (j : Job) → r.job ≡ j → ⊥
-      by true o j q = over_told n r there (over_is r.status o) b.0 b.1 b.2
-      by false o Script q = script_told n r there q b.0 b.1 b.2
+      by true o j q = over_told n r there (over_is r.status o) b.0 b.1.0 b.1.1
+      by false o Script q = script_told n r there q b.0 b.1.0 b.1.1
       by false o (Does k e c) q =
           let live = not_over r.status o in
-          let same = stands_here n k e c r.status (row_of_job n k e c r there q) b.0 b.1 b.2 in
-          let counted = subst (λ z. counts (entry C z).act ≡ true) (sym same.0) b.3 in
-          let stands = subst (λ z. IsBlockedAt C (IsKnown (code_system C) x.state) (path_of fs k) (entry C z).act (entry C z).at at) (sym same.0) (subst (λ z. IsBlockedAt C (IsKnown (code_system C) x.state) z (entry C b.0).act (entry C b.0).at at) (sym same.1) (subst (λ (t : CodeState). IsBlockedAt C (IsKnown (code_system C) t) b.1 (entry C b.0).act (entry C b.0).at at) here b.4)) in
+          let same = stands_here n k e c r.status (row_of_job n k e c r there q) b.0 b.1.0 b.1.1 in
+          let counted = subst (λ z. counts (entry C z).act ≡ true) (sym same.0) b.1.2 in
+          let stands = subst (λ z. IsBlockedAt C (IsKnown (code_system C) x.state) (path_of fs k) (entry C z).act (entry C z).at at) (sym same.0) (subst (λ z. IsBlockedAt C (IsKnown (code_system C) x.state) z (entry C b.0).act (entry C b.0).at at) (sym same.1) (subst (λ (t : CodeState). IsBlockedAt C (IsKnown (code_system C) t) b.1.0 (entry C b.0).act (entry C b.0).at at) here b.1.3)) in
           none_some (sym h ∙ ap (λ z. if z then None else blocked_job C fs cs r.job) o ∙ ap (blocked_job C fs cs) q ∙ blocked_here C s.whole es a.core s.stand n k e c r there q live at counted stands)
 
   pub offset_found : (n : ℕ) (r : Row) → row_of rows n ≡ Some r → (o : Option (ℕ × ℕ)) (f : Option ℕ) → f ≡ option_map (λ (q : ℕ × ℕ). q.1) o
@@ -312,7 +313,7 @@ module _ (a : Inside) (s : IsSound a) where
   no_offset n r there (Some q) f e h = subst (λ (z : Option ℕ). IfNone z ((at : ℕ) → IsBlockedItem (seen_of a) n at → ⊥)) (sym e) tt
 
   pub nothing_blocked : (n : ℕ) → row_of rows n ≡ None → (at : ℕ) → IsBlockedItem (seen_of a) n at → ⊥
-  nothing_blocked n there at b = nothing_told n there b.0 b.1 b.2
+  nothing_blocked n there at b = nothing_told n there b.0 b.1.0 b.1.1
 
   -- what its environment answers
   needed : (n k e c b : ℕ) → ((r : Name) → In r (entry C e).reads → Resolved C x.names (led C s.whole fs cs k b r) (place_at C (path_of fs k) r)) → (m : Need) → In m (entry C e).needs

@@ -7,4 +7,4 @@ returns-in-Some c =
 
 pub returns-in-None : goal.returns-in-None
 returns-in-None c =
-    rw (← c.self.view_is) (no_path c.self.inside c.self.invariant c.args.number _ (none_here c.self.inside c.self.invariant c.args.number c.in-None.ensures.none))
+    rw (← c.self.view_is) (no_path c.self.inside c.self.invariant c.args.number c.new.result.items (none_here c.self.inside c.self.invariant c.args.number c.in-None.ensures.none))
