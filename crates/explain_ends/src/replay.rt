@@ -198,8 +198,7 @@ impl Replay {
         Ok(())
     }
 
-    /// Returns true if an item is about to write the sought element, or writes all elements of its array while the
-    /// element is absent.
+    /// Returns true if the sought element is absent, and an item is about to write it or all elements of its array.
     fn is_writer(&self, item: u64) -> bool {
         let Some(sought) = &self.sought else {
             return false;
@@ -217,16 +216,16 @@ impl Replay {
         if table.target.is_none() || environment.datum(table.target) != Some(sought.datum) {
             return false;
         }
+        // The faulty item finds the element there.
+        if element(environment.store, sought.datum, sought.key.as_ref()).is_some() {
+            return false;
+        }
         match &entry.act {
             Act::InsertElement(_, _, _) => match written_key(environment, left.entry) {
                 Some(key) => KeyRef::of(key).is_same(sought.key.as_ref()),
                 None => false,
             },
-            Act::Fill(_, _) | Act::Copy(_) => element(
-                environment.store,
-                sought.datum,
-                sought.key.as_ref(),
-            ).is_none(),
+            Act::Fill(_, _) | Act::Copy(_) => true,
             _ => false,
         }
     }
