@@ -203,23 +203,21 @@ module _ (a : Inside) (s : IsSound a) where
   is_run (Running w) = inl refl
   is_run Over = inr refl
 
-  run_of : (n : ℕ) (t : Task) → Status → List CodeItem → List CodeItem
+  abbrev run_of : (n : ℕ) (t : Task) → Status → List CodeItem → List CodeItem
   run_of n t (Running w) is = item n t (Some w) ∷ is
   run_of n t _ is = is
 
-  runners : (n : ℕ) → List Row → List CodeItem
+  abbrev runners : (n : ℕ) → List Row → List CodeItem
   runners n [] = []
   runners n (r ∷ rs) = run_of n (task_of fs r.job) r.status (runners (suc n) rs)
 
   run_length : (n : ℕ) (t : Task) (m : Status) (is : List CodeItem) (k : ℕ) → length is ≡ k → length (run_of n t m is) ≡ (if is_running m then 1 else 0) + k
-    unfolding run_of
   run_length n t Waiting is k h = omega (arith, h)
   run_length n t Ready is k h = omega (arith, h)
   run_length n t (Running w) is k h = omega (arith, h)
   run_length n t Over is k h = omega (arith, h)
 
   runners_length : (n : ℕ) (rs : List Row) → length (runners n rs) ≡ running_in rs
-    unfolding runners
   runners_length n [] = refl
   runners_length n (r ∷ rs) = run_length n (task_of fs r.job) r.status (runners (suc n) rs) (running_in rs) (runners_length (suc n) rs)
 
@@ -230,7 +228,6 @@ module _ (a : Inside) (s : IsSound a) where
   idle_runs n t i h r = none_some (ap (λ (j : CodeItem). j.runs) (sym h) ∙ r.1)
 
   run_in : (n : ℕ) (t : Task) (m : Status) (is js : List CodeItem) (i : CodeItem) → (In i is ↔ (In i js × Runs i)) → In i (run_of n t m is) ↔ (In i (item_before n t m js) × Runs i)
-    unfolding run_of
   run_in n t Waiting is js i h = (λ z. (inr (h.0 z).0, (h.0 z).1), λ z. elim z.0 [ inl e ↦ idle_runs n t i e z.1 | inr g ↦ h.1 (g, z.1) ])
   run_in n t Ready is js i h = (λ z. (inr (h.0 z).0, (h.0 z).1), λ z. elim z.0 [ inl e ↦ idle_runs n t i e z.1 | inr g ↦ h.1 (g, z.1) ])
   run_in n t (Running w) is js i h = (
@@ -240,7 +237,6 @@ module _ (a : Inside) (s : IsSound a) where
   run_in n t Over is js i h = h
 
   runners_in : (n : ℕ) (rs : List Row) (i : CodeItem) → In i (runners n rs) ↔ (In i (items_from fs n rs) × Runs i)
-    unfolding runners
   runners_in n [] i = (λ z. absurd z, λ z. absurd (z.0))
   runners_in n (r ∷ rs) i = run_in n (task_of fs r.job) r.status (runners (suc n) rs) (items_from fs (suc n) rs) i (runners_in (suc n) rs i)
 
