@@ -1,14 +1,14 @@
 -- What a need misses by the fields, of scalars, arrays and elements alike, is what is not known in the state.
-use Rattle.std.proofs.Common.{◌≡◌, ◌↔◌, ◌⊎◌, inl, inr, ℕ, Bool, true, false, not, List, [], ◌∷◌, refl, sym, ap, ◌∙◌, subst, Option, None, Some}
+use Rattle.std.proofs.Common.{◌≡◌, ◌↔◌, inl, inr, ℕ, Bool, true, false, not, List, [], ◌∷◌, refl, sym, ap, ◌∙◌, subst, Option, None, Some}
 use Rattle.std.specs.List.{list_all}
 use Rattle.std.proofs.lemmas.Bool.{not-true, and_parts}
 use Rattle.dataflow.specs.System.{ClosedArray, ElementAt, ElementOf, In, Input}
 use Rattle.dataflow.specs.Machine.{Event, Holds, IsElementKnown, IsKnown}
 use Rattle.dataflow.proofs.Known.{one_value}
 use Rattle.board_history.specs.Fields as Fields
-use Rattle.board_history.specs.Fields.{Counted, DatumOf, Holding, Layout, LiteralOf, Mapping, Slot, Unset, Want, literal, slot_at}
+use Rattle.board_history.specs.Fields.{Counted, DatumOf, Holding, Layout, Mapping, Slot, Unset, Want, slot_at}
 use Rattle.board_history.specs.Needs.{at_missed, cell_element, cell_value, element_missed, elements_in, found, index_missed, indexed_missed, is_shut, literal_missed, missed, value_in}
-use Rattle.board_history.specs.Stands.{CellStands, ContentStands, Stands, array_wanted, element_wanted}
+use Rattle.board_history.specs.Stands.{ContentStands, Stands, array_wanted, element_wanted}
 use Rattle.board_history.proofs.EndedNames.{Resolved, to_datum, to_literal}
 use Rattle.board_history.proofs.EndedWants.{scalar_place}
 use Rattle.board_history.proofs.Tests.{none_some, some_same, yes_no}

@@ -1,13 +1,12 @@
 -- What a board holds of the items that have not ended.
 use Rattle.std.specs.Prelude.{◌≡◌, ◌↔◌, ℕ, true, List, [], reverse, Some, None, Option, option_map, length}
 use Rattle.dataflow.specs.System.{In, Input}
-use Rattle.dataflow.specs.Machine.{Holds, IsKnown}
+use Rattle.dataflow.specs.Machine.{IsKnown}
 use Rattle.values.specs.declared.key.Key.{Key}
-use Rattle.values.specs.declared.value.Scalar.{Scalar}
 use Rattle.board_history.specs.Fields.{Frame, Want, slot_at}
-use Rattle.task_code.specs.Code.{Code, Need, entry}
+use Rattle.task_code.specs.Code.{Need, entry}
 use Rattle.task_code.specs.Effects.{Item}
-use Rattle.task_code.specs.Machine.{CodeItem, CodeState, Enabled}
+use Rattle.task_code.specs.Machine.{CodeItem, Enabled}
 use Rattle.task_code.specs.Places.{Place, Step as CodeStep}
 use Rattle.task_code.specs.Runs.{IsBlockedAt, counts}
 use Rattle.task_code.specs.System.{code_system, inputs_at}

@@ -1,5 +1,5 @@
 -- The items of a board that have not ended, as lists.
-use Rattle.std.specs.Prelude.{◌≡◌, ◌↔◌, ◌<◌, ℕ, List, map}
+use Rattle.std.specs.Prelude.{◌≡◌, ℕ, List, map}
 use Rattle.dataflow.specs.System.{In}
 use Rattle.board.specs.Board.{Rises, Seen}
 use Rattle.board.specs.Remains.{IsLeft}

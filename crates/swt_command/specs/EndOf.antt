@@ -1,5 +1,5 @@
 -- What a command came to, as its caller owns it.
-use Rattle.std.specs.Prelude.{◌≡◌, ◌↔◌, ◌∷◌, [], ℕ, Bool, true, List, Option, Some, None, Result, Ok, Err, IfSome, IsSome}
+use Rattle.std.specs.Prelude.{◌≡◌, ℕ, Bool, List, Option, Some, None, Result, Ok, Err, IfSome}
 use Rattle.task_code.specs.Code.{Code}
 use Rattle.board_runs.specs.Stopped.{IsStopped}
 use Rattle.board_runs.specs.declared.stopped.StoppedRun.{StoppedRun}

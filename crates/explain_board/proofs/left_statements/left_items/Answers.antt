@@ -1,4 +1,4 @@
-use Rattle.explain_board.proofs.Lefts.{up_all, up_none}
+use Rattle.explain_board.proofs.Lefts.{up_none}
 use Rattle.explain_board.proofs.left_statements.left_items.Goals as goal
 
 pub loop-place-init : goal.loop-place-init

@@ -1,6 +1,5 @@
-use Rattle.std.proofs.Common.{◌≡◌, ◌∙◌, ap}
+use Rattle.std.proofs.Common.{◌∙◌, ap}
 use Rattle.swt_status.specs.Statuses.{number_of}
-use Rattle.swt_command.specs.EndOf.{status_of_end}
 use Rattle.swt_command.specs.Files.{contents}
 use Rattle.swt_command.specs.Sinks.{held}
 use Rattle.swt_command.proofs.CameTo.{owes_by}

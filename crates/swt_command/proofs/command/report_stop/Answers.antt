@@ -1,4 +1,4 @@
-use Rattle.std.proofs.Common.{◌≡◌, ◌∙◌, sym, refl, subst, ℕ, List}
+use Rattle.std.proofs.Common.{◌∙◌, sym, refl, subst, ℕ, List}
 use Rattle.swt_command.specs.Sinks.{Given, Held, held}
 use Rattle.swt_command.specs.Troubles.{trouble_line}
 use Rattle.swt_command.proofs.CameTo.{says_nothing, says_stop}

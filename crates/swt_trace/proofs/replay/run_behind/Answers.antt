@@ -1,7 +1,4 @@
-use Rattle.std.proofs.Common.{◌≡◌, ◌∙◌, sym, ℕ, List, length, Option}
-use Rattle.swt_trace.specs.declared.ending.Ending.{Ending}
-use Rattle.swt_trace.specs.Replay.{IsFirstNoStep}
-use Rattle.swt_trace.specs.Trace.{IsTrace}
+use Rattle.std.proofs.Common.{◌≡◌, ◌∙◌, sym, length}
 use Rattle.swt_trace.proofs.Refusals.{for_memory, none_left, refused_by}
 use Rattle.swt_trace.proofs.Replays.{told_events, told_run}
 use Rattle.swt_trace.proofs.replay.run_behind.Goals as goal
