@@ -1,4 +1,6 @@
 //! Producers: the entries that produce the values without a name in the script.
+ghost use Rattle.std.specs.Prelude.{◌≡◌};
+ghost use Rattle.code_listing.specs.Labels.{maker_of};
 
 use crate::bodies::BodyPosition;
 use indexmap::IndexMap;
@@ -35,7 +37,9 @@ impl Producers {
     }
 
     /// Returns the number in its body, from 1, of the entry that produces the value of a node, or 0 if there is none.
-    pub fn of(&self, node: u32) -> usize {
+    pub fn of(&self, node: u32) -> usize
+        ensures { result ≡ maker_of self.now node }
+    {
         match self.numbers.get(&node) {
             Some(number) => *number,
             None => 0,

@@ -1,4 +1,6 @@
 //! The source map of a script: the offsets and kinds of its blocks and the names of its variables, which code lacks.
+ghost use Rattle.std.specs.Prelude.{◌≡◌, ◌≢◌, ◌++◌, ◌∷◌, [], IfSome, IfNone, length, option_copied, slice_get};
+ghost use Rattle.code_listing.specs.Labels.{infos_of, name_of};
 
 use flow::script::{Flow, Function};
 use flow::statement::{Action, Block, Statement, Variable};
@@ -73,7 +75,10 @@ impl<'a> SourceMap<'a> {
     }
 
     /// Returns the name of the variable of a node, if it has one.
-    pub fn name(&self, node: u32) -> Option<&'a [u8]> {
+    pub fn name(&self, node: u32) -> Option<&'a [u8]>
+        ensures some { IfSome result (λ name. (name.now ≡ name_of self.now node) × (name.now ≢ [])) }
+        ensures none { IfNone result (name_of self.now node ≡ []) }
+    {
         match self.names.get(node as usize) {
             Some(name) if !name.is_empty() => Some(*name),
             _ => None,
@@ -81,7 +86,9 @@ impl<'a> SourceMap<'a> {
     }
 
     /// Returns the description of the body of this number.
-    pub fn stand(&self, body: u32) -> Option<BodyInfo> {
+    pub fn stand(&self, body: u32) -> Option<BodyInfo>
+        ensures { result ≡ slice_get (infos_of self.now) body }
+    {
         let number = body as usize;
         if number < self.roots.len() {
             return Some(self.roots[number]);
