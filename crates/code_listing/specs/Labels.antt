@@ -1,5 +1,6 @@
 -- What the program keeps for a listing, in terms of the definitions.
 use Rattle.std.specs.Prelude.{ℕ, List, [], ◌++◌, map, nat_eq, Option, None, Some}
+use denote.Bor.{Bor}
 use Rattle.indexmap.specs.IndexMap.{get}
 use Rattle.flow.specs.declared.script.Function.{Function}
 use Rattle.flow.specs.declared.statement.Variable.{Variable}
@@ -28,8 +29,11 @@ abbrev pub maker_of : Producers → ℕ → ℕ
 maker_of p node = maker_in (get nat_eq p.numbers node)
 
 -- the name of the variable of a node, empty if it has none
+abbrev pub name_in : List (Bor (List ℕ)) → ℕ → List ℕ
+name_in names node = nth [] (map (λ b. b.now) names) node
+
 abbrev pub name_of : SourceMap → ℕ → List ℕ
-name_of m node = nth [] (map (λ b. b.now) m.names.items) node
+name_of m node = name_in m.names.items node
 
 abbrev pub infos_of : SourceMap → List BodyInfo
 infos_of m = m.roots.items ++ m.inner.items

@@ -24,7 +24,7 @@ pub struct ListingContext<'a, 's, A: Allocator> {
     pub found: &'a SourceMap<'s>,
     pub functions: &'a Vec<Function<A>, A>,
     pub producers: &'a Producers,
-    pub function: u32,
+    pub function: usize,
     pub number: usize,
 }
 
@@ -87,7 +87,7 @@ fn add_parameter<A: Allocator>(
     if scope.function == 0 {
         return;
     }
-    match scope.functions.get(scope.function as usize - 1) {
+    match scope.functions.get(scope.function - 1) {
         None => {}
         Some(function) => add_parameter_of(page, function, place),
     }

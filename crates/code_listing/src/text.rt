@@ -91,13 +91,13 @@ fn owner_name<A: Allocator>(functions: &Vec<Function<A>, A>, stand: BodyInfo) ->
 }
 
 /// Returns the name of the function of a number, counted from 1, or the empty name if there is none.
-fn function_name<A: Allocator>(functions: &Vec<Function<A>, A>, number: u32) -> &[u8]
+fn function_name<A: Allocator>(functions: &Vec<Function<A>, A>, number: usize) -> &[u8]
     ensures { result.now ≡ (function_at (signatures_of functions.now.items) number).name }
 {
     if number == 0 {
         return &[];
     }
-    match functions.get(number as usize - 1) {
+    match functions.get(number - 1) {
         None => &[],
         Some(function) => function.name.as_slice(),
     }
@@ -121,7 +121,7 @@ fn kind_name(what: BodyKind) -> &'static str
 fn add_entries<A: Allocator>(
     page: &mut TextBuffer,
     drawing: &Drawing<'_, '_, A>,
-    function: u32,
+    function: usize,
     entries: &[u32],
 )
     ensures { Adds page.old page.new (entries_text drawing.now.code.now (drawing_labels drawing.now) function drawing.now.places.now.items 0 entries.now) }
@@ -135,7 +135,7 @@ fn add_entries<A: Allocator>(
 fn add_entry_at<A: Allocator>(
     page: &mut TextBuffer,
     drawing: &Drawing<'_, '_, A>,
-    function: u32,
+    function: usize,
     entry: u32,
     number: usize,
 )
