@@ -1,5 +1,7 @@
 pub mod Blocks
 pub mod Buffers
-pub mod Labels
-pub mod Listing
 pub mod Finding
+pub mod Labels
+pub mod Listed
+pub mod Listing
+pub mod Order

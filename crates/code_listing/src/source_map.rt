@@ -1,5 +1,5 @@
 //! The source map of a script: the offsets and kinds of its blocks and the names of its variables, which code lacks.
-ghost use Rattle.std.specs.Prelude.{◌≡◌, ◌≢◌, ◌++◌, ◌∷◌, [], ℕ, IfSome, IfNone, IfOk, OnOk, cond, map, nat_eq, option_map, slice_get};
+ghost use Rattle.std.specs.Prelude.{◌≡◌, ◌≢◌, ◌++◌, ◌∷◌, [], ℕ, IfSome, IfNone, IfOk, OnOk, cond, length, map, nat_eq, option_map, slice_get};
 ghost use Rattle.code_listing.specs.Blocks.{blocks_among, functions_inner, functions_names, functions_roots, in_action, in_block, in_statement, info, infos, inner, looping, named, names_among, opening, roots, variable_name};
 ghost use Rattle.code_listing.specs.Finding.{Gains};
 ghost use Rattle.code_listing.specs.Labels.{infos_of, name_in, name_of};
@@ -109,8 +109,10 @@ impl<'a> SourceMap<'a> {
     }
 
     /// Returns the number of bodies.
-    pub fn count(&self) -> usize {
-        self.roots.len().saturating_add(self.inner.len())
+    pub fn count(&self) -> usize
+        ensures { result ≡ length (infos_of self.now) }
+    {
+        self.roots.len() + self.inner.len()
     }
 }
 

@@ -3,10 +3,12 @@ ghost use Rattle.std.specs.Prelude.{◌≡◌, ◌++◌, ◌∷◌, [], List, �
 ghost use Rattle.task_code.specs.Code.{kind_of};
 ghost use Rattle.task_code.specs.View.{act_view, entry_view};
 ghost use Rattle.code_listing.specs.Buffers.{Adds};
+ghost use Rattle.code_listing.specs.Listed.{IsListing};
+ghost use Rattle.code_listing.specs.Order.{numbers_of};
 ghost use Rattle.code_listing.specs.Labels.{drawing_labels, infos_of, labels_of, signatures_of};
-ghost use Rattle.code_listing.specs.Listing.{act_line, act_text, bodies_opened, body_text, entries_text, entry_line, entry_text, function_at, kind_text, opened_text, place_text, title_text, what_text, whose};
+ghost use Rattle.code_listing.specs.Listing.{act_line, act_text, bodies_opened, bodies_text, body_text, entries_text, entry_line, entry_text, function_at, kind_text, opened_text, place_text, title_text, what_text, whose};
 
-use crate::bodies::{in_order, places};
+use crate::bodies::{BodyPosition, in_order, places};
 use crate::drawing::Drawing;
 use crate::needs::{ListingContext, needs};
 use crate::producers::Producers;
@@ -27,7 +29,9 @@ pub fn listing<A: Allocator>(
     alloc: Global,
     flow: &Flow<A>,
     code: &Code,
-) -> Result<Vec<u8>, AllocError> {
+) -> Result<Vec<u8>, AllocError>
+    ensures { IfOk result (λ text. IsListing flow.now code.now text.items) }
+{
     let found = find(alloc, flow)?;
     let positions = in_order(alloc, &found)?;
     let places = places(alloc, &positions)?;
@@ -40,10 +44,21 @@ pub fn listing<A: Allocator>(
         producers: &producers,
     };
     let mut page = TextBuffer::new(alloc);
-    for place in 0..positions.len() {
-        add_body(&mut page, &drawing, positions[place].body, place);
-    }
+    add_bodies(&mut page, &drawing, positions.as_slice());
     page.finish()
+}
+
+/// Writes bodies and their entries.
+fn add_bodies<A: Allocator>(
+    page: &mut TextBuffer,
+    drawing: &Drawing<'_, '_, A>,
+    positions: &[BodyPosition],
+)
+    ensures { Adds page.old page.new (bodies_text drawing.now.code.now (infos_of drawing.now.found.now) (drawing_labels drawing.now) drawing.now.places.now.items 0 (numbers_of positions.now)) }
+{
+    for place in 0..positions.len() {
+        add_body(page, drawing, positions[place].body, place);
+    }
 }
 
 /// Writes a body and its entries.

@@ -10,8 +10,8 @@ loop-i-preserved g c =
     let A = g.row.A.Denot in
     let fs : List (Function A) = c.args.functions.now in
     let within : c.loop-i.i < length fs = grind (arith, common_steps) in
-    let item : get_or fs c.loop-i.i c.index-functions-i.result.now ≡ c.index-functions-i.result.now = search rules in
-    functions_step A c.args.found.now c.loop-i.found c.find_function.new.found (functions_roots {A = A} 1 fs) (functions_inner {A = A} 1 fs) (functions_names {A = A} fs) fs c.loop-i.i c.index-functions-i.result.now within item c.loop-i.invariant c.find_function.ensures
+    let item : get_or fs c.loop-i.i c.index-functions-i.result ≡ c.index-functions-i.result = search rules in
+    functions_step A c.args.found.now c.loop-i.found c.find_function.new.found (functions_roots {A = A} 1 fs) (functions_inner {A = A} 1 fs) (functions_names {A = A} fs) fs c.loop-i.i c.index-functions-i.result within item c.loop-i.invariant c.find_function.ensures
 
 pub returns : goal.returns
 returns g c =
