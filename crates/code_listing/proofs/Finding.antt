@@ -1,13 +1,13 @@
 -- What a source map gains from the parts of a flow, one after another.
 use denote.Bor.{Bor}
-use Rattle.std.proofs.Common.{rules, arith, ◌≡◌, Bool, false, cond, nat_eq, sym, ap, ◌∙◌, refl, subst, ℕ, zero, suc, ◌+◌, ◌<◌, List, [], ◌∷◌, ◌++◌, length, drop, map, get_or, append-nil, append_assoc, Option, Some, None}
+use Rattle.std.proofs.Common.{rules, arith, ◌≡◌, Bool, false, cond, nat_eq, sym, ap, ◌∙◌, refl, subst, ℕ, zero, suc, ◌+◌, ◌<◌, List, [], ◌∷◌, ◌++◌, length, drop, map, get_or, append-nil, append_assoc, Option}
 use Rattle.std.specs.Prelude.{Vec, Box, option_map}
 use Rattle.std.proofs.Math.Dec.{eqb-zero-suc, eqb-suc-zero, eqb-suc-suc}
 use Rattle.std.proofs.Math.ListN.{set}
-use Rattle.std.proofs.lemmas.List.{drop_more, append-nil as no_more}
+use Rattle.std.proofs.lemmas.List.{drop_more}
 use Rattle.flow.specs.declared.name.Name.{Name}
 use Rattle.flow.specs.declared.cell.OuterCell.{OuterCell}
-use Rattle.flow.specs.declared.statement.Action.{Action, Choose, Each, Range, Wait, When, Declare, the_lemmas}
+use Rattle.flow.specs.declared.statement.Action.{Action, Choose, Each, Range, Wait, When, the_lemmas}
 use Rattle.flow.specs.declared.statement.Block.{Block, out-Block}
 use Rattle.flow.specs.declared.statement.Header.{Header}
 use Rattle.flow.specs.declared.statement.Range.{Range as Ranged}
@@ -17,8 +17,8 @@ use Rattle.flow.specs.declared.script.Function.{Function}
 use Rattle.code_listing.specs.declared.source_map.BodyInfo.{BodyInfo}
 use Rattle.code_listing.specs.declared.source_map.BodyKind.TheVariants as Of
 use Rattle.code_listing.specs.declared.source_map.SourceMap.{SourceMap}
-use Rattle.code_listing.specs.Blocks.{Inside, Named, blocks_among, choosing, functions_inner, functions_names, functions_roots, in_action, in_block, in_statement, info, looping, name_among, named, names_among, opening, plain}
-use Rattle.code_listing.specs.Finding.{Gained, Gains}
+use Rattle.code_listing.specs.Blocks.{Inside, Named, blocks_among, choosing, functions_inner, functions_names, functions_roots, in_action, in_block, in_statement, info, looping, name_among, named, names_among, opening}
+use Rattle.code_listing.specs.Finding.{Gains}
 use Rattle.code_listing.specs.Labels.{name_in, name_of}
 
 -- NAMES

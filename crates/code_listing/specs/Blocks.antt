@@ -1,6 +1,5 @@
 -- The blocks of a flow in the order of the bodies of its code, and the names of its variables.
 use Rattle.std.specs.Prelude.{ℕ, ◌+◌, List, [], ◌∷◌, ◌++◌, Option, cond, nat_eq, option_map, option_to_list}
-use Rattle.std.specs.List.{flat_map}
 use Rattle.flow.specs.declared.statement.Variable.{Variable}
 use Rattle.flow.specs.declared.statement.Action.{Action, Action-F, fold-Action}
 use Rattle.flow.specs.declared.statement.Action.TheOpen as Does

@@ -1,4 +1,4 @@
-use Rattle.std.proofs.Common.{rules, arith, ◌≡◌, ◌++◌, ◌<◌, ◌≤◌, length, min}
+use Rattle.std.proofs.Common.{arith, ◌++◌, ◌<◌, ◌≤◌, length, min}
 use Rattle.std.proofs.lemmas.Grind.{common_steps}
 use Rattle.code_listing.specs.Labels.{infos_of}
 use Rattle.code_listing.specs.Order.{body_positions, max_bodies}

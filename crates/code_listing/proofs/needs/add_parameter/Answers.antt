@@ -1,12 +1,9 @@
-use Rattle.std.proofs.Common.{rules, arith, sym, ap, ◌∙◌, subst, ◌≡◌, ◌++◌, ◌∷◌, [], map, ℕ, ◌+◌, ◌-◌, ◌<◌, ◌≤◌, length, List, Bor}
-use Rattle.std.proofs.lemmas.List.{length-map}
-use Rattle.flow.specs.declared.statement.Variable.{Variable}
+use Rattle.std.proofs.Common.{arith, sym, ap, ◌∙◌, subst, [], ◌-◌, ◌<◌, ◌≤◌, length, List}
 use Rattle.flow.specs.declared.script.Function.{Function}
 use Rattle.task_code.specs.Code.{nth}
-use Rattle.code_listing.specs.Buffers.{Adds}
-use Rattle.code_listing.specs.Labels.{labels_of, name_of, names_of, signature_of, signatures_of}
-use Rattle.code_listing.specs.Listing.{Signature, no_signature, function_at, local_text, name_text, need_text}
-use Rattle.code_listing.proofs.Adding.{adds_same, adds_none, nth_at, nth_beyond, nth_left, nth_right, function_past}
+use Rattle.code_listing.specs.Labels.{signature_of, signatures_of}
+use Rattle.code_listing.specs.Listing.{Signature, no_signature, function_at}
+use Rattle.code_listing.proofs.Adding.{adds_same, adds_none, nth_at, nth_beyond, function_past}
 use Rattle.code_listing.proofs.needs.add_parameter.Goals as goal
 
 pub returns-in-None : goal.returns-in-None

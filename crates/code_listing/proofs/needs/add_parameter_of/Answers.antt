@@ -1,12 +1,9 @@
-use Rattle.std.proofs.Common.{rules, arith, sym, ap, ◌∙◌, subst, ◌≡◌, ◌++◌, ◌∷◌, [], map, ℕ, ◌+◌, ◌-◌, ◌<◌, ◌≤◌, length, List, Bor}
+use Rattle.std.proofs.Common.{arith, sym, ap, ◌∙◌, ◌≡◌, ◌++◌, [], ℕ, ◌+◌, ◌-◌, ◌<◌, length, List}
 use Rattle.std.proofs.lemmas.List.{length-map}
 use Rattle.flow.specs.declared.statement.Variable.{Variable}
-use Rattle.flow.specs.declared.script.Function.{Function}
 use Rattle.task_code.specs.Code.{nth}
-use Rattle.code_listing.specs.Buffers.{Adds}
-use Rattle.code_listing.specs.Labels.{labels_of, name_of, names_of, signature_of, signatures_of}
-use Rattle.code_listing.specs.Listing.{Signature, no_signature, function_at, local_text, name_text, need_text}
-use Rattle.code_listing.proofs.Adding.{adds_same, adds_none, nth_at, nth_beyond, nth_left, nth_right, function_past}
+use Rattle.code_listing.specs.Labels.{names_of}
+use Rattle.code_listing.proofs.Adding.{adds_same, nth_left, nth_right}
 use Rattle.code_listing.proofs.needs.add_parameter_of.Goals as goal
 
 pub returns-then-place-inputs : goal.returns-then-place-inputs

@@ -1,4 +1,4 @@
-use Rattle.std.proofs.Common.{◌≡◌, [], drop, map}
+use Rattle.std.proofs.Common.{[], drop, map}
 use Rattle.code_listing.specs.Blocks.{blocks_among, in_statement, names_among}
 use Rattle.code_listing.proofs.Finding.{Lacks}
 use Rattle.code_listing.proofs.source_map.+statement.Given as goal

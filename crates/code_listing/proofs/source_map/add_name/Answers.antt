@@ -1,8 +1,5 @@
-use Rattle.std.proofs.Common.{rules, arith, sym, ap, ◌∙◌, subst, refl, ◌≡◌, ◌++◌, ◌∷◌, [], map, drop, get_or, ℕ, ◌+◌, ◌-◌, ◌<◌, ◌≤◌, length, cond, nat_eq, List, Bor}
+use Rattle.std.proofs.Common.{arith, ap, ◌∙◌, refl, ◌≡◌, length, cond, nat_eq}
 use Rattle.std.proofs.lemmas.Grind.{common_steps}
-use Rattle.std.proofs.lemmas.List.{map-append, length-map}
-use Rattle.task_code.specs.Code.{nth}
-use Rattle.code_listing.specs.Labels.{name_in}
 use Rattle.code_listing.proofs.Finding.{named_put, named_added, named_padded}
 use Rattle.code_listing.proofs.source_map.add_name.Goals as goal
 

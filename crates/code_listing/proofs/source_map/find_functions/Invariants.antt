@@ -1,4 +1,4 @@
-use Rattle.std.proofs.Common.{◌≡◌, ◌+◌, drop}
+use Rattle.std.proofs.Common.{◌+◌, drop}
 use Rattle.code_listing.specs.Blocks.{functions_inner, functions_names, functions_roots}
 use Rattle.code_listing.proofs.Finding.{Lacks}
 use Rattle.code_listing.proofs.source_map.find_functions.Given as goal

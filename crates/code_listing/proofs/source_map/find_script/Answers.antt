@@ -1,4 +1,4 @@
-use Rattle.std.proofs.Common.{rules, ◌≡◌, ◌++◌, ◌∷◌, [], List, ap, refl}
+use Rattle.std.proofs.Common.{rules, ◌≡◌, ◌∷◌, [], List, ap}
 use Rattle.flow.specs.declared.script.Function.{Function}
 use Rattle.code_listing.specs.declared.source_map.BodyKind.TheVariants as Of
 use Rattle.code_listing.specs.Blocks.{functions_inner, functions_names, functions_roots, in_block, info}

@@ -1,4 +1,4 @@
-use Rattle.std.proofs.Common.{rules, arith, ◌≡◌, ◌<◌, [], length, drop}
+use Rattle.std.proofs.Common.{arith, ◌≡◌, ◌<◌, [], length, drop}
 use Rattle.std.proofs.lemmas.Grind.{common_steps}
 use Rattle.code_listing.specs.Labels.{drawing_labels, infos_of}
 use Rattle.code_listing.specs.Listing.{bodies_text}

@@ -1,8 +1,8 @@
-use Rattle.std.proofs.Common.{arith, sym, ap, ◌∙◌, subst, ℕ, ◌-◌, ◌<◌, ◌≤◌, length, List}
+use Rattle.std.proofs.Common.{arith, sym, ap, ◌∙◌, subst, ◌-◌, ◌≤◌, length, List}
 use Rattle.flow.specs.declared.script.Function.{Function}
 use Rattle.task_code.specs.Code.{nth}
 use Rattle.code_listing.specs.Labels.{signature_of, signatures_of}
-use Rattle.code_listing.specs.Listing.{Signature, no_signature, function_at}
+use Rattle.code_listing.specs.Listing.{Signature, no_signature}
 use Rattle.code_listing.proofs.Adding.{nth_at, nth_beyond, function_past}
 use Rattle.code_listing.proofs.text.function_name.Goals as goal
 

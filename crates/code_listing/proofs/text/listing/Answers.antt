@@ -1,11 +1,9 @@
-use Rattle.std.proofs.Common.{rules, ◌≡◌, ◌++◌, ◌∷◌, [], false, sym, ap, ◌∙◌, subst, refl, ℕ, List, Vec}
-use Rattle.std.specs.Prelude.{IfOk}
+use Rattle.std.proofs.Common.{◌≡◌, ◌++◌, false, ap, ◌∙◌, subst, refl, ℕ, List, Vec}
 use Rattle.std.specs.declared.alloc.Global.{Global}
 use Rattle.std.proofs.lemmas.Result.{IfOk-weaker}
 use Rattle.code_listing.specs.declared.bodies.BodyPosition.{BodyPosition}
 use Rattle.code_listing.specs.declared.source_map.BodyInfo.{BodyInfo}
-use Rattle.code_listing.specs.Blocks.{infos}
-use Rattle.code_listing.specs.Labels.{drawing_labels, infos_of, maker_of, name_of, signatures_of}
+use Rattle.code_listing.specs.Labels.{infos_of, maker_of, name_of, signatures_of}
 use Rattle.code_listing.specs.Listed.{IsListing}
 use Rattle.code_listing.specs.Listing.{Labels, bodies_text}
 use Rattle.code_listing.specs.Order.{IsOrder, numbers_of}

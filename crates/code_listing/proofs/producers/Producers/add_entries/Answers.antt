@@ -1,4 +1,4 @@
-use Rattle.std.proofs.Common.{rules, arith, ◌<◌, length}
+use Rattle.std.proofs.Common.{arith, ◌<◌, length}
 use Rattle.std.proofs.lemmas.Grind.{common_steps}
 use Rattle.code_listing.specs.Labels.{maker_of}
 use Rattle.code_listing.specs.Order.{entries_made, maker_among}

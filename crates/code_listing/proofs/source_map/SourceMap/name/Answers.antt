@@ -1,6 +1,5 @@
-use Rattle.std.proofs.Common.{rules, sym, ap, subst, ◌∙◌, ◌≡◌, ◌≢◌, ◌++◌, ◌∷◌, [], map, IfSome, IfNone, length, slice_get, ℕ, ◌<◌, ◌≤◌, Bool, true, false, List, Bor}
+use Rattle.std.proofs.Common.{rules, sym, ap, ◌∙◌, ◌≡◌, [], map, length, ℕ, List, Bor}
 use Rattle.task_code.specs.Code.{nth}
-use Rattle.code_listing.specs.Labels.{infos_of, name_of}
 use Rattle.code_listing.proofs.Adding.{nth_at, nth_beyond, none_in}
 use Rattle.code_listing.proofs.source_map.SourceMap.name.Goals as goal
 use Rattle.code_listing.proofs.source_map.SourceMap.name.Goals.{in_default-via-in-Some+else-not-is_empty, in_default-via-in_default}
