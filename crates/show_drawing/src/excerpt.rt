@@ -1,4 +1,6 @@
-//! Excerpts of a script: the text of a statement or of a header on one line, and the offsets at which its items begin.
+//! Excerpts of a script: the text of a statement, of a header or of an expression on one line, and the offsets at which
+//! its items begin.
+ghost use Rattle.std.specs.Prelude.{◌≤◌, length};
 
 use std::alloc::{AllocError, Global};
 
@@ -116,6 +118,60 @@ pub fn excerpt(alloc: Global, text: &[u8], from: usize) -> Result<Vec<u8>, Alloc
         region = next;
     }
     Ok(shown)
+}
+
+/// Returns the start of an excerpt that is one expression: up to the first comma, colon or closing bracket that belongs to
+/// what is around it.
+pub fn expression_in(shown: &[u8]) -> &[u8] {
+    &shown[..end_of(shown, false)]
+}
+
+/// Returns the start of an excerpt that is one call or one array element: up to the bracket that closes its arguments or
+/// its key.
+pub fn operand_in(shown: &[u8]) -> &[u8] {
+    &shown[..end_of(shown, true)]
+}
+
+/// Returns the offset at which the first expression of an excerpt ends, or its first operand, which ends with a bracket.
+fn end_of(shown: &[u8], is_operand: bool) -> usize
+    ensures { result ≤ length shown.now }
+{
+    let mut region = Region::Code;
+    let mut depth = 0u64;
+    for at in 0..shown.len() {
+        let byte = shown[at];
+        if region == Region::Code {
+            if depth == 0 && is_end(byte) {
+                return at;
+            }
+            depth = nesting_after(depth, byte);
+            if is_operand && depth == 0 && is_closing(byte) {
+                return at + 1;
+            }
+        }
+        region = region.after(byte, byte_at(shown, at + 1));
+    }
+    shown.len()
+}
+
+/// Returns true for a byte of code that ends an expression outside brackets.
+fn is_end(byte: u8) -> bool {
+    byte == b',' || byte == b':' || is_closing(byte)
+}
+
+fn is_closing(byte: u8) -> bool {
+    byte == b')' || byte == b']'
+}
+
+/// Returns the number of open brackets after a byte of code.
+fn nesting_after(depth: u64, byte: u8) -> u64 {
+    if byte == b'(' || byte == b'[' {
+        depth.saturating_add(1)
+    } else if is_closing(byte) {
+        depth.saturating_sub(1)
+    } else {
+        depth
+    }
 }
 
 /// Returns the offsets at which the items of a script begin, in order: its functions and the statements outside them.

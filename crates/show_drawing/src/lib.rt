@@ -7,7 +7,7 @@ mod context;
 mod dot_text;
 pub mod drawing;
 mod edges;
-mod excerpt;
+pub mod excerpt;
 mod frames;
 mod scene;
 mod style;

@@ -1,6 +1,6 @@
 //! Explanation of how a command ended.
 
-use crate::explain::{explain_blocked, explain_fault, explain_meaning};
+use crate::explain::{explain_blocked, explain_code, explain_fault, explain_meaning};
 use crate::failures::{
     explain_count, explain_same_file, explain_trace, explain_unread, explain_unwritten,
 };
@@ -8,10 +8,12 @@ use crate::output::LastLine;
 use crate::progress::ProgressReporter;
 use crate::source_cache::SourceCache;
 use crate::trace_replay::follow;
+use explain_code::lines::CodeNames;
 use explain_faults::limits::{add_limit_of_steps, add_limit_of_trace};
 use explain_text::words::write_str;
 use std::alloc::{AllocError, Global};
 use std::io::{Error, Write};
+use swt_arguments::code_form::CodeForm;
 use swt_arguments::line::Line;
 use swt_status::status::Status;
 
@@ -33,20 +35,42 @@ impl CommandResult<'_, '_, '_> {
         self.status == status.number()
     }
 
-    /// Returns true if there may be something to explain: a check with warnings, or any end but success and an
-    /// allocation failure.
+    /// Returns true if there may be something to explain: a check with warnings, printed code, or any end but success
+    /// and an allocation failure.
     fn is_told(self) -> bool {
-        self.is_checked() || !self.is(Status::Done) && !self.is(Status::Memory)
+        if self.is(Status::Done) {
+            self.is_checked() || self.printed_code().is_some()
+        } else {
+            !self.is(Status::Memory)
+        }
     }
 
     /// Returns true if the files were checked and all are accepted.
     fn is_checked(self) -> bool {
         self.is(Status::Done) && matches!(self.line, Line::Check { .. })
     }
+
+    /// Returns the names of bodies and entries in the code that the command prints, or `None` if it prints no code.
+    fn printed_code(self) -> Option<CodeNames> {
+        match self.line {
+            Line::Code { form, .. } => names_in(*form),
+            Line::Check { .. } | Line::Mean { .. } => None,
+            Line::Run { .. } | Line::Replay { .. } => None,
+        }
+    }
 }
 
-/// Explains the result of a command on standard error: refusals, warnings, blocked statements, faults, a limit, and
-/// failed operations. `reason` is the error of the last failed call on a file.
+/// Returns the names of bodies and entries in this form of code, or `None` if it has lines of its own.
+fn names_in(form: CodeForm) -> Option<CodeNames> {
+    match form {
+        CodeForm::Listing => Some(CodeNames::Listing),
+        CodeForm::Graph => Some(CodeNames::Drawing),
+        CodeForm::Drawing | CodeForm::After(_) => None,
+    }
+}
+
+/// Explains the result of a command on standard error: refusals, warnings, printed code, blocked statements, faults, a
+/// limit, and failed operations. `reason` is the error of the last failed call on a file.
 ///
 /// If an allocation fails, this is reported once, and the status does not change.
 pub fn explain_ending(
@@ -175,8 +199,8 @@ fn add_trouble(
     }
 }
 
-/// Appends the explanation of a command on an accepted script that ended in a fault, with blocked statements, or at a
-/// limit.
+/// Appends the explanation of a command on an accepted script that printed its code, or that ended in a fault, with
+/// blocked statements, or at a limit.
 fn add_ending(
     alloc: Global,
     kept: &SourceCache<'_>,
@@ -187,7 +211,11 @@ fn add_ending(
         return Ok(());
     };
     match ended.line {
-        Line::Check { .. } | Line::Code { .. } => Ok(()),
+        Line::Check { .. } => Ok(()),
+        Line::Code { .. } => match ended.printed_code() {
+            Some(names) => explain_code(alloc, name, script, names, text),
+            None => Ok(()),
+        },
         Line::Mean { rounds, .. } => {
             explain_meaning(alloc, name, script, *rounds, ended.all, text)
         }

@@ -1,11 +1,13 @@
-//! Explanations from the meaning of a script: blocked statements, faults, and ends at a limit.
+//! Explanations of an accepted script: from its meaning blocked statements, faults, and ends at a limit; from its code
+//! the places of bodies and entries.
 
-use compile::compile::read;
+use compile::compile::{read, with_flow};
 use compile::fault::CompileFault;
 use explain_blocked::blocked::add_all_blocked;
 use explain_blocked::context::ExplainContext;
 use explain_blocked::index::ScriptIndex;
 use explain_blocked::writers::WriterIndex;
+use explain_code::lines::{CodeNames, CodeSource, add_code_lines};
 use explain_faults::extent::{known_before, known_for, known_whole, limits_for};
 use explain_faults::faults::{add_all_faults, add_printed_fault};
 use explain_faults::limits::{add_limit_of_rounds, add_too_large};
@@ -75,6 +77,30 @@ pub fn explain_fault(
     match PrintedFault::read(alloc, printed)? {
         Some(fault) => explain(alloc, file, text, Topic::Fault(events, &fault), out),
         None => Ok(()),
+    }
+}
+
+/// Appends the place and the source text of each body and entry of a script's code. Appends nothing for a refused
+/// script.
+pub fn explain_code(
+    alloc: Global,
+    file: &str,
+    text: &[u8],
+    names: CodeNames,
+    out: &mut Vec<u8>,
+) -> Result<(), AllocError> {
+    match with_flow(alloc, alloc, text) {
+        Ok(compiled) => {
+            let source = CodeSource {
+                file,
+                text,
+                flow: &compiled.flow,
+                code: &compiled.code,
+            };
+            add_code_lines(alloc, out, &source, names)
+        }
+        Err(CompileFault::Memory) => Err(AllocError),
+        Err(_) => Ok(()),
     }
 }
 
