@@ -3,8 +3,8 @@
 //! The colours are told apart by people who see no red and green, and by lightness. Each element also has a class, so
 //! that a style sheet can give other colours to the picture that `dot` makes.
 
-use crate::dot_text::DotText;
-use crate::scene::{BoxKind, Branch, Frame};
+use crate::analysis::scene::{BoxKind, Branch, Frame};
+use crate::text::dot_text::DotText;
 
 /// The colour of calls and functions.
 pub const CALL: &str = "#8a6fc0";

@@ -1,7 +1,7 @@
 //! Traversal of a flow that fills a scene, in the order of the script's text.
 
-use crate::scene::{BlockHead, BoxKind, BoxPosition, Branch, DrawingStep, Frame, Scene};
-use crate::uses::{add_call, add_names, add_outer, add_parts, is_literal};
+use crate::analysis::scene::{BlockHead, BoxKind, BoxPosition, Branch, DrawingStep, Frame, Scene};
+use crate::analysis::uses::{add_call, add_names, add_outer, add_parts, is_literal};
 use flow::cell::{Call, CellPart, OuterCell};
 use flow::name::Name;
 use flow::script::{Flow, Function};

@@ -1,11 +1,11 @@
 //! Arrows of a drawing, and the invisible ones that keep its boxes in their places.
 
-use crate::call_order::{CallOrder, calls_once};
-use crate::context::DrawingContext;
-use crate::dot_text::DotText;
-use crate::scene::{BlockHead, BoxKind, CallUse, DrawingStep, StatementBox};
-use crate::style::{CALL, OPEN};
-use crate::traffic::Shown;
+use crate::analysis::call_order::{CallOrder, calls_once};
+use crate::analysis::scene::{BlockHead, BoxKind, CallUse, DrawingStep, StatementBox};
+use crate::analysis::traffic::Shown;
+use crate::elements::context::DrawingContext;
+use crate::text::dot_text::DotText;
+use crate::text::style::{CALL, OPEN};
 use std::alloc::{AllocError, Allocator, Global};
 
 /// Maximum number of statements of the script above which its functions are held.

@@ -3,8 +3,8 @@
 //! A depth-first search from the script follows the calls. In the order in which it leaves the functions, each function
 //! comes before those that call it, except for calls that close a cycle.
 
-use crate::scene::{CallUse, Scene};
-use crate::traffic::{empty_lists, list_at};
+use crate::analysis::scene::{CallUse, Scene};
+use crate::analysis::traffic::{empty_lists, list_at};
 use std::alloc::{AllocError, Allocator, Global};
 
 /// The state of a node in the search.

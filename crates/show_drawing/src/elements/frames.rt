@@ -1,10 +1,10 @@
 //! Frames and boxes of a drawing.
 
-use crate::context::DrawingContext;
-use crate::dot_text::DotText;
-use crate::excerpt::start_before;
-use crate::scene::{DrawingStep, Frame};
-use crate::style::{CALL, box_style, frame_style, stripe};
+use crate::analysis::scene::{DrawingStep, Frame};
+use crate::elements::context::DrawingContext;
+use crate::text::dot_text::DotText;
+use crate::text::excerpt::start_before;
+use crate::text::style::{CALL, box_style, frame_style, stripe};
 use std::alloc::{AllocError, Allocator};
 
 /// Appends all frames, with the boxes in them.

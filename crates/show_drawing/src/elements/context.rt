@@ -1,10 +1,10 @@
 //! The context of a drawing: its inputs, and the names of its elements.
 
-use crate::dot_text::DotText;
-use crate::excerpt::{LONGEST, excerpt, item_starts};
-use crate::scene::Scene;
-use crate::style::DIM;
-use crate::traffic::{Shown, Traffic, empty_lists, list_at};
+use crate::analysis::scene::Scene;
+use crate::analysis::traffic::{Shown, Traffic, empty_lists, list_at};
+use crate::text::dot_text::DotText;
+use crate::text::excerpt::{LONGEST, excerpt, item_starts};
+use crate::text::style::DIM;
 use explain_text::line_index::LineIndex;
 use std::alloc::{AllocError, Allocator, Global};
 

@@ -1,6 +1,6 @@
 //! Traffic: for each variable, which statements write and read it, and how the drawing shows it.
 
-use crate::scene::{Scene, VariableUse};
+use crate::analysis::scene::{Scene, VariableUse};
 use std::alloc::{AllocError, Allocator, Global};
 
 /// Number of readers from which on a variable that is given a literal is listed in its box instead of drawn by arrows.

@@ -1,6 +1,6 @@
 //! Uses of a statement: the names that its expressions read, and the functions that they call.
 
-use crate::scene::Scene;
+use crate::analysis::scene::Scene;
 use flow::cell::{Call, Cell, CellForm, CellPart, OuterCell};
 use flow::expression::{Expr, Operation};
 use flow::name::Name;
