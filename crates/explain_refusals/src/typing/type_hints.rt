@@ -1,7 +1,7 @@
 //! Hints about expressions of a wrong type.
 
-use crate::array_hints::{hint_of_array, hint_of_arrays, hint_of_scalar};
 use crate::explanation::Hint;
+use crate::typing::array_hints::{hint_of_array, hint_of_arrays, hint_of_scalar};
 use explain_hints::token_context::TokenContext;
 use explain_names::lookup::{LookupKind, bytes_at, last_before};
 use explain_names::occurrence::{DisplayType, Occurrence};

@@ -1,7 +1,7 @@
 //! Hints about arrays in place of scalars, scalars in place of arrays, and arrays of another type.
 
 use crate::explanation::Hint;
-use crate::type_hints::{WrongValue, is_printed};
+use crate::typing::type_hints::{WrongValue, is_printed};
 use explain_names::occurrence::DisplayType;
 use explain_searches::declared::write_declaration;
 use lexer::token::TokenKind;

@@ -1,7 +1,7 @@
 //! Explanations of calls with a wrong number of arguments or outputs.
 
-use crate::explain_types::defined_at;
 use crate::explanation::{Explanation, Hint, fill};
+use crate::typing::explain_types::defined_at;
 use explain_names::lookup::{bytes_at, function_named};
 use explain_names::occurrence::DisplayType;
 use explain_names::occurrences::mentions_around;

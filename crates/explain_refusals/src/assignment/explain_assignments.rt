@@ -1,8 +1,8 @@
 //! Explanations of faults of single assignment.
 
-use crate::branch_hints::{hint_of_partly, is_declared_at};
+use crate::assignment::branch_hints::{hint_of_partly, is_declared_at};
+use crate::assignment::loop_hints::hint_of_loop;
 use crate::explanation::{Explanation, Hint, Note, note_of};
-use crate::loop_hints::hint_of_loop;
 use assign_check::fault::AssignFault;
 use explain_names::lookup::{LookupKind, bytes_at, kind_at, last_before};
 use explain_names::occurrence::{DisplayType, Occurrence, OccurrenceKind};

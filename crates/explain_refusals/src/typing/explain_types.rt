@@ -1,10 +1,10 @@
 //! Explanations of type faults.
 
-use crate::explain_counts::told_of_count;
-use crate::explain_formats::told_of_format;
-use crate::explain_names_unknown::{told_of_no_function, told_of_unknown};
 use crate::explanation::{Explanation, Hint, Note, fill, note_of};
-use crate::type_hints::hint_of_mismatch;
+use crate::typing::explain_counts::told_of_count;
+use crate::typing::explain_formats::told_of_format;
+use crate::typing::explain_names_unknown::{told_of_no_function, told_of_unknown};
+use crate::typing::type_hints::hint_of_mismatch;
 use explain_names::lookup::{LookupKind, bytes_at, function_named, kind_at, last_before};
 use explain_names::occurrence::{DisplayType, Occurrence, OccurrenceKind};
 use explain_names::occurrences::{function_around, mentions_around};
