@@ -1,6 +1,6 @@
 //! Hints for misspelled text keys of arrays.
 
-use crate::reasons::write_name;
+use crate::analysis::reasons::write_name;
 use explain_blocked::context::ExplainContext;
 use explain_blocked::value_text::write_text;
 use explain_hints::nearest::{NearMatch, nearer};

@@ -1,7 +1,7 @@
 //! Reasons for faults, with the values that caused them.
 
-use crate::keys::{write_element, write_keys};
-use crate::operations::{write_message, write_operation};
+use crate::analysis::keys::{write_element, write_keys};
+use crate::analysis::operations::{write_message, write_operation};
 use explain_blocked::context::ExplainContext;
 use explain_blocked::index::CellSite;
 use explain_blocked::path::write_steps;

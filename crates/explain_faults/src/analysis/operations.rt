@@ -1,6 +1,6 @@
 //! The operation that has a fault, with the values of its operands, and the messages of failed assertions.
 
-use crate::parts::faulty_part;
+use crate::analysis::parts::faulty_part;
 use explain_blocked::context::ExplainContext;
 use explain_blocked::index::CellSite;
 use explain_blocked::value_text::write_scalar;

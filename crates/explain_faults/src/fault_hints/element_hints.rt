@@ -1,6 +1,6 @@
 //! Hints for elements that are not there, by the keys of the array and the form of the index.
 
-use crate::reasons::{key_at, write_name};
+use crate::analysis::reasons::{key_at, write_name};
 use explain_blocked::context::ExplainContext;
 use explain_blocked::index::CellSite;
 use explain_blocked::sites::action_of;

@@ -1,6 +1,6 @@
 //! Hints for texts that are not numbers.
 
-use crate::parts::faulty_part;
+use crate::analysis::parts::faulty_part;
 use explain_blocked::context::ExplainContext;
 use explain_remedies::expressions::value_of;
 use explain_text::words::write_str;
