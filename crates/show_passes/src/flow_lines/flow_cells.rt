@@ -1,7 +1,7 @@
 //! Cells and calls of a flow: a line for each, with its expression.
 
-use crate::flow_page::FlowPage;
-use crate::words::{factor_word, order_word, sign_word, truth_word};
+use crate::flow_lines::flow_page::FlowPage;
+use crate::text::words::{factor_word, order_word, sign_word, truth_word};
 use flow::cell::{Call, Cell, CellForm, CellPart, OuterCell};
 use flow::expression::{Expr, Operation};
 use std::alloc::Allocator;

@@ -1,8 +1,8 @@
 //! The text of a flow under construction, with the names of its variables.
 
-use crate::flow_names::FlowNames;
-use crate::page::PassPage;
-use crate::words::brackets;
+use crate::flow_lines::flow_names::FlowNames;
+use crate::text::page::PassPage;
+use crate::text::words::brackets;
 use flow::name::{Name, NameBinding};
 use flow::statement::Variable;
 use std::alloc::Allocator;

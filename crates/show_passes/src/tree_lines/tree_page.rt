@@ -1,8 +1,8 @@
 //! The text of a syntax tree under construction, with the types of its names and expressions if they are known.
 
-use crate::page::PassPage;
-use crate::type_table::{DeclaredVariable, TypeTable, expression_type};
-use crate::words::{base_word, brackets};
+use crate::text::page::PassPage;
+use crate::text::words::{base_word, brackets};
+use crate::tree_lines::type_table::{DeclaredVariable, TypeTable, expression_type};
 use std::alloc::Allocator;
 use syntax_trees::tree::{Decl, Expr, ExprKind, Name};
 use types::typed::{Callee, VariableType};

@@ -1,7 +1,7 @@
 //! Expressions of a syntax tree, a line a node.
 
-use crate::tree_page::TreePage;
-use crate::words::{operator_word, prefix_word, truth_word};
+use crate::text::words::{operator_word, prefix_word, truth_word};
+use crate::tree_lines::tree_page::TreePage;
 use std::alloc::Allocator;
 use syntax_trees::tree::{Call, Expr, ExprKind, Range, Right, Source};
 
