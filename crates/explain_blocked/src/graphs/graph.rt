@@ -1,7 +1,7 @@
 //! Directed graphs with strongly connected components and shortest cycles.
 
-use crate::components::ComponentSearch;
-use crate::numbers::{NONE, NodeNumbers};
+use crate::graphs::components::ComponentSearch;
+use crate::graphs::numbers::{NONE, NodeNumbers};
 use std::alloc::{AllocError, Global};
 
 /// A directed graph, as adjacency lists. Nodes are numbered in the order in which they are added.

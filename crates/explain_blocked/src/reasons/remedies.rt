@@ -5,11 +5,11 @@
 
 use crate::context::{ExplainContext, location_of};
 use crate::index::ScriptIndex;
-use crate::inputs::{is_own_cell, target_of, write_wanted};
-use crate::list::BlockedList;
 use crate::path::is_in_loop;
+use crate::reasons::inputs::{is_own_cell, target_of, write_wanted};
 use crate::sites::{action_of, opens_blocks, word_of};
-use crate::wait_graph::input_at;
+use crate::waiting::list::BlockedList;
+use crate::waiting::wait_graph::input_at;
 use crate::writers::{WriteTarget, has_offset};
 use explain_inputs::blocked_statement::BlockedStatement;
 use explain_inputs::input::StatementInput;

@@ -3,8 +3,8 @@
 //! The search is an iterative form of Tarjan's algorithm. A component is closed when the search leaves the node at
 //! which it was entered.
 
-use crate::graph::{Components, Graph};
-use crate::numbers::{NONE, NodeNumbers};
+use crate::graphs::graph::{Components, Graph};
+use crate::graphs::numbers::{NONE, NodeNumbers};
 use std::alloc::{AllocError, Global};
 
 /// The state of a depth-first search.

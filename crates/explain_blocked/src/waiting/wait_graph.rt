@@ -1,9 +1,9 @@
 //! The wait graph of blocked statements, and its root causes.
 
 use crate::context::ExplainContext;
-use crate::graph::{Components, Graph};
-use crate::inputs::{is_own_cell, missing_in_cell, target_of};
-use crate::numbers::{NONE, NodeNumbers};
+use crate::graphs::graph::{Components, Graph};
+use crate::graphs::numbers::{NONE, NodeNumbers};
+use crate::reasons::inputs::{is_own_cell, missing_in_cell, target_of};
 use crate::writers::WriteTarget;
 use explain_inputs::blocked_statement::BlockedStatement;
 use explain_inputs::input::StatementInput;

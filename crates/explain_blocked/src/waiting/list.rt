@@ -2,7 +2,7 @@
 
 use crate::context::{ExplainContext, StatementLocation, location_of};
 use crate::index::CellSite;
-use crate::wait_graph::WaitGraph;
+use crate::waiting::wait_graph::WaitGraph;
 use explain_inputs::blocked_statement::BlockedStatement;
 use std::alloc::Allocator;
 

@@ -3,11 +3,11 @@
 //! A cycle is a list of nodes of the wait graph, as `shortest_cycle` returns it: its last node is the start.
 
 use crate::context::StatementLocation;
-use crate::inputs::{missing_in_cell, write_wanted};
-use crate::list::BlockedList;
 use crate::path::write_path;
-use crate::remedies::write_cycle_remedy;
-use crate::wait_graph::input_at;
+use crate::reasons::inputs::{missing_in_cell, write_wanted};
+use crate::reasons::remedies::write_cycle_remedy;
+use crate::waiting::list::BlockedList;
+use crate::waiting::wait_graph::input_at;
 use crate::writers::WriteTarget;
 use explain_inputs::input::StatementInput;
 use explain_text::words::{write_count, write_str};
