@@ -2,8 +2,8 @@
 
 ghost use Rattle.board.specs.Board.{IsWorker};
 
-use crate::items::ItemTable;
-use crate::waiting::{ItemContext, write_waits};
+use crate::replay::items::ItemTable;
+use crate::replay::waiting::{ItemContext, write_waits};
 use board::Board;
 use board::refusal::BoardRefusal;
 use board_program::program::Program;

@@ -1,6 +1,6 @@
 //! Text about the inputs that an item of a run waits for.
 
-use crate::items::{ItemTable, VariableLocation};
+use crate::replay::items::{ItemTable, VariableLocation};
 use explain_blocked::index::ScriptIndex;
 use explain_blocked::names::write_owned;
 use explain_blocked::value_text::{write_scalar, write_text};

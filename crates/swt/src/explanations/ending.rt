@@ -1,13 +1,13 @@
 //! Explanation of how a command ended.
 
-use crate::explain::{explain_blocked, explain_fault, explain_meaning};
-use crate::failures::{
+use crate::explanations::explain::{explain_blocked, explain_fault, explain_meaning};
+use crate::explanations::failures::{
     explain_count, explain_same_file, explain_trace, explain_unread, explain_unwritten,
 };
-use crate::output::LastLine;
 use crate::progress::ProgressReporter;
-use crate::source_cache::SourceCache;
-use crate::trace_replay::follow;
+use crate::replay::trace_replay::follow;
+use crate::system::output::LastLine;
+use crate::system::source_cache::SourceCache;
 use explain_faults::limits::{add_limit_of_steps, add_limit_of_trace};
 use explain_text::words::write_str;
 use std::alloc::{AllocError, Global};

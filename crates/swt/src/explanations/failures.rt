@@ -1,7 +1,7 @@
 //! Explanation of unreadable and unwritable files, invalid traces, and too many threads.
 
-use crate::trace_replay::follow;
-use crate::tracking::{TracedScript, words_on};
+use crate::replay::trace_replay::follow;
+use crate::replay::tracking::{TracedScript, words_on};
 use explain_faults::limits::add_bad_count;
 use explain_faults::traces::{InvalidEventText, add_bad_line, add_no_step, add_wrong_end};
 use explain_text::words::write_str;

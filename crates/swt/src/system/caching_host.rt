@@ -1,8 +1,8 @@
 //! A host that keeps the bytes it reads, for explanations.
 ghost use Rattle.std.specs.Prelude.{◌≡◌, []};
 
-use crate::ending::{CommandResult, explain_ending};
-use crate::source_cache::SourceCache;
+use crate::explanations::ending::{CommandResult, explain_ending};
+use crate::system::source_cache::SourceCache;
 use host::identity::Identity;
 use host::{CommandLineError, Host, HostError, Stream};
 use host_system::system::System;
