@@ -5,19 +5,13 @@
 #![tactic(auto)]
 
 pub mod blocked;
-mod components;
 pub mod context;
-mod cycles;
-mod graph;
+mod graphs;
 pub mod index;
-mod inputs;
-mod list;
 pub mod names;
-mod numbers;
 pub mod path;
-mod remedies;
+mod reasons;
 pub mod sites;
 pub mod value_text;
-mod wait_graph;
-mod wait_groups;
+mod waiting;
 pub mod writers;

@@ -5,7 +5,7 @@ use code_listing::text::{act_text, kind_text};
 use explain_text::line_index::LineIndex;
 use explain_text::words::{write_bytes, write_count, write_str};
 use flow::script::Flow;
-use show_drawing::excerpt::{excerpt, expression_in, item_starts, operand_in, start_before};
+use show_drawing::text::excerpt::{excerpt, expression_in, item_starts, operand_in, start_before};
 use std::alloc::{AllocError, Allocator, Global};
 use task_code::code::Code;
 use task_code::entry::{Act, Entry};

@@ -3,17 +3,10 @@
 //! The values are computed again from the script's meaning, so that no run has to carry them.
 #![tactic(auto)]
 
-mod element_hints;
+mod analysis;
 pub mod extent;
+mod fault_hints;
 pub mod faults;
-mod hints;
-mod keys;
 pub mod limits;
-mod near_keys;
-mod number_hints;
-mod operations;
-mod parts;
 pub mod printed;
-mod reasons;
-mod recursion_hints;
 pub mod traces;

@@ -9,11 +9,11 @@ ghost use Rattle.explain_warnings.specs.Marks.{is_marked};
 ghost use Rattle.explain_warnings.specs.View.{uses_of};
 ghost use Rattle.explain_warnings.specs.Warnings as specs;
 
-use crate::calls::{called_marks, is_function};
-use crate::marks::{input_marks, is_marked, local_marks};
+use crate::mistakes::repeats::tree_repeats;
 use crate::name_use::{NameUse, NameUseKind};
-use crate::name_uses::{function_body, is_spared, statement, tree_mentions};
-use crate::repeats::tree_repeats;
+use crate::occurrences::name_uses::{function_body, is_spared, statement, tree_mentions};
+use crate::sets::calls::{called_marks, is_function};
+use crate::sets::marks::{input_marks, is_marked, local_marks};
 use lexer::token::Span;
 use std::alloc::{AllocError, Allocator, Global};
 use syntax_trees::tree::{Decl, Function, Item, Name, Script};
