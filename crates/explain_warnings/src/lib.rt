@@ -6,6 +6,8 @@
 #![tactic(auto)]
 
 mod calls;
+mod endless;
+mod failures;
 mod forms;
 mod guards;
 mod marks;
