@@ -15,7 +15,7 @@ pub fn same_text(one: &[u8], other: &[u8]) -> bool
 }
 
 /// Returns the value of a number literal, or `None` for any other expression.
-fn literal<A: Allocator>(expr: &Expr<A>) -> Option<i64>
+pub fn literal<A: Allocator>(expr: &Expr<A>) -> Option<i64>
     ensures { result ≡ specs.literal (expression_view expr.now) }
 {
     form_literal(&expr.kind)

@@ -8,7 +8,8 @@ use crate::mistakes::forms::same_text;
 use std::alloc::Allocator;
 use syntax_trees::tree::{Expr, ExprKind, Operator};
 
-fn is_division(operator: Operator) -> bool
+/// Returns true for `%/` and `%%`.
+pub fn is_division(operator: Operator) -> bool
     ensures { result ≡ specs.is_division operator }
 {
     match operator {
@@ -113,7 +114,7 @@ fn some_divides<A: Allocator>(exprs: &Vec<Expr<A>, A>, name: &[u8]) -> bool
 }
 
 /// Returns true for the literal 0.
-fn is_zero<A: Allocator>(expr: &Expr<A>) -> bool
+pub fn is_zero<A: Allocator>(expr: &Expr<A>) -> bool
     ensures { result ≡ specs.is_zero (expression_view expr.now) }
 {
     form_is_zero(&expr.kind)

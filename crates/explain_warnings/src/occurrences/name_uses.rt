@@ -4,6 +4,7 @@ ghost use Rattle.syntax_trees.specs.View.{word_of, words_view, expression_view, 
 ghost use Rattle.language.specs.Tree as trees;
 ghost use Rattle.explain_warnings.specs.Mentions as specs;
 
+use crate::mistakes::failures::never_holds;
 use crate::mistakes::forms::{always_holds, below_one, is_empty, is_extra_line};
 use crate::mistakes::needs::right_needs;
 use crate::mistakes::repeats::list_repeats;
@@ -123,7 +124,7 @@ fn initial<A: Allocator>(
 }
 
 /// Appends the occurrences in a declaration.
-fn declaration<A: Allocator>(
+pub fn declaration<A: Allocator>(
     decl: &Decl<A>,
     right: &Option<Right<A>>,
     name_uses: &mut Vec<NameUse>,
@@ -136,7 +137,7 @@ fn declaration<A: Allocator>(
 }
 
 /// Appends the occurrences in an assignment.
-fn assignment<A: Allocator>(
+pub fn assignment<A: Allocator>(
     name: &Name<A>,
     right: &Right<A>,
     name_uses: &mut Vec<NameUse>,
@@ -148,7 +149,7 @@ fn assignment<A: Allocator>(
 }
 
 /// Appends the occurrences in the write of an element.
-fn write<A: Allocator>(
+pub fn write<A: Allocator>(
     name: &Name<A>,
     index: &Expr<A>,
     value: &Expr<A>,
@@ -163,7 +164,7 @@ fn write<A: Allocator>(
 }
 
 /// Appends the occurrences in an assignment to several names.
-fn several<A: Allocator>(
+pub fn several<A: Allocator>(
     names: &Vec<Name<A>, A>,
     call: &Call<A>,
     name_uses: &mut Vec<NameUse>,
@@ -207,11 +208,17 @@ fn first_mistakes<A: Allocator>(
         holds,
         at_expression(NameUseKind::AlwaysHolds, argument),
         name_uses,
+    )?;
+    let fails = never_holds(function, argument);
+    note(
+        fails,
+        at_expression(NameUseKind::AlwaysFails, argument),
+        name_uses,
     )
 }
 
 /// Appends the occurrences in a call that is a statement.
-fn call<A: Allocator>(call: &Call<A>, name_uses: &mut Vec<NameUse>) -> Result<(), AllocError>
+pub fn call<A: Allocator>(call: &Call<A>, name_uses: &mut Vec<NameUse>) -> Result<(), AllocError>
     ensures { OnOk result (name_uses.new.items ≡ name_uses.old.items ++ specs.call_mentions (calling_of call.now)) }
 {
     argument_mistakes(&call.name, &call.arguments, name_uses)?;
@@ -261,7 +268,10 @@ fn add_range<A: Allocator>(range: &Range<A>, name_uses: &mut Vec<NameUse>) -> Re
 }
 
 /// Appends the occurrences in the source of a loop.
-fn source<A: Allocator>(source: &Source<A>, name_uses: &mut Vec<NameUse>) -> Result<(), AllocError>
+pub fn source<A: Allocator>(
+    source: &Source<A>,
+    name_uses: &mut Vec<NameUse>,
+) -> Result<(), AllocError>
     ensures { OnOk result (name_uses.new.items ≡ name_uses.old.items ++ specs.over_mentions (over_of source.now)) }
 {
     match source {

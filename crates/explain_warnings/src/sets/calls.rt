@@ -22,7 +22,7 @@ fn function_in(callee: Callee) -> Option<usize>
 }
 
 /// Returns the position of the function of the script that an occurrence calls, or `None` for any other occurrence.
-fn called_function(typed: &Typed, name_use: NameUse) -> Option<usize>
+pub fn called_function(typed: &Typed, name_use: NameUse) -> Option<usize>
     ensures { result ≡ specs.called_function (table_of typed.now) name_use }
 {
     if name_use.kind == NameUseKind::Called {
@@ -32,7 +32,8 @@ fn called_function(typed: &Typed, name_use: NameUse) -> Option<usize>
     }
 }
 
-fn is_number(number: usize, own: Option<usize>) -> bool
+/// Returns true if a position is present and equal to this number.
+pub fn is_number(number: usize, own: Option<usize>) -> bool
     ensures { result ≡ specs.is_number number own }
 {
     match own {
