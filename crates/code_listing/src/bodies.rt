@@ -77,7 +77,7 @@ pub fn places(alloc: Global, positions: &Vec<BodyPosition>) -> Result<Vec<usize>
     Ok(places)
 }
 
-/// Returns a list of so many zeros.
+/// Returns a list of `count` zeros.
 fn zeros(alloc: Global, count: usize) -> Result<Vec<usize>, AllocError>
     ensures many { IfOk result (λ zeros. length zeros.items ≡ count) }
     ensures each { IfOk result (λ zeros. (b : ℕ) → nth 0 zeros.items b ≡ 0) }
