@@ -14,7 +14,7 @@ use std::alloc::{AllocError, Allocator, Global};
 use syntax_trees::tree::{Expr, ExprKind, Item, Name, Script, Stmt, StmtKind};
 
 /// Maximum number of statements that are compared with later ones, less one.
-const MOST: usize = 63;
+const MAX_EARLIER_WRITES: usize = 63;
 
 /// Returns true for a number literal or a string literal.
 fn is_literal<A: Allocator>(kind: &ExprKind<A>) -> bool
@@ -178,7 +178,7 @@ fn keep<'e, A: Allocator>(
     ensures { OnOk result (statements_in before.new.items
         ≡ specs.kept (statements_in before.old.items) (statement_view stmt.now)) }
 {
-    if before.len() <= MOST && is_plain(stmt) {
+    if before.len() <= MAX_EARLIER_WRITES && is_plain(stmt) {
         before.push(stmt)?;
     }
     Ok(())

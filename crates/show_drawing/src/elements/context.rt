@@ -3,7 +3,7 @@
 use crate::analysis::scene::Scene;
 use crate::analysis::traffic::{Shown, Traffic, empty_lists, list_at};
 use crate::text::dot_text::DotText;
-use crate::text::excerpt::{LONGEST, excerpt, item_starts};
+use crate::text::excerpt::{MAX_EXCERPT, excerpt, item_starts};
 use crate::text::style::DIM;
 use explain_text::line_index::LineIndex;
 use std::alloc::{AllocError, Allocator, Global};
@@ -119,7 +119,7 @@ impl<'p, 'a, A: Allocator> DrawingContext<'p, 'a, A> {
     ) {
         text.add_counted("tooltip=\"line ", line);
         text.add(": ");
-        add_shortened(text, words, LONGEST);
+        add_shortened(text, words, MAX_EXCERPT);
         text.add(
             "\", label=<<TABLE BORDER=\"0\" CELLBORDER=\"0\" CELLSPACING=\"0\" CELLPADDING=\"4\"><TR>",
         );

@@ -5,7 +5,7 @@ ghost use Rattle.std.specs.Prelude.{◌≤◌, length};
 use std::alloc::{AllocError, Global};
 
 /// Maximum number of bytes of an excerpt. One more is kept, which shows that the text goes on.
-pub const LONGEST: usize = 300;
+pub const MAX_EXCERPT: usize = 300;
 
 /// The part of the grammar in which the next byte of a script lies.
 #[derive(Clone, Copy, PartialEq, Eq, Debug, Drop)]
@@ -91,7 +91,7 @@ fn byte_at(text: &[u8], at: usize) -> u8 {
 
 /// Returns the text from an offset up to the first `;` or `{`, neither of them in a string or a comment.
 ///
-/// Comments are left out, and each run of blanks is one space. At most `LONGEST` bytes and one more are returned.
+/// Comments are left out, and each run of blanks is one space. At most `MAX_EXCERPT` bytes and one more are returned.
 ///
 /// # Errors
 ///
@@ -103,7 +103,7 @@ pub fn excerpt(alloc: Global, text: &[u8], from: usize) -> Result<Vec<u8>, Alloc
     for at in from..text.len() {
         let byte = text[at];
         let next = region.after(byte, byte_at(text, at + 1));
-        if region == Region::Code && (byte == b';' || byte == b'{') || shown.len() > LONGEST {
+        if region == Region::Code && (byte == b';' || byte == b'{') || shown.len() > MAX_EXCERPT {
             break;
         }
         if !region.is_shown(next) || region == Region::Code && is_blank(byte) {
