@@ -1,5 +1,5 @@
 //! Faults of branches: the numbers of assignments that the control paths through a block can make.
 
 pub mod count;
-mod numbers;
-mod sets;
+pub mod numbers;
+pub mod sets;

@@ -1,6 +1,6 @@
 //! The outline of a script: its declarations, uses, `if`s, loops and `wait`s.
 
-mod blocks;
+pub mod blocks;
 pub mod outline;
 pub mod parts;
-mod reads;
+pub mod reads;
