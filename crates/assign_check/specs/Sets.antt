@@ -4,9 +4,9 @@ use Rattle.std.specs.Global.{Global}
 use Rattle.language.specs.Core.{Owned, local, input, output}
 use Rattle.language.specs.Members.{◌∈◌}
 use Rattle.types.specs.Typed.{owned_name}
-use Rattle.assign_check.specs.declared.count.BranchCounts.{BranchCounts}
-use Rattle.assign_check.specs.declared.count.AssignCounts.{AssignCounts}
-use Rattle.assign_check.specs.declared.sets.CountSets.{CountSets}
+use Rattle.assign_check.specs.declared.counts.count.BranchCounts.{BranchCounts}
+use Rattle.assign_check.specs.declared.counts.count.AssignCounts.{AssignCounts}
+use Rattle.assign_check.specs.declared.counts.sets.CountSets.{CountSets}
 use Rattle.assign_check.specs.Faults.{same, is_before, sums, has_more}
 
 -- SETS

@@ -1,7 +1,7 @@
 -- The value of a variable in a table.
 use Rattle.std.specs.Prelude.{Option, Some, None, slice_get}
 use Rattle.language.specs.Core.{Owned, local, input, output}
-use Rattle.assign_check.specs.declared.table.VariableTable.{VariableTable}
+use Rattle.assign_check.specs.declared.summaries.table.VariableTable.{VariableTable}
 
 abbrev pub or_empty : {T : Type 0} → T → Option T → T
 or_empty empty None = empty

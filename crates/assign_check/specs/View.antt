@@ -1,14 +1,14 @@
 -- The outline that a value of the program represents.
 use Rattle.std.specs.Prelude.{List, map}
 use Rattle.types.specs.Typed.{owned_name}
-use Rattle.assign_check.specs.declared.outline.UseKind.{UseKind}
-use Rattle.assign_check.specs.declared.outline.UseKind.TheVariants.{Named, Written, Read}
-use Rattle.assign_check.specs.declared.outline.DeclRole.{DeclRole}
-use Rattle.assign_check.specs.declared.outline.DeclRole.TheVariants.{Own, Output, Given}
-use Rattle.assign_check.specs.declared.outline.UseSite.{UseSite}
-use Rattle.assign_check.specs.declared.outline.Declaration.{Declaration}
-use Rattle.assign_check.specs.declared.outline.OutlineStep.{OutlineStep, OutlineStep-F, fold-OutlineStep}
-use Rattle.assign_check.specs.declared.outline.OutlineStep.TheOpen as Act
+use Rattle.assign_check.specs.declared.outlining.outline.UseKind.{UseKind}
+use Rattle.assign_check.specs.declared.outlining.outline.UseKind.TheVariants.{Named, Written, Read}
+use Rattle.assign_check.specs.declared.outlining.outline.DeclRole.{DeclRole}
+use Rattle.assign_check.specs.declared.outlining.outline.DeclRole.TheVariants.{Own, Output, Given}
+use Rattle.assign_check.specs.declared.outlining.outline.UseSite.{UseSite}
+use Rattle.assign_check.specs.declared.outlining.outline.Declaration.{Declaration}
+use Rattle.assign_check.specs.declared.outlining.outline.OutlineStep.{OutlineStep, OutlineStep-F, fold-OutlineStep}
+use Rattle.assign_check.specs.declared.outlining.outline.OutlineStep.TheOpen as Act
 use Rattle.assign_check.specs.Outline as O
 use Rattle.assign_check.specs.Outline.{named, written, read, own, result, given, declares, uses, splits, repeats, encloses, Outline, outlined}
 

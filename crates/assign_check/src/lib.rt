@@ -8,19 +8,12 @@
 #![tactic(auto)]
 
 mod best;
-mod blocks;
-mod control_path;
-mod count;
+mod counts;
 pub mod fault;
 pub mod laws;
-mod numbers;
-mod outline;
-mod parts;
-mod reads;
+mod outlining;
 mod script;
-mod sets;
-mod table;
-mod target_faults;
-mod use_summary;
+mod summaries;
+mod targets;
 
 pub use script::check;

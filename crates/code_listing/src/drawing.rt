@@ -1,4 +1,6 @@
 //! The inputs of a listing or a graph.
+ghost use Rattle.std.specs.Prelude.{◌≡◌};
+ghost use Rattle.code_listing.specs.Labels.{drawing_labels, labels_of};
 
 use crate::needs::ListingContext;
 use crate::producers::Producers;
@@ -20,7 +22,10 @@ pub struct Drawing<'a, 's, A: Allocator> {
 
 impl<'a, 's, A: Allocator> Drawing<'a, 's, A> {
     /// Returns the lookup context of the entry of this number in a body of this function.
-    pub fn scope(&self, function: u32, number: usize) -> ListingContext<'a, 's, A> {
+    pub fn scope(&self, function: usize, number: usize) -> ListingContext<'a, 's, A>
+        ensures labels { labels_of result ≡ drawing_labels self.now }
+        ensures place { (result.function ≡ function) × (result.number ≡ number) }
+    {
         ListingContext {
             found: self.found,
             functions: self.functions,

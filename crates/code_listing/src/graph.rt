@@ -117,7 +117,7 @@ fn add_parameters<A: Allocator>(
     if stand.what != BodyKind::Function || stand.function == 0 {
         return;
     }
-    match drawing.functions.get(stand.function as usize - 1) {
+    match drawing.functions.get(stand.function - 1) {
         None => {}
         Some(function) => {
             add_each(page, stand.function, 0, &function.inputs);
@@ -134,7 +134,7 @@ fn add_parameters<A: Allocator>(
 /// Writes inputs or outputs of a function, numbered from `first`.
 fn add_each<A: Allocator>(
     page: &mut TextBuffer,
-    function: u32,
+    function: usize,
     first: usize,
     variables: &Vec<statement::Variable<A>, A>,
 ) {
@@ -205,8 +205,8 @@ fn add_entry(page: &mut TextBuffer, place: usize, k: usize) {
 }
 
 /// Writes the point of an input or output.
-fn add_parameter(page: &mut TextBuffer, function: u32, place: usize) {
-    page.add_counted(b"p", function as usize);
+fn add_parameter(page: &mut TextBuffer, function: usize, place: usize) {
+    page.add_counted(b"p", function);
     page.add_counted(b"_", place);
 }
 
@@ -214,7 +214,7 @@ fn add_parameter(page: &mut TextBuffer, function: u32, place: usize) {
 fn add_edges<A: Allocator>(
     page: &mut TextBuffer,
     drawing: &Drawing<'_, '_, A>,
-    function: u32,
+    function: usize,
     entries: &[u32],
     place: usize,
 ) {

@@ -1,4 +1,5 @@
 pub mod Accepted
 pub mod Compiled
 pub mod FaultNames
+pub mod Listed
 pub mod Places

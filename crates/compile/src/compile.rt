@@ -10,6 +10,7 @@ ghost use Rattle.syntax_trees.specs.View.{tree_of};
 ghost use Rattle.types.specs.Typed.{table_of};
 ghost use Rattle.compile.specs.Compiled.{IsCompiled, IsFlowFor, IsFlowOf, IsFoldedFlowOf, IsOfScript};
 ghost use Rattle.compile.specs.Accepted.{IsScript, IsUnfit};
+ghost use Rattle.compile.specs.Listed.{IsListingOf};
 
 use crate::check::{Accepted, accept};
 use crate::fault::CompileFault;
@@ -172,13 +173,17 @@ pub struct CodeText<A: Allocator> {
 
 impl<A: Allocator> CodeText<A> {
     /// Returns the text.
-    pub fn text(&self) -> &[u8] {
+    pub fn text(&self) -> &[u8]
+        ensures { result.now ≡ self.now.text.items }
+    {
         self.text.as_slice()
     }
 
     /// Returns the text alone. The flow and the code are leaked, not dropped, so they occupy memory until the process
     /// ends. This is for callers that end soon.
-    pub fn into_text(self) -> Vec<u8> {
+    pub fn into_text(self) -> Vec<u8>
+        ensures { result ≡ self.text }
+    {
         let CodeText { text, compiled } = self;
         mem::forget(compiled);
         text
@@ -196,6 +201,7 @@ pub fn listed<A: Allocator + Clone>(
     src: &[u8],
 ) -> Result<CodeText<A>, CompileFault>
     ensures script { IsOk result → IsScript src.now }
+    ensures text { IfOk result (λ made. IsListingOf src.now made) }
     ensures unfit { IfErr result (λ fault. IsUnfit src.now fault) }
 {
     let compiled = with_flow(machine, alloc, src)?;

@@ -9,7 +9,7 @@ use std::alloc::{AllocError, Global};
 
 /// Returns the explanations of the mistakes of a text, or `None` if the text is accepted.
 ///
-/// The first explanation is that of `explain_refusals::diagnostic::explained`. If there are more mistakes than are told,
+/// The first explanation is that of `explain_refusals::diagnostic::explained`. If there are more mistakes than are reported,
 /// a last line says how many.
 ///
 /// # Errors
@@ -30,7 +30,7 @@ pub fn all_explained(alloc: Global, file: &str, text: &[u8]) -> Result<Option<Ve
     }
 }
 
-/// Returns the explanations of the mistakes after the first one, and the line on those that are not told.
+/// Returns the explanations of the mistakes after the first one, and the line on those that are not reported.
 fn further_shown(
     alloc: Global,
     file: &str,
@@ -38,7 +38,7 @@ fn further_shown(
     further: &FurtherMistakes,
 ) -> Result<Vec<u8>, AllocError> {
     let mut words = Vec::new(alloc);
-    for mistake in &further.told {
+    for mistake in &further.reported {
         let one = shown(alloc, file, text, mistake)?;
         words.extend_from_slice(one.as_slice())?;
     }
@@ -46,7 +46,7 @@ fn further_shown(
     Ok(words)
 }
 
-/// Appends the line on the mistakes that are not told, if there are any.
+/// Appends the line on the mistakes that are not reported, if there are any.
 fn add_more(words: &mut Vec<u8>, further: &FurtherMistakes) -> Result<(), AllocError> {
     if further.more == 0 {
         return Ok(());

@@ -1,4 +1,4 @@
-//! All mistakes of a refused script: after the first one, those that can be told without a guess.
+//! All mistakes of a refused script: after the first one, those that can be reported without a guess.
 //!
 //! The text is checked again with the part of the last mistake replaced by blanks or by something that fits, until
 //! nothing is refused any more.

@@ -1,4 +1,4 @@
-//! The mistakes of a text: the first one, and the others that can be told without a guess.
+//! The mistakes of a text: the first one, and the others that can be reported without a guess.
 ghost use Rattle.std.specs.Prelude.{IfOk, MatchOption};
 ghost use Rattle.explain_refusals.specs.Verdicts.{IsRefusedAt, IsScript};
 
@@ -10,8 +10,8 @@ use explain_refusals::diagnostic::refusal_of;
 pub use explain_refusals::explanation::{Hint, Note};
 use std::alloc::{AllocError, Global};
 
-/// The maximum number of mistakes that are told, with the first one.
-pub const MAX_TOLD: usize = 20;
+/// The maximum number of mistakes that are reported, with the first one.
+pub const MAX_REPORTED: usize = 20;
 
 /// The part of the check that refuses a text.
 #[derive(Clone, Copy, Debug, PartialEq, Eq)]
@@ -24,11 +24,11 @@ pub enum Stage {
     Assigning,
 }
 
-/// The mistakes after the first one: those that are told, the number of others, and whether the search ended before the
-/// text was mended.
+/// The mistakes after the first one: those that are reported, the number of others, and whether the search ended
+/// before the text was mended.
 #[derive(Debug, Drop)]
 pub struct FurtherMistakes {
-    pub told: Vec<Diagnostic>,
+    pub reported: Vec<Diagnostic>,
     pub more: usize,
     pub is_cut: bool,
 }
@@ -41,20 +41,21 @@ pub struct Mistakes {
 }
 
 impl FurtherMistakes {
-    /// Adds a mistake: tells it, in the order of the text, or counts it if enough are told.
+    /// Adds a mistake to those that are reported, in the order of the text, or counts it if there are enough.
     ///
     /// # Errors
     ///
     /// Returns `AllocError` if an allocation fails.
     pub fn add(&mut self, mistake: Diagnostic) -> Result<(), AllocError> {
-        if self.told.len() < MAX_TOLD - 1 {
+        if self.reported.len() < MAX_REPORTED - 1 {
             let mut place: usize = 0;
-            for earlier in &self.told {
+            for earlier in &self.reported {
                 if earlier.at.from <= mistake.at.from {
                     place = place.saturating_add(1);
                 }
             }
-            self.told.insert(place.min(self.told.len()), mistake)?;
+            self.reported
+                .insert(place.min(self.reported.len()), mistake)?;
         } else {
             self.more = self.more.saturating_add(1);
         }
@@ -105,7 +106,7 @@ fn further_of(
     first: &Diagnostic,
 ) -> Result<FurtherMistakes, AllocError> {
     let mut found = FurtherMistakes {
-        told: Vec::new(alloc),
+        reported: Vec::new(alloc),
         more: 0,
         is_cut: false,
     };

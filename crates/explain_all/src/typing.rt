@@ -1,7 +1,7 @@
 //! Further mistakes of a script that breaks rules of types or names.
 //!
 //! The part of the script that a fault concerns is replaced, and the script is checked again. First only the wrong
-//! expression is replaced, by a literal of each type in turn: another mistake of the same statement is told if it is one
+//! expression is replaced, by a literal of each type in turn: another mistake of the same statement is reported if it is one
 //! for every type that the expression may have.
 
 use crate::mistakes::{FurtherMistakes, Stage, letter_of, stage_of};

@@ -5,6 +5,7 @@
 #![tactic(auto)]
 
 pub mod blocked;
+<<<<<<< HEAD
 pub mod causes;
 mod components;
 pub mod context;
@@ -22,6 +23,17 @@ pub mod sites;
 pub mod value_text;
 pub mod wait_graph;
 pub mod wait_groups;
+=======
+pub mod context;
+mod graphs;
+pub mod index;
+pub mod names;
+pub mod path;
+mod reasons;
+pub mod sites;
+pub mod value_text;
+mod waiting;
+>>>>>>> 6bebd24c
 pub mod writers;
 
 pub use explain_inputs::blocked_statement::{BlockedStatement, instance_at};

@@ -1,11 +1,11 @@
 //! Hints about malformed numbers, strings and escapes.
 
 /// The digits of the least whole number, without its sign.
-const LEAST: &[u8] = b"9223372036854775808";
+const LEAST_INTEGER: &[u8] = b"9223372036854775808";
 
 /// Returns the hint about the malformed number that begins at offset `at`.
 pub fn on_number(text: &[u8], number: &[u8], at: usize) -> &'static str {
-    if number == LEAST && is_negative(text, at) {
+    if number == LEAST_INTEGER && is_negative(text, at) {
         return "write -9223372036854775807 - 1 for the least whole number";
     }
     if number.starts_with(b"0x") || number.starts_with(b"0X") {

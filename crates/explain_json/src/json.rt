@@ -39,7 +39,7 @@ fn lines_of(
     let mut out = Vec::new(alloc);
     let first = &mistakes.first;
     let mut is_first_told = false;
-    for mistake in &mistakes.further.told {
+    for mistake in &mistakes.further.reported {
         if !is_first_told && first.at.from <= mistake.at.from {
             add_line(alloc, &mut out, file, text, first)?;
             is_first_told = true;

@@ -7,10 +7,10 @@ ghost use Rattle.types.specs.Faults as type_faults;
 ghost use Rattle.assign_check.specs.Places as assign_places;
 ghost use Rattle.explain_refusals.specs.Verdicts.{BeginsAt, Explains, IsRefusedAt, IsScript};
 
-use crate::explain_assignments::told_of_assignments;
-use crate::explain_types::told_of_types;
+use crate::assignment::explain_assignments::told_of_assignments;
 use crate::explanation::{Explanation, Hint, Note};
 use crate::texts::told_of_text;
+use crate::typing::explain_types::told_of_types;
 use assign_check::fault::AssignFault;
 use explain_names::refused_script::RefusedScript;
 pub use explain_searches::declared::write_declaration;

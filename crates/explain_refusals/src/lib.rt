@@ -5,15 +5,8 @@
 //! columns.
 #![tactic(auto)]
 
-mod array_hints;
-mod branch_hints;
+mod assignment;
 pub mod diagnostic;
-mod explain_assignments;
-mod explain_counts;
-mod explain_formats;
-mod explain_names_unknown;
-mod explain_types;
 pub mod explanation;
-mod loop_hints;
 mod texts;
-mod type_hints;
+mod typing;

@@ -1,4 +1,6 @@
 mod Added
+mod Calling
+mod Failing
 mod First
 mod Guarding
 mod Marking

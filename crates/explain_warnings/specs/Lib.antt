@@ -1,3 +1,5 @@
+pub mod Endless
+pub mod Failures
 pub mod Forms
 pub mod Guards
 pub mod Marks

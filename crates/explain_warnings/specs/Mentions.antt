@@ -1,12 +1,14 @@
 -- Occurrences in the statements of a script, in the order of the text: of variables, of called functions, and of forms that are mistakes.
 use Rattle.std.specs.Prelude.{ℕ, ◌+◌, min, Bool, false, List, [], ◌∷◌, ◌++◌, map, Option, Some, None, if◌then◌else◌, nat_eq}
 use Rattle.lexer.specs.declared.token.Span.{Span}
+use Rattle.language.specs.declared.tree.Operator.{Operator}
 use Rattle.language.specs.declared.tree.Shape.{Shape}
 use Rattle.language.specs.declared.tree.Shape.TheVariants.{Scalar, Array}
 use Rattle.language.specs.Tree.{Word, Declaration, Expression, expression, Form, number, text, truth, variable, element, call, prefixed, chain, Expressions, no_expressions, and_expression, expressions_of, RightSide, value, list, Calling, Over, array, range, Statement, statement, Command, declare, assign, write, assign_all, calls, choice, choice_else, loop, waits, Body, body, Statements, no_statements, and_statement, Part, Tree, import, function, single}
 use Rattle.explain_warnings.specs.declared.name_use.NameUseKind.{NameUseKind}
-use Rattle.explain_warnings.specs.declared.name_use.NameUseKind.TheVariants.{Declared, DeclaredArray, Read, ReadElement, Written, Called, EmptyRange, ExtraLine, EmptyBlock, StepBelowOne, AlwaysHolds, WaitsForItself, IdleGuard}
+use Rattle.explain_warnings.specs.declared.name_use.NameUseKind.TheVariants.{Declared, DeclaredArray, Read, ReadElement, Written, Called, EmptyRange, ExtraLine, EmptyBlock, StepBelowOne, AlwaysHolds, WaitsForItself, IdleGuard, AlwaysFails}
 use Rattle.explain_warnings.specs.declared.name_use.NameUse.{NameUse}
+use Rattle.explain_warnings.specs.Failures.{form_overflows, is_zero_divisor, is_no_number, never_holds}
 use Rattle.explain_warnings.specs.Guards.{guards_nothing}
 use Rattle.explain_warnings.specs.Repeats.{repeats}
 pub use Rattle.explain_warnings.specs.Occurrences.{name_use, at_expression, noted}
@@ -14,9 +16,22 @@ use Rattle.explain_warnings.specs.Forms.{is_empty, below_one, is_extra_line, alw
 
 -- EXPRESSIONS
 
+-- the mistakes of an expression by its own form
+abbrev pub own_mistakes : Expression → List NameUse
+own_mistakes (expression nd f) =
+    noted (guards_nothing f) (at_expression IdleGuard (expression nd f)) ++ noted (form_overflows f) (at_expression AlwaysFails (expression nd f))
+
+abbrev pub first_failures : (called : List ℕ) → Expression → List NameUse
+first_failures called e = noted (is_no_number called e) (at_expression AlwaysFails e)
+
+-- a call in an expression that fails by its first argument
+abbrev pub argument_failures : (called : List ℕ) → Expressions → List NameUse
+argument_failures called no_expressions = []
+argument_failures called (and_expression e es) = first_failures called e
+
 abbrev mutual
   pub reads_of : Expression → List NameUse
-  reads_of (expression nd f) = noted (guards_nothing f) (record { kind = IdleGuard; number = nd.number; at = nd.first }) ++ form_reads f
+  reads_of (expression nd f) = own_mistakes (expression nd f) ++ form_reads f
 
   pub form_reads : Form → List NameUse
   form_reads (number z) = []
@@ -24,13 +39,18 @@ abbrev mutual
   form_reads (truth b) = []
   form_reads (variable w) = name_use Read w ∷ []
   form_reads (element w i) = name_use Read w ∷ name_use ReadElement w ∷ reads_of i
-  form_reads (call w es) = name_use Called w ∷ all_reads es
+  form_reads (call w es) = (name_use Called w ∷ argument_failures w.text es) ++ all_reads es
   form_reads (prefixed p e) = reads_of e
-  form_reads (chain os es) = all_reads es
+  form_reads (chain os es) = operand_reads os 0 es
 
   pub all_reads : Expressions → List NameUse
   all_reads no_expressions = []
   all_reads (and_expression e es) = reads_of e ++ all_reads es
+
+  -- the operands of a chain from place i on, each divisor that is 0 before its reads
+  pub operand_reads : List Operator → (i : ℕ) → Expressions → List NameUse
+  operand_reads os i no_expressions = []
+  operand_reads os i (and_expression e es) = noted (is_zero_divisor os i e) (at_expression AlwaysFails e) ++ (reads_of e ++ operand_reads os (i + 1) es)
 
 -- STATEMENTS
 
@@ -43,7 +63,8 @@ calling_reads c = name_use Called c.name ∷ all_reads (expressions_of c.argumen
 
 -- the mistakes of a call by its first argument
 abbrev pub first_mistakes : (called : List ℕ) → Expression → List NameUse
-first_mistakes called e = noted (is_extra_line called e) (at_expression ExtraLine e) ++ noted (always_holds called e) (at_expression AlwaysHolds e)
+first_mistakes called e = noted (is_extra_line called e) (at_expression ExtraLine e)
+    ++ (noted (always_holds called e) (at_expression AlwaysHolds e) ++ noted (never_holds called e) (at_expression AlwaysFails e))
 
 abbrev pub argument_mistakes : (called : List ℕ) → List Expression → List NameUse
 argument_mistakes called [] = []

@@ -9,8 +9,9 @@ use Rattle.explain_warnings.specs.declared.name_use.NameUseKind.{NameUseKind}
 use Rattle.explain_warnings.specs.declared.name_use.NameUseKind.TheVariants as Is
 use Rattle.explain_warnings.specs.declared.name_use.NameUse.{NameUse}
 use Rattle.explain_warnings.specs.declared.warning.WarningKind.{WarningKind}
-use Rattle.explain_warnings.specs.declared.warning.WarningKind.TheVariants.{NeverUsed, NeverRead, IdleInput, EmptyRange, ExtraLine, NeverWritten, NeverCalled, EmptyBlock, StepBelowOne, AlwaysHolds, WaitsForItself, KeyTwice, IdleGuard}
+use Rattle.explain_warnings.specs.declared.warning.WarningKind.TheVariants.{NeverUsed, NeverRead, IdleInput, EmptyRange, ExtraLine, NeverWritten, NeverCalled, EmptyBlock, StepBelowOne, AlwaysHolds, WaitsForItself, KeyTwice, IdleGuard, AlwaysFails, EndlessCall}
 use Rattle.explain_warnings.specs.declared.warning.Warning.{Warning}
+use Rattle.explain_warnings.specs.Endless.{own_call}
 use Rattle.explain_warnings.specs.Mentions.{is_spared, mentions_in, function_mentions, tree_mentions}
 use Rattle.explain_warnings.specs.Marks.{uses_local, uses_input, counted, is_called}
 use Rattle.explain_warnings.specs.Repeats.{tree_repeats}
@@ -51,6 +52,7 @@ warning_by Is.AlwaysHolds u n = Some AlwaysHolds
 warning_by Is.WaitsForItself u n = Some WaitsForItself
 warning_by Is.KeyTwice u n = Some KeyTwice
 warning_by Is.IdleGuard u n = Some IdleGuard
+warning_by Is.AlwaysFails u n = Some AlwaysFails
 
 abbrev pub warning_at : Uses → NameUse → Option WarningKind
 warning_at u m = warning_by m.kind u m.number
@@ -71,10 +73,16 @@ idle read i (d ∷ ds) = idle_input (read i) d ++ idle read (i + 1) ds
 abbrev pub uncalled : (is_called : Bool) → Word → List Warning
 uncalled is_called name = if is_called || is_spared name.text then [] else warned (Some NeverCalled) name.span
 
+-- a call by which each call of a function calls it again
+abbrev pub endless : Option Span → List Warning
+endless None = []
+endless (Some at) = warned (Some EndlessCall) at
+
 -- the warnings of the function at position i
 abbrev pub function_warnings : Table → Uses → ℕ → Composite → List Warning
 function_warnings t u i f = uncalled (u.called i) f.name
-    ++ (idle (uses_input t Is.Read (function_mentions f.body)) 0 f.inputs ++ warnings_at u (function_mentions f.body))
+    ++ (idle (uses_input t Is.Read (function_mentions f.body)) 0 f.inputs
+    ++ (endless (own_call t i f.body) ++ warnings_at u (function_mentions f.body)))
 
 -- the warnings of a part that `i` functions precede
 abbrev pub part_warnings : Table → Uses → ℕ → Part → List Warning
@@ -99,7 +107,7 @@ abbrev pub tree_warnings : Table → Uses → Tree → List Warning
 tree_warnings t u tree = warnings_at u (tree_repeats [] tree) ++ parts_warnings t u 0 tree
 
 -- all warnings of a script, in the order of its text; those of keys that two statements write stand before the others
--- of their list
+-- of their list, and that of a call without end before the others of its function's block
 abbrev pub warnings : Table → Tree → List Warning
 warnings t tree = tree_warnings t (uses_in t tree) tree
 

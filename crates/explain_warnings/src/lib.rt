@@ -5,14 +5,9 @@
 //! The time is linear in the length of the script.
 #![tactic(auto)]
 
-mod calls;
-mod forms;
-mod guards;
-mod marks;
+mod mistakes;
 pub mod name_use;
-mod name_uses;
-mod needs;
-mod reads;
+mod occurrences;
 pub mod render;
-mod repeats;
+mod sets;
 pub mod warning;

@@ -33,6 +33,9 @@ pub enum NameUseKind {
     KeyTwice,
     /// A chain of `&&` or `||` of which one operand is to guard a division in the next.
     IdleGuard,
+    /// An operation on literals that overflows, a divisor 0, the string of a `toint` that is no number, or the
+    /// condition of an `assert`, the literal `false`.
+    AlwaysFails,
 }
 
 /// An occurrence: its kind, its place, and the number of the name or of the node at that place, which is 0 for a brace.

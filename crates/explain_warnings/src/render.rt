@@ -51,8 +51,26 @@ pub fn sentence(alloc: Global, text: &[u8], warning: Warning) -> Result<Vec<u8>,
         words.extend_from_slice(bytes_at(text, warning.at))?;
         words.push(b' ')?;
     }
-    write_str(&mut words, words_of(warning.warning_kind))?;
+    write_str(&mut words, words_at(text, warning))?;
     Ok(words)
+}
+
+/// Returns the words of a warning after its name, if it begins with one.
+fn words_at(text: &[u8], warning: Warning) -> &'static str {
+    match warning.warning_kind {
+        WarningKind::AlwaysFails => words_of_failure(bytes_at(text, warning.at)),
+        warning_kind => words_of(warning_kind),
+    }
+}
+
+/// Returns the words for what always fails, by the token at its place.
+fn words_of_failure(token: &[u8]) -> &'static str {
+    match token {
+        [b'0'] => "dividing by 0 always fails",
+        [b'"', ..] => "this string is no whole number, so toint always fails",
+        [b'f', ..] => "this assertion always fails",
+        _ => words_of(WarningKind::AlwaysFails),
+    }
 }
 
 /// Returns true if the sentence begins with the name at the place of the warning.
@@ -60,9 +78,10 @@ fn begins_with_name(warning_kind: WarningKind) -> bool {
     match warning_kind {
         WarningKind::NeverUsed | WarningKind::NeverRead | WarningKind::IdleInput => true,
         WarningKind::NeverWritten | WarningKind::NeverCalled | WarningKind::WaitsForItself => true,
-        WarningKind::KeyTwice => true,
+        WarningKind::KeyTwice | WarningKind::EndlessCall => true,
         WarningKind::EmptyRange | WarningKind::ExtraLine | WarningKind::EmptyBlock => false,
         WarningKind::StepBelowOne | WarningKind::AlwaysHolds | WarningKind::IdleGuard => false,
+        WarningKind::AlwaysFails => false,
     }
 }
 
@@ -83,6 +102,8 @@ fn words_of(warning_kind: WarningKind) -> &'static str {
         WarningKind::IdleGuard => {
             "this comparison does not guard the division after it: both sides are computed"
         }
+        WarningKind::AlwaysFails => "the result is out of range, so this always fails",
+        WarningKind::EndlessCall => "calls itself in each call, so no call ends",
     }
 }
 
@@ -112,6 +133,12 @@ pub fn hint_of(warning_kind: WarningKind) -> &'static str {
         WarningKind::IdleGuard => {
             "a divisor of 0 is a fault: put the division into the block of an if, as if (n != 0) { .. }"
         }
+        WarningKind::AlwaysFails => {
+            "these are literals, so each run that gets here ends with a fault: write what is meant"
+        }
+        WarningKind::EndlessCall => {
+            "call it in an if that ends the calls, as if (n == 0) { r = 0; } else { r = f(n - 1); }"
+        }
     }
 }
 
@@ -133,6 +160,8 @@ pub fn code_of(warning_kind: WarningKind) -> &'static str
         WarningKind::WaitsForItself => "V11",
         WarningKind::KeyTwice => "V12",
         WarningKind::IdleGuard => "V13",
+        WarningKind::AlwaysFails => "V14",
+        WarningKind::EndlessCall => "V15",
     }
 }
 
@@ -154,6 +183,8 @@ pub fn name_of(warning_kind: WarningKind) -> &'static str
         WarningKind::WaitsForItself => "WaitsForItself",
         WarningKind::KeyTwice => "KeyTwice",
         WarningKind::IdleGuard => "IdleGuard",
+        WarningKind::AlwaysFails => "AlwaysFails",
+        WarningKind::EndlessCall => "EndlessCall",
     }
 }
 

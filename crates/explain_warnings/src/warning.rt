@@ -9,11 +9,12 @@ ghost use Rattle.explain_warnings.specs.Marks.{is_marked};
 ghost use Rattle.explain_warnings.specs.View.{uses_of};
 ghost use Rattle.explain_warnings.specs.Warnings as specs;
 
-use crate::calls::{called_marks, is_function};
-use crate::marks::{input_marks, is_marked, local_marks};
+use crate::mistakes::endless::own_call;
+use crate::mistakes::repeats::tree_repeats;
 use crate::name_use::{NameUse, NameUseKind};
-use crate::name_uses::{function_body, is_spared, statement, tree_mentions};
-use crate::repeats::tree_repeats;
+use crate::occurrences::name_uses::{function_body, is_spared, statement, tree_mentions};
+use crate::sets::calls::{called_marks, is_function};
+use crate::sets::marks::{input_marks, is_marked, local_marks};
 use lexer::token::Span;
 use std::alloc::{AllocError, Allocator, Global};
 use syntax_trees::tree::{Decl, Function, Item, Name, Script};
@@ -48,6 +49,10 @@ pub enum WarningKind {
     KeyTwice,
     /// A comparison with 0 that is to guard a division.
     IdleGuard,
+    /// An operation, a call or an assertion that fails by its literals.
+    AlwaysFails,
+    /// A call by which each call of a function calls it again.
+    EndlessCall,
 }
 
 /// A warning with its place: a name, the beginning of an expression, or a brace.
@@ -68,7 +73,8 @@ struct NamesInUse<'a> {
 }
 
 /// Returns the warnings of a well typed script in the order of its text. `typed`: the table of its names. Those of keys
-/// that two statements write stand before the others of their list.
+/// that two statements write stand before the others of their list, and that of a call without end before the others of
+/// its function's block.
 ///
 /// Names that begin with `_` and loop variables count as used.
 ///
@@ -143,7 +149,8 @@ fn part<A: Allocator>(
     }
 }
 
-/// Appends the warnings of a function: that of its name, those of its inputs, then those of its block.
+/// Appends the warnings of a function: that of its name, those of its inputs, that of a call of itself, then those of its
+/// block.
 fn function<A: Allocator>(
     alloc: Global,
     typed: &Typed,
@@ -160,6 +167,8 @@ fn function<A: Allocator>(
     function_body(alloc, &function.body, &mut name_uses)?;
     let read = input_marks(alloc, typed, NameUseKind::Read, name_uses.as_slice())?;
     idle_inputs(read.as_slice(), &function.inputs, found)?;
+    let own = own_call(alloc, typed, position, &function.body)?;
+    endless(own, found)?;
     write_all(uses, name_uses.as_slice(), found)
 }
 
@@ -211,6 +220,19 @@ fn idle_input<A: Allocator>(
     Ok(())
 }
 
+/// Appends a warning at a call of a function by itself, if there is one.
+fn endless(own: Option<Span>, found: &mut Vec<Warning>) -> Result<(), AllocError>
+    ensures { OnOk result (found.new.items ≡ found.old.items ++ specs.endless own) }
+{
+    if let Some(at) = own {
+        found.push(Warning {
+            warning_kind: WarningKind::EndlessCall,
+            at,
+        })?;
+    }
+    Ok(())
+}
+
 /// Appends the warnings at these occurrences.
 fn write_all(
     uses: &NamesInUse<'_>,
@@ -253,6 +275,7 @@ fn warning_at(uses: &NamesInUse<'_>, name_use: NameUse) -> Option<WarningKind>
         NameUseKind::WaitsForItself => Some(WarningKind::WaitsForItself),
         NameUseKind::KeyTwice => Some(WarningKind::KeyTwice),
         NameUseKind::IdleGuard => Some(WarningKind::IdleGuard),
+        NameUseKind::AlwaysFails => Some(WarningKind::AlwaysFails),
     }
 }
 

@@ -1,13 +1,13 @@
 //! The drawing of a script.
 
-use crate::call_order::CallOrder;
-use crate::context::DrawingContext;
-use crate::dot_text::DotText;
-use crate::edges::add_edges;
-use crate::frames::add_frames;
-use crate::style::{add_first, add_last};
-use crate::traffic::Traffic;
-use crate::walk::scene_of;
+use crate::analysis::call_order::CallOrder;
+use crate::analysis::traffic::Traffic;
+use crate::analysis::walk::scene_of;
+use crate::elements::context::DrawingContext;
+use crate::elements::edges::add_edges;
+use crate::elements::frames::add_frames;
+use crate::text::dot_text::DotText;
+use crate::text::style::{add_first, add_last};
 use flow::script::Flow;
 use std::alloc::{AllocError, Allocator, Global};
 

@@ -2,15 +2,7 @@
 //! them, as text for `dot`.
 #![tactic(auto)]
 
-mod call_order;
-mod context;
-mod dot_text;
+mod analysis;
 pub mod drawing;
-mod edges;
-mod excerpt;
-mod frames;
-mod scene;
-mod style;
-mod traffic;
-mod uses;
-mod walk;
+mod elements;
+pub mod text;

@@ -1,9 +1,9 @@
 //! Statements of a flow, a line for each statement, cell and call.
 
-use crate::flow_cells::{add_call, add_outer, add_parts};
-use crate::flow_names::FlowNames;
-use crate::flow_page::FlowPage;
-use crate::page::PassPage;
+use crate::flow_lines::flow_cells::{add_call, add_outer, add_parts};
+use crate::flow_lines::flow_names::FlowNames;
+use crate::flow_lines::flow_page::FlowPage;
+use crate::text::page::PassPage;
 use flow::script::{Flow, Function};
 use flow::statement::{Action, Block, Header, Range, Statement};
 use std::alloc::{AllocError, Allocator, Global};

@@ -1,9 +1,11 @@
 //! Statements and functions of a syntax tree, a line a node.
 
-use crate::page::PassPage;
-use crate::tree_expressions::{add_call, add_expression, add_expressions, add_right, add_source};
-use crate::tree_page::TreePage;
-use crate::type_table::TypeTable;
+use crate::text::page::PassPage;
+use crate::tree_lines::tree_expressions::{
+    add_call, add_expression, add_expressions, add_right, add_source,
+};
+use crate::tree_lines::tree_page::TreePage;
+use crate::tree_lines::type_table::TypeTable;
 use std::alloc::{AllocError, Allocator, Global};
 use syntax_trees::tree::{Block, Decl, Function, Header, Item, Script, Stmt, StmtKind};
 use types::typed::Typed;

@@ -23,8 +23,8 @@ pub enum ArgumentErrorKind {
     NoValue,
     /// The option is repeated, or standard input is named twice.
     Twice,
-    /// The word is not a number in this range, given as minimum and maximum.
-    NotWithin(u32, u32),
+    /// The word is not a number in the range of the option.
+    NotWithin(NumberOption),
     /// The word is not the name of a pass.
     NotAPass,
     /// The word is a file, and the command already has all its files.
@@ -33,6 +33,51 @@ pub enum ArgumentErrorKind {
     TooFew(Command),
     /// The word is not a name of a file that can be written.
     NotWritable,
+}
+
+/// An option whose value is a number.
+#[derive(Clone, Copy, PartialEq, Eq, Debug, Drop)]
+pub enum NumberOption {
+    Rounds,
+    Steps,
+    Engines,
+    Workers,
+}
+
+impl NumberOption {
+    /// Returns the option with a name, or `None` if its value is not a number.
+    fn of(name: &str) -> Option<NumberOption> {
+        if is(name, "--rounds") {
+            Some(NumberOption::Rounds)
+        } else if is(name, "--steps") {
+            Some(NumberOption::Steps)
+        } else if is(name, "--engines") {
+            Some(NumberOption::Engines)
+        } else if is(name, "--workers") {
+            Some(NumberOption::Workers)
+        } else {
+            None
+        }
+    }
+
+    /// Returns the name of the option.
+    fn name(self) -> &'static str {
+        match self {
+            NumberOption::Rounds => "--rounds",
+            NumberOption::Steps => "--steps",
+            NumberOption::Engines => "--engines",
+            NumberOption::Workers => "--workers",
+        }
+    }
+
+    /// Returns the least and the greatest number that the option takes.
+    fn range(self) -> (u32, u32) {
+        match self {
+            NumberOption::Rounds => (1, u32::MAX),
+            NumberOption::Steps => (0, MAX_EVENTS as u32),
+            NumberOption::Engines | NumberOption::Workers => (1, MAX_OF_A_KIND),
+        }
+    }
 }
 
 /// The first wrong word, and why it is wrong.
@@ -66,7 +111,7 @@ impl fmt::Display for ArgumentError<'_> {
             }
             ArgumentErrorKind::NoValue => write_word(f, word, " has no value behind it"),
             ArgumentErrorKind::Twice => write_word(f, word, " stands twice"),
-            ArgumentErrorKind::NotWithin(least, most) => write_range(f, word, least, most),
+            ArgumentErrorKind::NotWithin(option) => write_range(f, word, option),
             ArgumentErrorKind::NotAPass => write_word(f, word, NO_PASS),
             ArgumentErrorKind::OneTooMany(command) => {
                 write_command(f, word, " is one file too many for ", command.name())
@@ -100,14 +145,18 @@ fn write_command<W: fmt::Write>(
     write!(f, "swt: {word}{wrong}{end}")
 }
 
-/// Writes that a word is not a number in a range.
+/// Writes that a word is not a number in the range of an option.
 fn write_range<W: fmt::Write>(
     f: &mut fmt::Formatter<W>,
     word: &str,
-    least: u32,
-    most: u32,
+    option: NumberOption,
 ) -> fmt::Result {
-    write!(f, "swt: {word} is no number from {least} to {most}")
+    let name = option.name();
+    let (least, most) = option.range();
+    write!(
+        f,
+        "swt: {name} takes a number from {least} to {most}, not {word}"
+    )
 }
 
 /// Returns the first wrong word and its reason, or `None` if no word is wrong.
@@ -183,10 +232,10 @@ fn no_value(word: &str) -> ArgumentError<'_> {
 
 /// Returns the error for a word that begins with a dash in the place of an option's value.
 fn instead_of_value<'a>(option: &'a str, word: &'a str) -> ArgumentError<'a> {
-    match range_of(option) {
-        Some((least, most)) if is_below_zero(word) => ArgumentError {
+    match NumberOption::of(option) {
+        Some(option) if is_below_zero(word) => ArgumentError {
             word,
-            wrong: ArgumentErrorKind::NotWithin(least, most),
+            wrong: ArgumentErrorKind::NotWithin(option),
         },
         _ => no_value(option),
     }
@@ -256,17 +305,18 @@ fn wrong_value<'a>(option: &'a str, value: &'a str) -> Option<ArgumentError<'a>>
     if is(option, "--after") {
         return wrong_pass(option, value);
     }
-    let Some((least, most)) = range_of(option) else {
+    let Some(taken) = NumberOption::of(option) else {
         return wrong_name(value);
     };
     if value.is_empty() {
         return Some(no_value(option));
     }
+    let (least, most) = taken.range();
     match number_within(value, least, most) {
         Some(_) => None,
         None => Some(ArgumentError {
             word: value,
-            wrong: ArgumentErrorKind::NotWithin(least, most),
+            wrong: ArgumentErrorKind::NotWithin(taken),
         }),
     }
 }
@@ -292,19 +342,6 @@ fn wrong_name(name: &str) -> Option<ArgumentError<'_>> {
             word: name,
             wrong: ArgumentErrorKind::NotWritable,
         })
-    } else {
-        None
-    }
-}
-
-/// Returns the range of an option's number, or `None` if its value is not a number.
-fn range_of(option: &str) -> Option<(u32, u32)> {
-    if is(option, "--rounds") {
-        Some((1, u32::MAX))
-    } else if is(option, "--steps") {
-        Some((0, MAX_EVENTS as u32))
-    } else if is(option, "--engines") || is(option, "--workers") {
-        Some((1, MAX_OF_A_KIND))
     } else {
         None
     }

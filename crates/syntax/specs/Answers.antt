@@ -5,8 +5,8 @@ use Rattle.syntax_trees.specs.declared.tree.Block.{Block}
 use Rattle.language.specs.Tree.{Body, Statement, Tree}
 use Rattle.language.specs.Numbered.{numbered}
 use Rattle.syntax_trees.specs.View.{body_view, statement_view}
-use Rattle.syntax.specs.declared.stop.ParseStop.{ParseStop}
-use Rattle.syntax.specs.declared.stop.ParseStop.TheVariants.{AtEnd, Unexpected, TooNested, Memory}
+use Rattle.syntax.specs.declared.grammar.stop.ParseStop.{ParseStop}
+use Rattle.syntax.specs.declared.grammar.stop.ParseStop.TheVariants.{AtEnd, Unexpected, TooNested, Memory}
 use Rattle.language.specs.Rules.{Place}
 use Rattle.lexer.specs.declared.fault.LexFault.{LexFault}
 use Rattle.syntax.specs.declared.error.ParseFault.{ParseFault}

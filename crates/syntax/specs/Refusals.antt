@@ -7,8 +7,8 @@ use Rattle.lexer.specs.declared.fault.LexFault.{LexFault}
 use Rattle.language.specs.Tree.{Tree}
 use Rattle.language.specs.Reads.{Reads}
 use Rattle.language.specs.Grammar.{IsScript}
-use Rattle.syntax.specs.declared.stop.ParseStop.{ParseStop}
-use Rattle.syntax.specs.declared.stop.ParseStop.TheVariants.{AtEnd}
+use Rattle.syntax.specs.declared.grammar.stop.ParseStop.{ParseStop}
+use Rattle.syntax.specs.declared.grammar.stop.ParseStop.TheVariants.{AtEnd}
 use Rattle.syntax.specs.Endings.{ending}
 use Rattle.syntax.specs.Readers.{refused, start}
 use Rattle.syntax.specs.Reading.{read_script}

@@ -10,11 +10,11 @@ ghost use Rattle.syntax.specs.Answers.{answer_of};
 ghost use Rattle.syntax.specs.Endings.{ending};
 ghost use Rattle.syntax.specs.Refusals.{Refuses};
 
-use crate::cursor::Cursor;
 use crate::error::ParseFault;
-use crate::script::script;
-use crate::stop::ParseStop;
-use crate::tokens::{fault_behind, fault_of};
+use crate::grammar::cursor::Cursor;
+use crate::grammar::script::script;
+use crate::grammar::stop::ParseStop;
+use crate::grammar::tokens::{fault_behind, fault_of};
 use lexer::token::Span;
 use std::alloc::Allocator;
 use syntax_trees::tree::Script;

@@ -26,7 +26,7 @@ V6 NeverWritten 4 5 | int A[]; printf("%i", A[0]);
 V6 NeverWritten 7 8 | string A[string]; foreach i in [0:1] { printf("%i %s", i, A["k"]); }
 V6 NeverWritten 37 38 | (int r) f(int B[]) { r = B[0]; } int A[]; printf("%i %i", A[1], f(A));
 V7 NeverCalled 3 4 | () f() { printf("x"); }
-V7 NeverCalled 3 4 | () f() { f(); }
+V7 NeverCalled 3 4, V15 EndlessCall 9 10 | () f() { f(); }
 V7 NeverCalled 27 28 | () f() { printf("x"); } () g() { f(); }
 V7 NeverCalled 8 9 | (int r) f(int n) { if (n > 0) { r = f(n - 1); } else { r = 0; } } int f = 1; printf("%i", f);
 V8 EmptyBlock 10 11 | if (true) { } else { printf("x"); }
@@ -51,7 +51,25 @@ V12 KeyTwice 43 44 | int A[]; A[0] = 1; () f() { printf("x"); } A[0] = 2; f(); p
 V13 IdleGuard 15 16 | int n = 2; if (n != 0 && 10 %/ n > 1) { printf("x"); }
 V13 IdleGuard 15 16 | int n = 2; if (n == 0 || 10 %% n > 1) { printf("x"); }
 V13 IdleGuard 15 16 | int n = 2; if (0 != n && 3 > 4 * 10 %/ n) { printf("x"); }
-V13 IdleGuard 18 22 | int n = 2; assert(true && n != 0 && 1 == toint(fromint(7 %/ n)), "x");"#;
+V13 IdleGuard 18 22 | int n = 2; assert(true && n != 0 && 1 == toint(fromint(7 %/ n)), "x");
+V14 AlwaysFails 19 20 | printf("%i", 10 %/ 0);
+V14 AlwaysFails 33 34 | int n = 7; printf("%i", n * 2 %% 0 * 3);
+V14 AlwaysFails 34 35, V14 AlwaysFails 40 41 | int n = 7; printf("%i", 1 + n %/ (0) %/ 0);
+V14 AlwaysFails 19 30 | printf("%i", toint("12 apples"));
+V14 AlwaysFails 27 29, V14 AlwaysFails 39 60 | printf("%s", fromint(toint("") + toint("9223372036854775808")));
+V14 AlwaysFails 7 12 | assert(false, "x");
+V14 AlwaysFails 13 32 | printf("%i", 9223372036854775807 + 1);
+V14 AlwaysFails 13 14 | printf("%i", (3037000500) * 3037000500 - 1);
+V14 AlwaysFails 13 14 | printf("%i", -9223372036854775807 - 2);
+V2 NeverRead 4 5, V14 AlwaysFails 16 17, V14 AlwaysFails 27 30 | int A[]; A[1 %/ 0] = toint("x");
+V14 AlwaysFails 4 5, V14 AlwaysFails 35 36 | if (2 * 9223372036854775807 > 1 %% 0) { printf("x"); }
+V15 EndlessCall 23 24 | (int r) f(int n) { r = f(n - 1); } printf("%i", f(3));
+V15 EndlessCall 30 31, V1 NeverUsed 23 24 | (int r) f(int n) { int x; r = f(n); } printf("%i", f(3));
+V15 EndlessCall 49 50 | (int r) f(int n) { int x = n; wait (x) { r = 1 + f(x); } } printf("%i", f(3));
+V15 EndlessCall 23 24 | (int r) f(int n) { if (f(n) > 0) { r = 1; } else { r = 0; } } printf("%i", f(3));
+V15 EndlessCall 44 45 | (int r) f(int n) { r = n; foreach i in [0:9:f(n)] { printf("%i", i); } } printf("%i", f(3));
+V15 EndlessCall 36 37 | (boolean r) f(int n) { r = n > 0 && f(n - 1); } assert(f(3), "x");
+V15 EndlessCall 57 58 | (int r) g(int n) { r = n; } (int r) f(int n) { int x = g(f(n)); r = f(x); } printf("%i", f(3));"#;
 
 #[test]
 fn odd_scripts(rt: HostRuntime) {
@@ -94,6 +112,16 @@ none | int n = 2; if (10 %/ n > 1 && n != 0) { printf("x"); }
 none | int n = 2; if (n != 1 && 10 %/ n > 1) { printf("x"); }
 none | int n = 2; if (n != 0 && n %/ 10 > 1) { printf("x"); }
 none | int n = 2; int m = 3; if (m != 0 && 10 %/ n > m) { printf("x"); }
+none | printf("%i", 0 %/ 10); printf("%i", 0 %% 10 %/ 3);
+none | int n = 1; printf("%i", 10 %/ (n - 1)); printf("%i", 10 - 0);
+none | printf("%i", toint("-007")); printf("%i", toint("12" + " apples"));
+none | printf("%i", 9223372036854775807 - 1); printf("%i", -9223372036854775807 - 1); printf("%i", 3037000499 * 3037000499);
+none | int n = 1; printf("%i", n + 9223372036854775807 + 1); printf("%s", "9" + "1");
+none | assert(!true, "false"); printf("false");
+none | (int r) f(int n) { if (n > 0) { r = f(n - 1); } else { r = f(n + 1); } } printf("%i", f(1));
+none | () f(int n) { foreach i in [1:n] { f(i - 1); } } f(3);
+none | () f(int n) { int x = n; wait (x) { if (x > 0) { f(x - 1); } } } f(3);
+none | () f(int n) { g(n); } () g(int n) { if (n > 0) { f(n - 1); } } g(3);
 none | int x; int y = z;
 none | int x"#;
 

@@ -430,8 +430,8 @@ swt: walk is no command | walk a
 swt: --steps is no option of check | check a --steps 1
 swt: --trace has no value behind it | run a --trace
 swt: --steps has no value behind it | run --steps --engines 1 a
-swt: 64 is no number from 1 to 63 | run a --workers 64
-swt: many is no number from 1 to 4294967295 | mean a --rounds many
+swt: --workers takes a number from 1 to 63, not 64 | run a --workers 64
+swt: --rounds takes a number from 1 to 4294967295, not many | mean a --rounds many
 swt: --dot stands twice | code a --dot --dot
 swt: --draw stands twice | code a --dot --draw
 swt: parsed is no pass: write parse, types, fold, lower, merge or emit | code a --after parsed
@@ -444,8 +444,8 @@ swt: --dot stands twice | code a --after parse --dot
 swt: b is one file too many for mean | mean a b
 swt: check wants one file or more | check
 swt: replay wants a file and its trace | replay a
-swt: -1 is no number from 0 to 4294967295 | run a --steps -1
-swt: -1 is no number from 1 to 63 | run --workers=-1 a
+swt: --steps takes a number from 0 to 4294967295, not -1 | run a --steps -1
+swt: --workers takes a number from 1 to 63, not -1 | run --workers=-1 a
 swt: --steps has no value behind it | run --steps -- a
 swt: --steps has no value behind it | run a --steps=
 swt: --trace has no value behind it | run a --trace -x

@@ -8,7 +8,7 @@ use Rattle.language.specs.Core.{Owned}
 use Rattle.language.specs.Members.{◌∈◌}
 use Rattle.language.proofs.Members.{to_left, to_right}
 use Rattle.types.specs.Typed.{owned_name}
-use Rattle.assign_check.specs.declared.count.AssignCounts.{AssignCounts}
+use Rattle.assign_check.specs.declared.counts.count.AssignCounts.{AssignCounts}
 use Rattle.assign_check.specs.declared.fault.AssignFault.{AssignFault}
 use Rattle.assign_check.specs.declared.fault.AssignFault.TheVariants.{PartlyAssigned}
 use Rattle.assign_check.specs.Outline.{Kind, named, Outline, nothing, followed, outlined, Step, declares, uses, splits, repeats, encloses}

@@ -9,7 +9,7 @@ use Rattle.language.specs.declared.tree.Shape.TheVariants.{Scalar, Array}
 use Rattle.language.specs.Core.{Owned}
 use Rattle.assign_check.specs.declared.fault.AssignFault.{AssignFault}
 use Rattle.assign_check.specs.declared.fault.AssignFault.TheVariants.{NeverAssigned, WholeAndElements, OutputUnassigned}
-use Rattle.assign_check.specs.declared.use_summary.UseSummary.{UseSummary}
+use Rattle.assign_check.specs.declared.summaries.use_summary.UseSummary.{UseSummary}
 use Rattle.assign_check.specs.Outline.{Kind, named, written, read, Use, Role, own, result, given, Declared}
 use Rattle.assign_check.specs.Faults as faults
 use Rattle.assign_check.specs.Faults.{same, is_kind, is_used, form_faults, role_faults, variable_faults}

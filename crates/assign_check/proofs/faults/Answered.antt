@@ -5,9 +5,9 @@ use Rattle.std.proofs.Math.Seq.{take-append_seam}
 use Rattle.std.proofs.lemmas.List.{drop_more, append-nil}
 use Rattle.lexer.specs.declared.token.Span.{Span}
 use Rattle.language.specs.Core.{Owned}
-use Rattle.assign_check.specs.declared.outline.OutlineStep.{Declares, Splits, Repeats, Encloses, the_lemmas}
-use Rattle.assign_check.specs.declared.outline.Declaration.{Declaration}
-use Rattle.assign_check.specs.declared.outline.OutlineStep.{OutlineStep as Code}
+use Rattle.assign_check.specs.declared.outlining.outline.OutlineStep.{Declares, Splits, Repeats, Encloses, the_lemmas}
+use Rattle.assign_check.specs.declared.outlining.outline.Declaration.{Declaration}
+use Rattle.assign_check.specs.declared.outlining.outline.OutlineStep.{OutlineStep as Code}
 use Rattle.assign_check.specs.Outline.{Outline, followed, Step, declares, splits, repeats, encloses, outlined}
 use Rattle.assign_check.specs.View.{declared_view, step_view}
 use Rattle.assign_check.specs.declared.fault.AssignFault.{AssignFault}

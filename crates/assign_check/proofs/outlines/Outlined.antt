@@ -7,7 +7,7 @@ use Rattle.language.specs.Core.{Owned}
 use Rattle.language.specs.Table.{Table}
 use Rattle.language.specs.Tree.{Part, import, function, single}
 use Rattle.assign_check.specs.declared.fault.AssignFault.{AssignFault}
-use Rattle.assign_check.specs.declared.use_summary.UseSummary.{UseSummary}
+use Rattle.assign_check.specs.declared.summaries.use_summary.UseSummary.{UseSummary}
 use Rattle.assign_check.specs.Outline.{Outline, Step, outlined, Use, Declared, function_outlines, function_steps}
 use Rattle.assign_check.specs.Faults.{precedes, first_among, way_faults, split_faults, uses_in, declared_in, variable_faults, faults_of}
 use Rattle.assign_check.specs.Tallies.{unused, tally_from, tally_faults}

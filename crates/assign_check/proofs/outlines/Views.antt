@@ -13,7 +13,7 @@ use Rattle.syntax_trees.specs.declared.tree.Name.{Name}
 use Rattle.syntax_trees.specs.declared.tree.Right.{Right}
 use Rattle.syntax_trees.specs.declared.tree.Stmt.{Stmt, out-Stmt}
 use Rattle.syntax_trees.specs.declared.tree.StmtKind.{Declare, Assign, Write, AssignAll, Call, Wait, the_lemmas}
-use Rattle.assign_check.specs.declared.outline.OutlineStep.{OutlineStep as Code}
+use Rattle.assign_check.specs.declared.outlining.outline.OutlineStep.{OutlineStep as Code}
 use Rattle.assign_check.specs.Outline.{Step, command_steps}
 use Rattle.assign_check.specs.View.{step_view, steps_view}
 

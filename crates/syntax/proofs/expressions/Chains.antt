@@ -10,7 +10,7 @@ use Rattle.language.specs.Rules.{Place}
 use Rattle.language.specs.Grammar.{spans}
 use Rattle.lexer.specs.declared.token.Span.{Span}
 use Rattle.lexer.specs.declared.token.TokenKind.{TokenKind}
-use Rattle.syntax.specs.declared.stop.ParseStop.{ParseStop}
+use Rattle.syntax.specs.declared.grammar.stop.ParseStop.{ParseStop}
 use Rattle.syntax.specs.Readers.{refused, got, Reader, ◌>>=◌, cond, choose, ◌∗◌, many_over, many, once, opened}
 use Rattle.syntax.specs.Reading.{at_operator, read_operator, operands, read_name, read_unary, read_form, read_prefixed, read_arguments, read_application, read_operand, read_operands, joined, read_link}
 use Rattle.syntax.proofs.combining.Combine.{bind_got, got_value}

@@ -11,7 +11,7 @@ use Rattle.language.specs.Tree.{Expression}
 use Rattle.language.specs.Kinds.{operator_of, level_of, same_level}
 use Rattle.language.specs.Rules.{Place}
 use Rattle.language.specs.Grammar.{first_of, chained}
-use Rattle.syntax.specs.declared.stop.ParseStop.{ParseStop}
+use Rattle.syntax.specs.declared.grammar.stop.ParseStop.{ParseStop}
 use Rattle.syntax.specs.Readers.{Read, refused, got, ◌>>=◌, cond, kind_at}
 use Rattle.syntax.specs.Answers.{Gives}
 use Rattle.syntax.specs.Reading.{operator_at, at_operator, of_level, is_some, operands, read_unary, read_form, read_operand, read_operands, read_chain, joined, read_link, read_links, rank, ranked, level_within, level_at}

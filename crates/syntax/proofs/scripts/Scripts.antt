@@ -8,8 +8,8 @@ use Rattle.lexer.specs.declared.token.TokenKind.TheVariants as Kind
 use Rattle.language.specs.Kinds.{same}
 use Rattle.language.specs.Rules.{Place, Rule, The, ◌⋆◌, ◌▹◌, ◌◃◌, Never, Many, Made, Maybe, Commas, Perhaps, Deeper}
 use Rattle.language.specs.Grammar.{first_of, node, IsName, IsDecl, AreParameters, IsCall, IsPriority, IsStmtOver, a_declaration, an_assignment, a_write, many_assigned, a_call, an_if, a_foreach, a_wait, IsBlockOver, IsStmt, IsBlock, IsModule, io, assert, string, IsPart, an_import, a_function, a_statement, IsScript}
-use Rattle.syntax.specs.declared.stop.ParseStop.{ParseStop}
-use Rattle.syntax.specs.declared.stop.ParseStop.TheVariants.{Unexpected}
+use Rattle.syntax.specs.declared.grammar.stop.ParseStop.{ParseStop}
+use Rattle.syntax.specs.declared.grammar.stop.ParseStop.TheVariants.{Unexpected}
 use Rattle.syntax.specs.Readers.{refused, got, ◌>>=◌, kind_of, kind_at, second_at, at, second, start, none_of, at_end, cond, choose, the, made, checked}
 use Rattle.syntax.specs.Reading.{spells, is_module, read_module, read_import, read_function, at_function, read_stmt, read_part, read_script}
 use Rattle.syntax.proofs.spellings.Spelling.{spells_true}

@@ -12,7 +12,7 @@ use Rattle.language.specs.Rules.{Place}
 use Rattle.language.specs.Grammar.{IsExpr, IsScript}
 use Rattle.language.specs.Numbered.{numbered}
 use Rattle.language.specs.Reads.{Reads}
-use Rattle.syntax.specs.declared.stop.ParseStop.{ParseStop}
+use Rattle.syntax.specs.declared.grammar.stop.ParseStop.{ParseStop}
 use Rattle.syntax.specs.Readers.{got, refused, start, kind_at, kind_of}
 use Rattle.syntax.specs.Reading.{read_script}
 use Rattle.syntax.proofs.combining.Combine.{law_only}

@@ -7,7 +7,7 @@ use Rattle.language.specs.Tree.{Word, Calling, assign_all, calls, Part, function
 use Rattle.language.specs.Tree.{choice_of}
 use Rattle.language.specs.Rules.{Place}
 use Rattle.language.specs.Grammar.{first_of, node, does, or_zero}
-use Rattle.syntax.specs.declared.stop.ParseStop.{ParseStop}
+use Rattle.syntax.specs.declared.grammar.stop.ParseStop.{ParseStop}
 use Rattle.syntax.specs.Readers.{◌◂◌, refused, got, ◌>>=◌, at, at_end, the, ◌▸◌, made, maybe, many_over}
 use Rattle.syntax.specs.Reading.{read_names, read_call, read_many, read_priority, read_calling, read_name, read_test, read_source, read_stmt, read_stmts, read_block, read_else, read_if, read_foreach, read_wait, read_command, read_part, read_script, read_parameters, read_function}
 use Rattle.syntax.proofs.combining.Combine.{bind_got, got_value, got_place}

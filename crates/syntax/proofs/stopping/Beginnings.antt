@@ -13,8 +13,8 @@ use Rattle.language.specs.Kinds.{same, operator_of, base_of, repeats}
 use Rattle.language.specs.Tree.{Expression, Form, number, text, truth, variable, element, call, prefixed, expressions_of, value, list, array, range}
 use Rattle.language.specs.Rules.{Place, behind, Rule, The, ◌⋆◌, ◌▹◌, Maybe, Perhaps, Made, cons, Commas, Round, Square}
 use Rattle.language.specs.Grammar.{node, spans, word, number_of, spelled, chained, shape_of, keys_of, signed, IsName, IsOperator, Repeated, IsChain, IsExprOver, AreArguments, IsUnaryOver, a_not, a_negative, a_number, a_string, a_true, a_false, a_name, an_element, a_call, a_parenthesis, IsUnary, IsExpr, IsType, AreKeys, IsDecl, AreParameters, AreNames, IsCall, IsRight, a_value, a_list, IsPrio, IsSmall, IsPriority, IsSource, an_array, a_range}
-use Rattle.syntax.specs.declared.stop.ParseStop.{ParseStop}
-use Rattle.syntax.specs.declared.stop.ParseStop.TheVariants.{AtEnd, Unexpected}
+use Rattle.syntax.specs.declared.grammar.stop.ParseStop.{ParseStop}
+use Rattle.syntax.specs.declared.grammar.stop.ParseStop.TheVariants.{AtEnd, Unexpected}
 use Rattle.syntax.specs.Readers.{refused, got, Reader, kind_of, kind_at, second_at, at, second, cond, the, ◌∗◌, made, perhaps, many, once, checked}
 use Rattle.syntax.specs.Reading.{at_operator, read_operator, operands, chain_over, expr_over, read_name, read_unary, read_expr, read_exprs, read_arguments, read_index, read_test, read_named, read_prefixed, read_literal, read_form, base_over, read_type, read_keys, read_brackets, read_decl, read_decls, read_parameters, read_words, read_names, read_call, read_elements, read_right, is_prio, read_prio, read_small, read_priority, bounds_over, read_range, read_source}
 use Rattle.syntax.proofs.combining.Combine.{tests_at}

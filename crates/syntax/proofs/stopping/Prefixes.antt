@@ -6,8 +6,8 @@ use Rattle.lexer.specs.declared.token.TokenKind.{TokenKind}
 use Rattle.lexer.specs.declared.token.TokenKind.TheVariants as Kind
 use Rattle.language.specs.Kinds.{same}
 use Rattle.language.specs.Rules.{Place, behind, Rule, The, ◌⋆◌, ◌▹◌, ◌◃◌, Many, Maybe, AtMostOne, Perhaps, Made, cons, Commas}
-use Rattle.syntax.specs.declared.stop.ParseStop.{ParseStop}
-use Rattle.syntax.specs.declared.stop.ParseStop.TheVariants.{AtEnd, Unexpected, TooNested, Memory}
+use Rattle.syntax.specs.declared.grammar.stop.ParseStop.{ParseStop}
+use Rattle.syntax.specs.declared.grammar.stop.ParseStop.TheVariants.{AtEnd, Unexpected, TooNested, Memory}
 use Rattle.syntax.specs.Readers.{Read, refused, got, Reader, ◌>>=◌, kind_of, tail_of, kind_at, second_at, stop_of, cond, choose, next_of, the, ◌∗◌, ◌▸◌, ◌◂◌, made, never, maybe, perhaps, many_over, many, once, commas, at, bracket, checked}
 use Rattle.syntax.proofs.combining.Combine.{Tests, bind_got, got_place, the_law, checked_law, tests_at}
 use Rattle.syntax.proofs.expressions.Forms.{bracket_zero, bracket_deep}

@@ -10,8 +10,8 @@ use Rattle.language.specs.Tree.{Statement, declare, assign, write, assign_all, c
 use Rattle.language.specs.Tree.{choice_of}
 use Rattle.language.specs.Rules.{Place, behind, Rule, The, ◌⋆◌, ◌▹◌, Many, Maybe, Round, Deeper}
 use Rattle.language.specs.Grammar.{first_of, node, does, or_zero, IsExpr, IsElse, a_block, an_if, IsStmtOver, a_declaration, an_assignment, a_write, many_assigned, a_call, a_foreach, a_wait, IsBlockOver, IsStmt, IsBlock, IsModule, string, IsPart, an_import, a_function, a_statement, IsScript}
-use Rattle.syntax.specs.declared.stop.ParseStop.{ParseStop}
-use Rattle.syntax.specs.declared.stop.ParseStop.TheVariants.{AtEnd, Unexpected, TooNested, Memory}
+use Rattle.syntax.specs.declared.grammar.stop.ParseStop.{ParseStop}
+use Rattle.syntax.specs.declared.grammar.stop.ParseStop.TheVariants.{AtEnd, Unexpected, TooNested, Memory}
 use Rattle.syntax.specs.Readers.{refused, got, Reader, ◌>>=◌, kind_of, kind_at, second_at, start, at_end, none_of, cond, choose, made, many_over, nested, deeper}
 use Rattle.syntax.specs.Reading.{read_declaration, read_assignment, read_write, read_many, read_calling, read_stmt, read_stmts, read_block, read_else, read_if, read_foreach, read_wait, read_named_stmt, read_command, is_module, read_module, read_import, read_function, at_function, read_part, read_script}
 use Rattle.syntax.proofs.combining.Combine.{tests_at, not_kind, kind_same, same_kind}

@@ -2,9 +2,9 @@ use Rattle.std.proofs.Common.{List, map, ap, ◌∙◌, ◌++◌, ap₂}
 use Rattle.std.specs.List.{flat_map}
 use Rattle.std.proofs.lemmas.Result.{on_ok_weaker}
 use Rattle.language.specs.Core.{Owned}
-use Rattle.assign_check.specs.declared.outline.UseSite.{UseSite}
-use Rattle.assign_check.specs.declared.outline.Declaration.{Declaration}
-use Rattle.assign_check.specs.declared.use_summary.UseSummary.{UseSummary}
+use Rattle.assign_check.specs.declared.outlining.outline.UseSite.{UseSite}
+use Rattle.assign_check.specs.declared.outlining.outline.Declaration.{Declaration}
+use Rattle.assign_check.specs.declared.summaries.use_summary.UseSummary.{UseSummary}
 use Rattle.assign_check.specs.Faults as faults
 use Rattle.assign_check.specs.Tables.{at}
 use Rattle.assign_check.specs.Tallies.{tally_from, cleared, tally_faults}

@@ -1,0 +1,21 @@
+use Rattle.std.proofs.Common.{◌++◌, map, refl, arith}
+use Rattle.std.proofs.lemmas.Grind.{common_steps}
+use Rattle.syntax_trees.specs.View.{word_of}
+use Rattle.types.specs.Typed.{table_of}
+use Rattle.assign_check.specs.Outline as outline
+use Rattle.assign_check.specs.View.{steps_view}
+use Rattle.language.proofs.Walks.{walked_more, walked_all}
+use Rattle.assign_check.proofs.outlining.reads.read_names.Goals as goal
+
+pub loop-name-preserved : goal.loop-name-preserved
+loop-name-preserved g c =
+    walked_more (word_of {A = g.row.A.Denot}) (outline.name_read (table_of c.args.typed.now)) (outline.read_names (table_of c.args.typed.now)) (λ y ys. refl)
+    (steps_view c.args.steps.now.items ++ outline.read_names (table_of c.args.typed.now) (map (word_of {A = g.row.A.Denot}) c.args.names.now.items))
+    (steps_view c.loop-name.steps.items) (steps_view c.read_name.new.steps.items) c.args.names.now.items c.loop-name.name-index c.name-item.result
+    c.loop-name.invariant (grind (arith, common_steps)) (grind (arith, common_steps)) c.in_ok-read_name.ensures
+
+pub returns : goal.returns
+returns g c =
+    walked_all (word_of {A = g.row.A.Denot}) (outline.read_names (table_of c.args.typed.now)) refl
+    (steps_view c.args.steps.now.items ++ outline.read_names (table_of c.args.typed.now) (map (word_of {A = g.row.A.Denot}) c.args.names.now.items))
+    (steps_view c.loop-name.steps.items) c.args.names.now.items c.loop-name.name-index c.loop-name.invariant (grind (arith, common_steps))

@@ -1,0 +1,9 @@
+use Rattle.std.proofs.Common.{◌≡◌, map, drop}
+use Rattle.language.specs.Core.{Owned}
+use Rattle.assign_check.specs.Tables.{at}
+use Rattle.assign_check.specs.Tallies.{cleared}
+use Rattle.assign_check.specs.View.{use_view}
+use Rattle.assign_check.proofs.summaries.use_summary.clear.Given as goal
+
+abbrev pub invariant-loop-one : goal.invariant-loop-one
+invariant-loop-one l = (of : Owned) → cleared (at l.fn.table of) of (map use_view l.uses) ≡ cleared (at l.table of) of (map use_view (drop l.one-index l.uses))

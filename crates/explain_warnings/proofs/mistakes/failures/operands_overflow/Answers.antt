@@ -1,0 +1,17 @@
+use Rattle.std.proofs.Common.{◌-◌, ap, arith, drop, length, map, sym, ◌∙◌}
+use Rattle.std.proofs.lemmas.Grind.{common_steps}
+use Rattle.std.proofs.lemmas.List.{take_all}
+use Rattle.language.specs.Tree.{expressions_of}
+use Rattle.syntax_trees.specs.View.{expression_view}
+use Rattle.explain_warnings.specs.Failures.{right_overflows}
+use Rattle.explain_warnings.proofs.Failing.{first_literal}
+use Rattle.explain_warnings.proofs.mistakes.failures.operands_overflow.Goals as goal
+
+pub returns-in-len1-up : goal.returns-in-len1-up
+returns-in-len1-up g c =
+    let view = expression_view {A = g.row.A.Denot} in
+    let xs = c.args.operands.now in
+    c.right_overflows.ensures
+    ∙ ap (λ l. right_overflows c.args.operator (view c.left-item.result) (expressions_of (map view l)))
+    (take_all (length xs - 1) (drop 1 xs) (grind (arith, common_steps)))
+    ∙ sym (first_literal view c.args.operator xs c.left-item.result c.in-len1-up.len_at_least c.left-item.is)

@@ -1,0 +1,72 @@
+//! Explanation of unreadable and unwritable files, and of too many threads.
+
+<<<<<<< HEAD:crates/swt/src/failures.rt
+use explain_ends::add_bad_count;
+=======
+use crate::replay::trace_replay::follow;
+use crate::replay::tracking::{TracedScript, words_on};
+use explain_faults::limits::add_bad_count;
+use explain_faults::traces::{InvalidEventText, add_bad_line, add_no_step, add_wrong_end};
+>>>>>>> 6bebd24c:crates/swt/src/explanations/failures.rt
+use explain_text::words::write_str;
+use std::alloc::{AllocError, Global};
+use std::io::Error;
+use swt_arguments::line::Line;
+
+/// Appends `FILE: cannot read: ` and the system's reason, if there is one.
+pub fn explain_unread(
+    alloc: Global,
+    name: &str,
+    error: Option<&Error>,
+    out: &mut Vec<u8>,
+) -> Result<(), AllocError> {
+    match error {
+        Some(error) => add_reason(alloc, name, ": cannot read: ", error, out),
+        None => Ok(()),
+    }
+}
+
+/// Appends `FILE: W1 Write: ` and the system's reason.
+pub fn explain_unwritten(
+    alloc: Global,
+    name: &str,
+    error: &Error,
+    out: &mut Vec<u8>,
+) -> Result<(), AllocError> {
+    add_reason(alloc, name, ": W1 Write: ", error, out)
+}
+
+fn add_reason(
+    alloc: Global,
+    name: &str,
+    words: &str,
+    error: &Error,
+    out: &mut Vec<u8>,
+) -> Result<(), AllocError> {
+    let reason = format!(in alloc; "{error}")?;
+    write_str(out, name)?;
+    write_str(out, words)?;
+    write_str(out, reason.as_str())?;
+    write_str(out, "\n")
+}
+
+/// Appends the explanation for a trace that would overwrite a file that was read, or a standard stream.
+pub fn explain_same_file(name: &str, out: &mut Vec<u8>) -> Result<(), AllocError> {
+    write_str(out, name)?;
+    write_str(
+        out,
+        ": W1 Write: this is the script, or where standard output or standard error goes, and a trace is never written over these\n",
+    )
+}
+
+/// Appends the explanation for a run with too many threads.
+pub fn explain_count(line: &Line, out: &mut Vec<u8>) -> Result<(), AllocError> {
+    match line {
+        Line::Run {
+            engines,
+            workers,
+            ..
+        } => add_bad_count(out, *engines as usize, *workers as usize),
+        _ => Ok(()),
+    }
+}
