@@ -16,6 +16,8 @@ mod packed_events_tests;
 #[cfg(test)]
 mod ref_counting_tests;
 #[cfg(test)]
+mod remains_tests;
+#[cfg(test)]
 mod runs_tests;
 #[cfg(test)]
 mod swt_trace_tests;

@@ -1,4 +1,4 @@
-//! Runs of `printf("hello");`: whole ones, ones that the limit cuts, and a turn taken by hand.
+//! Runs of `printf("hello");`: whole ones, ones that the limit cuts, a turn taken by hand, and a board that is kept.
 
 use crate::asserts::{is_equal, last_of};
 use board::Board;
@@ -6,6 +6,7 @@ use board_program::program::Program;
 use board_runs::one::run_one;
 use board_runs::report::{End, Report, last_report, report_of};
 use board_runs::step::finish;
+use board_runs::stopped::{StoppedRun, stopped_run};
 use std::alloc::Global;
 use std::process::Abort;
 use task_code::event::Event;
@@ -100,4 +101,35 @@ fn a_board_that_is_not_needed_any_more_is_reported(rt: HostRuntime) {
     assert!(rt; !board.is_going());
     let report = last_report(rt.alloc(), board).expect(&rt, "memory");
     is_equal(&rt, report.history.len(), 2);
+}
+
+/// The completed run of a board without events left, with its board if that is kept.
+fn stopped_at_limit(rt: &impl Abort, alloc: Global, keeps: bool) -> StoppedRun {
+    let mut board = board_of_two(rt, alloc);
+    takes_a_turn(rt, &mut board);
+    assert!(rt; !board.is_going());
+    stopped_run(alloc, board, keeps).expect(rt, "memory")
+}
+
+/// The number of events of the board that was kept.
+fn kept_events(run: &StoppedRun) -> Option<usize> {
+    match &run.board {
+        Some(board) => Some(board.history().len()),
+        None => None,
+    }
+}
+
+#[test]
+fn a_board_that_stopped_is_kept(rt: HostRuntime) {
+    let run = stopped_at_limit(&rt, rt.alloc(), true);
+    is_equal(&rt, kept_events(&run), Some(2));
+    is_equal(&rt, run.report.history.len(), 2);
+    assert!(&rt; run.into_board().is_some());
+}
+
+#[test]
+fn a_board_that_is_not_wanted_is_not_kept(rt: HostRuntime) {
+    let run = stopped_at_limit(&rt, rt.alloc(), false);
+    is_equal(&rt, kept_events(&run), None);
+    is_equal(&rt, run.into_report().history.len(), 2);
 }
