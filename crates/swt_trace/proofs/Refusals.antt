@@ -1,5 +1,5 @@
 -- The board that a refused replay leaves.
-use Rattle.std.proofs.Common.{◌≡◌, ◌∙◌, ◌++◌, sym, ap, subst, ℕ, Bool, true, false, Option, Some, None, List, [], length, map, take, drop, get_or}
+use Rattle.std.proofs.Common.{◌≡◌, ◌∙◌, ◌++◌, refl, sym, ap, subst, ℕ, Bool, true, false, Option, Some, None, List, [], length, map, take, drop, get_or}
 use Rattle.std.specs.Prelude.{IfErr, IfSome, IsErrAnd, IsSome, Result, Ok, Err}
 use Rattle.std.proofs.lemmas.List.{append-nil, map-append, take-append-drop}
 use Rattle.dataflow.specs.Machine as Machine
@@ -39,8 +39,8 @@ pub refused_by : (C : Code) (keeps : Bool) (event : Option Event) (events : List
     → IfSome o (λ left. (left ≡ board) × (keeps ≡ true) × ((n : ℕ) × (fault ≡ NotARun n))) → ((n : ℕ) → fault ≡ NotARun n → (board.code ≡ C) × IsSoFar events board.history)
     → IfSome o (λ left. (bytes : List ℕ) (e : Option Ending) → IsTrace bytes events e → IsRefusedBy C bytes keeps event left)
 refused_by C keeps event events fault None board h l = tt
-refused_by C keeps event events fault (Some left) board (same, wanted, n, is) l = λ bytes ending trace.
-    let x = l n is in record {
+refused_by C keeps event events fault (Some left) board (same, wanted, at) l = λ bytes ending trace.
+    let x = l at.0 at.1 in record {
       wanted = wanted;
       code = ap (λ (b : Seen). b.code) same ∙ x.0;
       events = events;
@@ -70,7 +70,7 @@ all_events : (C : Code) (bytes : List ℕ) (keeps : Bool) (event : Option Event)
     → IfSome o (λ left. IsRefusedBy C bytes keeps event left)
 all_events C bytes keeps event events ending r None trace history reports wanted tells = tt
 all_events C bytes keeps event events ending r (Some b) trace history reports wanted tells = record {
-  wanted = wanted tt;
+  wanted = wanted refl;
   code = sym tells.code ∙ reports.tells.code ∙ reports.code;
   events = events;
   ending = ending;

@@ -65,7 +65,7 @@ pub returns-clause-report : goal.returns-clause-report
 returns-clause-report c =
     let code = ap (λ (b : Seen). b.code) c.in_ok-board.ensures ∙ c.in_ok-program.ensures ∙ c.in_ok-copy.ensures in
     let told = c.in_ok-told.told in
-    let r = c.in_ok-run.run.report in
+    let r = c.in_ok-run.run'.report in
     let reports : Reports c.args.code.now (length told.events.items) r =
     subst (λ (es : List Event). Reports c.args.code.now (length es) r) c.as_slice.ensures.value (subst (λ (C : Code). Reports C (length c.as_slice.result.now) r) code c.in_ok-run.ensures.reports) in
     IfOk-weaker c.ended_as.result _ (λ (s : StoppedRun). ReplaysTo c.args.code.now c.args.trace.now s.report)
@@ -86,7 +86,7 @@ pub returns-clause-wrong : goal.returns-clause-wrong
 returns-clause-wrong c =
     let code = ap (λ (b : Seen). b.code) c.in_ok-board.ensures ∙ c.in_ok-program.ensures ∙ c.in_ok-copy.ensures in
     let told = c.in_ok-told.told in
-    let r = c.in_ok-run.run.report in
+    let r = c.in_ok-run.run'.report in
     let reports : Reports c.args.code.now (length told.events.items) r =
     subst (λ (es : List Event). Reports c.args.code.now (length es) r) c.as_slice.ensures.value (subst (λ (C : Code). Reports C (length c.as_slice.result.now) r) code c.in_ok-run.ensures.reports) in
     of_fault c.ended_as.result _ _ _
@@ -108,7 +108,7 @@ pub returns-clause-left : goal.returns-clause-left
 returns-clause-left c =
     let code = ap (λ (b : Seen). b.code) c.in_ok-board.ensures ∙ c.in_ok-program.ensures ∙ c.in_ok-copy.ensures in
     let told = c.in_ok-told.told in
-    let run = c.in_ok-run.run in
+    let run = c.in_ok-run.run' in
     let reports : Reports c.args.code.now (length told.events.items) run.report =
     subst (λ (es : List Event). Reports c.args.code.now (length es) run.report) c.as_slice.ensures.value
     (subst (λ (C : Code). Reports C (length c.as_slice.result.now) run.report) code c.in_ok-run.ensures.reports) in
