@@ -1,15 +1,13 @@
 -- The needs of an item that are not known on the board.
 use Rattle.std.proofs.Common.{◌≡◌, ◌⊎◌, inl, inr, ◌∙◌, refl, sym, ap, subst, arith, ℕ, zero, suc, ◌<◌, ◌≤◌, ◌+◌, Bool, true, false, List, [], ◌∷◌, ◌++◌, length, map, take, get_or, append_assoc}
-use Rattle.std.specs.Prelude.{nat_eq, if◌then◌else◌, Vec}
-use Rattle.std.proofs.lemmas.List.{append-nil, map-append, take_more}
+use Rattle.std.specs.Prelude.{nat_eq, if◌then◌else◌}
+use Rattle.std.proofs.lemmas.List.{append-nil, map-append, take_all, take_more}
 use Rattle.dataflow.specs.System.{In}
 use Rattle.dataflow.proofs.Lists.{in_left, in_right, in_split}
 use Rattle.task_code.specs.Code.{Act, Code, Entry, Header, Need, Wait, blank_entry, entry, nth}
 use Rattle.task_code.specs.Places.{Step}
-use Rattle.task_code.specs.View.{act_view, header_view, need_view}
+use Rattle.task_code.specs.View.{header_view, need_view}
 use Rattle.task_code.specs.Whole.{IsCode}
-use Rattle.task_code.specs.declared.entry.Act.{Act as DeclaredAct}
-use Rattle.task_code.specs.declared.entry.Act.TheVariants as Acts
 use Rattle.task_code.specs.declared.entry.Header.{Header as DeclaredHeader}
 use Rattle.task_code.specs.declared.entry.Need.{Need as DeclaredNeed}
 use Rattle.board.specs.Board.{Seen}
@@ -91,6 +89,9 @@ module _ (v : Environment) (b : ℕ) where
       let Q : ResolvedNeed → Type 0 = λ x. IsAdded (wanted_missed v.program.now (cells_view v.store.now.cells) (led_slot (frames_view v.instances.now.slots) v.at) x) (need_view d) mid new in
       added_next ns i d old mid new l a (subst P is (subst Q ws h))
 
+  pub added_all : (ns : List DeclaredNeed) (i : ℕ) (old new : List MissingNeed) → length ns ≤ i → AreAdded v b (map need_view (take i ns)) old new → AreAdded v b (map need_view ns) old new
+  added_all ns i old new l a = subst (λ (xs : List DeclaredNeed). AreAdded v b (map need_view xs) old new) (take_all i ns l) a
+
   -- the headers so far, and one more
   needs_more : (at : ℕ) (hs : List Header) (h : Header) → needs_of_headers at (hs ++ h ∷ []) ≡ needs_of_headers at hs ++ needs_of_header at h
   needs_more at [] h = append-nil (needs_of_header at h)
@@ -110,12 +111,11 @@ module _ (v : Environment) (b : ℕ) where
       let P : DeclaredHeader → Type 0 = λ g. AreAdded v b (needs_of_header at (header_view g)) mid new in
       header_next at hs i d old mid new l a (subst P is h)
 
--- THE NEEDS OF AN ITEM
+  pub headers_all : (at : ℕ) (hs : List DeclaredHeader) (i : ℕ) (old new : List MissingNeed) → length hs ≤ i → AreAdded v b (needs_of_headers at (map header_view (take i hs))) old new
+      → AreAdded v b (needs_of_headers at (map header_view hs)) old new
+  headers_all at hs i old new l a = subst (λ (xs : List DeclaredHeader). AreAdded v b (needs_of_headers at (map header_view xs)) old new) (take_all i hs l) a
 
--- those of an entry that is no wait
-pub plain_needs : (a : DeclaredAct) (at : ℕ) (ns : List Need) → ((hs : Vec DeclaredHeader) (b : ℕ) → a ≡ Acts.Wait hs b → ⊥) → needs_by (act_view a) at ns ≡ ns
-plain_needs (Acts.Wait hs b) at ns h = absurd (h hs b refl)
-plain_needs _ at ns h = refl
+-- THE NEEDS OF AN ITEM
 
 -- an entry that is not there has none
 nth_past : {X : Type 0} (d : X) (xs : List X) (i : ℕ) → length xs ≤ i → nth d xs i ≡ d
