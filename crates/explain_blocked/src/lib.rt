@@ -5,35 +5,15 @@
 #![tactic(auto)]
 
 pub mod blocked;
-<<<<<<< HEAD
-pub mod causes;
-mod components;
 pub mod context;
-pub mod cycles;
-pub mod graph;
-pub mod index;
-pub mod inputs;
-pub mod list;
-pub mod names;
-pub mod numbers;
-pub mod path;
-pub mod remedies;
-pub mod selection;
-pub mod sites;
-pub mod value_text;
-pub mod wait_graph;
-pub mod wait_groups;
-=======
-pub mod context;
-mod graphs;
+pub mod graphs;
 pub mod index;
 pub mod names;
 pub mod path;
-mod reasons;
+pub mod reasons;
 pub mod sites;
 pub mod value_text;
-mod waiting;
->>>>>>> 6bebd24c
+pub mod waiting;
 pub mod writers;
 
 pub use explain_inputs::blocked_statement::{BlockedStatement, instance_at};

@@ -1,21 +1,11 @@
 //! Diagnostics for faults.
 
-<<<<<<< HEAD
-use crate::element_hints::write_element_hint;
-use crate::hints::{has_junction, write_hint_behind};
-use crate::near_keys::write_near_key;
-use crate::number_hints::write_number_hint;
-use crate::reasons::{write_plain, write_reason};
-use crate::recursion_hints::write_missed_end;
-=======
 use crate::analysis::reasons::{write_plain, write_reason};
 use crate::fault_hints::element_hints::write_element_hint;
 use crate::fault_hints::hints::{has_junction, write_hint_behind};
 use crate::fault_hints::near_keys::write_near_key;
 use crate::fault_hints::number_hints::write_number_hint;
 use crate::fault_hints::recursion_hints::write_missed_end;
-use crate::printed::PrintedFault;
->>>>>>> 6bebd24c
 use explain_blocked::context::ExplainContext;
 use explain_blocked::path::write_path;
 use explain_blocked::{Knowledge, instance_at};

@@ -11,29 +11,14 @@ ghost use Rattle.swt_process.specs.Process.{IsProcess, Obeys};
 ghost use Rattle.host_system.specs.Streams as Streams;
 ghost use Rattle.host_system.specs.Systems.{events_of};
 
-<<<<<<< HEAD
-mod ending;
-mod failures;
+mod explanations;
 mod non_utf8;
 mod progress;
-mod verdicts;
 
-use crate::ending::{EndedProcess, explain_end};
+use crate::explanations::ending::{EndedProcess, explain_end};
+use crate::explanations::verdicts::VerdictReporter;
 use crate::non_utf8::write_foreign;
 use crate::progress::ProgressReporter;
-use crate::verdicts::VerdictReporter;
-=======
-mod explanations;
-mod progress;
-mod replay;
-mod system;
-
-use crate::explanations::ending::CommandResult;
-use crate::progress::ProgressReporter;
-use crate::system::caching_host::CachingHost;
-use crate::system::non_utf8::write_foreign;
-use crate::system::output::Output;
->>>>>>> 6bebd24c
 use host::Stream;
 use host_system::stream::Standard;
 use host_system::system::System;

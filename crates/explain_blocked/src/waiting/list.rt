@@ -1,15 +1,11 @@
 //! The blocked statements of a listing, with their wait graph.
 
 use crate::context::{ExplainContext, StatementLocation, location_of};
-use crate::cycles::is_listed;
 use crate::index::CellSite;
-<<<<<<< HEAD:crates/explain_blocked/src/list.rt
-use crate::selection::Blocked;
-use crate::wait_graph::WaitGraph;
-use crate::wait_groups::WaitGroups;
-=======
+use crate::waiting::cycles::is_listed;
+use crate::waiting::selection::Blocked;
 use crate::waiting::wait_graph::WaitGraph;
->>>>>>> 6bebd24c:crates/explain_blocked/src/waiting/list.rt
+use crate::waiting::wait_groups::WaitGroups;
 use explain_inputs::blocked_statement::BlockedStatement;
 use std::alloc::{AllocError, Allocator};
 

@@ -1,15 +1,9 @@
 //! The wait graph of blocked statements.
 
 use crate::context::ExplainContext;
-<<<<<<< HEAD:crates/explain_blocked/src/wait_graph.rt
-use crate::graph::Graph;
-use crate::inputs::{is_own_cell, missing_in_cell, target_of};
-use crate::numbers::{NONE, NodeNumbers};
-=======
-use crate::graphs::graph::{Components, Graph};
+use crate::graphs::graph::Graph;
 use crate::graphs::numbers::{NONE, NodeNumbers};
 use crate::reasons::inputs::{is_own_cell, missing_in_cell, target_of};
->>>>>>> 6bebd24c:crates/explain_blocked/src/waiting/wait_graph.rt
 use crate::writers::WriteTarget;
 use explain_inputs::blocked_statement::BlockedStatement;
 use explain_inputs::input::StatementInput;

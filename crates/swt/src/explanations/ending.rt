@@ -1,8 +1,10 @@
 //! Explanation of how a command ended.
 
-<<<<<<< HEAD:crates/swt/src/ending.rt
-use crate::failures::{explain_count, explain_same_file, explain_unread, explain_unwritten};
-use crate::verdicts::VerdictReporter;
+use crate::explanations::code::explain_code;
+use crate::explanations::failures::{
+    explain_count, explain_same_file, explain_unread, explain_unwritten,
+};
+use crate::explanations::verdicts::VerdictReporter;
 use compile::compile::read;
 use compile::fault::CompileFault;
 use explain_ends::blocked::add_blocked_end;
@@ -13,23 +15,10 @@ use explain_ends::script::StoppedScript;
 use explain_ends::trace_refusals::{TracedScript, add_refused_trace};
 use explain_ends::{Knowledge, ScriptIndex};
 use explain_text::line_index::LineIndex;
-=======
-use crate::explanations::explain::{explain_blocked, explain_code, explain_fault, explain_meaning};
-use crate::explanations::failures::{
-    explain_count, explain_same_file, explain_trace, explain_unread, explain_unwritten,
-};
-use crate::progress::ProgressReporter;
-use crate::replay::trace_replay::follow;
-use crate::system::output::LastLine;
-use crate::system::source_cache::SourceCache;
-use explain_code::lines::CodeNames;
-use explain_faults::limits::{add_limit_of_steps, add_limit_of_trace};
->>>>>>> 6bebd24c:crates/swt/src/explanations/ending.rt
 use explain_text::words::write_str;
 use flow::script::Flow;
 use std::alloc::{AllocError, Global};
 use std::io::{Error, Write};
-use swt_arguments::code_form::CodeForm;
 use swt_arguments::line::Line;
 use swt_command::end::{CommandEnd, End, StoppedRun};
 use swt_status::failure::CommandFailure;
@@ -56,7 +45,6 @@ enum Topic<'e> {
     Trace(&'e RefusedTrace),
 }
 
-<<<<<<< HEAD:crates/swt/src/ending.rt
 impl<'e> EndedProcess<'e> {
     /// Returns the bytes of the input file at this index, if it was read.
     fn text(self, place: usize) -> Option<&'e [u8]> {
@@ -64,48 +52,11 @@ impl<'e> EndedProcess<'e> {
             Some(Some(bytes)) => Some(bytes.as_slice()),
             _ => None,
         }
-=======
-    /// Returns true if there may be something to explain: a check with warnings, printed code, or any end but success
-    /// and an allocation failure.
-    fn is_told(self) -> bool {
-        if self.is(Status::Done) {
-            self.is_checked() || self.printed_code().is_some()
-        } else {
-            !self.is(Status::Memory)
-        }
-    }
-
-    /// Returns true if the files were checked and all are accepted.
-    fn is_checked(self) -> bool {
-        self.is(Status::Done) && matches!(self.line, Line::Check { .. })
->>>>>>> 6bebd24c:crates/swt/src/explanations/ending.rt
-    }
-
-    /// Returns the names of bodies and entries in the code that the command prints, or `None` if it prints no code.
-    fn printed_code(self) -> Option<CodeNames> {
-        match self.line {
-            Line::Code { form, .. } => names_in(*form),
-            Line::Check { .. } | Line::Mean { .. } => None,
-            Line::Run { .. } | Line::Replay { .. } => None,
-        }
     }
 }
 
-<<<<<<< HEAD:crates/swt/src/ending.rt
-/// Explains the end of a process on standard error: a refusal, blocked statements, a fault, a limit, or a failure.
-=======
-/// Returns the names of bodies and entries in this form of code, or `None` if it has lines of its own.
-fn names_in(form: CodeForm) -> Option<CodeNames> {
-    match form {
-        CodeForm::Listing => Some(CodeNames::Listing),
-        CodeForm::Graph => Some(CodeNames::Drawing),
-        CodeForm::Drawing | CodeForm::After(_) => None,
-    }
-}
-
-/// Explains the result of a command on standard error: refusals, warnings, printed code, blocked statements, faults, a
-/// limit, and failed operations. `reason` is the error of the last failed call on a file.
->>>>>>> 6bebd24c:crates/swt/src/explanations/ending.rt
+/// Explains the end of a process on standard error: a refusal, printed code, blocked statements, a fault, a limit, or a
+/// failure.
 ///
 /// If an allocation fails, this is reported once, and the status does not change.
 pub fn explain_end(rt: &HostRuntime, verdicts: &VerdictReporter<'_>, ended: EndedProcess<'_>) {
@@ -186,7 +137,8 @@ fn add_name(text: &mut Vec<u8>, is_first: bool, name: &str) -> Result<(), AllocE
 /// Appends the explanation of a command whose script is not refused.
 fn add_end(alloc: Global, ended: EndedProcess<'_>, out: &mut Vec<u8>) -> Result<(), AllocError> {
     match ended.end {
-        CommandEnd::Checked(_) | CommandEnd::Listing(_) => Ok(()),
+        CommandEnd::Checked(_) => Ok(()),
+        CommandEnd::Listing(_) => add_code(alloc, ended, out),
         CommandEnd::Meaning(told) => match &told.known {
             Some(known) => explain_script(alloc, ended, Topic::Meaning(known), out),
             None => Ok(()),
@@ -207,6 +159,16 @@ fn add_end(alloc: Global, ended: EndedProcess<'_>, out: &mut Vec<u8>) -> Result<
         }
         CommandEnd::RefusedTrace(refused) => add_refused(alloc, ended, refused, out),
         CommandEnd::Failed(stop) => add_failure(alloc, ended, *stop, out),
+    }
+}
+
+/// Appends the explanation of printed code.
+fn add_code(alloc: Global, ended: EndedProcess<'_>, out: &mut Vec<u8>) -> Result<(), AllocError> {
+    match (ended.line, ended.text(0)) {
+        (Line::Code { file, form, .. }, Some(text)) => {
+            explain_code(alloc, file.as_str(), text, *form, out)
+        }
+        _ => Ok(()),
     }
 }
 
@@ -259,7 +221,6 @@ fn add_failure(
     }
 }
 
-<<<<<<< HEAD:crates/swt/src/ending.rt
 /// Returns the name of the input file at this index, or the empty string if there is none.
 fn name_at(line: &Line, place: usize) -> &str {
     match line {
@@ -273,34 +234,6 @@ fn name_at(line: &Line, place: usize) -> &str {
         Line::Replay { file, trace } => {
             if place == 0 {
                 file.as_str()
-=======
-/// Appends the explanation of a command on an accepted script that printed its code, or that ended in a fault, with
-/// blocked statements, or at a limit.
-fn add_ending(
-    alloc: Global,
-    kept: &SourceCache<'_>,
-    ended: CommandResult<'_, '_, '_>,
-    text: &mut Vec<u8>,
-) -> Result<(), AllocError> {
-    let Some((name, script)) = kept.first() else {
-        return Ok(());
-    };
-    match ended.line {
-        Line::Check { .. } => Ok(()),
-        Line::Code { .. } => match ended.printed_code() {
-            Some(names) => explain_code(alloc, name, script, names, text),
-            None => Ok(()),
-        },
-        Line::Mean { rounds, .. } => {
-            explain_meaning(alloc, name, script, *rounds, ended.all, text)
-        }
-        Line::Run { .. } | Line::Replay { .. } => {
-            if ended.is(Status::Limit) {
-                explain_limit(alloc, kept, ended, text)
-            } else if ended.is(Status::Fault) {
-                let events = events_of(kept, ended);
-                explain_fault(alloc, name, script, events, ended.tail.line()?, text)
->>>>>>> 6bebd24c:crates/swt/src/explanations/ending.rt
             } else {
                 trace.as_str()
             }

@@ -1,13 +1,6 @@
 //! Explanation of unreadable and unwritable files, and of too many threads.
 
-<<<<<<< HEAD:crates/swt/src/failures.rt
 use explain_ends::add_bad_count;
-=======
-use crate::replay::trace_replay::follow;
-use crate::replay::tracking::{TracedScript, words_on};
-use explain_faults::limits::add_bad_count;
-use explain_faults::traces::{InvalidEventText, add_bad_line, add_no_step, add_wrong_end};
->>>>>>> 6bebd24c:crates/swt/src/explanations/failures.rt
 use explain_text::words::write_str;
 use std::alloc::{AllocError, Global};
 use std::io::Error;

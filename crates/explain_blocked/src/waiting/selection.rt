@@ -1,7 +1,7 @@
 //! Selection of what a shortened listing of blocked statements reports.
 
-use crate::graph::{Components, Graph};
-use crate::wait_groups::WaitGroups;
+use crate::graphs::graph::{Components, Graph};
+use crate::waiting::wait_groups::WaitGroups;
 use std::alloc::{AllocError, Global};
 
 /// Maximum number of diagnostics in a shortened listing.

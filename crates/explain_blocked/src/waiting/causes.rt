@@ -1,7 +1,7 @@
 //! Root causes of a wait graph.
 
-use crate::graph::{Components, Graph};
-use crate::numbers::{NONE, NodeNumbers};
+use crate::graphs::graph::{Components, Graph};
+use crate::graphs::numbers::{NONE, NodeNumbers};
 use std::alloc::{AllocError, Global};
 
 /// Returns for each statement of a wait graph whether it is a root cause: no other component that contains a statement
