@@ -1,7 +1,7 @@
 //! The targets of the wait graph: data, elements, and data that were passed as arguments.
 
-use explain_blocked::graph::Graph;
-use explain_blocked::numbers::{NONE, NodeNumbers};
+use explain_blocked::graphs::graph::Graph;
+use explain_blocked::graphs::numbers::{NONE, NodeNumbers};
 use std::alloc::{AllocError, Global};
 use std::collections::HashMap;
 use task_code::entry::Owned;

@@ -16,16 +16,10 @@ use board_program::lexical_address::LexicalAddress;
 use board_program::program::ResolvedNeed;
 use emit_cells::names::named;
 use explain_blocked::graphs::graph::Graph;
-use explain_blocked::graphs::numbers::{NONE, NodeNumbers};
+use explain_blocked::graphs::numbers::NONE;
 use explain_blocked::index::ScriptIndex;
-<<<<<<< HEAD:crates/explain_board/src/waiting/waits.rt
-use explain_blocked::numbers::NONE;
-use explain_blocked::selection::Blocked;
-use explain_blocked::wait_groups::WaitGroups;
-=======
 use explain_blocked::waiting::selection::Blocked;
 use explain_blocked::waiting::wait_groups::WaitGroups;
->>>>>>> 40316634cab5fe37b62400ec71b5170e3360d93e:crates/explain_board/src/waits.rt
 use flow::name::Name;
 use std::alloc::{AllocError, Global};
 use std::collections::HashMap;
