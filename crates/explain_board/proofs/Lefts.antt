@@ -5,7 +5,7 @@ use Rattle.dataflow.specs.System.{In}
 use Rattle.dataflow.proofs.Lists.{in_left, in_right, in_split, in_unmap}
 use Rattle.board.specs.Board.{Rises, Seen}
 use Rattle.board.specs.Remains.{IsLeft, IsNoneLeft}
-use Rattle.explain_board.specs.Left.{AreLeft}
+use Rattle.explain_board.specs.Left.{AddsLeft, AreLeft, IsTheLeft}
 use Rattle.explain_board.specs.declared.left_statements.NumberedItem.{NumberedItem}
 
 abbrev pub numbers : List NumberedItem → List ℕ
@@ -81,5 +81,15 @@ up_push b n items one u q left only =
     below : (m : ℕ) → In m (numbers items) → m < one.number
     below m h = (let z = in_unmap (λ (i : NumberedItem). i.number) m items h in let w = u.within z.0 z.1 in let p = z.2 in omega arith)
 
-pub up_all : (b : Seen) (n : ℕ) (items : List NumberedItem) → AreWithin b n → UpTo b n items → AreLeft b items
-up_all b n items w u = record { each = u.each; all = λ number e left. u.all number e (w number e left).1 left; rising = u.rising }
+pub up_all : (b : Seen) (n m : ℕ) (items : List NumberedItem) → m ≤ n → AreWithin b m → UpTo b n items → AreLeft b items
+up_all b n m items le w u =
+    record {
+      each = u.each;
+      all = λ number e left. (let last : number ≤ m = (w number e left).1 in u.all number e (omega arith) left);
+      rising = u.rising;
+    }
+
+-- one number more
+pub up_next : (b : Seen) (n : ℕ) (old new : List NumberedItem) → UpTo b n old → AddsLeft b (n + 1) old new → UpTo b (n + 1) new
+up_next b n old new u (inl (none, same)) = subst (λ (items : List NumberedItem). UpTo b (n + 1) items) (sym same) (up_skip b n old u none)
+up_next b n old new u (inr (one, is, more)) = subst (λ (items : List NumberedItem). UpTo b (n + 1) items) (sym more) (up_push b n old one u is.number_is is.left is.only)

@@ -1,10 +1,10 @@
 -- The needs of an item that are not known on the board.
-use Rattle.std.proofs.Common.{◌≡◌, ◌⊎◌, inl, inr, ◌∙◌, refl, sym, ap, subst, ℕ, ◌<◌, ◌+◌, Bool, true, false, List, [], ◌∷◌, ◌++◌, length, map, take, get_or, append_assoc}
+use Rattle.std.proofs.Common.{◌≡◌, ◌⊎◌, inl, inr, ◌∙◌, refl, sym, ap, subst, arith, ℕ, zero, suc, ◌<◌, ◌≤◌, ◌+◌, Bool, true, false, List, [], ◌∷◌, ◌++◌, length, map, take, get_or, append_assoc}
 use Rattle.std.specs.Prelude.{nat_eq, if◌then◌else◌}
-use Rattle.std.proofs.lemmas.List.{append-nil, map-append, take_more}
+use Rattle.std.proofs.lemmas.List.{append-nil, map-append, take_all, take_more}
 use Rattle.dataflow.specs.System.{In}
 use Rattle.dataflow.proofs.Lists.{in_left, in_right, in_split}
-use Rattle.task_code.specs.Code.{Act, Code, Header, Need, Wait, entry}
+use Rattle.task_code.specs.Code.{Act, Code, Entry, Header, Need, Wait, blank_entry, entry, nth}
 use Rattle.task_code.specs.Places.{Step}
 use Rattle.task_code.specs.View.{header_view, need_view}
 use Rattle.task_code.specs.Whole.{IsCode}
@@ -13,7 +13,13 @@ use Rattle.task_code.specs.declared.entry.Need.{Need as DeclaredNeed}
 use Rattle.board.specs.Board.{Seen}
 use Rattle.board.specs.Remains.{IsNeedKnown, MissedInputs, Sees, StandsAt, missed_in}
 use Rattle.board.proofs.BlockedBy.{headers_plain}
+use Rattle.board_data.specs.View.{cells_view}
+use Rattle.board_data.specs.Wanted.{wanted_missed}
 use Rattle.board_data.specs.declared.inputs.Environment.{Environment}
+use Rattle.board_instances.specs.Names.{led_slot}
+use Rattle.board_instances.specs.View.{frames_view}
+use Rattle.board_program.specs.Tables.{wanted_in}
+use Rattle.board_program.specs.declared.program.ResolvedNeed.{ResolvedNeed}
 use Rattle.explain_board.specs.Missing.{AreAdded, AreMissing, IsAdded, Misses, needs_at, needs_by, needs_of_header, needs_of_headers}
 use Rattle.explain_board.specs.declared.inputs.MissingNeed.{MissingNeed}
 
@@ -74,6 +80,18 @@ module _ (v : Environment) (b : ℕ) where
       subst (λ (xs : List Need). AreAdded v b xs old new) (sym (ap (map need_view) (take_more ns i d l) ∙ map-append need_view (take i ns) (get_or ns i d ∷ [])))
       (added_more (map need_view (take i ns)) (need_view (get_or ns i d) ∷ []) old mid new a (one_added (need_view (get_or ns i d)) mid new _ refl h))
 
+  -- the need of an iteration, as it was resolved
+  pub added_need : (ns : List DeclaredNeed) (i : ℕ) (d : DeclaredNeed) (w : ResolvedNeed) (old mid new : List MissingNeed) → i < length ns → d ≡ get_or ns i d → w ≡ wanted_in v.program.now b (need_view d)
+      → AreAdded v b (map need_view (take i ns)) old mid → IsAdded (wanted_missed v.program.now (cells_view v.store.now.cells) (led_slot (frames_view v.instances.now.slots) v.at) w) (need_view d) mid new
+      → AreAdded v b (map need_view (take (i + 1) ns)) old new
+  added_need ns i d w old mid new l is ws a h =
+      let P : DeclaredNeed → Type 0 = λ n. IsAdded (missed_in v b (need_view n)) (need_view n) mid new in
+      let Q : ResolvedNeed → Type 0 = λ x. IsAdded (wanted_missed v.program.now (cells_view v.store.now.cells) (led_slot (frames_view v.instances.now.slots) v.at) x) (need_view d) mid new in
+      added_next ns i d old mid new l a (subst P is (subst Q ws h))
+
+  pub added_all : (ns : List DeclaredNeed) (i : ℕ) (old new : List MissingNeed) → length ns ≤ i → AreAdded v b (map need_view (take i ns)) old new → AreAdded v b (map need_view ns) old new
+  added_all ns i old new l a = subst (λ (xs : List DeclaredNeed). AreAdded v b (map need_view xs) old new) (take_all i ns l) a
+
   -- the headers so far, and one more
   needs_more : (at : ℕ) (hs : List Header) (h : Header) → needs_of_headers at (hs ++ h ∷ []) ≡ needs_of_headers at hs ++ needs_of_header at h
   needs_more at [] h = append-nil (needs_of_header at h)
@@ -86,7 +104,27 @@ module _ (v : Environment) (b : ℕ) where
       (sym (ap (λ (gs : List Header). needs_of_headers at gs) (ap (map header_view) (take_more hs i d l) ∙ map-append header_view (take i hs) (get_or hs i d ∷ [])) ∙ needs_more at (map header_view (take i hs)) (header_view (get_or hs i d))))
       (added_more (needs_of_headers at (map header_view (take i hs))) (needs_of_header at (header_view (get_or hs i d))) old mid new a h)
 
+  -- the header of an iteration
+  pub added_header : (at : ℕ) (hs : List DeclaredHeader) (i : ℕ) (d : DeclaredHeader) (old mid new : List MissingNeed) → i < length hs → d ≡ get_or hs i d → AreAdded v b (needs_of_headers at (map header_view (take i hs))) old mid
+      → AreAdded v b (needs_of_header at (header_view d)) mid new → AreAdded v b (needs_of_headers at (map header_view (take (i + 1) hs))) old new
+  added_header at hs i d old mid new l is a h =
+      let P : DeclaredHeader → Type 0 = λ g. AreAdded v b (needs_of_header at (header_view g)) mid new in
+      header_next at hs i d old mid new l a (subst P is h)
+
+  pub headers_all : (at : ℕ) (hs : List DeclaredHeader) (i : ℕ) (old new : List MissingNeed) → length hs ≤ i → AreAdded v b (needs_of_headers at (map header_view (take i hs))) old new
+      → AreAdded v b (needs_of_headers at (map header_view hs)) old new
+  headers_all at hs i old new l a = subst (λ (xs : List DeclaredHeader). AreAdded v b (needs_of_headers at (map header_view xs)) old new) (take_all i hs l) a
+
 -- THE NEEDS OF AN ITEM
+
+-- an entry that is not there has none
+nth_past : {X : Type 0} (d : X) (xs : List X) (i : ℕ) → length xs ≤ i → nth d xs i ≡ d
+nth_past d [] i h = refl
+nth_past d (x ∷ xs) zero h = absurd (omega (arith, h))
+nth_past d (x ∷ xs) (suc i) h = nth_past d xs i (omega (arith, h))
+
+pub none_needed : (C : Code) (i at : ℕ) → length C.entries ≤ i → needs_at C i at ≡ []
+none_needed C i at h = ap (λ (e : Entry). needs_by e.act at e.needs) (nth_past blank_entry C.entries i h)
 
 -- the needs of headers are those of the entry
 module _ (C : Code) (I : IsCode C) (i : ℕ) where
@@ -136,3 +174,13 @@ are_missing b I number at i v s found same a = record {
   where
     from : (m : MissingNeed) → In m [] ⊎ (In (named m) (needs_at b.code i at) × Misses v s.body (named m)) → In (named m) (needs_at b.code i at) × Misses v s.body (named m)
     from m h = elim h [ inl g ↦ absurd g | inr x ↦ x ]
+
+-- an entry that is not there is not that of an item
+pub past_missing : (b : Seen) (number at i : ℕ) (v : Environment) (s : Sees b number v) → s.i ≡ i → length b.code.entries ≤ i → AreMissing b number at []
+past_missing b number at i v s same past = record {
+  each = λ j path st m h. absurd h;
+  all = λ j path st n h u. absurd (subst (λ (ns : List Need). In n ns) (none_needed b.code j at (here j (s.only j path st).0)) h);
+}
+  where
+    here : (j : ℕ) → s.i ≡ j → length b.code.entries ≤ j
+    here j e = let P : ℕ → Type 0 = λ k. length b.code.entries ≤ k in subst P (sym same ∙ e) past

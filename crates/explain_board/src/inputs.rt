@@ -5,8 +5,8 @@ ghost use Rattle.board_data.specs.View.{cells_view};
 ghost use Rattle.board_data.specs.Wanted.{wanted_missed};
 ghost use Rattle.board_instances.specs.Names.{led_slot};
 ghost use Rattle.board_instances.specs.View.{frames_view};
-ghost use Rattle.task_code.specs.View.{header_view, need_view};
-ghost use Rattle.explain_board.specs.Missing.{AreAdded, AreMissing, IsAdded, needs_of_header, needs_of_headers};
+ghost use Rattle.task_code.specs.View.{act_view, header_view, need_view};
+ghost use Rattle.explain_board.specs.Missing.{AreAdded, AreMissing, IsAdded, needs_by, needs_of_header, needs_of_headers};
 
 use board::Board;
 use board_data::inputs::Environment;
@@ -14,7 +14,7 @@ use board_program::program::ResolvedNeed;
 use rules::input::Input;
 use std::alloc::{AllocError, Global};
 use task_code::code::Code;
-use task_code::entry::{Act, Header, Need, Owned};
+use task_code::entry::{Act, Entry, Header, Need, Owned};
 use task_code::expr::Expr;
 use values::key::KeyRef;
 use values::value::Scalar;
@@ -95,12 +95,7 @@ impl<'b> UnknownNeeds<'b> {
         let Some(entry) = board.code().entry(own) else {
             return Ok(found);
         };
-        match &entry.act {
-            Act::Wait(headers, _) => {
-                add_headers(environment, body, headers.as_slice(), at, &mut found)?;
-            }
-            _ => add_needs(environment, body, entry.needs.as_slice(), &mut found)?,
-        }
+        add_entry(environment, body, entry, at, &mut found)?;
         Ok(found)
     }
 
@@ -135,6 +130,23 @@ fn body_of(environment: Environment<'_>) -> Option<u32>
     }
 }
 
+/// Appends the needs of an entry that have a missing input. For a `wait`, they are those of its headers at an offset.
+fn add_entry<'b>(
+    environment: Environment<'b>,
+    body: u32,
+    entry: &'b Entry,
+    at: usize,
+    found: &mut Vec<MissingNeed<'b>>,
+) -> Result<(), AllocError>
+    ensures { OnOk result (AreAdded environment.entry body (needs_by (act_view entry.now.act) at (map need_view entry.now.needs.items))
+        found.old.items found.new.items) }
+{
+    match &entry.act {
+        Act::Wait(headers, _) => add_headers(environment, body, headers.as_slice(), at, found),
+        _ => add_needs(environment, body, entry.needs.as_slice(), found),
+    }
+}
+
 /// Appends the needs of the headers at an offset that have a missing input.
 fn add_headers<'b>(
     environment: Environment<'b>,
@@ -143,7 +155,8 @@ fn add_headers<'b>(
     at: usize,
     found: &mut Vec<MissingNeed<'b>>,
 ) -> Result<(), AllocError>
-    ensures { OnOk result (AreAdded environment.entry body (needs_of_headers at (map header_view headers.entry.now)) found.old.items found.new.items) }
+    ensures { OnOk result (AreAdded environment.entry body (needs_of_headers at (map header_view headers.now))
+        found.old.items found.new.items) }
 {
     for header in headers {
         add_header(environment, body, header, at, found)?;
@@ -159,7 +172,7 @@ fn add_header<'b>(
     at: usize,
     found: &mut Vec<MissingNeed<'b>>,
 ) -> Result<(), AllocError>
-    ensures { OnOk result (AreAdded environment.entry body (needs_of_header at (header_view header.entry.now)) found.old.items found.new.items) }
+    ensures { OnOk result (AreAdded environment.entry body (needs_of_header at (header_view header.now)) found.old.items found.new.items) }
 {
     if header.at == at {
         add_needs(environment, body, header.needs.as_slice(), found)
@@ -175,7 +188,7 @@ fn add_needs<'b>(
     needs: &'b [Need],
     found: &mut Vec<MissingNeed<'b>>,
 ) -> Result<(), AllocError>
-    ensures { OnOk result (AreAdded environment.entry body (map need_view needs.entry.now) found.old.items found.new.items) }
+    ensures { OnOk result (AreAdded environment.entry body (map need_view needs.now) found.old.items found.new.items) }
 {
     for (place, need) in needs.iter().enumerate() {
         let wanted = environment.program.wanted(body, need)?;
@@ -193,7 +206,7 @@ fn add_missing<'b>(
     found: &mut Vec<MissingNeed<'b>>,
 ) -> Result<(), AllocError>
     ensures { OnOk result (IsAdded (wanted_missed environment.entry.program.now (cells_view environment.entry.store.now.cells)
-        (led_slot (frames_view environment.entry.instances.now.slots) environment.entry.at) wanted.now) (need_view need.entry.now) found.old.items found.new.items) }
+        (led_slot (frames_view environment.entry.instances.now.slots) environment.entry.at) wanted.now) (need_view need.now) found.old.items found.new.items) }
 {
     let Some(input) = environment.missing(wanted) else {
         return Ok(());
@@ -210,7 +223,7 @@ fn missing_need<'b>(
     wanted: &ResolvedNeed,
     input: Input,
 ) -> MissingNeed<'b>
-    ensures { result.need.now ≡ need.entry.now }
+    ensures { result.need.now ≡ need.now }
 {
     match input {
         Input::Element(datum, mark) => MissingNeed {

@@ -1,6 +1,6 @@
 //! The items of a quiet board that have not ended, by statement.
-ghost use Rattle.std.specs.Prelude.{IfOk};
-ghost use Rattle.explain_board.specs.Left.{AreLeft};
+ghost use Rattle.std.specs.Prelude.{IfOk, OnOk};
+ghost use Rattle.explain_board.specs.Left.{AddsLeft, AreLeft};
 
 use board::Board;
 use board::remains::LeftItem;
@@ -62,12 +62,19 @@ pub fn left_items(alloc: Global, board: &Board) -> Result<Vec<NumberedItem>, All
 {
     let mut items = Vec::new(alloc);
     for place in 0..board.item_count() {
-        let number = (place as u64).saturating_add(1);
-        if let Some(item) = board.left_item(number) {
-            items.push(NumberedItem { number, item })?;
-        }
+        add_left(board, place as u64 + 1, &mut items)?;
     }
     Ok(items)
+}
+
+/// Appends the item with this number, unless it has ended.
+fn add_left(board: &Board, number: u64, items: &mut Vec<NumberedItem>) -> Result<(), AllocError>
+    ensures { OnOk result (AddsLeft board.now number items.old.items items.new.items) }
+{
+    if let Some(item) = board.left_item(number) {
+        items.push(NumberedItem { number, item })?;
+    }
+    Ok(())
 }
 
 /// Returns the blocked statements of these items, in the order of the items. The items of a statement follow each other.
@@ -121,8 +128,6 @@ fn offset_of(board: &Board, item: LeftItem) -> Option<usize> {
 }
 
 /// Returns the statements in the order of the report. Statements that the report does not have are left out.
-///
-/// Both orders mostly agree, so the next one is tried first.
 fn in_order(
     alloc: Global,
     board: &Board,
@@ -130,33 +135,7 @@ fn in_order(
     found: &[LeftStatement],
     blocked: &[StatementInstance],
 ) -> Result<Vec<LeftStatement>, AllocError> {
-    let mut order = Vec::with_capacity(alloc, blocked.len())?;
-    for _ in blocked {
-        order.push(NONE)?;
-    }
-    let mut next = 0;
-    for (i, statement) in found.iter().enumerate() {
-        let Some(own) = items.get(statement.own) else {
-            continue;
-        };
-        let instance = StatementInstance {
-            at: statement.at,
-            path: board.path_to(own.number)?,
-        };
-        let is_next = match blocked.get(next) {
-            Some(wanted) => wanted.is_same(&instance),
-            None => false,
-        };
-        if !is_next {
-            next = place_in(&instance, blocked);
-        }
-        if let Some(place) = order.get_mut(next) {
-            if *place == NONE {
-                *place = i;
-            }
-        }
-        next = next.saturating_add(1);
-    }
+    let order = order_of(alloc, board, items, found, blocked)?;
     let mut statements = Vec::with_capacity(alloc, blocked.len())?;
     for i in &order {
         if let Some(statement) = found.get(*i) {
@@ -164,6 +143,59 @@ fn in_order(
         }
     }
     Ok(statements)
+}
+
+/// Returns for each blocked statement of the report its place among those that were found, or `NONE`.
+///
+/// Both orders mostly agree, so the next one is tried first.
+fn order_of(
+    alloc: Global,
+    board: &Board,
+    items: &[NumberedItem],
+    found: &[LeftStatement],
+    blocked: &[StatementInstance],
+) -> Result<Vec<usize>, AllocError> {
+    let mut order = Vec::with_capacity(alloc, blocked.len())?;
+    for _ in blocked {
+        order.push(NONE)?;
+    }
+    let mut next = 0;
+    for (i, statement) in found.iter().enumerate() {
+        let Some(instance) = instance_of(board, items, *statement)? else {
+            continue;
+        };
+        next = place_from(&instance, blocked, next);
+        if let Some(place) = order.get_mut(next) {
+            if *place == NONE {
+                *place = i;
+            }
+        }
+        next = next.saturating_add(1);
+    }
+    Ok(order)
+}
+
+/// Returns a statement with the path of its instance.
+fn instance_of(
+    board: &Board,
+    items: &[NumberedItem],
+    statement: LeftStatement,
+) -> Result<Option<StatementInstance>, AllocError> {
+    match items.get(statement.own) {
+        Some(own) => Ok(Some(StatementInstance {
+            at: statement.at,
+            path: board.path_to(own.number)?,
+        })),
+        None => Ok(None),
+    }
+}
+
+/// Returns the place of a statement in the report, or a place past the end. The place `next` is tried first.
+fn place_from(wanted: &StatementInstance, blocked: &[StatementInstance], next: usize) -> usize {
+    match blocked.get(next) {
+        Some(found) if found.is_same(wanted) => next,
+        _ => place_in(wanted, blocked),
+    }
 }
 
 /// Returns the place of a statement in the report, by binary search, or a place past the end.

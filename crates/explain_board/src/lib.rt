@@ -2,10 +2,8 @@
 //! the wait graph.
 #![tactic(auto)]
 
-pub mod inner_writes;
 pub mod inputs;
 pub mod left_statements;
 pub mod names;
-pub mod plain_arguments;
 pub mod turns;
-pub mod waits;
+pub mod waiting;

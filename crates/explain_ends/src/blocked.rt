@@ -3,11 +3,11 @@
 //! The wait graph is that of the board. The statements that are told are selected from it, and only for these the facts
 //! are gathered that their diagnostics name.
 
-use crate::facts::{
+use crate::gathered::facts::{
     GatheredItem, add_inputs, gather_inner_keys, gather_known, gather_statement,
     gather_written_key, in_text_order, inputs_at,
 };
-use crate::gathering::Gathering;
+use crate::gathered::gathering::Gathering;
 use crate::script::StoppedScript;
 use explain_blocked::blocked::{add_blocked, write_left, write_others};
 use explain_blocked::context::ExplainContext;
@@ -22,7 +22,8 @@ use explain_blocked::waiting::wait_graph::WaitGraph;
 use explain_blocked::writers::WriterIndex;
 use explain_blocked::{BlockedId, BlockedStatement, StatementInput};
 use explain_board::left_statements::{LeftStatement, LeftStatements, NumberedItem};
-use explain_board::waits::{Target, Waits, inputs_around};
+use explain_board::waiting::targets::Target;
+use explain_board::waiting::waits::{Waits, inputs_around};
 use paths::StatementInstance;
 use std::alloc::{AllocError, Global};
 use std::collections::HashSet;
@@ -238,41 +239,49 @@ fn blocked_of<'b, 'a>(
     let Some(site) = index.site(statement.at) else {
         return Ok(None);
     };
-    let Some(own) = waits.own_item(statement) else {
+    let Some(one) = waits.own_item(statement) else {
         return Ok(None);
     };
     let items = waits.items(statement);
-    let instance = gathering.open(own, items, true)?;
+    let instance = gathering.open(one, items, true)?;
     let inputs = inputs_at(gathering, site);
-    let mut missing = Vec::new(gathering.alloc);
-    for one in items {
-        let item = GatheredItem {
-            one: *one,
-            instance,
-            inputs,
-        };
-        add_inputs(gathering, &waits.missing, item, statement.at, &mut missing)?;
-    }
-    for argument in waits.plain_arguments(number) {
-        missing.push(StatementInput::Scalar(argument.name))?;
-    }
+    let own = GatheredItem {
+        one,
+        instance,
+        inputs,
+    };
+    let missing = missing_of(gathering, waits, number, statement, own)?;
     let missing = in_text_order(gathering.alloc, site, missing)?;
-    gather_statement(
-        gathering,
-        GatheredItem {
-            one: own,
-            instance,
-            inputs,
-        },
-        items,
-        site,
-    )?;
+    gather_statement(gathering, own, items, site)?;
     gather_arguments(gathering, waits, number, statement, inputs)?;
     Ok(Some(BlockedStatement {
         site,
         instance,
         missing,
     }))
+}
+
+/// Returns the missing inputs of a statement, given its own item.
+fn missing_of(
+    gathering: &mut Gathering<'_, '_>,
+    waits: &Waits<'_, '_>,
+    number: usize,
+    statement: LeftStatement,
+    own: GatheredItem,
+) -> Result<Vec<StatementInput>, AllocError> {
+    let mut missing = Vec::new(gathering.alloc);
+    for one in waits.items(statement) {
+        let item = GatheredItem {
+            one: *one,
+            instance: own.instance,
+            inputs: own.inputs,
+        };
+        add_inputs(gathering, &waits.missing, item, statement.at, &mut missing)?;
+    }
+    for argument in waits.plain_arguments(number) {
+        missing.push(StatementInput::Scalar(argument.name))?;
+    }
+    Ok(missing)
 }
 
 /// Gathers what is known of the arguments that a statement waits for, and of those that these wait for.

@@ -3,10 +3,10 @@
 //! The item that met the fault is still running on the board, so the values that its entry reads are there. The other
 //! cells of its statement are evaluated over the values that they read.
 
-use crate::facts::inputs_at;
-use crate::gathering::Gathering;
-use crate::held_names::{GatheredBlock, HeldNames, add_write, unknown_writer};
-use crate::replay::{ElementWriter, Replay, SoughtElement};
+use crate::gathered::facts::inputs_at;
+use crate::gathered::gathering::Gathering;
+use crate::gathered::held_names::{GatheredBlock, HeldNames, add_write, unknown_writer};
+use crate::gathered::replay::{ElementWriter, Replay, SoughtElement};
 use crate::script::StoppedScript;
 use board::Board;
 use board_data::data;
@@ -36,7 +36,6 @@ use values::value::{Scalar, Value};
 
 /// What is gathered about the fault: the facts, the cells of its statement whose items have not ended, and the first
 /// cell with a fault of its kind.
-#[derive(Drop)]
 struct FaultFacts<'b, 'a> {
     gathering: Gathering<'b, 'a>,
     missing: UnknownNeeds<'b>,
@@ -48,6 +47,21 @@ struct FaultFacts<'b, 'a> {
     /// The nodes of the entries of the faulty item's instance whose items have not ended.
     open: Vec<u32>,
     first: Option<u32>,
+}
+
+// Implemented by hand, so that an owner drops the value with one call.
+impl Drop for FaultFacts<'_, '_> {
+    fn drop(self) {
+        let FaultFacts {
+            gathering: _,
+            missing: _,
+            names: _,
+            entry: _,
+            kind: _,
+            open: _,
+            first: _,
+        } = self;
+    }
 }
 
 /// Appends the diagnostic for the fault of a run, with the values that caused it.
@@ -84,8 +98,7 @@ pub fn add_fault_end(
         place: Place { instance, node: 0 },
     };
     facts.gather(instance, &mut fact)?;
-    let FaultFacts { gathering, .. } = facts;
-    let mut gathering = gathering;
+    let mut gathering = facts.into_gathering();
     let _instance = gathering.open(one, items.as_slice(), true)?;
     if fault.kind == FaultKind::TooDeep {
         gather_arguments(&mut gathering, fault.statement.path.as_slice())?;
@@ -257,6 +270,20 @@ fn shared(scalar: Option<&Scalar>) -> Result<Option<Scalar>, AllocError> {
 }
 
 impl<'b, 'a> FaultFacts<'b, 'a> {
+    /// Returns the facts that were gathered.
+    fn into_gathering(self) -> Gathering<'b, 'a> {
+        let FaultFacts {
+            gathering,
+            missing: _,
+            names: _,
+            entry: _,
+            kind: _,
+            open: _,
+            first: _,
+        } = self;
+        gathering
+    }
+
     /// Records the entries of an item's instance whose items have not ended.
     fn note_open(&mut self, one: NumberedItem, items: &[NumberedItem]) -> Result<(), AllocError> {
         let board = self.gathering.board;

@@ -7,13 +7,10 @@
 #![tactic(auto)]
 
 pub mod blocked;
-mod facts;
 pub mod faults;
-mod gathering;
-mod held_names;
+mod gathered;
 pub mod limits;
 pub mod meaning;
-mod replay;
 pub mod script;
 pub mod trace_refusals;
 

@@ -55,7 +55,6 @@ pub struct ElementWriter {
 }
 
 /// A second run of a history.
-#[derive(Drop)]
 pub struct Replay {
     alloc: Global,
     board: Board,
@@ -64,6 +63,20 @@ pub struct Replay {
     sought: Option<SoughtElement>,
     /// The last item that wrote the sought element.
     pub writer: Option<ElementWriter>,
+}
+
+// Implemented by hand, so that an owner drops the value with one call.
+impl Drop for Replay {
+    fn drop(self) {
+        let Replay {
+            alloc: _,
+            board: _,
+            openings: _,
+            domains: _,
+            sought: _,
+            writer: _,
+        } = self;
+    }
 }
 
 impl Replay {

@@ -47,13 +47,25 @@ struct InnerBlock {
 }
 
 /// The search for the writes of a statement in a body.
-#[derive(Drop)]
 struct WriteSearch<'b> {
     alloc: Global,
     program: &'b Program,
     body: u32,
     blocks: Vec<InnerBlock>,
     found: Vec<InnerWrite<'b>>,
+}
+
+// Implemented by hand, so that an owner drops the value with one call.
+impl Drop for WriteSearch<'_> {
+    fn drop(self) {
+        let WriteSearch {
+            alloc: _,
+            program: _,
+            body: _,
+            blocks: _,
+            found: _,
+        } = self;
+    }
 }
 
 impl InnerWrite<'_> {
@@ -136,11 +148,22 @@ pub fn inner_writes<'b>(
             None => break,
         }
     }
-    let WriteSearch { found, .. } = search;
-    Ok(found)
+    Ok(search.into_found())
 }
 
 impl<'b> WriteSearch<'b> {
+    /// Returns the writes that were found.
+    fn into_found(self) -> Vec<InnerWrite<'b>> {
+        let WriteSearch {
+            alloc: _,
+            program: _,
+            body: _,
+            blocks: _,
+            found,
+        } = self;
+        found
+    }
+
     /// Enqueues the blocks that an act opens in a block at this depth.
     fn add_blocks(&mut self, act: &'b Act, depth: usize) -> Result<(), AllocError> {
         let inside = depth.saturating_add(1);

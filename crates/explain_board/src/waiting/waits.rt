@@ -4,18 +4,19 @@
 //! A target is a datum, an element, or a datum that was passed as an argument. An argument has edges to what it waits
 //! for in turn. The first nodes are the statements, in the order of the report.
 
-use crate::inner_writes::{InnerWrite, inner_writes};
 use crate::inputs::{MissingNeed, UnknownNeeds, written_mark};
 use crate::left_statements::{LeftStatement, LeftStatements, NumberedItem};
 use crate::names::inputs_of;
-use crate::plain_arguments::{UnassignedScalars, plain_names};
+use crate::waiting::inner_writes::{InnerWrite, inner_writes};
+use crate::waiting::plain_arguments::{UnassignedScalars, plain_names};
+use crate::waiting::targets::{Target, TargetNodes, Writers, is_input, whole};
 use board::Board;
 use board_data::inputs::Environment;
 use board_program::lexical_address::LexicalAddress;
 use board_program::program::ResolvedNeed;
 use emit_cells::names::named;
 use explain_blocked::graphs::graph::Graph;
-use explain_blocked::graphs::numbers::{NONE, NodeNumbers};
+use explain_blocked::graphs::numbers::NONE;
 use explain_blocked::index::ScriptIndex;
 use explain_blocked::waiting::selection::Blocked;
 use explain_blocked::waiting::wait_groups::WaitGroups;
@@ -29,34 +30,6 @@ const CODES: u64 = 4_294_967_296;
 
 /// The first number of the arguments of a statement that are variables. Those of needs are less.
 const PLAIN: u64 = 2_147_483_648;
-
-/// A target of the wait graph.
-#[derive(Clone, Copy, PartialEq, Eq, Debug)]
-pub struct Target {
-    pub datum: usize,
-    /// The mark of the key of an element.
-    pub mark: Option<u64>,
-    /// Whether the datum was passed as an argument.
-    pub argument: bool,
-}
-
-/// The nodes of the targets.
-#[derive(Drop)]
-struct TargetNodes {
-    targets: Vec<Target>,
-    whole: NodeNumbers,
-    arguments: NodeNumbers,
-    elements: HashMap<(usize, u64), usize>,
-}
-
-/// What is known of the writers of each datum: whether there is one, the first one whose key is not known, and the item
-/// that computes it.
-#[derive(Drop)]
-struct Writers {
-    first: NodeNumbers,
-    open: NodeNumbers,
-    maker: NodeNumbers,
-}
 
 /// A write of a statement: the datum and, if it is one element whose key is known, the mark of the key.
 #[derive(Clone, Copy, Drop)]
@@ -73,7 +46,6 @@ pub struct PlainArgument {
 }
 
 /// The wait graph of the blocked statements of a board.
-#[derive(Drop)]
 pub struct Waits<'b, 'a> {
     alloc: Global,
     board: &'b Board,
@@ -92,6 +64,26 @@ pub struct Waits<'b, 'a> {
     starts: Vec<usize>,
 }
 
+// Implemented by hand, so that an owner drops the value with one call.
+impl Drop for Waits<'_, '_> {
+    fn drop(self) {
+        let Waits {
+            alloc: _,
+            board: _,
+            index: _,
+            missing: _,
+            left: _,
+            graph: _,
+            nodes: _,
+            writers: _,
+            inner: _,
+            plain: _,
+            codes: _,
+            starts: _,
+        } = self;
+    }
+}
+
 impl<'b, 'a> Waits<'b, 'a> {
     /// Creates the wait graph of these statements of a board.
     ///
@@ -104,39 +96,45 @@ impl<'b, 'a> Waits<'b, 'a> {
         index: &'b ScriptIndex<'a, Global>,
         left: LeftStatements,
     ) -> Result<Waits<'b, 'a>, AllocError> {
+        let mut waits = Waits::new(alloc, board, index, left)?;
+        waits.note_all()?;
+        Ok(waits)
+    }
+
+    /// Creates the wait graph without nodes and edges.
+    fn new(
+        alloc: Global,
+        board: &'b Board,
+        index: &'b ScriptIndex<'a, Global>,
+        left: LeftStatements,
+    ) -> Result<Waits<'b, 'a>, AllocError> {
         let bound = board.data_bound();
-        let mut waits = Waits {
+        Ok(Waits {
             alloc,
             board,
             index,
             missing: UnknownNeeds::new(alloc, board)?,
             left,
             graph: Graph::new(alloc),
-            nodes: TargetNodes {
-                targets: Vec::new(alloc),
-                whole: NodeNumbers::new(alloc, bound)?,
-                arguments: NodeNumbers::new(alloc, bound)?,
-                elements: HashMap::new(alloc),
-            },
-            writers: Writers {
-                first: NodeNumbers::new(alloc, bound)?,
-                open: NodeNumbers::new(alloc, bound)?,
-                maker: NodeNumbers::new(alloc, bound)?,
-            },
+            nodes: TargetNodes::new(alloc, bound)?,
+            writers: Writers::new(alloc, bound)?,
             inner: HashMap::new(alloc),
             plain: HashMap::new(alloc),
             codes: Vec::new(alloc),
             starts: Vec::new(alloc),
-        };
-        waits.note_inner()?;
-        waits.note_writers()?;
-        waits.note_makers();
-        waits.note_plain()?;
-        waits.note_statements()?;
-        waits.note_arguments()?;
-        waits.add_writers()?;
-        waits.graph.sort()?;
-        Ok(waits)
+        })
+    }
+
+    /// Adds all nodes and edges.
+    fn note_all(&mut self) -> Result<(), AllocError> {
+        self.note_inner()?;
+        self.note_writers()?;
+        self.note_makers();
+        self.note_plain()?;
+        self.note_statements()?;
+        self.note_arguments()?;
+        self.add_writers()?;
+        self.graph.sort()
     }
 
     /// Returns the number of statements.
@@ -179,15 +177,12 @@ impl<'b, 'a> Waits<'b, 'a> {
 
     /// Returns the first statement that may write a datum, and the first of them whose key is not known.
     pub fn first_writers(&self, datum: usize) -> (Option<usize>, Option<usize>) {
-        (
-            number_in(&self.writers.first, datum),
-            number_in(&self.writers.open, datum),
-        )
+        self.writers.firsts(datum)
     }
 
     /// Returns the item that computes a datum: that of a cell, or of an element read.
     pub fn maker(&self, datum: usize) -> Option<NumberedItem> {
-        let place = number_in(&self.writers.maker, datum)?;
+        let place = self.writers.maker(datum)?;
         self.left.items.get(place).copied()
     }
 
@@ -225,7 +220,8 @@ impl<'b, 'a> Waits<'b, 'a> {
 
     /// Returns true if a datum has writers, and the keys of all of them are known.
     fn has_known_keys(&self, datum: usize) -> bool {
-        self.writers.first.at(datum) != NONE && self.writers.open.at(datum) == NONE
+        let (first, open) = self.writers.firsts(datum);
+        first.is_some() && open.is_none()
     }
 
     /// Returns the writes in the blocks that a statement opens.
@@ -299,10 +295,7 @@ impl<'b, 'a> Waits<'b, 'a> {
             writes.clear();
             self.add_writes(number, &mut writes)?;
             for write in &writes {
-                self.writers.first.set_min(write.datum, number);
-                if write.mark.is_none() {
-                    self.writers.open.set_min(write.datum, number);
-                }
+                self.writers.note(write.datum, write.mark.is_none(), number);
             }
         }
         Ok(())
@@ -329,7 +322,7 @@ impl<'b, 'a> Waits<'b, 'a> {
             }
             if let Some(environment) = board.environment(one.number) {
                 if let Some(datum) = environment.datum(table.target) {
-                    self.writers.maker.put(datum, place);
+                    self.writers.note_maker(datum, place);
                 }
             }
         }
@@ -626,46 +619,6 @@ impl Blocked for Waits<'_, '_> {
     }
 }
 
-impl TargetNodes {
-    /// Returns the node of a target, or `NONE` if it has none.
-    fn find(&self, target: Target) -> usize {
-        match target.mark {
-            Some(mark) => match self.elements.get(&(target.datum, mark)) {
-                Some(node) => *node,
-                None => NONE,
-            },
-            None if target.argument => self.arguments.at(target.datum),
-            None => self.whole.at(target.datum),
-        }
-    }
-
-    /// Returns the node of a target. Adds the node if the target has none.
-    fn node_of(&mut self, graph: &mut Graph, target: Target) -> Result<usize, AllocError> {
-        let found = self.find(target);
-        if found != NONE {
-            return Ok(found);
-        }
-        let node = graph.add()?;
-        self.targets.push(target)?;
-        match target.mark {
-            Some(mark) => {
-                self.elements.insert((target.datum, mark), node)?;
-            }
-            None if target.argument => self.arguments.put(target.datum, node),
-            None => self.whole.put(target.datum, node),
-        }
-        Ok(node)
-    }
-
-    /// Returns true if the target at this place is an argument.
-    fn is_argument(&self, place: usize) -> bool {
-        match self.targets.get(place) {
-            Some(target) => target.argument,
-            None => false,
-        }
-    }
-}
-
 /// Appends the writes of inner blocks to the datum at an address. Returns true if there are any.
 fn add_inner(
     alloc: Global,
@@ -695,28 +648,6 @@ pub fn inputs_around(index: &ScriptIndex<'_, Global>, board: &Board, maker: Numb
         Some(spot) => inputs_of(index, spot.function),
         None => 0,
     }
-}
-
-/// Returns the target of a whole datum.
-fn whole(datum: usize, argument: bool) -> Target {
-    Target {
-        datum,
-        mark: None,
-        argument,
-    }
-}
-
-/// Returns true if the name is that of a scalar input of a function.
-fn is_input(inputs: usize, owned: Owned) -> bool {
-    match owned {
-        Owned::Parameter(place, is_array) => place < inputs && !is_array,
-        Owned::Local(_) => false,
-    }
-}
-
-fn number_in(numbers: &NodeNumbers, place: usize) -> Option<usize> {
-    let number = numbers.at(place);
-    if number == NONE { None } else { Some(number) }
 }
 
 /// Returns a number for a missing need of an entry, which no other need of the same statement has.

@@ -1,14 +1,14 @@
 //! The missing inputs of items as inputs of statements of the flow, and what is known beside them.
 
-use crate::gathering::Gathering;
-use crate::held_names::{GatheredBlock, HeldNames, gather_elements};
+use crate::gathered::gathering::Gathering;
+use crate::gathered::held_names::{GatheredBlock, HeldNames, gather_elements};
 use board_data::inputs::Environment;
 use board_program::program::ResolvedNeed;
 use explain_blocked::{StatementInput, inputs_of};
-use explain_board::inner_writes::InnerWrite;
 use explain_board::inputs::{MissingNeed, UnknownNeeds, index_of, written_key};
 use explain_board::left_statements::NumberedItem;
 use explain_board::names::{self, flow_name};
+use explain_board::waiting::inner_writes::InnerWrite;
 use flow::cell::CellForm;
 use flow::statement::Action;
 use flow_index::site::{Site, StatementForm};

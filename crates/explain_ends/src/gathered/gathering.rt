@@ -1,6 +1,6 @@
 //! The facts about the statements that are told, gathered from a board.
 
-use crate::replay::Replay;
+use crate::gathered::replay::Replay;
 use board::Board;
 use explain_blocked::index::ScriptIndex;
 use explain_blocked::{BlockedId, Knowledge};
@@ -17,7 +17,6 @@ use values::key::Key;
 use values::value::{Scalar, Value};
 
 /// The facts about the statements that are told, and the block instances that they stand in.
-#[derive(Drop)]
 pub struct Gathering<'b, 'a> {
     pub alloc: Global,
     pub board: &'b Board,
@@ -25,6 +24,19 @@ pub struct Gathering<'b, 'a> {
     pub fact_base: FactBase,
     /// The history once more, if a value was asked for that the board does not have.
     replay: Option<Replay>,
+}
+
+// Implemented by hand, so that an owner drops the value with one call.
+impl Drop for Gathering<'_, '_> {
+    fn drop(self) {
+        let Gathering {
+            alloc: _,
+            board: _,
+            index: _,
+            fact_base: _,
+            replay: _,
+        } = self;
+    }
 }
 
 impl<'b, 'a> Gathering<'b, 'a> {
@@ -49,7 +61,13 @@ impl<'b, 'a> Gathering<'b, 'a> {
 
     /// Returns the facts with the statements that are blocked.
     pub fn into_knowledge(self, stuck: Vec<BlockedId>) -> Knowledge {
-        let Gathering { fact_base, .. } = self;
+        let Gathering {
+            alloc: _,
+            board: _,
+            index: _,
+            fact_base,
+            replay: _,
+        } = self;
         Knowledge {
             fact_base,
             stuck,

@@ -2,7 +2,7 @@
 //!
 //! The data of other names can be free, and their numbers given to other data.
 
-use crate::gathering::Gathering;
+use crate::gathered::gathering::Gathering;
 use board::Board;
 use board_data::data;
 use board_data::inputs::Environment;
