@@ -125,6 +125,6 @@ fn meaning_end_of<W: RoundObserver>(
     };
     Ok(MeaningEnd {
         summary,
-        known: if keeps { Some(known) } else { None },
+        known: keeps.then_some(known),
     })
 }

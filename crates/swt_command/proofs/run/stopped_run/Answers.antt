@@ -3,7 +3,7 @@ use Rattle.swt_status.specs.declared.failure.CommandFailure.{CommandFailure}
 use Rattle.swt_command.specs.Files.{contents}
 use Rattle.swt_command.specs.Runs.{StopsBeforeRun}
 use Rattle.swt_command.proofs.Stops.{no_report}
-use Rattle.swt_command.proofs.run.report_run.Goals as goal
+use Rattle.swt_command.proofs.run.stopped_run.Goals as goal
 
 pub returns : goal.returns
 returns g c = (
