@@ -14,11 +14,7 @@ pub fn with_bit(row: u64, place: usize, holds: bool) -> u64
     requires { place < 64 }
     ensures { (k : ℕ) → specs.bit_is_set result k ≡ ((holds && nat_eq k place) || specs.bit_is_set row k) }
 {
-    if holds {
-        row | (1 << place)
-    } else {
-        row
-    }
+    if holds { row | (1 << place) } else { row }
 }
 
 /// Returns a row, with the bits of another one if it has the bit at this place.

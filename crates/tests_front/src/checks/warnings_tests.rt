@@ -129,3 +129,29 @@ none | int x"#;
 fn plain_scripts(rt: HostRuntime) {
     are_warned(&rt, rt.alloc(), PLAIN);
 }
+
+// Each place is that of the first one of the statements that wait for each other.
+const CIRCLES: &str = r#"V16 CircularWait 14 15 | int x; int y; x = y; y = x; printf("%i", x);
+V16 CircularWait 11 12 | int x; int y = x; x = y; printf("%i", y);
+V16 CircularWait 21 22 | int a; int b; int c; a = b + 1; b = 2 * c; c = a - 1; printf("%i", a);
+V16 CircularWait 28 29, V16 CircularWait 35 36 | int a; int b; int c; int d; a = b; c = d; b = a; d = c; printf("%i %i", a, c);
+V16 CircularWait 21 22 | (int x, int y) f() { x = y; y = x; } int a; int b; (a, b) = f(); printf("%i %i", a, b);
+V16 CircularWait 41 42 | boolean c = true; int x; int y; if (c) { x = y; y = x; } else { x = 1; y = 2; } printf("%i", x);
+V16 CircularWait 35 36 | foreach i in [0:1] { int x; int y; x = y + i; y = x; printf("%i", y); }
+V16 CircularWait 29 30 | int A[] = [1]; int x; int y; x = A[y]; y = x; printf("%i", x);
+V16 CircularWait 16 17 | int A[]; int x; x = size(A) + 1; A = [x, 2]; printf("%i", A[1]);
+V16 CircularWait 22 23 | boolean a; boolean b; a = true || b; b = !a; assert(a, "x");
+V16 CircularWait 14 15, V11 WaitsForItself 14 15 | int x; int y; x = x + y; y = x; printf("%i", x);
+V12 KeyTwice 19 20, V16 CircularWait 43 44 | int A[]; A[0] = 1; A[0] = 2; int x; int y; x = y; y = x; printf("%i %i", A[0], x);
+V16 CircularWait 20 21 | string s; string t; s = strcat("a", t); () f() { printf("x"); } t = fromint(toint(s)); f();
+none | int x; int y; x = y; y = 2; printf("%i", x);
+none | (int r) f(int n) { r = n; } int x; int y; x = f(y); y = x; printf("%i", y);
+none | int x; int y; x = y; if (true) { y = x; } else { y = 1; } printf("%i", x);
+none | int A[]; int x; x = A[0]; A[0] = x; printf("%i", x);
+none | int a; int b; int c = b; a = c; b = 1; printf("%i", a);
+none | if (true) { int x; int y = 1; x = y; printf("%i", x); } else { int x = 1; int y; y = x; printf("%i", y); }"#;
+
+#[test]
+fn statements_in_circles(rt: HostRuntime) {
+    are_warned(&rt, rt.alloc(), CIRCLES);
+}
