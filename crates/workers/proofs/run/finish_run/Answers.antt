@@ -17,7 +17,7 @@ returns-clause-report g c =
     let p = c.pool_count-count.result in
     let count : s.enabled.amount ≡ p.offered + p.full = omega (arith, s.enabled_total, none_lost, offers.0, offers.1) in
     let run : RunsTo C e k b.history (p.offered + p.full) b.state = subst (λ (n : ℕ). RunsTo C e k b.history n b.state) count c.close-board.ensures.run in
-    let tells : Tells b c.in_ok-run-2.run.report = search rules in
+    let tells : Tells b c.in_ok-run-2.run'.report = search rules in
     record {
       board = b;
       code = c.close-board.ensures.code.0;
