@@ -7,7 +7,7 @@ use Rattle.std.proofs.lemmas.Bool.{eqb-true, eqb-false, le-leb, leb-true, lt-ltb
 use Rattle.std.proofs.lemmas.List.{drop_more, drop_all, append-nil, length-append, length-map, get_or_append_left, get_or_push, get_or_past}
 use Rattle.std.proofs.lemmas.Nat.Bits.{bit_at-zero}
 use Rattle.std.proofs.lemmas.Option.{slice_get_past, slice_get-get_or, slice_get-map}
-use Rattle.language.specs.Tree.{Part, Statement, Statements, no_statements, and_statement, Tree, statements_of}
+use Rattle.language.specs.Tree.{Part, import, function, single, Statement, Statements, no_statements, and_statement, Tree, statements_of}
 use Rattle.syntax_trees.specs.View.{statement_view}
 use Rattle.syntax_trees.specs.declared.tree.Stmt.{Stmt}
 use Rattle.explain_warnings.specs.declared.name_use.NameUse.{NameUse}
@@ -69,9 +69,12 @@ pub parts_within : (before : List Statement) (tree : Tree) → length before ≤
 parts_within before [] within = within
 parts_within before (p ∷ ps) within = parts_within (part_kept before p) ps (part_within before p within)
 
+pub statements_long : {A : Type 0} (xs : List (Bor (Stmt A))) → length (statements_in xs) ≡ length xs
+statements_long {A = A} xs = length-map xs (λ (s : Bor (Stmt A)). statement_view s.now)
+
 -- as many statements as their views
 pub items_within : {A : Type 0} (xs : List (Bor (Stmt A))) (ss : List Statement) → statements_in xs ≡ ss → length ss ≤ 64 → length xs ≤ 64
-items_within xs ss are within = omega (arith, within, sym (length-map xs (λ s. statement_view s.now)) ∙ ap length are)
+items_within xs ss are within = subst (λ n. n ≤ 64) (ap length (sym are) ∙ statements_long xs) within
 
 -- ROWS
 
@@ -113,7 +116,7 @@ bit_less has row n so_far lacks k = by (nat_eq k n) refl
 
 pub bit_next : (has : ℕ → Bool) (row after n : ℕ) (holds : Bool) → AreBits has row n → has n ≡ holds
     → ((k : ℕ) → bit_is_set after k ≡ ((holds && nat_eq k n) || bit_is_set row k)) → AreBits has after (n + 1)
-bit_next has row after n true so_far is sets = bit_more has row after n so_far is sets
+bit_next has row after n true so_far is sets k = bit_more has row after n so_far is sets k
 bit_next has row after n false so_far is sets k = sets k ∙ bit_less has row n so_far is k
 
 -- no bit is left

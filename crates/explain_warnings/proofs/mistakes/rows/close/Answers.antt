@@ -14,4 +14,7 @@ loop-place-preserved c = record {
 pub returns : goal.returns
 returns c =
     let all : c.loop-place.place ≡ length c.args.rows.now.items = grind (arith, common_steps) in
-    c.loop-place.invariant.led ∙ ap (leads (in_rows c.args.rows.now.items)) all
+    record {
+      led = c.loop-place.invariant.led ∙ ap (leads (in_rows c.args.rows.now.items)) all;
+      as_many = c.loop-place.invariant.as_many;
+    }
