@@ -1,7 +1,7 @@
 mod Added
 mod Bits
 mod Calling
-mod Circling
+mod Cycling
 mod Failing
 mod First
 mod Guarding

@@ -1,4 +1,4 @@
-pub mod Circles
+pub mod Cycles
 pub mod Endless
 pub mod Failures
 pub mod Forms

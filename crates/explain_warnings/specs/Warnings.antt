@@ -107,7 +107,7 @@ uses_in t tree = record {
 abbrev pub tree_warnings : Table → Uses → Tree → List Warning
 tree_warnings t u tree = warnings_at u (tree_mistakes tree) ++ parts_warnings t u 0 tree
 
--- all warnings of a script, in the order of its text; those of keys that two statements write, and then those of circles, stand before the others
+-- all warnings of a script, in the order of its text; those of keys that two statements write, and then those of cycles, stand before the others
 -- of their list, and that of a call without end before the others of its function's block
 abbrev pub warnings : Table → Tree → List Warning
 warnings t tree = tree_warnings t (uses_in t tree) tree

@@ -36,7 +36,7 @@ pub enum NameUseKind {
     /// An operation on literals that overflows, a divisor 0, the string of a `toint` that is no number, or the
     /// condition of an `assert`, the literal `false`.
     AlwaysFails,
-    /// The first one of plain statements in a circle, of which each waits for the variable that the next one assigns.
+    /// The first one of plain statements in a cycle, of which each waits for the variable that the next one assigns.
     CircularWait,
 }
 

@@ -75,7 +75,7 @@ struct NamesInUse<'a> {
 }
 
 /// Returns the warnings of a well typed script in the order of its text. `typed`: the table of its names. Those of keys
-/// that two statements write, and then those of circles, stand before the others of their list, and that of a call
+/// that two statements write, and then those of cycles, stand before the others of their list, and that of a call
 /// without end before the others of its function's block.
 ///
 /// Names that begin with `_` and loop variables count as used.

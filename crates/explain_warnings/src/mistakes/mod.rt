@@ -1,7 +1,7 @@
 //! Forms that are certainly mistakes: literals, expressions that always fail, tests that guard nothing, calls without
 //! end, variables that wait for themselves or for each other, and keys that two statements write.
 
-pub mod circles;
+pub mod cycles;
 pub mod endless;
 pub mod failures;
 pub mod forms;

@@ -131,7 +131,7 @@ fn plain_scripts(rt: HostRuntime) {
 }
 
 // Each place is that of the first one of the statements that wait for each other.
-const CIRCLES: &str = r#"V16 CircularWait 14 15 | int x; int y; x = y; y = x; printf("%i", x);
+const CYCLES: &str = r#"V16 CircularWait 14 15 | int x; int y; x = y; y = x; printf("%i", x);
 V16 CircularWait 11 12 | int x; int y = x; x = y; printf("%i", y);
 V16 CircularWait 21 22 | int a; int b; int c; a = b + 1; b = 2 * c; c = a - 1; printf("%i", a);
 V16 CircularWait 28 29, V16 CircularWait 35 36 | int a; int b; int c; int d; a = b; c = d; b = a; d = c; printf("%i %i", a, c);
@@ -152,6 +152,6 @@ none | int a; int b; int c = b; a = c; b = 1; printf("%i", a);
 none | if (true) { int x; int y = 1; x = y; printf("%i", x); } else { int x = 1; int y; y = x; printf("%i", y); }"#;
 
 #[test]
-fn statements_in_circles(rt: HostRuntime) {
-    are_warned(&rt, rt.alloc(), CIRCLES);
+fn statements_in_cycles(rt: HostRuntime) {
+    are_warned(&rt, rt.alloc(), CYCLES);
 }

@@ -11,7 +11,7 @@ use Rattle.language.specs.Tree.{Part, import, function, single, Statement, State
 use Rattle.syntax_trees.specs.View.{statement_view}
 use Rattle.syntax_trees.specs.declared.tree.Stmt.{Stmt}
 use Rattle.explain_warnings.specs.declared.name_use.NameUse.{NameUse}
-use Rattle.explain_warnings.specs.Circles.{target, kept, plain, part_kept, tree_plain, both_wait, awaits, opens_circle, circle_at, circles_from}
+use Rattle.explain_warnings.specs.Cycles.{target, kept, plain, part_kept, tree_plain, both_wait, awaits, opens_cycle, cycle_at, cycles_from}
 use Rattle.explain_warnings.specs.View.{statements_in}
 use Rattle.explain_warnings.specs.Ways.{leads, meets_first, bit_is_set, in_rows}
 
@@ -172,29 +172,29 @@ rows_all ss rows n so_far ended = fun_ext (λ i. fun_ext (λ k. so_far i k ∙ b
     by i k (inl l) = ap (λ b. b && awaits ss i k) (lt-ltb i n l)
     by i k (inr l) = ap (λ b. b && awaits ss i k) (le-ltb i n l) ∙ sym (ap (λ o. both_wait o (slice_get ss k)) (slice_get_past ss i (omega (arith, l, ended))))
 
--- CIRCLES
+-- CYCLES
 
--- the first one of a circle, by the rows of all ways
+-- the first one of a cycle, by the rows of all ways
 pub opens_by : (ss : List Statement) (rows closed : List ℕ) (i : ℕ) → in_rows rows ≡ awaits ss → in_rows closed ≡ leads (in_rows rows) (length rows)
-    → length rows ≡ length ss → length closed ≡ length rows → meets_first (in_rows closed) (length closed) i ≡ opens_circle ss i
+    → length rows ≡ length ss → length closed ≡ length rows → meets_first (in_rows closed) (length closed) i ≡ opens_cycle ss i
 opens_by ss rows closed i are led rows_long closed_long =
     ap (λ r. meets_first r (length closed) i) (led ∙ ap (λ r. leads r (length rows)) are ∙ ap (leads (awaits ss)) rows_long)
     ∙ ap (λ n. meets_first (leads (awaits ss) (length ss)) n i) (closed_long ∙ rows_long)
 
 -- one more statement
-pub circles_more : {X : Type 0} (view : X → Statement) (ss : List Statement) (total front after : List NameUse) (xs : List X) (i : ℕ) (x : X)
-    → total ≡ front ++ circles_from ss i (map view (drop i xs)) → i < length xs → x ≡ get_or xs i x
-    → after ≡ front ++ circle_at (opens_circle ss i) (view x) → total ≡ after ++ circles_from ss (i + 1) (map view (drop (i + 1) xs))
-circles_more {X = X} view ss total front after xs i x so_far below is adds =
-    let rest = circles_from ss (i + 1) (map view (drop (i + 1) xs)) in
+pub cycles_more : {X : Type 0} (view : X → Statement) (ss : List Statement) (total front after : List NameUse) (xs : List X) (i : ℕ) (x : X)
+    → total ≡ front ++ cycles_from ss i (map view (drop i xs)) → i < length xs → x ≡ get_or xs i x
+    → after ≡ front ++ cycle_at (opens_cycle ss i) (view x) → total ≡ after ++ cycles_from ss (i + 1) (map view (drop (i + 1) xs))
+cycles_more {X = X} view ss total front after xs i x so_far below is adds =
+    let rest = cycles_from ss (i + 1) (map view (drop (i + 1) xs)) in
     so_far
-    ∙ ap (λ ys. front ++ circles_from ss i (map view ys)) (drop_more xs i x below)
-    ∙ ap (λ (y : X). front ++ (circle_at (opens_circle ss i) (view y) ++ rest)) (sym is)
-    ∙ sym (append_assoc front (circle_at (opens_circle ss i) (view x)) rest)
+    ∙ ap (λ ys. front ++ cycles_from ss i (map view ys)) (drop_more xs i x below)
+    ∙ ap (λ (y : X). front ++ (cycle_at (opens_cycle ss i) (view y) ++ rest)) (sym is)
+    ∙ sym (append_assoc front (cycle_at (opens_cycle ss i) (view x)) rest)
     ∙ ap (λ (w : List NameUse). w ++ rest) (sym adds)
 
 -- no statement is left
-pub circles_all : {X : Type 0} (view : X → Statement) (ss : List Statement) (total front : List NameUse) (xs : List X) (i : ℕ)
-    → total ≡ front ++ circles_from ss i (map view (drop i xs)) → length xs ≤ i → front ≡ total
-circles_all view ss total front xs i so_far ended =
-    sym (so_far ∙ ap (λ ys. front ++ circles_from ss i (map view ys)) (drop_all i xs ended) ∙ append-nil front)
+pub cycles_all : {X : Type 0} (view : X → Statement) (ss : List Statement) (total front : List NameUse) (xs : List X) (i : ℕ)
+    → total ≡ front ++ cycles_from ss i (map view (drop i xs)) → length xs ≤ i → front ≡ total
+cycles_all view ss total front xs i so_far ended =
+    sym (so_far ∙ ap (λ ys. front ++ cycles_from ss i (map view ys)) (drop_all i xs ended) ∙ append-nil front)

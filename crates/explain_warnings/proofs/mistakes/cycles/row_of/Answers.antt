@@ -1,10 +1,10 @@
 use Rattle.std.proofs.Common.{ap, sym, subst, ◌∙◌, ◌≤◌, Some}
 use Rattle.std.specs.Prelude.{slice_get}
 use Rattle.syntax_trees.specs.View.{statement_view}
-use Rattle.explain_warnings.specs.Circles.{both_wait}
+use Rattle.explain_warnings.specs.Cycles.{both_wait}
 use Rattle.explain_warnings.specs.View.{statements_in}
-use Rattle.explain_warnings.proofs.Circling.{bit_next, bits_all, statement_at, statements_long}
-use Rattle.explain_warnings.proofs.mistakes.circles.row_of.Goals as goal
+use Rattle.explain_warnings.proofs.Cycling.{bit_next, bits_all, statement_at, statements_long}
+use Rattle.explain_warnings.proofs.mistakes.cycles.row_of.Goals as goal
 
 pub loop-k-preserved : goal.loop-k-preserved
 loop-k-preserved g c =

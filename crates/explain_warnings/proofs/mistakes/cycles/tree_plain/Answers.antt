@@ -1,10 +1,10 @@
 use Rattle.std.proofs.Common.{[], map, arith}
 use Rattle.std.proofs.lemmas.Grind.{common_steps}
 use Rattle.syntax_trees.specs.View.{part_of}
-use Rattle.explain_warnings.specs.Circles.{tree_plain}
+use Rattle.explain_warnings.specs.Cycles.{tree_plain}
 use Rattle.explain_warnings.specs.View.{statements_in}
-use Rattle.explain_warnings.proofs.Circling.{parts_more, parts_all}
-use Rattle.explain_warnings.proofs.mistakes.circles.tree_plain.Goals as goal
+use Rattle.explain_warnings.proofs.Cycling.{parts_more, parts_all}
+use Rattle.explain_warnings.proofs.mistakes.cycles.tree_plain.Goals as goal
 
 pub loop-item-preserved : goal.loop-item-preserved
 loop-item-preserved g c =

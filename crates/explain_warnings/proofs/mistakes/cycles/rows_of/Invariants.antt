@@ -1,7 +1,7 @@
 use Rattle.std.proofs.Common.{◌≡◌, length}
 use Rattle.explain_warnings.specs.View.{statements_in}
-use Rattle.explain_warnings.proofs.Circling.{AreRows}
-use Rattle.explain_warnings.proofs.mistakes.circles.rows_of.Given as goal
+use Rattle.explain_warnings.proofs.Cycling.{AreRows}
+use Rattle.explain_warnings.proofs.mistakes.cycles.rows_of.Given as goal
 
 abbrev pub invariant-loop-stmt : goal.invariant-loop-stmt
 invariant-loop-stmt g l = record {

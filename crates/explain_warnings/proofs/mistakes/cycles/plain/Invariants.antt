@@ -1,9 +1,9 @@
 use Rattle.std.proofs.Common.{◌≡◌, [], map, drop}
 use Rattle.syntax_trees.specs.View.{statement_view}
 use Rattle.language.specs.Tree.{statements_of}
-use Rattle.explain_warnings.specs.Circles.{plain}
+use Rattle.explain_warnings.specs.Cycles.{plain}
 use Rattle.explain_warnings.specs.View.{statements_in}
-use Rattle.explain_warnings.proofs.mistakes.circles.plain.Given as goal
+use Rattle.explain_warnings.proofs.mistakes.cycles.plain.Given as goal
 
 abbrev pub invariant-loop-stmt : goal.invariant-loop-stmt
 invariant-loop-stmt g l =

@@ -1,4 +1,4 @@
--- Circles of plain statements of one list: each of them waits for the variable that the next one assigns, so none of them is ever done.
+-- Cycles of plain statements of one list: each of them waits for the variable that the next one assigns, so none of them is ever done.
 use Rattle.std.specs.Prelude.{ℕ, ◌+◌, Bool, false, List, [], ◌∷◌, ◌++◌, length, Option, Some, None, is_some, slice_get, nat_le, if◌then◌else◌, ◌&&◌}
 use Rattle.language.specs.Tree.{Word, RightSide, Statement, statement, Command, declare, assign, write, assign_all, calls, choice, choice_else, loop, waits, Statements, no_statements, and_statement, Part, Tree, import, function, single}
 use Rattle.explain_warnings.specs.declared.name_use.NameUse.{NameUse}
@@ -76,23 +76,23 @@ both_wait _ _ = false
 abbrev pub awaits : List Statement → (i k : ℕ) → Bool
 awaits ss i k = both_wait (slice_get ss i) (slice_get ss k)
 
--- CIRCLES
+-- CYCLES
 
--- statement i of a list is the first one of a circle
-abbrev pub opens_circle : List Statement → (i : ℕ) → Bool
-opens_circle ss i = meets_first (leads (awaits ss) (length ss)) (length ss) i
+-- statement i of a list is the first one of a cycle
+abbrev pub opens_cycle : List Statement → (i : ℕ) → Bool
+opens_cycle ss i = meets_first (leads (awaits ss) (length ss)) (length ss) i
 
 abbrev pub named : Option Word → List NameUse
 named None = []
 named (Some w) = name_use CircularWait w ∷ []
 
-abbrev pub circle_at : (opens : Bool) → Statement → List NameUse
-circle_at opens s = if opens then named (target s) else []
+abbrev pub cycle_at : (opens : Bool) → Statement → List NameUse
+cycle_at opens s = if opens then named (target s) else []
 
 -- the occurrences at the statements of a list from place i on
-abbrev pub circles_from : List Statement → (i : ℕ) → List Statement → List NameUse
-circles_from ss i [] = []
-circles_from ss i (s ∷ rest) = circle_at (opens_circle ss i) s ++ circles_from ss (i + 1) rest
+abbrev pub cycles_from : List Statement → (i : ℕ) → List Statement → List NameUse
+cycles_from ss i [] = []
+cycles_from ss i (s ∷ rest) = cycle_at (opens_cycle ss i) s ++ cycles_from ss (i + 1) rest
 
-abbrev pub circles : List Statement → List NameUse
-circles ss = circles_from ss 0 ss
+abbrev pub cycles : List Statement → List NameUse
+cycles ss = cycles_from ss 0 ss

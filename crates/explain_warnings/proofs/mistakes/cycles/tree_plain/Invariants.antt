@@ -1,8 +1,8 @@
 use Rattle.std.proofs.Common.{◌≡◌, [], map, drop}
 use Rattle.syntax_trees.specs.View.{part_of}
-use Rattle.explain_warnings.specs.Circles.{tree_plain}
+use Rattle.explain_warnings.specs.Cycles.{tree_plain}
 use Rattle.explain_warnings.specs.View.{statements_in}
-use Rattle.explain_warnings.proofs.mistakes.circles.tree_plain.Given as goal
+use Rattle.explain_warnings.proofs.mistakes.cycles.tree_plain.Given as goal
 
 abbrev pub invariant-loop-item : goal.invariant-loop-item
 invariant-loop-item g l =

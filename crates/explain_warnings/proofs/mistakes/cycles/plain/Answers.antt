@@ -2,10 +2,10 @@ use Rattle.std.proofs.Common.{[], map, arith}
 use Rattle.std.proofs.lemmas.Grind.{common_steps}
 use Rattle.syntax_trees.specs.View.{statement_view}
 use Rattle.language.specs.Tree.{statements_of}
-use Rattle.explain_warnings.specs.Circles.{plain}
+use Rattle.explain_warnings.specs.Cycles.{plain}
 use Rattle.explain_warnings.specs.View.{statements_in}
-use Rattle.explain_warnings.proofs.Circling.{plain_more, plain_all}
-use Rattle.explain_warnings.proofs.mistakes.circles.plain.Goals as goal
+use Rattle.explain_warnings.proofs.Cycling.{plain_more, plain_all}
+use Rattle.explain_warnings.proofs.mistakes.cycles.plain.Goals as goal
 
 pub loop-stmt-preserved : goal.loop-stmt-preserved
 loop-stmt-preserved g c =

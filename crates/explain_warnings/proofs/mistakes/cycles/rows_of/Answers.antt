@@ -3,8 +3,8 @@ use Rattle.std.proofs.lemmas.Grind.{common_steps}
 use Rattle.std.proofs.lemmas.List.{length-append}
 use Rattle.syntax_trees.specs.View.{statement_view}
 use Rattle.explain_warnings.specs.View.{statements_in}
-use Rattle.explain_warnings.proofs.Circling.{AreRows, row_more, rows_all, statement_at, statements_long}
-use Rattle.explain_warnings.proofs.mistakes.circles.rows_of.Goals as goal
+use Rattle.explain_warnings.proofs.Cycling.{AreRows, row_more, rows_all, statement_at, statements_long}
+use Rattle.explain_warnings.proofs.mistakes.cycles.rows_of.Goals as goal
 
 pub loop-stmt-preserved : goal.loop-stmt-preserved
 loop-stmt-preserved g c =

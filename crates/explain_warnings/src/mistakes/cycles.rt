@@ -1,11 +1,11 @@
-//! Circles of plain statements of one list, of which each waits for the variable that the next one assigns.
+//! Cycles of plain statements of one list, of which each waits for the variable that the next one assigns.
 //!
 //! The first 64 assignments of a list are examined, each by one row of bits, so that the time stays linear.
 ghost use Rattle.std.specs.Prelude.{◌≡◌, ◌≤◌, ◌++◌, ℕ, [], Some, OnOk, IfOk, length, map, option_map, slice_get};
 ghost use Rattle.syntax_trees.specs.View.{word_of, right_of, statement_view, command_view, part_of, tree_of};
 ghost use Rattle.language.specs.Tree.{statements_of};
-ghost use Rattle.explain_warnings.specs.Circles as specs;
-ghost use Rattle.explain_warnings.specs.Ways.{in_rows, bit_is_set, leads, meets_first as is_first};
+ghost use Rattle.explain_warnings.specs.Cycles as specs;
+ghost use Rattle.explain_warnings.specs.Ways.{in_rows, bit_is_set};
 ghost use Rattle.explain_warnings.specs.View.{statements_in};
 
 use crate::mistakes::needs::right_needs;
@@ -160,13 +160,13 @@ fn rows_of<A: Allocator>(alloc: Global, before: &[&Stmt<A>]) -> Result<Vec<u64>,
     Ok(rows)
 }
 
-/// Appends an occurrence of the variable that a statement assigns if the statement is the first one of a circle.
-fn circle_at<A: Allocator>(
+/// Appends an occurrence of the variable that a statement assigns if the statement is the first one of a cycle.
+fn cycle_at<A: Allocator>(
     opens: bool,
     stmt: &Stmt<A>,
     name_uses: &mut Vec<NameUse>,
 ) -> Result<(), AllocError>
-    ensures { OnOk result (name_uses.new.items ≡ name_uses.old.items ++ specs.circle_at opens (statement_view stmt.now)) }
+    ensures { OnOk result (name_uses.new.items ≡ name_uses.old.items ++ specs.cycle_at opens (statement_view stmt.now)) }
 {
     if opens {
         match target(stmt) {
@@ -178,45 +178,45 @@ fn circle_at<A: Allocator>(
     }
 }
 
-/// Appends the occurrences at the statements that are the first ones of circles.
-fn circles<A: Allocator>(
+/// Appends the occurrences at the statements that are the first ones of cycles.
+fn cycles<A: Allocator>(
     alloc: Global,
     before: &[&Stmt<A>],
     name_uses: &mut Vec<NameUse>,
 ) -> Result<(), AllocError>
     requires { length before.now ≤ 64 }
-    ensures { OnOk result (name_uses.new.items ≡ name_uses.old.items ++ specs.circles (statements_in before.now)) }
+    ensures { OnOk result (name_uses.new.items ≡ name_uses.old.items ++ specs.cycles (statements_in before.now)) }
 {
     let mut rows = rows_of(alloc, before)?;
     close(&mut rows);
     for i in 0..before.len() {
-        circle_at(meets_first(rows.as_slice(), i), before[i], name_uses)?;
+        cycle_at(meets_first(rows.as_slice(), i), before[i], name_uses)?;
     }
     Ok(())
 }
 
-/// Appends the occurrences at the first statements of the circles of a list.
-pub fn list_circles<A: Allocator>(
+/// Appends the occurrences at the first statements of the cycles of a list.
+pub fn list_cycles<A: Allocator>(
     alloc: Global,
     statements: &Vec<Stmt<A>, A>,
     name_uses: &mut Vec<NameUse>,
 ) -> Result<(), AllocError>
     ensures { OnOk result (name_uses.new.items ≡ name_uses.old.items
-        ++ specs.circles (specs.plain [] (statements_of (map statement_view statements.now.items)))) }
+        ++ specs.cycles (specs.plain [] (statements_of (map statement_view statements.now.items)))) }
 {
     let before = plain(alloc, statements)?;
-    circles(alloc, before.as_slice(), name_uses)
+    cycles(alloc, before.as_slice(), name_uses)
 }
 
 /// Appends the same of the statements outside of all functions.
-pub fn tree_circles<A: Allocator>(
+pub fn tree_cycles<A: Allocator>(
     alloc: Global,
     script: &Script<A>,
     name_uses: &mut Vec<NameUse>,
 ) -> Result<(), AllocError>
     ensures { OnOk result (name_uses.new.items ≡ name_uses.old.items
-        ++ specs.circles (specs.tree_plain [] (tree_of script.now))) }
+        ++ specs.cycles (specs.tree_plain [] (tree_of script.now))) }
 {
     let before = tree_plain(alloc, script)?;
-    circles(alloc, before.as_slice(), name_uses)
+    cycles(alloc, before.as_slice(), name_uses)
 }
