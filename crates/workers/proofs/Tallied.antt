@@ -1,5 +1,5 @@
 -- What the threads of one number counted, one thread after the other.
-use Rattle.std.proofs.Common.{◌≡◌, ◌≢◌, ◌∙◌, ap, refl, sym, ℕ, ◌+◌, ◌<◌, All, List, [], ◌∷◌, length, map, nat_eq, if◌then◌else◌, arith, inl, inr, get_or-set_other, get_or-set_same, slice_index, slice_index_or, slice_set, sum}
+use Rattle.std.proofs.Common.{◌≡◌, ◌≢◌, ◌∙◌, ap, refl, sym, ℕ, ◌+◌, ◌<◌, List, [], ◌∷◌, length, map, nat_eq, if◌then◌else◌, arith, inl, inr, get_or-set_other, get_or-set_same, slice_index, slice_index_or, slice_set, sum}
 use Rattle.std.specs.List.{sum_by}
 use Rattle.std.proofs.lemmas.Bool.Decides.{eqb_tells}
 use Rattle.std.proofs.lemmas.Grind.{common_steps}
