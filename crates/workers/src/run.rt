@@ -6,7 +6,7 @@ ghost use Rattle.pool.specs.Views.{beginner};
 ghost use Rattle.task_code.specs.System.{code_system};
 ghost use Rattle.board_runs.specs.Report.{Reports, Tells};
 ghost use Rattle.board_runs.specs.Stopped.{IsStopped};
-ghost use Rattle.workers.specs.Reports.{IsReport};
+ghost use Rattle.workers.specs.Reports.{AreCounted, IsReport};
 ghost use Rattle.values.specs.Limits.{max_threads};
 
 use crate::audited_board::{AuditedBoard, StopReason};
@@ -271,6 +271,7 @@ fn finish_run<J: RunParams, E: Ledger, N: Ledger>(
     requires pool { pool_id pool ≡ J.pool }
     requires seats { seats_of pool ≡ vec_len totals.seats }
     requires parts { (E.parts ≡ vec_len totals.seats) × (N.parts ≡ vec_len totals.seats) }
+    requires counted { AreCounted J.engines J.workers (J.engines + J.workers) totals.tallies }
     ensures report { IfOk result (λ r. IsReport J.code J.limit J.engines J.workers r.0.report r.1) }
     ensures kept { IfOk result (λ r. IsStopped keeps r.0) }
     ensures own { IfOk result (λ r. r.0.report.tallies ≡ totals.tallies) }
@@ -320,6 +321,7 @@ fn run_and_collect<
     requires shares { (events.parts ≡ 0) × (enabled.parts ≡ 0) × (events.amount ≡ 0) × (enabled.amount ≡ 0) }
     requires pool { pool_id pool.now ≡ J.pool }
     ensures seats { IfOk result (λ s. vec_len s.seats ≡ count) }
+    ensures own { IfOk result (λ s. AreCounted J.engines J.workers count s.tallies) }
     ensures fault { IfErr result (λ e. e ≢ RunFault.BadCount) }
 {
     let signal = WakeSignal::new();
