@@ -7,7 +7,6 @@ use Rattle.board_runs.specs.declared.report.Report.{Report}
 use Rattle.board_runs.specs.declared.stopped.StoppedRun.{StoppedRun}
 use Rattle.swt_trace.specs.Report.{ReportText, TraceOf}
 use Rattle.task_code.specs.Code.{Code}
-use Rattle.swt_status.specs.declared.status.Status.{Status}
 use Rattle.swt_status.specs.Statuses.{report_status}
 use Rattle.swt_status.specs.declared.stop.CommandStop.{CommandStop}
 use Rattle.swt_status.specs.declared.failure.CommandFailure.{CommandFailure}

@@ -1,5 +1,5 @@
 //! The command `check`, with one file in memory at a time.
-ghost use Rattle.std.specs.Prelude.{◌≡◌, ◌<◌, ℕ, Bool, [], OnOk};
+ghost use Rattle.std.specs.Prelude.{◌≡◌, ◌<◌, Bool, [], OnOk};
 ghost use Rattle.host.specs.Events.{asked, changes, inputs, links, reads};
 ghost use Rattle.swt_arguments.specs.declared.line.Line.TheVariants.{Check};
 ghost use Rattle.swt_command.specs.EndOf.{status_of_end};

@@ -1,5 +1,4 @@
-use Rattle.std.proofs.Common.{◌≡◌, sym, subst, ℕ, List}
-use Rattle.compile.specs.Accepted.{IsScriptOf}
+use Rattle.std.proofs.Common.{sym}
 use Rattle.language.specs.Core.{Core}
 use Rattle.flow.specs.View.{core_of}
 use Rattle.meaning_outcomes.specs.Known.{IsKnowledgeOf}

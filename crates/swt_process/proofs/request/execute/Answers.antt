@@ -3,7 +3,7 @@ use Rattle.swt_status.specs.Statuses.{number_of}
 use Rattle.swt_command.specs.EndOf.{status_of_end}
 use Rattle.swt_command.specs.Files.{contents}
 use Rattle.swt_command.specs.Sinks.{held}
-use Rattle.swt_process.proofs.Denying.{obeys_check}
+use Rattle.swt_process.proofs.Denying.{obeys_check, obeys_line}
 use Rattle.swt_process.proofs.Endings.{end_of_check}
 use Rattle.swt_process.proofs.request.execute.Goals as goal
 
@@ -18,3 +18,12 @@ returns-in-Check-clause-obeys g c =
 pub returns-in-Check-clause-end : goal.returns-in-Check-clause-end
 returns-in-Check-clause-end g c =
     end_of_check c.args.request.now.line c.as_slice.result.now c.check_all-status.result.1 (search rules) c.check_all-status.ensures.end (contents c.new.result.items) c.args.request.now.explain
+
+pub returns-in_default : goal.returns-in_default
+returns-in_default g c = record {
+  obeys = obeys_line c.args.request.now (g.H.Host.history c.program.result.host) (held (g.O.Sink.taken c.args.out.now) (g.O.Sink.failures c.args.out.now))
+      (held (g.O.Sink.taken c.program.new.out) (g.O.Sink.failures c.program.new.out)) (held (g.E.Sink.taken c.args.err.now) (g.E.Sink.failures c.args.err.now))
+      (held (g.E.Sink.taken c.program.new.err) (g.E.Sink.failures c.program.new.err)) c.program.result.status c.in_default.not-Check c.program.ensures.ends;
+  end = c.program.ensures.end;
+  asked = c.program.ensures.asked;
+}
