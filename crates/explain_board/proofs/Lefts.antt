@@ -22,8 +22,9 @@ pub record UpTo (b : Seen) (n : ℕ) (items : List NumberedItem) : Type 0 where
 abbrev pub AreWithin : Seen → ℕ → Type 0
 AreWithin b n = (number e : ℕ) → IsLeft b number e → (0 < number) × (number ≤ n)
 
-pub up_none : (b : Seen) (n : ℕ) → AreWithin b n → UpTo b 0 []
-up_none b n w =
+pub up_none : (b : Seen) (n : ℕ) (items : List NumberedItem) → items ≡ [] → AreWithin b n → UpTo b 0 items
+up_none b n (i ∷ items) e w = absurd (cc (e))
+up_none b n [] e w =
     record {
       each = λ i h. absurd h;
       within = λ i h. absurd h;
