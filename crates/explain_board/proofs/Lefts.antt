@@ -1,5 +1,6 @@
 -- The items that have not ended, collected by number.
 use Rattle.std.proofs.Common.{◌≡◌, ◌⊎◌, inl, inr, ℕ, ◌+◌, ◌<◌, ◌≤◌, List, [], ◌∷◌, ◌++◌, map, refl, sym, ap, ◌∙◌, subst, arith}
+use Rattle.std.proofs.lemmas.Bool.{cases_lt}
 use Rattle.std.proofs.lemmas.List.{map-append}
 use Rattle.dataflow.specs.System.{In}
 use Rattle.dataflow.proofs.Lists.{in_left, in_right, in_split, in_unmap}
@@ -21,8 +22,9 @@ pub record UpTo (b : Seen) (n : ℕ) (items : List NumberedItem) : Type 0 where
 abbrev pub AreWithin : Seen → ℕ → Type 0
 AreWithin b n = (number e : ℕ) → IsLeft b number e → (0 < number) × (number ≤ n)
 
-pub up_none : (b : Seen) (n : ℕ) → AreWithin b n → UpTo b 0 []
-up_none b n w =
+pub up_none : (b : Seen) (n : ℕ) (items : List NumberedItem) → items ≡ [] → AreWithin b n → UpTo b 0 items
+up_none b n (i ∷ items) e w = absurd (cc (e))
+up_none b n [] e w =
     record {
       each = λ i h. absurd h;
       within = λ i h. absurd h;
@@ -30,18 +32,18 @@ up_none b n w =
       rising = tt;
     }
 
+split_last : (n number : ℕ) → number ≤ n + 1 → (number ≤ n) ⊎ (number ≡ n + 1)
+split_last n number le = elim (cases_lt n number) [ inl above ↦ inr (omega arith) | inr below ↦ inl (omega arith) ]
+
 pub up_skip : (b : Seen) (n : ℕ) (items : List NumberedItem) → UpTo b n items → IsNoneLeft b (n + 1) → UpTo b (n + 1) items
 up_skip b n items u none =
     record {
       each = u.each;
       within = λ i h. (let z = u.within i h in omega arith);
-      all = λ number e le left. by number e left (split number le);
+      all = λ number e le left. by number e left (split_last n number le);
       rising = u.rising;
     }
   where
-    split : (number : ℕ) → number ≤ n + 1 → (number ≤ n) ⊎ (number ≡ n + 1)
-    split number le = omega arith
-
     by : (number e : ℕ) → IsLeft b number e → (number ≤ n) ⊎ (number ≡ n + 1) → (i : NumberedItem) × In i items × (i.number ≡ number) × (i.item.entry ≡ e)
     by number e left (inl le) = u.all number e le left
     by number e left (inr q) = (let here = subst (λ (k : ℕ). IsLeft b k e) q left in absurd (none e here.0 here.1))
@@ -67,13 +69,10 @@ up_push b n items one u q left only =
         | inl g ↦ (let z = u.within i g in omega arith)
         | inr g ↦ elim g [ inl p ↦ (let z = ap (λ (j : NumberedItem). j.number) p in omega arith) | inr e ↦ absurd e ]
       ];
-      all = λ number e le there. by number e there (split number le);
+      all = λ number e le there. by number e there (split_last n number le);
       rising = subst (λ (ns : List ℕ). Rises ns) (sym (map-append (λ (i : NumberedItem). i.number) items (one ∷ []))) (rises_behind (numbers items) one.number u.rising below);
     }
   where
-    split : (number : ℕ) → number ≤ n + 1 → (number ≤ n) ⊎ (number ≡ n + 1)
-    split number le = omega arith
-
     by : (number e : ℕ) → IsLeft b number e → (number ≤ n) ⊎ (number ≡ n + 1) → (i : NumberedItem) × In i (items ++ one ∷ []) × (i.number ≡ number) × (i.item.entry ≡ e)
     by number e there (inl le) = (let z = u.all number e le there in (z.0, in_left z.0 items (one ∷ []) z.1, z.2, z.3))
     by number e there (inr p) = (one, in_right one items (one ∷ []) (inl refl), q ∙ sym p, sym (only e (subst (λ (k : ℕ). IsLeft b k e) p there)))

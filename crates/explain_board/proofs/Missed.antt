@@ -1,17 +1,18 @@
 -- The needs of an item that are not known on the board.
-use Rattle.std.proofs.Common.{◌≡◌, ◌⊎◌, inl, inr, ◌∙◌, refl, sym, ap, subst, arith, ℕ, zero, suc, ◌<◌, ◌≤◌, ◌+◌, Bool, true, false, List, [], ◌∷◌, ◌++◌, length, map, take, get_or, append_assoc}
+use Rattle.std.proofs.Common.{◌≡◌, ◌⊎◌, inl, inr, ◌∙◌, refl, sym, ap, subst, arith, ℕ, zero, suc, ◌<◌, ◌≤◌, ◌+◌, Bool, true, false, Option, None, Some, List, [], ◌∷◌, ◌++◌, length, map, take, get_or, append_assoc}
 use Rattle.std.specs.Prelude.{nat_eq, if◌then◌else◌}
 use Rattle.std.proofs.lemmas.List.{append-nil, map-append, take_all, take_more}
 use Rattle.dataflow.specs.System.{In}
 use Rattle.dataflow.proofs.Lists.{in_left, in_right, in_split}
 use Rattle.task_code.specs.Code.{Act, Code, Entry, Header, Need, Wait, blank_entry, entry, nth}
 use Rattle.task_code.specs.Places.{Step}
-use Rattle.task_code.specs.View.{header_view, need_view}
+use Rattle.task_code.specs.View.{act_view, entry_view, header_view, need_view}
 use Rattle.task_code.specs.Whole.{IsCode}
+use Rattle.task_code.specs.declared.entry.Entry.{Entry as DeclaredEntry}
 use Rattle.task_code.specs.declared.entry.Header.{Header as DeclaredHeader}
 use Rattle.task_code.specs.declared.entry.Need.{Need as DeclaredNeed}
 use Rattle.board.specs.Board.{Seen}
-use Rattle.board.specs.Remains.{IsNeedKnown, MissedInputs, Sees, StandsAt, missed_in}
+use Rattle.board.specs.Remains.{IsLeft, IsNeedKnown, IsNoneLeft, MissedInputs, Sees, StandsAt, body_in, missed_in}
 use Rattle.board.proofs.BlockedBy.{headers_plain}
 use Rattle.board_data.specs.View.{cells_view}
 use Rattle.board_data.specs.Wanted.{wanted_missed}
@@ -150,8 +151,9 @@ module _ (C : Code) (I : IsCode C) (i : ℕ) where
   need_there at n j = own_need at (entry C i).act refl n j
 
 -- an item that is not left has none
-pub none_missing : (b : Seen) (number at : ℕ) → ((i : ℕ) (path : List Step) → StandsAt b number i path → ⊥) → AreMissing b number at []
-none_missing b number at h = record { each = λ i path st m j. absurd j; all = λ i path st n j u. absurd (h i path st) }
+pub none_missing : (b : Seen) (number at : ℕ) (found : List MissingNeed) → found ≡ [] → IsNoneLeft b number → AreMissing b number at found
+none_missing b number at [] e none = record { each = λ i path st m j. absurd j; all = λ i path st n j u. absurd (none i path st) }
+none_missing b number at (m ∷ found) e none = nil_cons (sym e)
 
 -- what misses an input is not known
 pub are_missing : (b : Seen) (I : IsCode b.code) (number at i : ℕ) (v : Environment) (s : Sees b number v) (found : List MissingNeed) → s.i ≡ i → AreAdded v s.body (needs_at b.code i at) [] found
@@ -175,12 +177,44 @@ are_missing b I number at i v s found same a = record {
     from : (m : MissingNeed) → In m [] ⊎ (In (named m) (needs_at b.code i at) × Misses v s.body (named m)) → In (named m) (needs_at b.code i at) × Misses v s.body (named m)
     from m h = elim h [ inl g ↦ absurd g | inr x ↦ x ]
 
--- an entry that is not there is not that of an item
-pub past_missing : (b : Seen) (number at i : ℕ) (v : Environment) (s : Sees b number v) → s.i ≡ i → length b.code.entries ≤ i → AreMissing b number at []
-past_missing b number at i v s same past = record {
-  each = λ j path st m h. absurd h;
-  all = λ j path st n h u. absurd (subst (λ (ns : List Need). In n ns) (none_needed b.code j at (here j (s.only j path st).0)) h);
+-- THE ENTRY OF AN ITEM
+
+abbrev IsOwn : Seen → ℕ → Option ℕ → Type 0
+IsOwn b number o = (i : ℕ) → IsLeft b number i → o ≡ Some i
+
+same_number : (b : Seen) (number own : ℕ) (v : Environment) (s : Sees b number v) → IsOwn b number (Some own) → s.i ≡ own
+same_number b number own v s h = (let e : ◌≡◌ {A = Option ℕ} (Some own) (Some s.i) = h s.i (s.path, s.stands) in cc)
+
+-- an item that is left has one
+pub unlisted : (b : Seen) (number at : ℕ) (v : Environment) (found : List MissingNeed) → Sees b number v → IsOwn b number None → AreMissing b number at found
+unlisted b number at v found s h = (let e : ◌≡◌ {A = Option ℕ} None (Some s.i) = h s.i (s.path, s.stands) in absurd (cc (e)))
+
+-- a number without an entry needs nothing
+pub past_missing : (b : Seen) (number at own : ℕ) (v : Environment) (C : Code) (found : List MissingNeed) → Sees b number v → found ≡ [] → C ≡ b.code → IsOwn b number (Some own) → length C.entries ≤ own → AreMissing b number at found
+past_missing b number at own v C (m ∷ found) s e q h past = nil_cons (sym e)
+past_missing b number at own v C [] s e q h past = record {
+  each = λ j path st m i. absurd i;
+  all = λ j path st n i u. absurd (subst (λ (ns : List Need). In n ns) (none_needed b.code j at (here j (s.only j path st).0)) i);
 }
   where
     here : (j : ℕ) → s.i ≡ j → length b.code.entries ≤ j
-    here j e = let P : ℕ → Type 0 = λ k. length b.code.entries ≤ k in subst P (sym same ∙ e) past
+    here j p = (let P : ℕ → Type 0 = λ k. length b.code.entries ≤ k in let Q : Code → Type 0 = λ k. length k.entries ≤ own in subst P (sym (same_number b number own v s h) ∙ p) (subst Q q past))
+
+-- the needs of the entry that were added
+pub all_missing : (b : Seen) (number at own body : ℕ) (v : Environment) (C D : Code) (e : DeclaredEntry) (old found : List MissingNeed) → IsCode C → C ≡ b.code → D ≡ b.code → Sees b number v → IsOwn b number (Some own)
+    → Some body ≡ body_in v → entry_view e ≡ entry D own → old ≡ [] → AreAdded v body (needs_by (act_view e.act) at (map need_view e.needs.items)) old found → AreMissing b number at found
+all_missing b number at own body v C D e old found I p q s h bodies entries none a =
+    are_missing b (let P : Code → Type 0 = λ k. IsCode k in subst P p I) number at own v s found (same_number b number own v s h) (moved a)
+  where
+    bodies_same : body ≡ s.body
+    bodies_same = (let t : ◌≡◌ {A = Option ℕ} (Some body) (Some s.body) = bodies ∙ s.body_is in cc)
+
+    needs_same : needs_by (act_view e.act) at (map need_view e.needs.items) ≡ needs_at b.code own at
+    needs_same = ap (λ (x : Entry). needs_by x.act at x.needs) (entries ∙ ap (λ (k : Code). entry k own) q)
+
+    moved : AreAdded v body (needs_by (act_view e.act) at (map need_view e.needs.items)) old found → AreAdded v s.body (needs_at b.code own at) [] found
+    moved x =
+        let P : ℕ → Type 0 = λ k. AreAdded v k (needs_by (act_view e.act) at (map need_view e.needs.items)) old found in
+        let Q : List Need → Type 0 = λ ns. AreAdded v s.body ns old found in
+        let R : List MissingNeed → Type 0 = λ ms. AreAdded v s.body (needs_at b.code own at) ms found in
+        subst R none (subst Q needs_same (subst P bodies_same x))

@@ -78,9 +78,13 @@ impl Graph {
     ///
     /// Returns `AllocError` if an allocation fails.
     pub fn add_edge(&mut self, from: usize, to: usize) -> Result<(), AllocError> {
-        if from < self.count && to < self.count {
-            self.unsorted.push((from as u32, to as u32))?;
+        if from >= self.count || to >= self.count {
+            return Ok(());
         }
+        let (Ok(from), Ok(to)) = (u32::try_from(from), u32::try_from(to)) else {
+            return Err(AllocError);
+        };
+        self.unsorted.push((from, to))?;
         Ok(())
     }
 
