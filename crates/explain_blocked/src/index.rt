@@ -39,8 +39,8 @@ struct LocationTables<'a, A: Allocator> {
     cells: HashMap<u32, usize>,
     /// The offsets of the calls in expressions, by the nodes of their results.
     giving: HashMap<u32, usize>,
-    /// The calls, by their offsets.
-    called: HashMap<usize, &'a Call<A>>,
+    /// The numbers of the called functions, by the offsets of the calls.
+    called: HashMap<usize, usize>,
     /// The statements that can be blocked, by their nodes.
     blockable: HashMap<u32, usize>,
 }
@@ -147,8 +147,8 @@ impl<'a, A: Allocator> LocationTables<'a, A> {
         Ok(())
     }
 
-    fn note_call(&mut self, call: &'a Call<A>) -> Result<(), AllocError> {
-        self.called.insert(call.at, call)?;
+    fn note_call(&mut self, call: &Call<A>) -> Result<(), AllocError> {
+        self.called.insert(call.at, call.function)?;
         Ok(())
     }
 
@@ -189,11 +189,6 @@ impl<'a, A: Allocator> ScriptIndex<'a, A> {
 
     /// Returns the number of the function that is called at an offset.
     pub fn called_at(&self, at: usize) -> Option<usize> {
-        Some(self.call_at(at)?.function)
-    }
-
-    /// Returns the call at an offset.
-    pub fn call_at(&self, at: usize) -> Option<&'a Call<A>> {
         self.tables.called.get(&at).copied()
     }
 

@@ -6,16 +6,12 @@
 
 pub mod blocked;
 pub mod context;
-pub mod graphs;
+mod graphs;
 pub mod index;
 pub mod names;
 pub mod path;
-pub mod reasons;
+mod reasons;
 pub mod sites;
 pub mod value_text;
-pub mod waiting;
+mod waiting;
 pub mod writers;
-
-pub use explain_inputs::blocked_statement::{BlockedStatement, instance_at};
-pub use explain_inputs::input::{StatementInput, add_form, inputs_of};
-pub use meaning_outcomes::knowledge::{BlockedId, Knowledge};

@@ -6,17 +6,16 @@ use crate::fault_hints::hints::{has_junction, write_hint_behind};
 use crate::fault_hints::near_keys::write_near_key;
 use crate::fault_hints::number_hints::write_number_hint;
 use crate::fault_hints::recursion_hints::write_missed_end;
+use crate::printed::PrintedFault;
 use explain_blocked::context::ExplainContext;
-use explain_blocked::path::write_path;
-use explain_blocked::{Knowledge, instance_at};
+use explain_blocked::path::{write_path, write_steps};
+use explain_inputs::blocked_statement::instance_at;
 use explain_text::words::write_str;
-use flow::cell::CellForm;
-use flow::name::Name;
 use meaning_facts::facts::{FaultFact, Place};
+use meaning_outcomes::knowledge::Knowledge;
 use paths::{FaultKind, Step};
 use std::alloc::{AllocError, Allocator, Global};
 use std::collections::HashMap;
-use values::map::Map;
 
 /// Appends a diagnostic for each known fault of a script, in the order of the printed lines.
 ///
@@ -38,11 +37,48 @@ pub fn add_all_faults<'t, 'a, A: Allocator>(
         let statement = &fault.statement;
         let path = statement.path.as_slice();
         if let Some(fact) = fact_at(context.known, &firsts, fault.kind, statement.at, path) {
-            let elements = elements_for(context, fact)?;
-            add_fault(context, out, file, fact, elements.as_ref())?;
+            add_fault(context, out, file, fact)?;
         }
     }
     Ok(())
+}
+
+/// Appends the diagnostic for the fault that a run has printed. If the fault is not among the known facts, no values
+/// are included.
+///
+/// # Errors
+///
+/// Returns `AllocError` if an allocation fails.
+pub fn add_printed_fault<'t, 'a, A: Allocator>(
+    context: &ExplainContext<'t, 'a, A>,
+    out: &mut Vec<u8>,
+    file: &str,
+    printed: &PrintedFault,
+) -> Result<(), AllocError> {
+    match fact_of(context.alloc, context.known, printed)? {
+        Some(fact) => add_fault(context, out, file, fact),
+        None => add_plain(context, out, file, printed),
+    }
+}
+
+/// Returns true if the printed fault is among the known facts.
+pub(crate) fn is_known(
+    alloc: Global,
+    known: &Knowledge,
+    printed: &PrintedFault,
+) -> Result<bool, AllocError> {
+    Ok(fact_of(alloc, known, printed)?.is_some())
+}
+
+/// Returns the fact of the printed fault, or `None` if it is not known.
+fn fact_of(
+    alloc: Global,
+    known: &Knowledge,
+    printed: &PrintedFault,
+) -> Result<Option<FaultFact>, AllocError> {
+    let firsts = first_nodes(alloc, known)?;
+    let path = printed.path.as_slice();
+    Ok(fact_at(known, &firsts, printed.kind, printed.at, path))
 }
 
 /// Returns a map from each fault, with its node set to 0, to the smallest node that has it.
@@ -93,55 +129,22 @@ fn fact_at(
     Some(with_node(key, node))
 }
 
-/// Returns the elements of the array that lacks an element, for a fault of this kind at a cell that reads one.
-fn elements_for<'t, 'a, A: Allocator>(
-    context: &ExplainContext<'t, 'a, A>,
-    fact: FaultFact,
-) -> Result<Option<Map>, AllocError> {
-    let Some(array) = array_of(context, fact) else {
-        return Ok(None);
-    };
-    let fact_base = &context.known.fact_base;
-    let place = fact_base.instances.place(fact.place.instance, array);
-    Ok(Some(fact_base.facts.elements(context.alloc, place)?))
-}
-
-/// Returns the array that lacks an element, for a fault of this kind at a cell that reads one.
-fn array_of<'t, 'a, A: Allocator>(
-    context: &ExplainContext<'t, 'a, A>,
-    fact: FaultFact,
-) -> Option<Name> {
-    if fact.kind != FaultKind::NoElement {
-        return None;
-    }
-    match &context.index.cell(fact.place.node)?.cell.form {
-        CellForm::Read { array, .. } => Some(*array),
-        CellForm::Compute(_) => None,
-    }
-}
-
-/// Appends the diagnostic for a fault. `elements` are those of the array that lacks an element, by rising key.
-///
-/// # Errors
-///
-/// Returns `AllocError` if an allocation fails.
-pub fn add_fault<'t, 'a, A: Allocator>(
+fn add_fault<'t, 'a, A: Allocator>(
     context: &ExplainContext<'t, 'a, A>,
     out: &mut Vec<u8>,
     file: &str,
     fact: FaultFact,
-    elements: Option<&Map>,
 ) -> Result<(), AllocError> {
     context.lines.say_start(out, file, fact.at)?;
     write_str(out, fact.kind.name())?;
     write_str(out, ": ")?;
-    if !write_reason(context, out, fact, elements)? {
+    if !write_reason(context, out, fact)? {
         write_plain(out, fact.kind)?;
     }
     write_str(out, "\n")?;
     context.lines.add_mark(out, mark_of(context, fact))?;
     write_path(context, out, fact.place.instance)?;
-    if write_known_hint(context, out, fact, elements)? {
+    if write_known_hint(context, out, fact)? {
         return Ok(());
     }
     let steps = context.known.fact_base.instances.path(fact.place.instance);
@@ -153,20 +156,16 @@ fn write_known_hint<'t, 'a, A: Allocator>(
     context: &ExplainContext<'t, 'a, A>,
     out: &mut Vec<u8>,
     fact: FaultFact,
-    elements: Option<&Map>,
 ) -> Result<bool, AllocError> {
     match fact.kind {
         FaultKind::NoElement => {
-            let Some(elements) = elements else {
-                return Ok(false);
-            };
-            if write_near_key(context, out, fact, elements)? {
+            if write_near_key(context, out, fact)? {
                 return Ok(true);
             }
             if has_junction(context, fact.at) {
                 return Ok(false);
             }
-            write_element_hint(context, out, fact, elements)
+            write_element_hint(context, out, fact)
         }
         FaultKind::NotANumber => write_number_hint(context, out, fact),
         FaultKind::TooDeep => write_missed_end(context, out, fact.place.instance),
@@ -187,4 +186,26 @@ fn mark_of<'t, 'a, A: Allocator>(context: &ExplainContext<'t, 'a, A>, fact: Faul
     } else {
         fact.at
     }
+}
+
+/// Appends the diagnostic for a fault without known values.
+fn add_plain<'t, 'a, A: Allocator>(
+    context: &ExplainContext<'t, 'a, A>,
+    out: &mut Vec<u8>,
+    file: &str,
+    printed: &PrintedFault,
+) -> Result<(), AllocError> {
+    context.lines.say_start(out, file, printed.at)?;
+    write_str(out, printed.kind.name())?;
+    write_str(out, ": ")?;
+    write_plain(out, printed.kind)?;
+    write_str(out, "\n")?;
+    context.lines.add_mark(out, printed.at)?;
+    let inner = printed.inner_first(context.alloc)?;
+    if !inner.is_empty() {
+        write_str(out, "    ")?;
+        write_steps(context, out, usize::MAX, inner.as_slice())?;
+        write_str(out, "\n")?;
+    }
+    write_hint_behind(context, out, printed.kind, printed.at, inner.as_slice())
 }

@@ -90,6 +90,16 @@ pub fn add_limit_of_rounds(
     write_str(out, " not done; --rounds N allows N rounds\n")
 }
 
+/// Appends the note that a script is not explained further because its meaning is too large.
+///
+/// # Errors
+///
+/// Returns `AllocError` if an allocation fails.
+pub fn add_too_large(out: &mut Vec<u8>, file: &str) -> Result<(), AllocError> {
+    write_str(out, file)?;
+    write_str(out, ": not explained: too large\n")
+}
+
 /// Appends a count with its noun, in the singular or the plural.
 fn write_some(out: &mut Vec<u8>, count: usize, one: &str, many: &str) -> Result<(), AllocError> {
     write_count(out, count)?;

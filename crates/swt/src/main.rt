@@ -8,41 +8,42 @@ ghost use Rattle.swt_command.specs.Sinks.{Given, held};
 ghost use Rattle.swt_command.specs.Troubles.{trouble_line};
 ghost use Rattle.swt_status.specs.declared.failure.CommandFailure.TheVariants.{Memory};
 ghost use Rattle.swt_process.specs.Process.{IsProcess, Obeys};
+ghost use Rattle.swt.specs.Keepers.{events_of};
+ghost use Rattle.swt.specs.Outputs.{failures_of, taken_of};
 ghost use Rattle.host_system.specs.Streams as Streams;
-ghost use Rattle.host_system.specs.Systems.{events_of};
 
 mod explanations;
-mod non_utf8;
 mod progress;
+mod replay;
+mod system;
 
-use crate::explanations::ending::{EndedProcess, explain_end};
-use crate::explanations::verdicts::VerdictReporter;
-use crate::non_utf8::write_foreign;
+use crate::explanations::ending::CommandResult;
 use crate::progress::ProgressReporter;
+use crate::system::caching_host::CachingHost;
+use crate::system::non_utf8::write_foreign;
+use crate::system::output::Output;
 use host::Stream;
 use host_system::stream::Standard;
-use host_system::system::System;
 use std::alloc::AllocError;
 use std::process::{self, ExitCode};
 use std::sync::Wait;
 use std::thread::Threads;
 use swt_arguments::argument_error::first_wrong;
 use swt_arguments::fault::LineFault;
+use swt_arguments::line::Line;
 use swt_arguments::nearest::meant;
 use swt_arguments::request::Request;
 use swt_arguments::word::Word;
-use swt_command::end::CommandEnd;
 use swt_command::trouble::write_failure;
-use swt_process::program::ProcessEnd;
 use swt_process::request::execute;
 use swt_process::words::read_words;
 use swt_status::failure::CommandFailure;
 use swt_status::status::Status;
 
 fn main(rt: HostRuntime) -> ExitCode {
-    let mut out = Standard::new(&rt, Stream::Out);
+    let mut out = Output::new(&rt);
     let mut err = Standard::new(&rt, Stream::Error);
-    let (status, _host) = obey(&rt, &rt, System::new(&rt), &mut out, &mut err);
+    let (status, _host) = obey(&rt, &rt, CachingHost::new(&rt), &mut out, &mut err);
     ExitCode::from(status)
 }
 
@@ -50,15 +51,15 @@ fn main(rt: HostRuntime) -> ExitCode {
 fn obey<'r, R: Threads + Wait + Sync>(
     rt: &'r HostRuntime,
     threads: &R,
-    host: System<'r>,
-    out: &mut Standard<'r>,
+    host: CachingHost<'r>,
+    out: &mut Output<'r>,
     err: &mut Standard<'r>,
-) -> (u8, System<'r>)
+) -> (u8, CachingHost<'r>)
     requires none { events_of host ≡ [] }
-    requires out { Streams.failures_of out.old < u64.MAX }
+    requires out { failures_of out.old < u64.MAX }
     requires err { Streams.failures_of err.old < u64.MAX }
     ensures { IsProcess (events_of result.1)
-        (held (Streams.taken_of out.old) (Streams.failures_of out.old)) (held (Streams.taken_of out.new) (Streams.failures_of out.new))
+        (held (taken_of out.old) (failures_of out.old)) (held (taken_of out.new) (failures_of out.new))
         (held (Streams.taken_of err.old) (Streams.failures_of err.old)) (held (Streams.taken_of err.new) (Streams.failures_of err.new))
         result.0 }
 {
@@ -77,58 +78,58 @@ fn obey<'r, R: Threads + Wait + Sync>(
 fn perform<'r, R: Threads + Wait + Sync>(
     rt: &'r HostRuntime,
     threads: &R,
-    host: System<'r>,
+    host: CachingHost<'r>,
     request: &Request,
-    out: &mut Standard<'r>,
+    out: &mut Output<'r>,
     err: &mut Standard<'r>,
-) -> (u8, System<'r>)
+) -> (u8, CachingHost<'r>)
     requires reads { reads (events_of host) ≡ [] }
     requires links { links (events_of host) ≡ [] }
     requires inputs { inputs (events_of host) ≡ [] }
     requires changes { changes (events_of host) ≡ [] }
-    requires out { Streams.failures_of out.old < u64.MAX }
+    requires out { failures_of out.old < u64.MAX }
     requires err { Streams.failures_of err.old < u64.MAX }
     ensures obeys { Obeys request.now (events_of result.1)
-        (held (Streams.taken_of out.old) (Streams.failures_of out.old)) (held (Streams.taken_of out.new) (Streams.failures_of out.new))
+        (held (taken_of out.old) (failures_of out.old)) (held (taken_of out.new) (failures_of out.new))
         (held (Streams.taken_of err.old) (Streams.failures_of err.old)) (held (Streams.taken_of err.new) (Streams.failures_of err.new))
         result.0 }
     ensures asked { asked (events_of result.1) ≡ asked (events_of host.entry) }
 {
-    let reporter = ProgressReporter::new(rt, request.progress);
-    let mut verdicts = VerdictReporter::new(rt, request);
+    let mut host = host;
+    let line = &request.line;
+    let reporter = ProgressReporter::new(rt, request.progress, step_limit(line));
+    host.want(request);
+    out.want(request.explain);
     let number = process::id(rt.process());
-    let ProcessEnd {
-        status,
-        end,
-        files,
-        host,
-    } = execute(
+    let (status, mut host) = execute(
         threads,
         rt.alloc(),
         host,
         number,
         request,
         &reporter,
-        &mut verdicts,
         out,
         err,
     );
     if request.explain || request.json || request.deny {
-        let is_told = matches!(end, CommandEnd::Checked(_));
-        if verdicts.tells_text() && !is_told && status != Status::Done.number() {
-            reporter.tell_explaining();
-        }
-        let ended = EndedProcess {
-            line: &request.line,
+        host.explain(CommandResult {
+            line,
             all: request.all,
-            end: &end,
-            files: files.as_slice(),
+            status,
+            reporter: &reporter,
+            tail: out.tail(),
             unprinted: out.reason(),
-            reason: host.reason(),
-        };
-        explain_end(rt, &verdicts, ended);
+        });
     }
     (status, host)
+}
+
+/// Returns the maximum number of events of the line's run.
+fn step_limit(line: &Line) -> u32 {
+    match line {
+        Line::Run { steps, .. } => *steps,
+        _ => u32::MAX,
+    }
 }
 
 /// Reports why the words are not a request, and returns the status.

@@ -1,4 +1,3 @@
-pub mod CameTo
 pub mod Causes
 pub mod Checking
 pub mod Endings

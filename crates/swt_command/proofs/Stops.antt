@@ -1,27 +1,22 @@
 -- Where commands stop.
 use Rattle.std.proofs.Common.{◌≡◌, refl, sym, subst, ℕ, zero, suc, Bool, true, List, Option, Some, None, Result, Ok, Err}
-use Rattle.std.specs.Prelude.{IfSome, IsErrAnd, MatchResult}
-use Rattle.std.proofs.lemmas.Option.{IfSome_then}
-use Rattle.board_runs.specs.Stopped.{IsStopped}
+use Rattle.std.specs.Prelude.{IsErrAnd, MatchResult}
 use Rattle.board_runs.specs.declared.report.Report.{Report}
-use Rattle.board_runs.specs.declared.stopped.StoppedRun.{StoppedRun}
 use Rattle.swt_trace.specs.Report.{ReportText, TraceOf}
 use Rattle.task_code.specs.Code.{Code}
+use Rattle.swt_status.specs.declared.status.Status.{Status}
 use Rattle.swt_status.specs.Statuses.{report_status}
 use Rattle.swt_status.specs.declared.stop.CommandStop.{CommandStop}
 use Rattle.swt_status.specs.declared.failure.CommandFailure.{CommandFailure}
 use Rattle.swt_status.specs.declared.failure.CommandFailure.TheVariants as Is
-use Rattle.swt_status.specs.declared.trace.RefusedTrace.{RefusedTrace}
 use Rattle.swt_status.specs.Traces.{StopsAtTrace}
-use Rattle.swt_command.specs.EndOf.{IsRefusal, with_status}
 use Rattle.swt_command.specs.Files.{Files, HasCode, StopsAt, source_of}
 use Rattle.swt_command.specs.Listings.{StopsListing}
 use Rattle.swt_command.specs.Means.{StopsMean}
 use Rattle.workers.specs.declared.fault.RunFault.{RunFault}
 use Rattle.workers.specs.declared.fault.RunFault.TheVariants as Run
-use Rattle.swt_trace.specs.Refused.{IsRefusedBy}
 use Rattle.swt_trace.specs.Replay.{ReplaysTo}
-use Rattle.swt_command.specs.Runs.{IsBadCount, Ran, Replayed, Runs, StopsBeforeReplay, StopsBeforeRun, StopsReplay, StopsRun}
+use Rattle.swt_command.specs.Runs.{IsBadCount, Ran, Replayed, Runs, StopsBeforeReplay, StopsBeforeRun, StopsReplay, StopsRun, Traces}
 use Rattle.swt_command.specs.Sinks.{Held, Lost, Took}
 use Rattle.swt_command.specs.Troubles.{run_trouble}
 
@@ -65,15 +60,13 @@ run_stopped files engines workers steps wanted Is.Memory out trace h = (h, refl,
 run_stopped files engines workers steps wanted Is.Unprinted out trace h = absurd h.2
 run_stopped files engines workers steps wanted Is.Untraced out trace h = absurd h.2
 
--- a run whose report was printed, and whose trace was not written
-pub untraced : (files : Files) (engines workers steps : ℕ) (wanted : Bool) (report : Report) (r : Result StoppedRun CommandStop) (stop : CommandStop) (out out_new trace trace_new : Held) → IsErrAnd r (λ s. s ≡ stop)
-    → Ran files engines workers steps report → Took out (ReportText report) out_new
-    → (stop.place ≡ 0) × (stop.trouble ≡ Is.Untraced) × (wanted ≡ true) × Lost trace (TraceOf report) trace_new
-    → Runs files engines workers steps wanted (with_status (λ run. report_status run.report) r) out out_new trace trace_new
-untraced files engines workers steps wanted report (Ok run) stop out out_new trace trace_new h ran took t = absurd h
-untraced files engines workers steps wanted report (Err s) stop out out_new trace trace_new h ran took t =
-    subst (λ (x : CommandStop). (x.place ≡ 0) × StopsRun files engines workers steps wanted x.trouble out out_new trace trace_new) (sym h)
-    (t.0, subst (λ (x : CommandFailure). StopsRun files engines workers steps wanted x out out_new trace trace_new) (sym t.1) (report, ran, took, t.2, t.3))
+-- a run whose report was printed, by what came of its trace
+pub run_traced : (files : Files) (engines workers steps : ℕ) (wanted : Bool) (report : Report) (r : Result Status CommandStop) (out out_new trace trace_new : Held) → Ran files engines workers steps report → Took out (ReportText report) out_new
+    → MatchResult r (λ status. (status ≡ report_status report) × Traces wanted report trace trace_new) (λ stop. (stop.place ≡ 0) × (stop.trouble ≡ Is.Untraced) × (wanted ≡ true) × Lost trace (TraceOf report) trace_new)
+    → Runs files engines workers steps wanted r out out_new trace trace_new
+run_traced files engines workers steps wanted report (Ok status) out out_new trace trace_new ran took h = (report, ran, h.0, took, h.1)
+run_traced files engines workers steps wanted report (Err stop) out out_new trace trace_new ran took h =
+    (h.0, subst (λ (t : CommandFailure). StopsRun files engines workers steps wanted t out out_new trace trace_new) (sym h.1) (report, ran, took, h.2, h.3))
 
 -- what stops at a script stops a run before it begins
 pub before_run : (files : Files) (engines workers : ℕ) (t : CommandFailure) → StopsAt files 0 t → StopsBeforeRun files engines workers t
@@ -108,24 +101,16 @@ at_trace : (files : Files) (code : Code) (bytes : List ℕ) (stop : CommandStop)
 at_trace files code bytes stop has read e h =
     subst (λ (n : ℕ). StopsBeforeReplay files n stop.trouble) (sym e) (code, has, subst (λ (o : Option (List ℕ)). StopsAtTrace o code stop.trouble) (sym read) h)
 
--- no board is left of it
-pub unkept : (files : Files) (keeps : Bool) (refused : RefusedTrace) → refused.board ≡ None → IsRefusal files keeps refused
-unkept files keeps refused none = rw none tt
-
--- a replay that stopped without a board
-pub stopped_unkept : (files : Files) (keeps : Bool) (refused : RefusedTrace) (stop : CommandStop) → refused.stop ≡ stop → refused.board ≡ None → StopsBeforeReplay files stop.place stop.trouble
-    → StopsBeforeReplay files refused.stop.place refused.stop.trouble × IsRefusal files keeps refused
-stopped_unkept files keeps refused stop e none h = (subst (λ (s : CommandStop). StopsBeforeReplay files s.place s.trouble) (sym e) h, unkept files keeps refused none)
-
 -- a replay, by what came of its trace
-pub run_again : (files : Files) (code : Code) (bytes : List ℕ) (keeps : Bool) (r : Result StoppedRun RefusedTrace) → HasCode files 0 code → source_of files 1 ≡ Some bytes
-    → MatchResult r (λ run. ReplaysTo code bytes run.report × IsStopped keeps run)
-    (λ refused. (refused.stop.place ≡ 1) × StopsAtTrace (Some bytes) code refused.stop.trouble × IfSome refused.board (λ board. IsRefusedBy code bytes keeps refused.event board))
-    → MatchResult r (λ run. Replayed files run.report × IsStopped keeps run)
-    (λ refused. StopsBeforeReplay files refused.stop.place refused.stop.trouble × IsRefusal files keeps refused)
-run_again files code bytes keeps (Ok run) has read h = ((code, has, (bytes, read, h.0)), h.1)
-run_again files code bytes keeps (Err refused) has read h =
-    (at_trace files code bytes refused.stop has read h.0 h.1, IfSome_then refused.board h.2 (λ board is. (code, has, (bytes, read, is))))
+pub run_again : (files : Files) (code : Code) (bytes : List ℕ) (r : Result Report CommandStop) → HasCode files 0 code → source_of files 1 ≡ Some bytes
+    → MatchResult r (ReplaysTo code bytes) (λ stop. (stop.place ≡ 1) × StopsAtTrace (Some bytes) code stop.trouble) → MatchResult r (Replayed files) (λ stop. StopsBeforeReplay files stop.place stop.trouble)
+run_again files code bytes (Ok report) has read h = (code, has, (bytes, read, h))
+run_again files code bytes (Err stop) has read h = at_trace files code bytes stop has read h.0 h.1
+
+-- what is so of the stop that is handed on is so of the result
+pub handed_on : {T : Type 0} (P : T → Type 0) (Q : CommandStop → Type 0) (r : Result T CommandStop) (stop : CommandStop) → IsErrAnd r (λ s. s ≡ stop) → Q stop → MatchResult r P Q
+handed_on P Q (Ok x) stop h q = absurd h
+handed_on P Q (Err s) stop h q = subst Q (sym h) q
 
 -- nothing of a report was written
 no_unprinted : (files : Files) (place : ℕ) → StopsBeforeReplay files place Is.Unprinted → ⊥

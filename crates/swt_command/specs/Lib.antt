@@ -1,6 +1,5 @@
 pub mod Causes
 pub mod Checks
-pub mod EndOf
 pub mod Files
 pub mod Listings
 pub mod Means

@@ -1,7 +1,5 @@
 -- The contract of `mean`: the text of the meaning of a script.
-use Rattle.meaning_outcomes.specs.Known.{IsKnowledgeOf}
-use Rattle.meaning_outcomes.specs.declared.knowledge.Knowledge.{Knowledge as KnownFacts}
-use Rattle.std.specs.Prelude.{◌≡◌, ◌⊎◌, ℕ, ◌≤◌, Option, Some, None, Bool, true, false, ◌&&◌, ◌||◌, nat_eq, nat_lt, List, [], ◌∷◌, ◌++◌, Result, Ok, Err, IsSorted}
+use Rattle.std.specs.Prelude.{◌≡◌, ◌⊎◌, ℕ, ◌≤◌, Bool, true, false, ◌&&◌, ◌||◌, nat_eq, nat_lt, List, [], ◌∷◌, ◌++◌, Result, Ok, Err, IsSorted}
 use Rattle.std.specs.Cmp.Lexicographic.{slice_cmp}
 use Rattle.std.specs.List.{flat_map}
 use Rattle.std.specs.Ordering.{nat_cmp}
@@ -109,12 +107,6 @@ pub record IsMeanText (s : Core) (limit : ℕ) (status : Status) (text : List �
 -- the summary of the first file's script
 abbrev pub ToldOf : Files → (limit : ℕ) → MeaningSummary → Type 0
 ToldOf files limit t = (s : Core) × HasScript files 0 s × IsTold s limit t
-
--- the facts of the first file's script were kept exactly if that was wanted
-abbrev pub IsKept : Files → (limit : ℕ) → Bool → Option KnownFacts → Type 0
-IsKept files limit true (Some known) = (s : Core) × HasScript files 0 s × IsKnowledgeOf s known
-IsKept files limit false None = Unit {0}
-IsKept files limit _ _ = ⊥
 
 -- the script of the first file has this text
 abbrev pub Tells : Files → (limit : ℕ) → Status → (text : List ℕ) → Type 0

@@ -1,9 +1,7 @@
 //! The command `code`: prints the listing of a script's code, its drawing, the drawing of the script, or what the script
 //! is after a pass.
 ghost use Rattle.std.specs.Prelude.{◌<◌, ◌≡◌, MatchResult};
-ghost use Rattle.swt_command.specs.EndOf.{with_status};
 ghost use Rattle.swt_command.specs.Files.{StopsAt, contents};
-ghost use Rattle.swt_status.specs.declared.status.Status.TheVariants.{Done};
 ghost use Rattle.swt_command.specs.Listings.{IsAcceptedAt, Lists};
 ghost use Rattle.swt_command.specs.Sinks.{held};
 
@@ -14,10 +12,11 @@ use bumpalo::Bump;
 use std::alloc::Global;
 use swt_arguments::code_form::CodeForm;
 use swt_status::failure::CommandFailure;
+use swt_status::status::Status;
 use swt_status::stop::CommandStop;
 use values::sink::{Sink, SinkFault, write_all};
 
-/// Prints the code of the first file's script in this form. Returns the text.
+/// Prints the code of the first file's script in this form.
 ///
 /// # Errors
 ///
@@ -29,14 +28,14 @@ pub fn code<O: Sink>(
     files: &[Option<Vec<u8>>],
     form: CodeForm,
     out: &mut O,
-) -> Result<Vec<u8>, CommandStop>
+) -> Result<Status, CommandStop>
     requires { O.failures out.old < u64.MAX }
-    ensures { Lists (contents files.now) (with_status (λ text. Done) result) (held (O.taken out.old) (O.failures out.old))
+    ensures { Lists (contents files.now) result (held (O.taken out.old) (O.failures out.old))
         (held (O.taken out.new) (O.failures out.new)) }
 {
     let text = text_of(alloc, arena, files, form)?;
     match write_all(out, text.as_slice()) {
-        Ok(()) => Ok(text),
+        Ok(()) => Ok(Status::Done),
         Err(SinkFault) => Err(CommandStop {
             place: 0,
             trouble: CommandFailure::Unprinted,

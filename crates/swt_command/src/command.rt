@@ -1,15 +1,12 @@
 //! The entry point of all commands.
 ghost use Rattle.std.specs.Prelude.{◌≡◌, ◌<◌, ◌∷◌, []};
 ghost use Rattle.swt_arguments.specs.Lines.{files_of};
-ghost use Rattle.swt_status.specs.Statuses.{number_of};
-ghost use Rattle.swt_command.specs.EndOf.{IsEndOf, ended_as, status_of_end};
 ghost use Rattle.swt_command.specs.Files.{contents, name_at};
-ghost use Rattle.swt_command.specs.Owes.{Does, Owes, Says};
+ghost use Rattle.swt_command.specs.Owes.{Does, Owes};
 ghost use Rattle.swt_command.specs.Sinks.{held};
 
 use crate::check::check_files;
 use crate::code::code;
-use crate::end::CommandEnd;
 use crate::mean::mean;
 use crate::run::{replay, run};
 use crate::trouble::write_failure;
@@ -20,12 +17,13 @@ use std::sync::Wait;
 use std::thread::Threads;
 use swt_arguments::line::Line;
 use swt_arguments::word::Word;
+use swt_status::status::Status;
+use swt_status::stop::CommandStop;
 use values::sink::Sink;
 use workers::gate::Gate;
 
-/// Runs the command of the line on its input files. Returns the exit status of the process, and what the command came
-/// to. `files` holds the bytes of each input file of the line, in order, or `None` for a file that could not be read.
-/// The board of a run, or the facts of a meaning, are part of the end if `keeps`.
+/// Runs the command of the line on its input files and returns the exit status of the process. `files` holds the bytes
+/// of each input file of the line, in order, or `None` for a file that could not be read.
 ///
 /// Output goes to `out`, and the error message of a failed command to `err`. The trace of a run goes to `trace` if the
 /// line requests one. Syntax trees lie in the arena. A failed write to `err` does not change the status.
@@ -38,72 +36,48 @@ pub fn command<R: Threads + Wait + Sync, G: Gate + RoundObserver, O: Sink, E: Si
     arena: &mut Bump,
     line: &Line,
     files: &[Option<Vec<u8>>],
-    keeps: bool,
     gate: &G,
     out: &mut O,
     err: &mut E,
     trace: &mut S,
-) -> (u8, CommandEnd)
+) -> u8
     requires out { O.failures out.old < u64.MAX }
     requires err { E.failures err.old < u64.MAX }
     requires trace { S.failures trace.old < u64.MAX }
-    ensures owes { Owes line.now (contents files.now)
+    ensures { Owes line.now (contents files.now)
         (held (O.taken out.old) (O.failures out.old)) (held (O.taken out.new) (O.failures out.new))
         (held (E.taken err.old) (E.failures err.old)) (held (E.taken err.new) (E.failures err.new))
-        (held (S.taken trace.old) (S.failures trace.old)) (held (S.taken trace.new) (S.failures trace.new)) result.0 }
-    ensures end { IsEndOf line.now (contents files.now) keeps result.1 }
-    ensures status { result.0 ≡ number_of (status_of_end result.1) }
+        (held (S.taken trace.old) (S.failures trace.old)) (held (S.taken trace.new) (S.failures trace.new)) result }
 {
-    let end = perform(rt, alloc, arena, line, files, keeps, gate, out, trace);
-    report_stop(line, &end, err);
-    (end.status().number(), end)
-}
-
-/// Writes the error message of a command that failed.
-fn report_stop<E: Sink>(line: &Line, end: &CommandEnd, err: &mut E)
-    requires { E.failures err.old < u64.MAX }
-    ensures { Says line.now (ended_as end.now) (held (E.taken err.old) (E.failures err.old)) (held (E.taken err.new) (E.failures err.new)) }
-{
-    match end.stop() {
-        Some(stop) => {
+    match perform(rt, alloc, arena, line, files, gate, out, trace) {
+        Ok(status) => status.number(),
+        Err(stop) => {
             let _ = write_failure(stop.trouble, name_of(line, stop.place), err);
+            stop.trouble.status().number()
         }
-        None => {}
     }
 }
 
-/// Runs the command of the line. Returns what it came to.
+/// Runs the command of the line.
 fn perform<R: Threads + Wait + Sync, G: Gate + RoundObserver, O: Sink, S: Sink>(
     rt: &R,
     alloc: Global,
     arena: &mut Bump,
     line: &Line,
     files: &[Option<Vec<u8>>],
-    keeps: bool,
     gate: &G,
     out: &mut O,
     trace: &mut S,
-) -> CommandEnd
+) -> Result<Status, CommandStop>
     requires out { O.failures out.old < u64.MAX }
     requires trace { S.failures trace.old < u64.MAX }
-    ensures does { Does line.now (contents files.now) (ended_as result)
+    ensures { Does line.now (contents files.now) result
         (held (O.taken out.old) (O.failures out.old)) (held (O.taken out.new) (O.failures out.new))
         (held (S.taken trace.old) (S.failures trace.old)) (held (S.taken trace.new) (S.failures trace.new)) }
-    ensures end { IsEndOf line.now (contents files.now) keeps result }
 {
     match line {
-        Line::Check { files: names } => {
-            match check_files(alloc, arena, names.as_slice(), files, out) {
-                Ok(status) => CommandEnd::Checked(status),
-                Err(stop) => CommandEnd::Failed(stop),
-            }
-        }
-        Line::Mean { rounds, .. } => {
-            match mean(alloc, arena, files, gate, *rounds, keeps, out) {
-                Ok(told) => CommandEnd::Meaning(told),
-                Err(stop) => CommandEnd::Failed(stop),
-            }
-        }
+        Line::Check { files: names } => check_files(alloc, arena, names.as_slice(), files, out),
+        Line::Mean { rounds, .. } => mean(alloc, arena, files, gate, *rounds, out),
         Line::Run {
             engines,
             workers,
@@ -112,22 +86,12 @@ fn perform<R: Threads + Wait + Sync, G: Gate + RoundObserver, O: Sink, S: Sink>(
             ..
         } => {
             let is_wanted = wanted.is_some();
-            match run(
-                rt, alloc, arena, files, *engines, *workers, *steps, is_wanted, keeps, gate, out,
-                trace,
-            ) {
-                Ok(run) => CommandEnd::Run(run),
-                Err(stop) => CommandEnd::Failed(stop),
-            }
+            run(
+                rt, alloc, arena, files, *engines, *workers, *steps, is_wanted, gate, out, trace,
+            )
         }
-        Line::Code { form, .. } => match code(alloc, arena, files, *form, out) {
-            Ok(text) => CommandEnd::Listing(text),
-            Err(stop) => CommandEnd::Failed(stop),
-        },
-        Line::Replay { .. } => match replay(alloc, arena, files, keeps, out) {
-            Ok(run) => CommandEnd::Replay(run),
-            Err(refused) => CommandEnd::RefusedTrace(refused),
-        },
+        Line::Code { form, .. } => code(alloc, arena, files, *form, out),
+        Line::Replay { .. } => replay(alloc, arena, files, out),
     }
 }
 

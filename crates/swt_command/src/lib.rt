@@ -8,7 +8,6 @@ pub mod buffer;
 pub mod check;
 mod code;
 pub mod command;
-pub mod end;
 pub mod laws;
 mod mean;
 pub mod meaning_summary;

@@ -1,14 +1,13 @@
 //! The command `mean`: prints the meaning of a script.
-ghost use Rattle.std.specs.Prelude.{◌≡◌, ◌<◌, ◌++◌, IfOk, OnOk, OnErr};
+ghost use Rattle.std.specs.Prelude.{◌≡◌, ◌<◌, ◌++◌, MatchResult, OnOk, OnErr};
 ghost use Rattle.std.specs.List.{flat_map};
 ghost use Rattle.values.specs.Sinks.{Beginning};
 ghost use Rattle.swt_trace.specs.Report.{fault_line};
-ghost use Rattle.swt_command.specs.EndOf.{with_status};
 ghost use Rattle.swt_command.specs.Files.{contents};
-ghost use Rattle.swt_command.specs.Means.{IsKept, Means, ToldOf, cut_line, known_text, mean_status, mean_text};
+ghost use Rattle.swt_command.specs.Means.{Means, cut_line, known_text, mean_status, mean_text};
 ghost use Rattle.swt_command.specs.Sinks.{Writes, held};
 
-use crate::meaning_summary::{MeaningEnd, MeaningSummary, worked_out};
+use crate::meaning_summary::{MeaningSummary, worked_out};
 use board::Fault;
 use bumpalo::Bump;
 use meaning::observer::RoundObserver;
@@ -19,8 +18,7 @@ use swt_status::stop::CommandStop;
 use swt_trace::report::{write_blocked, write_fault, write_limit, write_lines};
 use values::sink::{Sink, SinkFault};
 
-/// Prints the meaning of the first file's script, computed in at most `limit` rounds. `watch` observes the rounds. The
-/// facts are kept if `keeps`.
+/// Prints the meaning of the first file's script, computed in at most `limit` rounds. `watch` observes the rounds.
 ///
 /// # Errors
 ///
@@ -32,17 +30,15 @@ pub fn mean<W: RoundObserver, O: Sink>(
     files: &[Option<Vec<u8>>],
     watch: &W,
     limit: u32,
-    keeps: bool,
     out: &mut O,
-) -> Result<MeaningEnd, CommandStop>
+) -> Result<Status, CommandStop>
     requires { O.failures out.old < u64.MAX }
-    ensures means { Means (contents files.now) limit (with_status (λ end. mean_status end.summary) result) (held (O.taken out.old) (O.failures out.old))
+    ensures { Means (contents files.now) limit result (held (O.taken out.old) (O.failures out.old))
         (held (O.taken out.new) (O.failures out.new)) }
-    ensures told { IfOk result (λ end. ToldOf (contents files.now) limit end.summary × IsKept (contents files.now) limit keeps end.known) }
 {
-    let told = worked_out(alloc, arena, files, watch, limit, keeps)?;
-    match write_told(&told.summary, limit, out) {
-        Ok(()) => Ok(told),
+    let told = worked_out(alloc, arena, files, watch, limit)?;
+    match write_told(&told, limit, out) {
+        Ok(()) => Ok(status_of(&told)),
         Err(SinkFault) => Err(CommandStop {
             place: 0,
             trouble: CommandFailure::Unprinted,
@@ -51,7 +47,7 @@ pub fn mean<W: RoundObserver, O: Sink>(
 }
 
 /// Returns the status for a summary.
-pub(crate) fn status_of(told: &MeaningSummary) -> Status
+fn status_of(told: &MeaningSummary) -> Status
     ensures { result ≡ mean_status told.now }
 {
     if !told.enough {

@@ -1,10 +1,9 @@
 //! Summary of the facts about a script that are known after some rounds.
-ghost use Rattle.std.specs.Prelude.{◌≡◌, ◌↔◌, true, List, ℕ, IfOk, IfSome, IsSome, MatchResult};
+ghost use Rattle.std.specs.Prelude.{◌≡◌, List, ℕ, IfOk, MatchResult};
 ghost use Rattle.compile.specs.Accepted.{IsScriptOf};
 ghost use Rattle.flow.specs.View.{core_of};
 ghost use Rattle.swt_command.specs.Files.{HasScript, StopsAt, contents};
-ghost use Rattle.meaning_outcomes.specs.Known.{IsKnowledgeOf};
-ghost use Rattle.swt_command.specs.Means.{IsKept, IsTold, ToldOf};
+ghost use Rattle.swt_command.specs.Means.{IsTold, ToldOf};
 
 use crate::scripts::{at_script, source};
 use bumpalo::Bump;
@@ -14,7 +13,6 @@ use meaning::observer::RoundObserver;
 use meaning::rounds_within;
 use meaning_openings::fault::MeaningError;
 use meaning_openings::live_limits::LiveLimits;
-use meaning_outcomes::knowledge::Knowledge;
 use paths::{Fault, StatementInstance};
 use std::alloc::Global;
 use swt_status::failure::CommandFailure;
@@ -34,24 +32,7 @@ pub struct MeaningSummary {
     pub enough: bool,
 }
 
-/// The summary of the facts about a script, and the facts themselves if they are kept.
-pub struct MeaningEnd {
-    pub summary: MeaningSummary,
-    pub known: Option<Knowledge>,
-}
-
-// Written out, so that the owner drops the value by one call.
-impl Drop for MeaningEnd {
-    fn drop(self) {
-        let MeaningEnd {
-            summary: _,
-            known: _,
-        } = self;
-    }
-}
-
 /// Computes the summary of the first file's script. It stops when one more round adds no fact, or at the limit.
-/// The facts are kept if `keeps`.
 ///
 /// # Errors
 ///
@@ -62,13 +43,12 @@ pub(crate) fn worked_out<W: RoundObserver>(
     files: &[Option<Vec<u8>>],
     watch: &W,
     limit: u32,
-    keeps: bool,
-) -> Result<MeaningEnd, CommandStop>
-    ensures { MatchResult result (λ end. ToldOf (contents files.now) limit end.summary × IsKept (contents files.now) limit keeps end.known)
+) -> Result<MeaningSummary, CommandStop>
+    ensures { MatchResult result (ToldOf (contents files.now) limit)
         (λ stop. (stop.place ≡ 0) × StopsAt (contents files.now) 0 stop.trouble) }
 {
     let flow = flow_of(alloc, arena, files)?;
-    match meaning_end_of(alloc, watch, &flow, limit, keeps) {
+    match meaning_summary_of(alloc, watch, &flow, limit) {
         Ok(told) => Ok(told),
         Err(_refused) => Err(CommandStop {
             place: 0,
@@ -98,17 +78,14 @@ pub(crate) fn flow_of<'a>(
 }
 
 /// Computes the summary of a script. The number of live statements is not limited.
-fn meaning_end_of<W: RoundObserver>(
+fn meaning_summary_of<W: RoundObserver>(
     alloc: Global,
     watch: &W,
     flow: &Flow<&Bump>,
     limit: u32,
-    keeps: bool,
-) -> Result<MeaningEnd, MeaningError>
+) -> Result<MeaningSummary, MeaningError>
     requires { (src : List ℕ) × IsScriptOf src (core_of flow.now) }
-    ensures told { IfOk result (λ end. IsTold (core_of flow.now) limit end.summary) }
-    ensures known { IfOk result (λ end. IfSome end.known (IsKnowledgeOf (core_of flow.now))) }
-    ensures kept { IfOk result (λ end. IsSome end.known ↔ (keeps ≡ true)) }
+    ensures { IfOk result (IsTold (core_of flow.now) limit) }
 {
     let room = LiveLimits {
         alloc,
@@ -117,14 +94,10 @@ fn meaning_end_of<W: RoundObserver>(
     let known = rounds_within(room, watch, flow, limit)?;
     let blocked = known.blocked()?;
     let faults = known.faults()?;
-    let summary = MeaningSummary {
+    Ok(MeaningSummary {
         lines: known.lines_sorted()?,
         blocked,
         faults,
         enough: known.finished(),
-    };
-    Ok(MeaningEnd {
-        summary,
-        known: keeps.then_some(known),
     })
 }

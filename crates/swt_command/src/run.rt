@@ -1,9 +1,7 @@
 //! The commands `run` and `replay`.
-ghost use Rattle.std.specs.Prelude.{◌≡◌, ◌<◌, true, None, IfErr, IfOk, MatchResult};
-ghost use Rattle.board_runs.specs.Stopped.{IsStopped};
+ghost use Rattle.std.specs.Prelude.{◌≡◌, ◌<◌, true, MatchResult};
 ghost use Rattle.swt_trace.specs.Report.{TraceOf};
 ghost use Rattle.swt_status.specs.Statuses.{report_status};
-ghost use Rattle.swt_command.specs.EndOf.{IsRefusal, replay_status, with_status};
 ghost use Rattle.swt_command.specs.Files.{contents};
 ghost use Rattle.swt_command.specs.Runs.{Ran, Replayed, Replays, Runs, StopsBeforeReplay, StopsBeforeRun, Traces};
 ghost use Rattle.swt_command.specs.Sinks.{Lost, held};
@@ -12,25 +10,25 @@ ghost use Rattle.swt_command.specs.Troubles.{run_trouble};
 use crate::arena::empty;
 use crate::scripts::{code_of, program_of, source};
 use board_runs::report::Report;
-use board_runs::stopped::StoppedRun;
 use bumpalo::Bump;
 use std::alloc::Global;
 use std::sync::Wait;
 use std::thread::Threads;
 use swt_status::failure::CommandFailure;
+use swt_status::status::{Status, status_of};
 use swt_status::stop::CommandStop;
-use swt_status::trace::{RefusedTrace, run_of_trace};
+use swt_status::trace::report_of_trace;
 use swt_trace::report::write_report;
 use swt_trace::write::write_trace;
 use values::sink::Sink;
 use workers::fault::RunFault;
 use workers::gate::Gate;
-use workers::run::run_threads_to_stop;
+use workers::run::run_threads;
 
 /// Runs a script on threads and prints its report, then writes its trace if `wanted`.
 ///
 /// The run has the given numbers of engines and workers and at most `steps` events. The gate computes the tasks and
-/// receives the progress of the run. The board on which the run ended is kept if `keeps`.
+/// receives the progress of the run.
 ///
 /// # Errors
 ///
@@ -51,26 +49,19 @@ pub fn run<R: Threads + Wait + Sync, G: Gate, O: Sink, S: Sink>(
     workers: u8,
     steps: u32,
     wanted: bool,
-    keeps: bool,
     gate: &G,
     out: &mut O,
     trace: &mut S,
-) -> Result<StoppedRun, CommandStop>
+) -> Result<Status, CommandStop>
     requires out { O.failures out.old < u64.MAX }
     requires trace { S.failures trace.old < u64.MAX }
-    ensures runs { Runs (contents files.now) engines workers steps wanted (with_status (λ run. report_status run.report) result)
+    ensures { Runs (contents files.now) engines workers steps wanted result
         (held (O.taken out.old) (O.failures out.old)) (held (O.taken out.new) (O.failures out.new))
         (held (S.taken trace.old) (S.failures trace.old)) (held (S.taken trace.new) (S.failures trace.new)) }
-    ensures ran { IfOk result (λ run. Ran (contents files.now) engines workers steps run.report × IsStopped keeps run) }
 {
-    let run = stopped_run(
-        rt, alloc, arena, files, engines, workers, steps, keeps, gate,
-    )?;
-    match write_report(&run.report, out) {
-        Ok(()) => {
-            traced(&run.report, wanted, trace)?;
-            Ok(run)
-        }
+    let report = report_run(rt, alloc, arena, files, engines, workers, steps, gate)?;
+    match write_report(&report, out) {
+        Ok(()) => traced(&report, wanted, trace),
         Err(_failed) => Err(CommandStop {
             place: 0,
             trouble: CommandFailure::Unprinted,
@@ -78,20 +69,20 @@ pub fn run<R: Threads + Wait + Sync, G: Gate, O: Sink, S: Sink>(
     }
 }
 
-/// Writes the trace of a report if `wanted`.
-fn traced<S: Sink>(report: &Report, wanted: bool, trace: &mut S) -> Result<(), CommandStop>
+/// Writes the trace of a report if `wanted`, and returns the status of the report.
+fn traced<S: Sink>(report: &Report, wanted: bool, trace: &mut S) -> Result<Status, CommandStop>
     requires { S.failures trace.old < u64.MAX }
     ensures { MatchResult result
-        (λ done. Traces wanted report.now (held (S.taken trace.old) (S.failures trace.old))
+        (λ status. (status ≡ report_status report.now) × Traces wanted report.now (held (S.taken trace.old) (S.failures trace.old))
         (held (S.taken trace.new) (S.failures trace.new)))
         (λ stop. (stop.place ≡ 0) × (stop.trouble ≡ CommandFailure.Untraced) × (wanted ≡ true) × Lost (held (S.taken trace.old) (S.failures trace.old))
         (TraceOf report.now) (held (S.taken trace.new) (S.failures trace.new))) }
 {
     if !wanted {
-        return Ok(());
+        return Ok(status_of(report));
     }
     match write_trace(report, trace) {
-        Ok(()) => Ok(()),
+        Ok(()) => Ok(status_of(report)),
         Err(_failed) => Err(CommandStop {
             place: 0,
             trouble: CommandFailure::Untraced,
@@ -99,8 +90,8 @@ fn traced<S: Sink>(report: &Report, wanted: bool, trace: &mut S) -> Result<(), C
     }
 }
 
-/// Runs the first file's script on threads and returns the report, and the board if it is kept.
-fn stopped_run<R: Threads + Wait + Sync, G: Gate>(
+/// Runs the first file's script on threads and returns the report.
+fn report_run<R: Threads + Wait + Sync, G: Gate>(
     rt: &R,
     alloc: Global,
     arena: &mut Bump,
@@ -108,16 +99,15 @@ fn stopped_run<R: Threads + Wait + Sync, G: Gate>(
     engines: u8,
     workers: u8,
     steps: u32,
-    keeps: bool,
     gate: &G,
-) -> Result<StoppedRun, CommandStop>
-    ensures { MatchResult result (λ run. Ran (contents files.now) engines workers steps run.report × IsStopped keeps run)
+) -> Result<Report, CommandStop>
+    ensures { MatchResult result (Ran (contents files.now) engines workers steps)
         (λ stop. (stop.place ≡ 0) × StopsBeforeRun (contents files.now) engines workers stop.trouble) }
 {
     let program = program_of(alloc, arena, files)?;
     empty(alloc, arena);
-    match run_threads_to_stop(rt, alloc, &program, engines, workers, steps, gate, keeps) {
-        Ok((run, _count)) => Ok(run),
+    match run_threads(rt, alloc, &program, engines, workers, steps, gate) {
+        Ok((report, _count)) => Ok(report),
         Err(fault) => Err(CommandStop {
             place: 0,
             trouble: trouble_of(fault),
@@ -137,7 +127,7 @@ fn trouble_of(fault: RunFault) -> CommandFailure
     }
 }
 
-/// Replays the events of a trace and prints the report. The board on which the replay ended is kept if `keeps`.
+/// Replays the events of a trace and prints the report.
 ///
 /// # Errors
 ///
@@ -151,54 +141,33 @@ pub fn replay<O: Sink>(
     alloc: Global,
     arena: &mut Bump,
     files: &[Option<Vec<u8>>],
-    keeps: bool,
     out: &mut O,
-) -> Result<StoppedRun, RefusedTrace>
+) -> Result<Status, CommandStop>
     requires { O.failures out.old < u64.MAX }
-    ensures replays { Replays (contents files.now) (replay_status result) (held (O.taken out.old) (O.failures out.old))
+    ensures { Replays (contents files.now) result (held (O.taken out.old) (O.failures out.old))
         (held (O.taken out.new) (O.failures out.new)) }
-    ensures replayed { IfOk result (λ run. Replayed (contents files.now) run.report × IsStopped keeps run) }
-    ensures refused { IfErr result (IsRefusal (contents files.now) keeps) }
 {
-    let run = replayed(alloc, arena, files, keeps)?;
-    match write_report(&run.report, out) {
-        Ok(()) => Ok(run),
-        Err(_failed) => Err(unkept(CommandStop {
+    let report = replayed(alloc, arena, files)?;
+    match write_report(&report, out) {
+        Ok(()) => Ok(status_of(&report)),
+        Err(_failed) => Err(CommandStop {
             place: 0,
             trouble: CommandFailure::Unprinted,
-        })),
+        }),
     }
 }
 
-/// Returns a stop of which no board is left.
-fn unkept(stop: CommandStop) -> RefusedTrace
-    ensures stop { result.stop ≡ stop }
-    ensures board { result.board ≡ None }
-{
-    RefusedTrace {
-        stop,
-        board: None,
-        event: None,
-    }
-}
-
-/// Replays the trace in the second file on the code of the first, and returns the report, and the board if it is kept.
+/// Replays the trace in the second file on the code of the first, and returns the report.
 fn replayed(
     alloc: Global,
     arena: &mut Bump,
     files: &[Option<Vec<u8>>],
-    keeps: bool,
-) -> Result<StoppedRun, RefusedTrace>
-    ensures { MatchResult result (λ run. Replayed (contents files.now) run.report × IsStopped keeps run)
-        (λ refused. StopsBeforeReplay (contents files.now) refused.stop.place refused.stop.trouble × IsRefusal (contents files.now) keeps refused) }
+) -> Result<Report, CommandStop>
+    ensures { MatchResult result (Replayed (contents files.now))
+        (λ stop. StopsBeforeReplay (contents files.now) stop.place stop.trouble) }
 {
-    let code = match code_of(alloc, arena, files) {
-        Ok(code) => code,
-        Err(stop) => return Err(unkept(stop)),
-    };
+    let code = code_of(alloc, arena, files)?;
     empty(alloc, arena);
-    match source(files, 1) {
-        Ok(trace) => run_of_trace(alloc, &code, trace, keeps),
-        Err(stop) => Err(unkept(stop)),
-    }
+    let trace = source(files, 1)?;
+    report_of_trace(alloc, &code, trace)
 }

@@ -4,7 +4,7 @@ use Rattle.host.specs.Events.{Event, Read, reads}
 use Rattle.explain_warnings.specs.Warnings.{AreWarnings}
 use Rattle.explain_warnings.specs.declared.warning.Warning.{Warning}
 use Rattle.swt_arguments.specs.declared.line.Line.{Line}
-use Rattle.swt_arguments.specs.declared.line.Line.TheVariants.{Check, Mean, Code, Run, Replay}
+use Rattle.swt_arguments.specs.declared.line.Line.TheVariants.{Check}
 use Rattle.swt_arguments.specs.declared.request.Request.{Request}
 use Rattle.swt_status.specs.Statuses.{number_of}
 use Rattle.swt_status.specs.Troubles.{trouble_status}
@@ -71,10 +71,6 @@ undenied names h out new err mid err_new number status ran (inl (x, s, k)) =
     subst (λ (n : ℕ). Ran (Check names) h out new err err_new n) (sym s) (subst (λ (m : Held). Ran (Check names) h out new err m number) (sym k) ran)
 undenied names h out new err mid err_new number status ran (inr (e, z, d)) = absurd (true≢false (sym e))
 
-pub same_number : (rs : List Read) (mid err : Held) (number status : ℕ) → Concludes false rs number mid err status → status ≡ number
-same_number rs mid err number status (inl (x, s, k)) = s
-same_number rs mid err number status (inr (e, z, d)) = absurd (true≢false (sym e))
-
 -- a check ends by the state after its files
 pub obeys_check : (request : Request) (names : List (List ℕ)) (h : List Event) (out new err err_new : Held) (status : ℕ) → request.line ≡ Check names
     → (number : ℕ) × (mid : Held) × Ran (Check names) h out new err mid number × Concludes request.deny (reads h) number mid err_new status → Obeys request h out new err err_new status
@@ -83,22 +79,4 @@ obeys_check request names h out new err err_new status e (number, mid, ran, conc
   mid = mid;
   ends = subst (λ (line : Line). Ends line h out new err mid number) (sym e) (inl ran);
   concludes = subst (λ (line : Line). Concludes (denies_for line request.deny) (reads h) number mid err_new status) (sym e) concludes;
-}
-
--- a line that is no check denies nothing
-no_denial : (line : Line) (denies : Bool) → ((names : List (List ℕ)) → line ≡ Check names → ⊥) → denies_for line denies ≡ false
-no_denial (Check names) denies other = absurd (other names refl)
-no_denial (Mean file rounds) denies other = refl
-no_denial (Code file form) denies other = refl
-no_denial (Run file engines workers steps wanted) denies other = refl
-no_denial (Replay file trace) denies other = refl
-
--- and its process ends with its number
-pub obeys_line : (request : Request) (h : List Event) (out new err err_new : Held) (status : ℕ) → ((names : List (List ℕ)) → request.line ≡ Check names → ⊥) → Ends request.line h out new err err_new status
-    → Obeys request h out new err err_new status
-obeys_line request h out new err err_new status other ends = record {
-  number = status;
-  mid = err_new;
-  ends = ends;
-  concludes = inl (inl (no_denial request.line request.deny other), refl, refl);
 }

@@ -13,15 +13,12 @@ use Rattle.swt_status.specs.declared.stop.CommandStop.{CommandStop}
 use Rattle.swt_status.specs.declared.failure.CommandFailure.{CommandFailure}
 use Rattle.swt_status.specs.declared.failure.CommandFailure.TheVariants as Is
 use Rattle.swt_status.specs.Troubles.{trouble_status}
-use Rattle.swt_command.specs.EndOf.{IsEndOf}
 use Rattle.swt_command.specs.Files.{Files}
 use Rattle.swt_command.specs.Owes.{Does, Owes, Says, status_of}
 use Rattle.swt_command.specs.Runs.{Runs, StopsRun}
 use Rattle.swt_command.specs.Sinks.{Held, Given, Kept, Lost, held}
 use Rattle.swt_command.specs.Troubles.{trouble_line}
-use Rattle.swt_command.specs.declared.end.CommandEnd.{CommandEnd}
-use Rattle.swt_command.specs.declared.end.CommandEnd.TheVariants as Came
-use Rattle.swt_process.specs.Ends.{Did, IsProcessEnd, is_reported}
+use Rattle.swt_process.specs.Ends.{Did, is_reported}
 use Rattle.swt_process.specs.Places.{trace_of}
 use Rattle.std.proofs.lemmas.Bool.{both_ways}
 
@@ -128,23 +125,6 @@ pub untraced : {line : Line} {files : Files} {out out_new err err_new trace trac
     → trace_of line ≡ None → Kept trace trace_new
 untraced {line = line} {files = files} {out = out} {out_new = out_new} {trace = trace} {trace_new = trace_new} o n =
     does_untraced line files o.ended out out_new trace trace_new n o.does
-
--- WHAT IT CAME TO
-
--- the end of a command is that of its process
-pub process_end : (line : Line) (files : Files) (keeps : Bool) (end : CommandEnd) → IsEndOf line files keeps end → IsProcessEnd line files keeps end
-process_end line files keeps (Came.Checked status) h = h
-process_end line files keeps (Came.Meaning told) h = h
-process_end line files keeps (Came.Listing text) h = h
-process_end line files keeps (Came.Run run) h = h
-process_end line files keeps (Came.Replay run) h = h
-process_end line files keeps (Came.RefusedTrace refused) h = h
-process_end line files keeps (Came.Failed stop) h = tt
-
--- and so is that of a check, whose files are not kept
-pub end_of_check : (line : Line) (names : List (List ℕ)) (end : CommandEnd) → line ≡ Check names → ((files : Files) (keeps : Bool) → IsProcessEnd (Check names) files keeps end)
-    → (files : Files) (keeps : Bool) → IsProcessEnd line files keeps end
-end_of_check line names end e h files keeps = subst (λ (l : Line). IsProcessEnd l files keeps end) (sym e) (h files keeps)
 
 -- HOW IT CLOSES
 

@@ -4,9 +4,6 @@ use Rattle.host.specs.Events.{Event, changes, given, is_safe, is_unplaced, links
 use Rattle.host.specs.Traces.{IsKept}
 use Rattle.swt_arguments.specs.declared.line.Line.{Line}
 use Rattle.swt_status.specs.declared.failure.CommandFailure.TheVariants.{Memory, Untraced}
-use Rattle.swt_command.specs.EndOf.{IsEndOf}
-use Rattle.swt_command.specs.declared.end.CommandEnd.{CommandEnd}
-use Rattle.swt_command.specs.declared.end.CommandEnd.TheVariants as End
 use Rattle.swt_command.specs.Files.{Files}
 use Rattle.swt_command.specs.Owes.{Owes}
 use Rattle.swt_command.specs.Sinks.{Held, Given, Kept, held}
@@ -51,11 +48,6 @@ pub record Starved (h : List Event) (out out_new err err_new : Held) (status : �
   pub unchanged : changes h ≡ []
   pub said : Given err (trouble_line Memory []) err_new
   pub status_is : status ≡ 6
-
--- the end is that of the command; or the process failed, when its files were read or its trace was moved
-abbrev pub IsProcessEnd : Line → Files → (keeps : Bool) → CommandEnd → Type 0
-IsProcessEnd line files keeps (End.Failed stop) = Unit {0}
-IsProcessEnd line files keeps end = IsEndOf line files keeps end
 
 abbrev pub Ends : Line → List Event → (out out_new err err_new : Held) (status : ℕ) → Type 0
 Ends line h out out_new err err_new status = Ran line h out out_new err err_new status ⊎ Starved h out out_new err err_new status

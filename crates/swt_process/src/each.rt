@@ -1,13 +1,11 @@
 //! The command `check`, with one file in memory at a time.
-ghost use Rattle.std.specs.Prelude.{◌≡◌, ◌<◌, Bool, [], OnOk};
+ghost use Rattle.std.specs.Prelude.{◌≡◌, ◌<◌, ℕ, Bool, [], OnOk};
 ghost use Rattle.host.specs.Events.{asked, changes, inputs, links, reads};
 ghost use Rattle.swt_arguments.specs.declared.line.Line.TheVariants.{Check};
-ghost use Rattle.swt_command.specs.EndOf.{status_of_end};
-ghost use Rattle.swt_status.specs.Statuses.{number_of};
-ghost use Rattle.swt_command.specs.Files.{Files, name_at};
+ghost use Rattle.swt_command.specs.Files.{name_at};
 ghost use Rattle.swt_command.specs.Sinks.{Held, Kept, held};
 ghost use Rattle.swt_process.specs.Each.{ChecksEach, IsChecked};
-ghost use Rattle.swt_process.specs.Ends.{IsProcessEnd, Ran};
+ghost use Rattle.swt_process.specs.Ends.{Ran};
 ghost use Rattle.swt_process.specs.Warned.{Concludes, IsJudged, IsNoted, Notes};
 
 use crate::warnings::WarningState;
@@ -18,7 +16,6 @@ use host::reading::read_file;
 use std::alloc::{AllocError, Global};
 use swt_arguments::word::Word;
 use swt_command::check::{after, check_file};
-use swt_command::end::CommandEnd;
 use swt_command::trouble::write_failure;
 use swt_status::failure::CommandFailure;
 use swt_status::refusal::Refusal;
@@ -27,31 +24,16 @@ use swt_status::stop::CommandStop;
 use values::limits::MAX_SOURCE;
 use values::sink::Sink;
 
-/// Receives the verdict of each file of `check`, after its line is written and before the next file is read.
-pub trait VerdictObserver {
-    /// Receives a file with its verdict: its refusal, or `None` if it is accepted.
-    fn judge(&mut self, _name: &str, _text: &[u8], _refusal: Option<Refusal>) {}
-}
-
-/// An observer that ignores all verdicts.
-#[derive(Clone, Copy, Debug, Drop)]
-pub struct NoVerdictObserver;
-
-impl VerdictObserver for NoVerdictObserver {}
-
-/// Reads and checks each file, in order, and stops at the first that fails. Returns the exit status of the process, and
-/// what the command came to.
+/// Reads and checks each file, in order, and stops at the first that fails. Returns the exit status of the process.
 ///
-/// Only one file is kept in memory at a time. `observer` receives it with its verdict. If a file fails, the error
-/// message is written to `err`.
-pub fn check_files<H: Host, V: VerdictObserver, O: Sink, E: Sink>(
+/// Only one file is kept in memory at a time. If a file fails, the error message is written to `err`.
+pub fn check_files<H: Host, O: Sink, E: Sink>(
     host: &mut H,
     alloc: Global,
     names: &[Word],
-    observer: &mut V,
     out: &mut O,
     err: &mut E,
-) -> (u8, CommandEnd)
+) -> u8
     requires reads { reads (H.history host.old) ≡ [] }
     requires links { links (H.history host.old) ≡ [] }
     requires inputs { inputs (H.history host.old) ≡ [] }
@@ -60,49 +42,40 @@ pub fn check_files<H: Host, V: VerdictObserver, O: Sink, E: Sink>(
     requires err { E.failures err.old < u64.MAX }
     ensures ran { Ran (Check names.now) (H.history host.new)
         (held (O.taken out.old) (O.failures out.old)) (held (O.taken out.new) (O.failures out.new))
-        (held (E.taken err.old) (E.failures err.old)) (held (E.taken err.new) (E.failures err.new)) result.0 }
-    ensures end { (files : Files) → (keeps : Bool) → IsProcessEnd (Check names.now) files keeps result.1 }
-    ensures status { result.0 ≡ number_of (status_of_end result.1) }
+        (held (E.taken err.old) (E.failures err.old)) (held (E.taken err.new) (E.failures err.new)) result }
     ensures asked { asked (H.history host.new) ≡ asked (H.history host.old) }
 {
-    check_all(host, alloc, names, false, observer, out, err)
+    check_all(host, alloc, names, false, out, err)
 }
 
 /// Reads and checks each file as `check_files` does. If `denies` and all files are accepted, the status depends on
-/// their warnings: it is 1 if a file has one, and 6 if an allocation failed before one was found. What the command came
-/// to does not depend on them.
-pub fn check_all<H: Host, V: VerdictObserver, O: Sink, E: Sink>(
+/// their warnings: it is 1 if a file has one, and 6 if an allocation failed before one was found.
+pub fn check_all<H: Host, O: Sink, E: Sink>(
     host: &mut H,
     alloc: Global,
     names: &[Word],
     denies: bool,
-    observer: &mut V,
     out: &mut O,
     err: &mut E,
-) -> (u8, CommandEnd)
+) -> u8
     requires reads { reads (H.history host.old) ≡ [] }
     requires links { links (H.history host.old) ≡ [] }
     requires inputs { inputs (H.history host.old) ≡ [] }
     requires changes { changes (H.history host.old) ≡ [] }
     requires out { O.failures out.old < u64.MAX }
     requires err { E.failures err.old < u64.MAX }
-    ensures ran { (mid : Held) × Ran (Check names.now) (H.history host.new)
+    ensures ran { (number : ℕ) × (mid : Held) × Ran (Check names.now) (H.history host.new)
         (held (O.taken out.old) (O.failures out.old)) (held (O.taken out.new) (O.failures out.new))
-        (held (E.taken err.old) (E.failures err.old)) mid (number_of (status_of_end result.1))
-        × Concludes denies (reads (H.history host.new)) (number_of (status_of_end result.1)) mid
-        (held (E.taken err.new) (E.failures err.new)) result.0 }
-    ensures end { (files : Files) → (keeps : Bool) → IsProcessEnd (Check names.now) files keeps result.1 }
+        (held (E.taken err.old) (E.failures err.old)) mid number
+        × Concludes denies (reads (H.history host.new)) number mid (held (E.taken err.new) (E.failures err.new)) result }
     ensures asked { asked (H.history host.new) ≡ asked (H.history host.old) }
 {
     let mut warnings = WarningState::new(denies);
-    match check_each(host, alloc, names, &mut warnings, observer, out) {
-        Ok(status) => (
-            conclude(status.number(), warnings, err),
-            CommandEnd::Checked(status),
-        ),
+    match check_each(host, alloc, names, &mut warnings, out) {
+        Ok(status) => conclude(status.number(), warnings, err),
         Err(stop) => {
             let _ = write_failure(stop.trouble, name_at(names, stop.place), err);
-            (stop.trouble.status().number(), CommandEnd::Failed(stop))
+            stop.trouble.status().number()
         }
     }
 }
@@ -132,19 +105,17 @@ fn name_at(names: &[Word], place: usize) -> &str
     }
 }
 
-/// Reads each file, writes its verdict, and searches it for warnings if `warnings` depends on it. `observer` receives
-/// each file with its verdict.
+/// Reads each file, writes its verdict, and searches it for warnings if `warnings` depends on it.
 ///
 /// # Errors
 ///
 /// Returns `CommandStop` for the first file that cannot be read, for which an allocation fails, or whose line cannot be
 /// written.
-fn check_each<H: Host, V: VerdictObserver, O: Sink>(
+fn check_each<H: Host, O: Sink>(
     host: &mut H,
     alloc: Global,
     names: &[Word],
     warnings: &mut WarningState,
-    observer: &mut V,
     out: &mut O,
 ) -> Result<Status, CommandStop>
     requires reads { reads (H.history host.old) ≡ [] }
@@ -166,7 +137,6 @@ fn check_each<H: Host, V: VerdictObserver, O: Sink>(
             &mut known,
             names[place].as_str(),
             warnings,
-            observer,
             out,
         ) {
             Ok(refusal) => status = after(refusal, status),
@@ -177,7 +147,7 @@ fn check_each<H: Host, V: VerdictObserver, O: Sink>(
 }
 
 /// Reads the file of this name, writes its verdict, and returns its refusal, or `None` if it is accepted. Then
-/// searches the file for warnings if `warnings` depends on it, and hands it to `observer`.
+/// searches the file for warnings if `warnings` depends on it.
 ///
 /// The identity of a file that could be opened is appended to `known`.
 ///
@@ -185,13 +155,12 @@ fn check_each<H: Host, V: VerdictObserver, O: Sink>(
 ///
 /// Returns `Unread` if the file cannot be read, `Memory` if an allocation fails, or `Unprinted` if the line cannot be
 /// written.
-fn check_next<H: Host, V: VerdictObserver, O: Sink>(
+fn check_next<H: Host, O: Sink>(
     host: &mut H,
     alloc: Global,
     known: &mut Vec<Identity>,
     name: &str,
     warnings: &mut WarningState,
-    observer: &mut V,
     out: &mut O,
 ) -> Result<Option<Refusal>, CommandFailure>
     requires known { known.old.items ≡ inputs (H.history host.old) }
@@ -212,8 +181,5 @@ fn check_next<H: Host, V: VerdictObserver, O: Sink>(
     let files = [file];
     let refusal = check_file(alloc, &arena, name, &files, 0, out)?;
     *warnings = warnings.after(alloc, &files);
-    if let Some(text) = &files[0] {
-        observer.judge(name, text.as_slice(), refusal);
-    }
     Ok(refusal)
 }

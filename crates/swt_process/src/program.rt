@@ -4,11 +4,11 @@ ghost use Rattle.host.specs.Events.{asked, changes, inputs, links, reads};
 ghost use Rattle.swt_arguments.specs.Lines.{files_of};
 ghost use Rattle.swt_command.specs.Files.{contents};
 ghost use Rattle.swt_command.specs.Sinks.{held};
-ghost use Rattle.swt_process.specs.Ends.{Ends, IsProcessEnd};
+ghost use Rattle.swt_process.specs.Ends.{Ends};
 ghost use Rattle.swt_process.specs.Places.{name_of, place_of, trace_of};
 ghost use Rattle.swt_process.specs.Reads.{AreRead};
 
-use crate::each::{VerdictObserver, check_files};
+use crate::each::check_files;
 use crate::files::read_files;
 use crate::place::{find_place, name_beside};
 use crate::traced::with_trace;
@@ -21,10 +21,8 @@ use std::marker::Brand;
 use std::sync::Wait;
 use std::thread::Threads;
 use swt_arguments::line::Line;
-use swt_command::end::CommandEnd;
 use swt_command::trouble::write_failure;
 use swt_status::failure::CommandFailure;
-use swt_status::stop::CommandStop;
 use values::sink::Sink;
 use workers::gate::Gate;
 
@@ -34,15 +32,6 @@ struct CommandInput {
     known: Vec<Identity>,
     place: String,
     beside: String,
-}
-
-/// The end of a process: its status, what the command came to, the bytes of the input files, and the machine. The files
-/// of `check` are not kept.
-pub struct ProcessEnd<H> {
-    pub status: u8,
-    pub end: CommandEnd,
-    pub files: Vec<Option<Vec<u8>>>,
-    pub host: H,
 }
 
 /// Reads each input file of the line, and finds the names of its trace.
@@ -76,55 +65,40 @@ fn read<H: Host>(
     })
 }
 
-/// Runs the command of the line. Returns the end of the process. `process` is the number of this process on the machine.
-/// The board of a run, or the facts of a meaning, are part of the end if `keeps`.
+/// Runs the command of the line. Returns the exit status and the machine. `process` is the number of this process on
+/// the machine.
 ///
-/// The files of `check` are read, checked and reported one after the other, so that only one is in memory; `observer`
-/// receives each of them with its verdict. For any other command all files are read first. It then runs with one arena
-/// for all syntax trees, and its trace is moved to its final name.
-pub fn program<
-    R: Threads + Wait + Sync,
-    G: Gate + RoundObserver,
-    H: Host + Drop,
-    V: VerdictObserver,
-    O: Sink,
-    E: Sink,
->(
+/// The files of `check` are read, checked and reported one after the other, so that only one is in memory. For any
+/// other command all files are read first. It then runs with one arena for all syntax trees, and its trace is moved to
+/// its final name.
+pub fn program<R: Threads + Wait + Sync, G: Gate + RoundObserver, H: Host + Drop, O: Sink, E: Sink>(
     rt: &R,
     alloc: Global,
     host: H,
     process: u32,
     line: &Line,
-    keeps: bool,
     gate: &G,
-    observer: &mut V,
     out: &mut O,
     err: &mut E,
-) -> ProcessEnd<H>
+) -> (u8, H)
     requires reads { reads (H.history host) ≡ [] }
     requires links { links (H.history host) ≡ [] }
     requires inputs { inputs (H.history host) ≡ [] }
     requires changes { changes (H.history host) ≡ [] }
     requires out { O.failures out.old < u64.MAX }
     requires err { E.failures err.old < u64.MAX }
-    ensures ends { Ends line.now (H.history result.host)
+    ensures ends { Ends line.now (H.history result.1)
         (held (O.taken out.old) (O.failures out.old)) (held (O.taken out.new) (O.failures out.new))
-        (held (E.taken err.old) (E.failures err.old)) (held (E.taken err.new) (E.failures err.new)) result.status }
-    ensures end { IsProcessEnd line.now (contents result.files.items) keeps result.end }
-    ensures asked { asked (H.history result.host) ≡ asked (H.history host) }
+        (held (E.taken err.old) (E.failures err.old)) (held (E.taken err.new) (E.failures err.new)) result.0 }
+    ensures asked { asked (H.history result.1) ≡ asked (H.history host) }
 {
     let mut host = host;
     match line {
         Line::Check { files } => {
-            let (status, end) = check_files(&mut host, alloc, files.as_slice(), observer, out, err);
-            ProcessEnd {
-                status,
-                end,
-                files: Vec::new(alloc),
-                host,
-            }
+            let status = check_files(&mut host, alloc, files.as_slice(), out, err);
+            (status, host)
         }
-        _ => run_on_files(rt, alloc, host, process, line, keeps, gate, out, err),
+        _ => run_on_files(rt, alloc, host, process, line, gate, out, err),
     }
 }
 
@@ -141,22 +115,20 @@ fn run_on_files<
     host: H,
     process: u32,
     line: &Line,
-    keeps: bool,
     gate: &G,
     out: &mut O,
     err: &mut E,
-) -> ProcessEnd<H>
+) -> (u8, H)
     requires reads { reads (H.history host) ≡ [] }
     requires links { links (H.history host) ≡ [] }
     requires inputs { inputs (H.history host) ≡ [] }
     requires changes { changes (H.history host) ≡ [] }
     requires out { O.failures out.old < u64.MAX }
     requires err { E.failures err.old < u64.MAX }
-    ensures ends { Ends line.now (H.history result.host)
+    ensures ends { Ends line.now (H.history result.1)
         (held (O.taken out.old) (O.failures out.old)) (held (O.taken out.new) (O.failures out.new))
-        (held (E.taken err.old) (E.failures err.old)) (held (E.taken err.new) (E.failures err.new)) result.status }
-    ensures end { IsProcessEnd line.now (contents result.files.items) keeps result.end }
-    ensures asked { asked (H.history result.host) ≡ asked (H.history host) }
+        (held (E.taken err.old) (E.failures err.old)) (held (E.taken err.new) (E.failures err.new)) result.0 }
+    ensures asked { asked (H.history result.1) ≡ asked (H.history host) }
 {
     let mut host = host;
     match read(alloc, &mut host, process, line) {
@@ -168,7 +140,7 @@ fn run_on_files<
                 beside,
             } = input;
             let mut arena = Bump::new(alloc);
-            let (status, end, host) = with_trace::<R, G, H, Brand, O, E>(
+            with_trace::<R, G, H, Brand, O, E>(
                 rt,
                 alloc,
                 &mut arena,
@@ -178,30 +150,14 @@ fn run_on_files<
                 beside,
                 line,
                 files.as_slice(),
-                keeps,
                 gate,
                 out,
                 err,
-            );
-            ProcessEnd {
-                status,
-                end,
-                files,
-                host,
-            }
+            )
         }
         Err(AllocError) => {
             let _ = write_failure(CommandFailure::Memory, "", err);
-            let stop = CommandStop {
-                place: 0,
-                trouble: CommandFailure::Memory,
-            };
-            ProcessEnd {
-                status: stop.trouble.status().number(),
-                end: CommandEnd::Failed(stop),
-                files: Vec::new(alloc),
-                host,
-            }
+            (CommandFailure::Memory.status().number(), host)
         }
     }
 }

@@ -1,13 +1,11 @@
 //! A request, from its line to the exit status.
 ghost use Rattle.std.specs.Prelude.{◌≡◌, ◌<◌, []};
 ghost use Rattle.host.specs.Events.{asked, changes, inputs, links, reads};
-ghost use Rattle.swt_command.specs.Files.{contents};
 ghost use Rattle.swt_command.specs.Sinks.{held};
-ghost use Rattle.swt_process.specs.Ends.{IsProcessEnd};
 ghost use Rattle.swt_process.specs.Process.{Obeys};
 
-use crate::each::{VerdictObserver, check_all};
-use crate::program::{ProcessEnd, program};
+use crate::each::check_all;
+use crate::program::program;
 use host::Host;
 use meaning::observer::RoundObserver;
 use std::alloc::Global;
@@ -18,70 +16,37 @@ use swt_arguments::request::Request;
 use values::sink::Sink;
 use workers::gate::Gate;
 
-/// Runs the line of a request, as `program` does, and keeps what explains its end if the request asks for explanations.
-/// Returns the end of the process. `process` is the number of this process on the machine.
+/// Runs the line of a request, as `program` does. Returns the exit status and the machine. `process` is the number of
+/// this process on the machine.
 ///
 /// If the request denies warnings, a check that accepted all files is refused if one of them has a warning.
-pub fn execute<
-    R: Threads + Wait + Sync,
-    G: Gate + RoundObserver,
-    H: Host + Drop,
-    V: VerdictObserver,
-    O: Sink,
-    E: Sink,
->(
+pub fn execute<R: Threads + Wait + Sync, G: Gate + RoundObserver, H: Host + Drop, O: Sink, E: Sink>(
     rt: &R,
     alloc: Global,
     host: H,
     process: u32,
     request: &Request,
     gate: &G,
-    observer: &mut V,
     out: &mut O,
     err: &mut E,
-) -> ProcessEnd<H>
+) -> (u8, H)
     requires reads { reads (H.history host) ≡ [] }
     requires links { links (H.history host) ≡ [] }
     requires inputs { inputs (H.history host) ≡ [] }
     requires changes { changes (H.history host) ≡ [] }
     requires out { O.failures out.old < u64.MAX }
     requires err { E.failures err.old < u64.MAX }
-    ensures obeys { Obeys request.now (H.history result.host)
+    ensures obeys { Obeys request.now (H.history result.1)
         (held (O.taken out.old) (O.failures out.old)) (held (O.taken out.new) (O.failures out.new))
-        (held (E.taken err.old) (E.failures err.old)) (held (E.taken err.new) (E.failures err.new)) result.status }
-    ensures end { IsProcessEnd request.now.line (contents result.files.items) request.now.explain result.end }
-    ensures asked { asked (H.history result.host) ≡ asked (H.history host) }
+        (held (E.taken err.old) (E.failures err.old)) (held (E.taken err.new) (E.failures err.new)) result.0 }
+    ensures asked { asked (H.history result.1) ≡ asked (H.history host) }
 {
     let mut host = host;
     match &request.line {
         Line::Check { files } => {
-            let (status, end) = check_all(
-                &mut host,
-                alloc,
-                files.as_slice(),
-                request.deny,
-                observer,
-                out,
-                err,
-            );
-            ProcessEnd {
-                status,
-                end,
-                files: Vec::new(alloc),
-                host,
-            }
+            let status = check_all(&mut host, alloc, files.as_slice(), request.deny, out, err);
+            (status, host)
         }
-        line => program(
-            rt,
-            alloc,
-            host,
-            process,
-            line,
-            request.explain,
-            gate,
-            observer,
-            out,
-            err,
-        ),
+        line => program(rt, alloc, host, process, line, gate, out, err),
     }
 }

@@ -155,13 +155,12 @@ fn done_by<R: Threads + Wait + Sync>(
     let mut out = LimitedSink::new(alloc, rooms.0);
     let mut err = LimitedSink::new(alloc, 1000);
     let mut trace = LimitedSink::new(alloc, rooms.1);
-    let (status, _end) = command(
+    let status = command(
         rt,
         alloc,
         &mut Bump::new(alloc),
         line,
         files,
-        false,
         &Unobserved,
         &mut out,
         &mut err,

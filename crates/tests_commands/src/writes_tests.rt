@@ -69,13 +69,12 @@ fn idles<R: Threads + Wait + Sync>(
     let mut out = FullSink::new(alloc, room);
     let mut err = LimitedSink::new(alloc, 1000);
     let mut trace = LimitedSink::new(alloc, 0);
-    let (status, _end) = command(
+    let status = command(
         rt,
         alloc,
         &mut Bump::new(alloc),
         line,
         files,
-        false,
         &Unobserved,
         &mut out,
         &mut err,

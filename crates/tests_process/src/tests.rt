@@ -9,8 +9,6 @@ use std::thread::Threads;
 use swt_arguments::fault::LineFault;
 use swt_command::buffer::Buffer;
 use swt_command::unobserved::Unobserved;
-use swt_process::each::NoVerdictObserver;
-use swt_process::program::ProcessEnd;
 use swt_process::request::execute;
 use swt_process::words::read_request;
 
@@ -62,19 +60,13 @@ fn came_of<R: Threads + Wait + Sync>(
     let request = read_request(&mut fake, alloc)?;
     let mut out = Buffer::new(alloc);
     let mut err = Buffer::new(alloc);
-    let ProcessEnd {
-        status,
-        end: _,
-        files: _,
-        host,
-    } = execute(
+    let (status, fake) = execute(
         rt,
         alloc,
         fake,
         PROCESS,
         &request,
         &Unobserved,
-        &mut NoVerdictObserver,
         &mut out,
         &mut err,
     );
@@ -82,7 +74,7 @@ fn came_of<R: Threads + Wait + Sync>(
         status,
         out,
         err,
-        fake: host,
+        fake,
     })
 }
 

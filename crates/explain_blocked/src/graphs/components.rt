@@ -79,7 +79,7 @@ impl<'g> ComponentSearch<'g> {
         match self.graph.successors(node).get(place).copied() {
             Some(to) => {
                 self.followed.put(node, place.saturating_add(1));
-                self.follow_edge(node, to as usize)
+                self.follow_edge(node, to)
             }
             None => self.leave_node(node),
         }

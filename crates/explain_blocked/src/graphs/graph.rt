@@ -4,19 +4,12 @@ use crate::graphs::components::ComponentSearch;
 use crate::graphs::numbers::{NONE, NodeNumbers};
 use std::alloc::{AllocError, Global};
 
-/// A directed graph. Nodes are numbered in the order in which they are added.
-///
-/// Edges are added in any order, and `sort` has to be called before they are followed.
+/// A directed graph, as adjacency lists. Nodes are numbered in the order in which they are added.
 pub struct Graph {
     alloc: Global,
-    /// Number of nodes.
+    edges: Vec<Vec<usize>>,
+    /// Number of edges.
     count: usize,
-    /// The edges that are not sorted yet: start and end of each.
-    unsorted: Vec<(u32, u32)>,
-    /// For each node, the number of edges of the nodes before it. One more than there are nodes.
-    starts: Vec<u32>,
-    /// The ends of the sorted edges.
-    ends: Vec<u32>,
 }
 
 // Implemented by hand, so that an owner drops the value with one call.
@@ -24,10 +17,8 @@ impl Drop for Graph {
     fn drop(self) {
         let Graph {
             alloc: _,
+            edges: _,
             count: _,
-            unsorted: _,
-            starts: _,
-            ends: _,
         } = self;
     }
 }
@@ -51,92 +42,42 @@ impl Graph {
     pub fn new(alloc: Global) -> Graph {
         Graph {
             alloc,
+            edges: Vec::new(alloc),
             count: 0,
-            unsorted: Vec::new(alloc),
-            starts: Vec::new(alloc),
-            ends: Vec::new(alloc),
         }
     }
 
     /// Adds a node and returns its number.
-    ///
-    /// # Errors
-    ///
-    /// Returns `AllocError` if the number does not fit in 32 bits.
     pub fn add(&mut self) -> Result<usize, AllocError> {
-        let node = self.count;
-        if node >= u32::MAX as usize {
-            return Err(AllocError);
-        }
-        self.count = node.saturating_add(1);
+        let node = self.edges.len();
+        self.edges.push(Vec::new(self.alloc))?;
         Ok(node)
     }
 
-    /// Adds an edge. Does nothing if one of the nodes does not exist.
-    ///
-    /// # Errors
-    ///
-    /// Returns `AllocError` if an allocation fails.
+    /// Adds an edge. Does nothing if there is no node `from`.
     pub fn add_edge(&mut self, from: usize, to: usize) -> Result<(), AllocError> {
-        if from >= self.count || to >= self.count {
-            return Ok(());
+        if let Some(ends) = self.edges.get_mut(from) {
+            ends.push(to)?;
+            self.count = self.count.saturating_add(1);
         }
-        let (Ok(from), Ok(to)) = (u32::try_from(from), u32::try_from(to)) else {
-            return Err(AllocError);
-        };
-        self.unsorted.push((from, to))?;
-        Ok(())
-    }
-
-    /// Sorts the edges by their starts. Edges of one node keep their order. Further edges replace these.
-    ///
-    /// # Errors
-    ///
-    /// Returns `AllocError` if an allocation fails.
-    pub fn sort(&mut self) -> Result<(), AllocError> {
-        let mut starts = Vec::with_capacity(self.alloc, self.count.saturating_add(1))?;
-        for _ in 0..self.count.saturating_add(1) {
-            starts.push(0u32)?;
-        }
-        for edge in &self.unsorted {
-            let (from, _) = *edge;
-            if let Some(count) = starts.get_mut((from as usize).saturating_add(1)) {
-                *count = count.saturating_add(1);
-            }
-        }
-        let mut sum = 0u32;
-        for start in &mut starts {
-            sum = sum.saturating_add(*start);
-            *start = sum;
-        }
-        self.ends = ends_of(self.alloc, self.unsorted.as_slice(), starts.as_slice())?;
-        self.starts = starts;
-        self.unsorted = Vec::new(self.alloc);
         Ok(())
     }
 
     pub fn len(&self) -> usize {
-        self.count
+        self.edges.len()
     }
 
     /// Returns the nodes to which a node has an edge.
-    pub fn successors(&self, node: usize) -> &[u32] {
-        let from = self.starts.get(node);
-        let to = self.starts.get(node.saturating_add(1));
-        match (from, to) {
-            (Some(from), Some(to)) => {
-                match self.ends.as_slice().get(*from as usize..*to as usize) {
-                    Some(ends) => ends,
-                    None => &[],
-                }
-            }
-            _ => &[],
+    pub fn successors(&self, node: usize) -> &[usize] {
+        match self.edges.get(node) {
+            Some(ends) => ends.as_slice(),
+            None => &[],
         }
     }
 
     /// Returns the number of nodes and edges.
     pub fn size(&self) -> usize {
-        self.count.saturating_add(self.ends.len())
+        self.edges.len().saturating_add(self.count)
     }
 
     /// Returns the strongly connected components.
@@ -175,10 +116,9 @@ impl Graph {
         queue: &mut Vec<usize>,
     ) -> Result<(), AllocError> {
         for to in self.successors(node) {
-            let to = *to as usize;
-            if before.at(to) == NONE {
-                before.put(to, node);
-                queue.push(to)?;
+            if before.at(*to) == NONE {
+                before.put(*to, node);
+                queue.push(*to)?;
             }
         }
         Ok(())
@@ -202,24 +142,4 @@ impl Graph {
         way.reverse();
         Ok(way)
     }
-}
-
-/// Returns the ends of edges, sorted by the nodes at which they start. `starts` has the position of the first edge of
-/// each node.
-fn ends_of(alloc: Global, edges: &[(u32, u32)], starts: &[u32]) -> Result<Vec<u32>, AllocError> {
-    let mut next = Vec::from_slice(alloc, starts)?;
-    let mut ends = Vec::with_capacity(alloc, edges.len())?;
-    for _ in edges {
-        ends.push(0u32)?;
-    }
-    for edge in edges {
-        let (from, to) = *edge;
-        if let Some(place) = next.get_mut(from as usize) {
-            if let Some(end) = ends.get_mut(*place as usize) {
-                *end = to;
-            }
-            *place = place.saturating_add(1);
-        }
-    }
-    Ok(ends)
 }

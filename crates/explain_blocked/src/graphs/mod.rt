@@ -1,5 +1,5 @@
 //! Directed graphs, their strongly connected components and their shortest cycles.
 
-mod components;
+pub mod components;
 pub mod graph;
 pub mod numbers;

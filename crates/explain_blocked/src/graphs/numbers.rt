@@ -5,20 +5,17 @@ use std::alloc::{AllocError, Global};
 /// The value that stands for a missing number.
 pub const NONE: usize = usize::MAX;
 
-// Stands for a missing number in the table.
-const MISSING: u32 = u32::MAX;
-
-/// A table of node numbers, at first all `NONE`. Numbers of 32 bits are kept; a larger one is as if it were missing.
+/// A table of node numbers, at first all `NONE`.
 #[derive(Drop)]
 pub struct NodeNumbers {
-    all: Vec<u32>,
+    all: Vec<usize>,
 }
 
 impl NodeNumbers {
     pub fn new(alloc: Global, count: usize) -> Result<NodeNumbers, AllocError> {
         let mut all = Vec::with_capacity(alloc, count)?;
         for _ in 0..count {
-            all.push(MISSING)?;
+            all.push(NONE)?;
         }
         Ok(NodeNumbers { all })
     }
@@ -26,19 +23,15 @@ impl NodeNumbers {
     /// Returns the number of a node, or `NONE` if it has none.
     pub fn at(&self, node: usize) -> usize {
         match self.all.get(node) {
-            Some(number) if *number != MISSING => *number as usize,
-            _ => NONE,
+            Some(number) => *number,
+            None => NONE,
         }
     }
 
     /// Sets the number of a node. Does nothing if the node is out of range.
     pub fn put(&mut self, node: usize, number: usize) {
         if let Some(place) = self.all.get_mut(node) {
-            *place = if number < MISSING as usize {
-                number as u32
-            } else {
-                MISSING
-            };
+            *place = number;
         }
     }
 

@@ -2,12 +2,9 @@
 
 use crate::context::{ExplainContext, StatementLocation, location_of};
 use crate::index::CellSite;
-use crate::waiting::cycles::is_listed;
-use crate::waiting::selection::Blocked;
 use crate::waiting::wait_graph::WaitGraph;
-use crate::waiting::wait_groups::WaitGroups;
 use explain_inputs::blocked_statement::BlockedStatement;
-use std::alloc::{AllocError, Allocator};
+use std::alloc::Allocator;
 
 /// Blocked statements in the order of the printed lines, with their missing inputs, their wait graph and the name of
 /// the script's file.
@@ -17,16 +14,6 @@ pub struct BlockedList<'l, 't, 'a, A: Allocator> {
     pub file: &'l str,
     pub listed: &'l [BlockedStatement<'t, 'a, A>],
     pub waits: &'l WaitGraph,
-}
-
-impl<'l, 't, 'a, A: Allocator> Blocked for BlockedList<'l, 't, 'a, A> {
-    fn is_listed(&self, circle: &[usize]) -> bool {
-        is_listed(self, circle)
-    }
-
-    fn groups(&self, done: &[bool]) -> Result<WaitGroups, AllocError> {
-        WaitGroups::of(self.context.alloc, self.listed, done)
-    }
 }
 
 impl<'l, 't, 'a, A: Allocator> BlockedList<'l, 't, 'a, A> {

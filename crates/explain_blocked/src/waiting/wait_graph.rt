@@ -1,7 +1,7 @@
-//! The wait graph of blocked statements.
+//! The wait graph of blocked statements, and its root causes.
 
 use crate::context::ExplainContext;
-use crate::graphs::graph::Graph;
+use crate::graphs::graph::{Components, Graph};
 use crate::graphs::numbers::{NONE, NodeNumbers};
 use crate::reasons::inputs::{is_own_cell, missing_in_cell, target_of};
 use crate::writers::WriteTarget;
@@ -63,13 +63,7 @@ impl WaitGraph {
             self.note_inputs(context, i, waiting.instance, waiting.missing.as_slice())?;
         }
         let numbers = numbers_of(context, listed)?;
-        self.note_targets(context, &numbers)?;
-        self.graph.sort()
-    }
-
-    /// Returns the number of statements.
-    pub fn statements(&self) -> usize {
-        self.statements
+        self.note_targets(context, &numbers)
     }
 
     /// Returns true if a node is a statement.
@@ -145,6 +139,43 @@ impl WaitGraph {
             }
         }
         Ok(())
+    }
+
+    /// Returns for each statement whether it is a root cause: no other component that contains a statement is
+    /// reachable from its own.
+    ///
+    /// A root cause thus waits for other blocked statements only if they wait for it in turn.
+    pub fn causes(&self, alloc: Global, parts: &Components) -> Result<Vec<bool>, AllocError> {
+        let mut holds = NodeNumbers::new(alloc, self.graph.len())?;
+        let mut leaves = NodeNumbers::new(alloc, self.graph.len())?;
+        for node in &parts.order {
+            let part = parts.part.at(*node);
+            if self.leaves(parts, &holds, *node) {
+                leaves.put(part, 1);
+                holds.put(part, 1);
+            }
+            if self.is_statement(*node) {
+                holds.put(part, 1);
+            }
+        }
+        let mut causes = Vec::new(alloc);
+        for number in 0..self.statements {
+            causes.push(leaves.at(parts.part.at(number)) == NONE)?;
+        }
+        Ok(causes)
+    }
+
+    /// Returns true if a node has an edge to another component from which a statement is reachable. `holds` marks
+    /// these components.
+    fn leaves(&self, parts: &Components, holds: &NodeNumbers, node: usize) -> bool {
+        let own = parts.part.at(node);
+        for to in self.graph.successors(node) {
+            let part = parts.part.at(*to);
+            if part != own && holds.at(part) != NONE {
+                return true;
+            }
+        }
+        false
     }
 }
 

@@ -7,8 +7,7 @@ use std::collections::HashMap;
 /// The wait groups of a list: the first statement of each statement's group, and the size of each group.
 pub struct WaitGroups {
     firsts: Vec<usize>,
-    /// The size of the group of each statement that is the first of one, or 0.
-    counts: Vec<usize>,
+    counts: HashMap<usize, usize>,
 }
 
 // Implemented by hand, so that an owner drops the value with one call.
@@ -30,25 +29,9 @@ impl WaitGroups {
     ) -> Result<WaitGroups, AllocError> {
         let mut wait_groups = WaitGroups {
             firsts: Vec::with_capacity(alloc, listed.len())?,
-            counts: Vec::with_capacity(alloc, listed.len())?,
+            counts: HashMap::new(alloc),
         };
         wait_groups.add_all(alloc, listed, done)?;
-        Ok(wait_groups)
-    }
-
-    /// Creates the groups in which each statement has the given first statement.
-    ///
-    /// # Errors
-    ///
-    /// Returns `AllocError` if an allocation fails.
-    pub fn by_firsts(alloc: Global, firsts: &[usize]) -> Result<WaitGroups, AllocError> {
-        let mut wait_groups = WaitGroups {
-            firsts: Vec::with_capacity(alloc, firsts.len())?,
-            counts: Vec::with_capacity(alloc, firsts.len())?,
-        };
-        for first in firsts {
-            wait_groups.add(*first)?;
-        }
         Ok(wait_groups)
     }
 
@@ -80,18 +63,19 @@ impl WaitGroups {
 
     /// Returns the number of statements in the group of a statement, including that statement.
     pub fn count(&self, number: usize) -> usize {
-        match self.counts.get(self.first(number)) {
+        match self.counts.get(&self.first(number)) {
             Some(count) => *count,
             None => 0,
         }
     }
 
     fn add(&mut self, first: usize) -> Result<(), AllocError> {
-        self.counts.push(0)?;
+        let count = match self.counts.get(&first) {
+            Some(count) => count.saturating_add(1),
+            None => 1,
+        };
+        self.counts.insert(first, count)?;
         self.firsts.push(first)?;
-        if let Some(count) = self.counts.get_mut(first) {
-            *count = count.saturating_add(1);
-        }
         Ok(())
     }
 }

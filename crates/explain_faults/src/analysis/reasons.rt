@@ -17,7 +17,6 @@ use paths::FaultKind;
 use std::alloc::{AllocError, Allocator};
 use values::key::{Key, KeyRef};
 use values::limits::MAX_PATH_STEPS;
-use values::map::Map;
 use values::value::Value;
 
 /// Appends the description of a fault kind, without values.
@@ -46,12 +45,11 @@ pub fn write_reason<'t, 'a, A: Allocator>(
     context: &ExplainContext<'t, 'a, A>,
     out: &mut Vec<u8>,
     fact: FaultFact,
-    elements: Option<&Map>,
 ) -> Result<bool, AllocError> {
     let instance = fact.place.instance;
     if let Some(spot) = context.index.cell(fact.place.node) {
         return match fact.kind {
-            FaultKind::NoElement => write_missing(context, out, instance, spot, elements),
+            FaultKind::NoElement => write_missing(context, out, instance, spot),
             FaultKind::AssertFailed => write_message(context, out, instance, spot),
             _ => write_operation(context, out, instance, spot, fact.kind),
         };
@@ -82,11 +80,11 @@ fn write_missing<'t, 'a, A: Allocator>(
     out: &mut Vec<u8>,
     instance: usize,
     spot: &CellSite<'a, A>,
-    elements: Option<&Map>,
 ) -> Result<bool, AllocError> {
-    let (CellForm::Read { array, index }, Some(elements)) = (&spot.cell.form, elements) else {
+    let CellForm::Read { array, index } = &spot.cell.form else {
         return Ok(false);
     };
+    let fact_base = &context.known.fact_base;
     write_name(context, out, spot.function, *array)?;
     write_str(out, " has no element ")?;
     let node = *index;
@@ -94,6 +92,8 @@ fn write_missing<'t, 'a, A: Allocator>(
     write_value(context, out, cell)?;
     write_str(out, ": it is closed and has ")?;
     let wanted = key_at(context, cell)?;
+    let place = fact_base.instances.place(instance, *array);
+    let elements = fact_base.facts.elements(context.alloc, place)?;
     write_keys(out, elements.elements(), wanted.as_ref())?;
     Ok(true)
 }

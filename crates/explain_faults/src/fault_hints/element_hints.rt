@@ -14,7 +14,7 @@ use flow_index::site::Site;
 use meaning_facts::facts::{FaultFact, Place};
 use std::alloc::{AllocError, Allocator, Global};
 use values::key::Key;
-use values::map::{Element, Map};
+use values::map::Element;
 
 const UNWRITTEN: &str = "hint: no statement writes $: write the elements that are read\n";
 
@@ -35,12 +35,11 @@ struct MissingKey {
     wanted: i64,
 }
 
-/// Appends a hint for an element that is not there, given the elements of the array. Returns true if it was appended.
+/// Appends a hint for an element that is not there. Returns true if it was appended.
 pub fn write_element_hint<'t, 'a, A: Allocator>(
     context: &ExplainContext<'t, 'a, A>,
     out: &mut Vec<u8>,
     fact: FaultFact,
-    elements: &Map,
 ) -> Result<bool, AllocError> {
     let Some(spot) = context.index.cell(fact.place.node) else {
         return Ok(false);
@@ -49,6 +48,9 @@ pub fn write_element_hint<'t, 'a, A: Allocator>(
         return Ok(false);
     };
     let (instance, node) = (fact.place.instance, *index);
+    let fact_base = &context.known.fact_base;
+    let place = fact_base.instances.place(instance, *array);
+    let elements = fact_base.facts.elements(context.alloc, place)?;
     let mut name = Vec::new(context.alloc);
     write_name(context, &mut name, spot.function, *array)?;
     if elements.elements().is_empty() {

@@ -10,7 +10,7 @@ use meaning_facts::facts::{FaultFact, Place};
 use paths::FaultKind;
 use std::alloc::{AllocError, Allocator, Global};
 use values::key::Key;
-use values::map::{Element, Map};
+use values::map::Element;
 use values::value::{Scalar, Value};
 
 /// Maximum length of a key that is compared with others, in bytes.
@@ -22,7 +22,6 @@ pub fn write_near_key<'t, 'a, A: Allocator>(
     context: &ExplainContext<'t, 'a, A>,
     out: &mut Vec<u8>,
     fact: FaultFact,
-    elements: &Map,
 ) -> Result<bool, AllocError> {
     let Some(spot) = context.index.cell(fact.place.node) else {
         return Ok(false);
@@ -39,6 +38,8 @@ pub fn write_near_key<'t, 'a, A: Allocator>(
     else {
         return Ok(false);
     };
+    let place = fact_base.instances.place(instance, *array);
+    let elements = fact_base.facts.elements(context.alloc, place)?;
     let near = nearest_key(context.alloc, wanted.as_bytes(), elements.elements())?;
     let Some(near) = near else {
         return Ok(false);

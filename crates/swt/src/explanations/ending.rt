@@ -1,128 +1,142 @@
 //! Explanation of how a command ended.
 
-use crate::explanations::code::explain_code;
+use crate::explanations::explain::{explain_blocked, explain_code, explain_fault, explain_meaning};
 use crate::explanations::failures::{
-    explain_count, explain_same_file, explain_unread, explain_unwritten,
+    explain_count, explain_same_file, explain_trace, explain_unread, explain_unwritten,
 };
-use crate::explanations::verdicts::VerdictReporter;
-use compile::compile::read;
-use compile::fault::CompileFault;
-use explain_ends::blocked::add_blocked_end;
-use explain_ends::faults::add_fault_end;
-use explain_ends::limits::{add_limit_of_replay, add_limit_of_run};
-use explain_ends::meaning::add_meaning_end;
-use explain_ends::script::StoppedScript;
-use explain_ends::trace_refusals::{TracedScript, add_refused_trace};
-use explain_ends::{Knowledge, ScriptIndex};
-use explain_text::line_index::LineIndex;
+use crate::progress::ProgressReporter;
+use crate::replay::trace_replay::follow;
+use crate::system::output::LastLine;
+use crate::system::source_cache::SourceCache;
+use explain_code::lines::CodeNames;
+use explain_faults::limits::{add_limit_of_steps, add_limit_of_trace};
 use explain_text::words::write_str;
-use flow::script::Flow;
 use std::alloc::{AllocError, Global};
 use std::io::{Error, Write};
+use swt_arguments::code_form::CodeForm;
 use swt_arguments::line::Line;
-use swt_command::end::{CommandEnd, End, StoppedRun};
-use swt_status::failure::CommandFailure;
-use swt_status::stop::CommandStop;
-use swt_status::trace::RefusedTrace;
+use swt_status::status::Status;
 
-/// The end of a process: its line, whether every blocked statement is reported, what the command came to, the bytes of
-/// the input files, and the errors of standard output and of the last failed call on a file, if any.
+/// Result of a command: its line, its status, the progress of its run, and the error of standard output, if any.
 #[derive(Clone, Copy, Drop)]
-pub struct EndedProcess<'e> {
+pub struct CommandResult<'e, 'o, 't> {
     pub line: &'e Line,
+    /// Whether every blocked statement is reported.
     pub all: bool,
-    pub end: &'e CommandEnd,
-    pub files: &'e [Option<Vec<u8>>],
-    pub unprinted: Option<&'e Error>,
-    pub reason: Option<&'e Error>,
+    pub status: u8,
+    pub reporter: &'e ProgressReporter<'t>,
+    pub tail: &'o LastLine,
+    pub unprinted: Option<&'o Error>,
 }
 
-/// What is explained of a script: the facts of its meaning, a run or a replay, or a refused trace.
-#[derive(Clone, Copy)]
-enum Topic<'e> {
-    Meaning(&'e Knowledge),
-    Run(&'e StoppedRun),
-    Trace(&'e RefusedTrace),
-}
+impl CommandResult<'_, '_, '_> {
+    /// Returns true if the command ended with this status.
+    fn is(self, status: Status) -> bool {
+        self.status == status.number()
+    }
 
-impl<'e> EndedProcess<'e> {
-    /// Returns the bytes of the input file at this index, if it was read.
-    fn text(self, place: usize) -> Option<&'e [u8]> {
-        match self.files.get(place) {
-            Some(Some(bytes)) => Some(bytes.as_slice()),
-            _ => None,
+    /// Returns true if there may be something to explain: a check with warnings, printed code, or any end but success
+    /// and an allocation failure.
+    fn is_told(self) -> bool {
+        if self.is(Status::Done) {
+            self.is_checked() || self.printed_code().is_some()
+        } else {
+            !self.is(Status::Memory)
+        }
+    }
+
+    /// Returns true if the files were checked and all are accepted.
+    fn is_checked(self) -> bool {
+        self.is(Status::Done) && matches!(self.line, Line::Check { .. })
+    }
+
+    /// Returns the names of bodies and entries in the code that the command prints, or `None` if it prints no code.
+    fn printed_code(self) -> Option<CodeNames> {
+        match self.line {
+            Line::Code { form, .. } => names_in(*form),
+            Line::Check { .. } | Line::Mean { .. } => None,
+            Line::Run { .. } | Line::Replay { .. } => None,
         }
     }
 }
 
-/// Explains the end of a process on standard error: a refusal, printed code, blocked statements, a fault, a limit, or a
-/// failure.
-///
-/// If an allocation fails, this is reported once, and the status does not change.
-pub fn explain_end(rt: &HostRuntime, verdicts: &VerdictReporter<'_>, ended: EndedProcess<'_>) {
-    if write_end(rt, verdicts, ended).is_err() || verdicts.lacks() {
-        let _ = eprintln!(rt; "swt: not explained: no memory");
+/// Returns the names of bodies and entries in this form of code, or `None` if it has lines of its own.
+fn names_in(form: CodeForm) -> Option<CodeNames> {
+    match form {
+        CodeForm::Listing => Some(CodeNames::Listing),
+        CodeForm::Graph => Some(CodeNames::Drawing),
+        CodeForm::Drawing | CodeForm::After(_) => None,
     }
 }
 
-fn write_end(
+/// Explains the result of a command on standard error: refusals, warnings, printed code, blocked statements, faults, a
+/// limit, and failed operations. `reason` is the error of the last failed call on a file.
+///
+/// If an allocation fails, this is reported once, and the status does not change.
+pub fn explain_ending(
+    kept: &mut SourceCache<'_>,
+    ended: CommandResult<'_, '_, '_>,
+    reason: Option<&Error>,
+) {
+    let rt = kept.runtime();
+    if ended.is_told() && write_ending(rt, kept, ended, reason).is_err() {
+        let _ = eprintln!(rt; "swt: no memory");
+    }
+}
+
+fn write_ending(
     rt: &HostRuntime,
-    verdicts: &VerdictReporter<'_>,
-    ended: EndedProcess<'_>,
+    kept: &mut SourceCache<'_>,
+    ended: CommandResult<'_, '_, '_>,
+    reason: Option<&Error>,
 ) -> Result<(), AllocError> {
-    if let Some(
-        CommandStop {
-            place: _,
-            trouble: CommandFailure::Refused(_),
-        },
-    ) = ended.end.stop()
-    {
-        return match ended.text(0) {
-            Some(text) => verdicts.report_mistakes(name_at(ended.line, 0), text),
-            None => Ok(()),
-        };
+    if ended.is(Status::Refused) || ended.is_checked() {
+        kept.tell_checked();
+        write_counts(rt, kept, ended.line);
+    } else if kept.tells_text() {
+        let mut text = Vec::new(rt.alloc());
+        add_end(rt.alloc(), kept, ended, reason, &mut text)?;
+        // If this cannot be written, the status is enough.
+        let _ = rt.stderr().write_all(text.as_slice());
     }
-    if !verdicts.tells_text() {
-        return Ok(());
+    if kept.lacks() {
+        Err(AllocError)
+    } else {
+        Ok(())
     }
-    if let CommandEnd::Checked(_) = ended.end {
-        write_counts(rt, verdicts, ended.line);
-        return Ok(());
-    }
-    let mut text = Vec::new(rt.alloc());
-    add_end(rt.alloc(), ended, &mut text)?;
-    // If this cannot be written, the status is enough.
-    let _ = rt.stderr().write_all(text.as_slice());
-    Ok(())
 }
 
 /// Reports how many of the files of a check are accepted, if there are two or more.
-fn write_counts(rt: &HostRuntime, verdicts: &VerdictReporter<'_>, line: &Line) {
+fn write_counts(rt: &HostRuntime, kept: &SourceCache<'_>, line: &Line) {
     let Line::Check { files } = line else {
         return;
     };
     let count = files.as_slice().len();
-    if count > 1 && !verdicts.lacks() {
-        let accepted = verdicts.accepted();
+    if count > 1 && kept.tells_text() && !kept.lacks() {
+        let accepted = kept.accepted();
         // If this cannot be written, the status is enough.
         let _ = eprintln!(rt; "swt: {accepted} of {count} files are accepted");
     }
 }
 
-/// Appends the names of the files after the one at which a check has stopped, if there are any.
-fn add_unchecked(line: &Line, stopped: usize, out: &mut Vec<u8>) -> Result<(), AllocError> {
+/// Appends the names of the files that a check has not opened, if there are any.
+fn add_unchecked(
+    kept: &SourceCache<'_>,
+    line: &Line,
+    text: &mut Vec<u8>,
+) -> Result<(), AllocError> {
     let Line::Check { files } = line else {
         return Ok(());
     };
     let mut place: usize = 0;
     for file in files.as_slice() {
-        if place > stopped {
-            add_name(out, place - 1 == stopped, file.as_str())?;
+        if place >= kept.opened() {
+            add_name(text, place == kept.opened(), file.as_str())?;
         }
         place = place.saturating_add(1);
     }
-    if place > stopped.saturating_add(1) {
-        write_str(out, "\n")?;
+    if place > kept.opened() {
+        write_str(text, "\n")?;
     }
     Ok(())
 }
@@ -135,198 +149,122 @@ fn add_name(text: &mut Vec<u8>, is_first: bool, name: &str) -> Result<(), AllocE
 }
 
 /// Appends the explanation of a command whose script is not refused.
-fn add_end(alloc: Global, ended: EndedProcess<'_>, out: &mut Vec<u8>) -> Result<(), AllocError> {
-    match ended.end {
-        CommandEnd::Checked(_) => Ok(()),
-        CommandEnd::Listing(_) => add_code(alloc, ended, out),
-        CommandEnd::Meaning(told) => match &told.known {
-            Some(known) => explain_script(alloc, ended, Topic::Meaning(known), out),
-            None => Ok(()),
-        },
-        CommandEnd::Run(run) => {
-            if is_explained(run) {
-                explain_script(alloc, ended, Topic::Run(run), out)
-            } else {
-                Ok(())
-            }
-        }
-        CommandEnd::Replay(run) => {
-            if is_explained(run) {
-                explain_script(alloc, ended, Topic::Run(run), out)
-            } else {
-                Ok(())
-            }
-        }
-        CommandEnd::RefusedTrace(refused) => add_refused(alloc, ended, refused, out),
-        CommandEnd::Failed(stop) => add_failure(alloc, ended, *stop, out),
-    }
-}
-
-/// Appends the explanation of printed code.
-fn add_code(alloc: Global, ended: EndedProcess<'_>, out: &mut Vec<u8>) -> Result<(), AllocError> {
-    match (ended.line, ended.text(0)) {
-        (Line::Code { file, form, .. }, Some(text)) => {
-            explain_code(alloc, file.as_str(), text, *form, out)
-        }
-        _ => Ok(()),
-    }
-}
-
-/// Returns true if there is something to explain about a run.
-fn is_explained(run: &StoppedRun) -> bool {
-    match &run.report.end {
-        End::Quiet => !run.report.blocked.is_empty(),
-        End::Fault(_) | End::Limit => true,
-    }
-}
-
-/// Appends the explanation of a replay without report.
-fn add_refused(
+fn add_end(
     alloc: Global,
-    ended: EndedProcess<'_>,
-    refused: &RefusedTrace,
-    out: &mut Vec<u8>,
+    kept: &SourceCache<'_>,
+    ended: CommandResult<'_, '_, '_>,
+    reason: Option<&Error>,
+    text: &mut Vec<u8>,
 ) -> Result<(), AllocError> {
-    match refused.stop.trouble {
-        CommandFailure::BadLine(_) | CommandFailure::NotARun(_) | CommandFailure::WrongEnd(_) => {
-            explain_script(alloc, ended, Topic::Trace(refused), out)
-        }
-        _ => add_failure(alloc, ended, refused.stop, out),
+    if ended.is(Status::Usage) {
+        explain_count(ended.line, text)
+    } else if ended.is(Status::Failed) {
+        add_trouble(alloc, kept, ended, reason, text)
+    } else {
+        add_ending(alloc, kept, ended, text)
     }
 }
 
-/// Appends why a file could not be read or written, or a run not be begun.
-fn add_failure(
+/// Appends why a file could not be read or written, or why a trace is invalid.
+fn add_trouble(
     alloc: Global,
-    ended: EndedProcess<'_>,
-    stop: CommandStop,
-    out: &mut Vec<u8>,
+    kept: &SourceCache<'_>,
+    ended: CommandResult<'_, '_, '_>,
+    reason: Option<&Error>,
+    text: &mut Vec<u8>,
 ) -> Result<(), AllocError> {
-    match stop.trouble {
-        CommandFailure::Unread => {
-            explain_unread(alloc, name_at(ended.line, stop.place), ended.reason, out)?;
-            add_unchecked(ended.line, stop.place, out)
-        }
-        CommandFailure::Unprinted => match ended.unprinted {
-            Some(error) => explain_unwritten(alloc, "standard output", error, out),
-            None => Ok(()),
-        },
-        CommandFailure::Untraced => match (trace_of(ended.line), ended.reason) {
-            (Some(trace), Some(error)) => explain_unwritten(alloc, trace, error, out),
-            (Some(trace), None) => explain_same_file(trace, out),
-            (None, _) => Ok(()),
-        },
-        CommandFailure::BadCount => explain_count(ended.line, out),
-        _ => Ok(()),
+    if let Some(name) = kept.unread() {
+        explain_unread(alloc, name, reason, text)?;
+        return add_unchecked(kept, ended.line, text);
     }
-}
-
-/// Returns the name of the input file at this index, or the empty string if there is none.
-fn name_at(line: &Line, place: usize) -> &str {
-    match line {
-        Line::Check { files } => match files.as_slice().get(place) {
-            Some(name) => name.as_str(),
-            None => "",
-        },
-        Line::Mean { file, .. } => file.as_str(),
-        Line::Code { file, .. } => file.as_str(),
-        Line::Run { file, .. } => file.as_str(),
-        Line::Replay { file, trace } => {
-            if place == 0 {
-                file.as_str()
-            } else {
-                trace.as_str()
+    if let Some(error) = ended.unprinted {
+        return explain_unwritten(alloc, "standard output", error, text);
+    }
+    match ended.line {
+        Line::Replay { trace, .. } => match (kept.first(), kept.second()) {
+            (Some((file, script)), Some(events)) => {
+                explain_trace(alloc, trace.as_str(), file, script, events, text)
             }
-        }
-    }
-}
-
-/// Returns the name of the trace of a run, if one is written.
-fn trace_of(line: &Line) -> Option<&str> {
-    match line {
+            _ => Ok(()),
+        },
         Line::Run {
             trace: Some(trace),
             ..
-        } => Some(trace.as_str()),
-        _ => None,
+        } => match reason {
+            Some(error) => explain_unwritten(alloc, trace.as_str(), error, text),
+            None if ended.tail.line()?.is_empty() => Ok(()),
+            None => explain_same_file(trace.as_str(), text),
+        },
+        _ => Ok(()),
     }
 }
 
-/// Appends the explanation of a topic of the first file's script. Its flow is read once more for the names.
-fn explain_script(
+/// Appends the explanation of a command on an accepted script that printed its code, or that ended in a fault, with
+/// blocked statements, or at a limit.
+fn add_ending(
     alloc: Global,
-    ended: EndedProcess<'_>,
-    topic: Topic<'_>,
-    out: &mut Vec<u8>,
+    kept: &SourceCache<'_>,
+    ended: CommandResult<'_, '_, '_>,
+    text: &mut Vec<u8>,
 ) -> Result<(), AllocError> {
-    let Some(text) = ended.text(0) else {
+    let Some((name, script)) = kept.first() else {
         return Ok(());
     };
-    match read(alloc, alloc, text) {
-        Ok(flow) => explain_flow(alloc, ended, topic, text, &flow, out),
-        Err(CompileFault::Memory) => Err(AllocError),
-        Err(_) => Ok(()),
-    }
-}
-
-fn explain_flow(
-    alloc: Global,
-    ended: EndedProcess<'_>,
-    topic: Topic<'_>,
-    text: &[u8],
-    flow: &Flow<Global>,
-    out: &mut Vec<u8>,
-) -> Result<(), AllocError> {
-    let index = ScriptIndex::new(alloc, flow)?;
-    let lines = LineIndex::of(alloc, text)?;
-    let file = name_at(ended.line, 0);
-    match topic {
-        Topic::Meaning(known) => {
-            add_meaning_end(alloc, file, &lines, &index, known, ended.all, out)
-        }
-        Topic::Run(run) => {
-            let Some(board) = &run.board else {
-                return Ok(());
-            };
-            let script = StoppedScript {
-                alloc,
-                file,
-                lines: &lines,
-                index: &index,
-                board,
-            };
-            explain_run(script, ended, run, out)
-        }
-        Topic::Trace(refused) => {
-            let Some(trace) = ended.text(1) else {
-                return Ok(());
-            };
-            let script = TracedScript {
-                alloc,
-                file,
-                lines: &lines,
-                index: &index,
-                name: name_at(ended.line, 1),
-                trace,
-            };
-            add_refused_trace(script, refused, out)
-        }
-    }
-}
-
-/// Appends the explanation of a run or a replay that ended with a fault, with blocked statements, or at its limit.
-fn explain_run(
-    script: StoppedScript<'_, '_>,
-    ended: EndedProcess<'_>,
-    run: &StoppedRun,
-    out: &mut Vec<u8>,
-) -> Result<(), AllocError> {
-    match &run.report.end {
-        End::Fault(fault) => add_fault_end(script, fault, out),
-        End::Quiet => add_blocked_end(script, run.report.blocked.as_slice(), ended.all, out),
-        End::Limit => match ended.line {
-            Line::Replay { .. } => add_limit_of_replay(script, out),
-            _ => add_limit_of_run(script, out),
+    match ended.line {
+        Line::Check { .. } => Ok(()),
+        Line::Code { .. } => match ended.printed_code() {
+            Some(names) => explain_code(alloc, name, script, names, text),
+            None => Ok(()),
         },
+        Line::Mean { rounds, .. } => {
+            explain_meaning(alloc, name, script, *rounds, ended.all, text)
+        }
+        Line::Run { .. } | Line::Replay { .. } => {
+            if ended.is(Status::Limit) {
+                explain_limit(alloc, kept, ended, text)
+            } else if ended.is(Status::Fault) {
+                let events = events_of(kept, ended);
+                explain_fault(alloc, name, script, events, ended.tail.line()?, text)
+            } else {
+                explain_blocked(alloc, name, script, events_of(kept, ended), ended.all, text)
+            }
+        }
+    }
+}
+
+/// Returns a lower bound on the number of events of a run, or the number of lines of the trace in the second file.
+fn events_of(kept: &SourceCache<'_>, ended: CommandResult<'_, '_, '_>) -> usize {
+    match kept.second() {
+        Some(trace) => lines_in(trace),
+        None => ended.reporter.events(),
+    }
+}
+
+fn lines_in(text: &[u8]) -> usize {
+    let mut count: usize = 0;
+    for byte in text {
+        if *byte == b'\n' {
+            count = count.saturating_add(1);
+        }
+    }
+    count
+}
+
+/// Appends the number of items left when a run met its limit, or at the end of the trace in the second file.
+fn explain_limit(
+    alloc: Global,
+    kept: &SourceCache<'_>,
+    ended: CommandResult<'_, '_, '_>,
+    text: &mut Vec<u8>,
+) -> Result<(), AllocError> {
+    let Some((name, script)) = kept.first() else {
+        return Ok(());
+    };
+    let Some(trace) = kept.second() else {
+        return add_limit_of_steps(text, name, ended.reporter.left());
+    };
+    match follow(alloc, script, trace)? {
+        Some(followed) => add_limit_of_trace(text, name, followed.left),
+        None => Ok(()),
     }
 }
