@@ -1,9 +1,9 @@
 -- Plain statements of a list, one after another, and the rows of bits that tell which of them waits for which.
-use Rattle.std.proofs.Common.{◌≡◌, ◌≢◌, ℕ, ◌<◌, ◌≤◌, ◌+◌, List, [], ◌∷◌, ◌++◌, map, drop, length, get_or, refl, ap, sym, subst, ◌∙◌, arith, append_assoc, Option, Some, None, inl, inr}
+use Rattle.std.proofs.Common.{◌≡◌, ◌≢◌, ℕ, ◌<◌, ◌≤◌, ◌+◌, List, [], ◌∷◌, ◌++◌, map, drop, length, get_or, refl, ap, sym, subst, ◌∙◌, arith, append_assoc, Some, inl, inr}
 use Rattle.std.specs.Prelude.{◌⊎◌, Bool, true, false, nat_eq, nat_lt, nat_le, is_some, option_map, slice_get, if◌then◌else◌, ◌&&◌, ◌||◌}
 use Rattle.std.specs.Borrow.{Bor}
 use mathlib.Core.Path.{fun_ext}
-use Rattle.std.proofs.lemmas.Bool.{eqb-true, eqb-false, le-leb, leb-true, lt-ltb, le-ltb, ltb-true, ltb-false, cases_lt}
+use Rattle.std.proofs.lemmas.Bool.{eqb-true, eqb-false, leb-true, lt-ltb, le-ltb, ltb-true, ltb-false, cases_lt}
 use Rattle.std.proofs.lemmas.List.{drop_more, drop_all, append-nil, length-append, length-map, get_or_append_left, get_or_push, get_or_past}
 use Rattle.std.proofs.lemmas.Nat.Bits.{bit_at-zero}
 use Rattle.std.proofs.lemmas.Option.{slice_get_past, slice_get-get_or, slice_get-map}
