@@ -10,4 +10,6 @@ mod option_numbers_tests;
 #[cfg(test)]
 mod pools;
 #[cfg(test)]
+mod visible_text_tests;
+#[cfg(test)]
 mod waiting;
