@@ -134,7 +134,7 @@ fn copies(alloc: Global, texts: &[&str]) -> Result<Vec<Word>, AllocError>
 {
     let mut words = Vec::new(alloc);
     for text in texts {
-        words.push(Word::new(String::from_str(alloc, text)?))?;
+        words.push(Word::new(alloc, String::from_str(alloc, text)?)?)?;
     }
     Ok(words)
 }

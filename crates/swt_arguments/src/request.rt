@@ -132,8 +132,8 @@ fn all_divided(alloc: Global, command: Command, words: &[Word]) -> Result<Vec<Wo
     for word in words {
         match divided(command, word.as_str()) {
             Some((option, value)) => {
-                parts.push(Word::new(String::from_str(alloc, option)?))?;
-                parts.push(Word::new(String::from_str(alloc, value)?))?;
+                parts.push(Word::new(alloc, String::from_str(alloc, option)?)?)?;
+                parts.push(Word::new(alloc, String::from_str(alloc, value)?)?)?;
             }
             None => parts.push(word.copy(alloc)?)?,
         }

@@ -38,7 +38,7 @@ pub fn written(alloc: Global, text: Option<&str>) -> Result<Option<Word>, LineFa
             if is(text, "-") {
                 return Err(LineFault::Usage);
             }
-            Ok(Some(Word::new(String::from_str(alloc, text)?)))
+            Ok(Some(Word::new(alloc, String::from_str(alloc, text)?)?))
         }
     }
 }

@@ -33,7 +33,7 @@ fn as_words(alloc: Global, texts: Vec<String>) -> Result<Vec<Word>, AllocError>
 {
     let mut words = Vec::new(alloc);
     for text in texts {
-        words.push(Word::new(text))?;
+        words.push(Word::new(alloc, text)?)?;
     }
     Ok(words)
 }

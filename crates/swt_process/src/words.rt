@@ -47,7 +47,7 @@ pub fn read_words<H: Host>(host: &mut H, alloc: Global) -> Result<Vec<Word>, Lin
     let mut all = Vec::new(alloc);
     for _count in 0..MOST_WORDS {
         match host.argument() {
-            Ok(Some(word)) => all.push(Word::new(word))?,
+            Ok(Some(word)) => all.push(Word::new(alloc, word)?)?,
             Ok(None) => return Ok(all),
             Err(CommandLineError::NoText) => return Err(LineFault::Usage),
             Err(CommandLineError::Memory) => return Err(LineFault::Memory),

@@ -93,7 +93,7 @@ fn add_status(rt: &impl Abort, alloc: Global, text: &mut String, status: u8) {
 fn words_of(alloc: Global, line: &str) -> Result<Vec<Word>, AllocError> {
     let mut words = Vec::new(alloc);
     for word in line.split(' ') {
-        words.push(Word::new(String::from_str(alloc, word)?))?;
+        words.push(Word::new(alloc, String::from_str(alloc, word)?)?)?;
     }
     Ok(words)
 }

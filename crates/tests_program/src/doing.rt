@@ -18,7 +18,7 @@ use task_code::code::Code;
 pub(crate) fn words_of(alloc: Global, line: &str) -> Result<Vec<Word>, AllocError> {
     let mut words = Vec::new(alloc);
     for word in line.split(' ') {
-        words.push(Word::new(String::from_str(alloc, word)?))?;
+        words.push(Word::new(alloc, String::from_str(alloc, word)?)?)?;
     }
     Ok(words)
 }

@@ -400,7 +400,8 @@ fn files_to_be_read(rt: HostRuntime) {
 
 /// A word is equal to its copy.
 fn is_copied(rt: &impl Abort, alloc: Global, text: &str) {
-    let word = Word::new(String::from_str(alloc, text).expect(rt, "memory"));
+    let text_copy = String::from_str(alloc, text).expect(rt, "memory");
+    let word = Word::new(alloc, text_copy).expect(rt, "memory");
     let copy = word.copy(alloc).expect(rt, "memory");
     is_equal(rt, copy.as_str(), text);
 }
