@@ -7,6 +7,10 @@ use crate::token_context::{TokenContext, next_token};
 use lexer::lexer::Lexer;
 use lexer::token::{Span, Token, TokenKind};
 use std::alloc::{AllocError, Global};
+use visible_text::visible::push_visible;
+
+/// Maximum number of bytes of a character in UTF-8.
+const LONGEST_CHARACTER: usize = 4;
 
 /// Returns a hint about the byte at an offset, which begins no token.
 ///
@@ -70,39 +74,27 @@ fn on_encoding(before: &[u8], byte: u8, rest: &[u8]) -> Option<&'static str> {
     }
 }
 
-/// Returns the hint about a character outside ASCII, or about a byte that is not part of one, or `None` in ASCII.
+/// Returns the hint about a character outside ASCII, which is shown as it is or as its code, or about a byte that is not
+/// part of one. Returns `None` in ASCII.
 fn past_ascii(alloc: Global, byte: u8, rest: &[u8]) -> Result<Option<Vec<u8>>, AllocError> {
     if byte < 128 {
         return Ok(None);
     }
-    let character = first_character(rest);
-    let words = if character.is_empty() {
-        "only ASCII characters are allowed, and this byte is not a character"
-    } else {
-        "only ASCII characters are allowed, also in strings and comments, and this is "
+    let Some(character) = first_character(rest) else {
+        let words = "only ASCII characters are allowed, and this byte is not a character";
+        return Ok(Some(Vec::from_slice(alloc, words.as_bytes())?));
     };
-    let mut out = Vec::from_slice(alloc, words.as_bytes())?;
-    out.extend_from_slice(character)?;
-    Ok(Some(out))
+    let words = "only ASCII characters are allowed, also in strings and comments, and this is ";
+    let mut shown = String::from_str(alloc, words)?;
+    push_visible(&mut shown, character)?;
+    Ok(Some(Vec::from_slice(alloc, shown.as_str().as_bytes())?))
 }
 
-/// Returns the bytes of the UTF-8 character outside ASCII at the beginning of a text, or an empty slice if there is
-/// none.
-fn first_character(text: &[u8]) -> &[u8] {
-    let count = match text.first() {
-        Some(0xC2..=0xDF) => 2,
-        Some(0xE0..=0xEF) => 3,
-        Some(0xF0..=0xF4) => 4,
-        _ => return &[],
-    };
-    if text.len() < count {
-        return &[];
-    }
-    let (character, _) = text.split_at(count);
-    for byte in &character[1..] {
-        if *byte < 0x80 || *byte > 0xBF {
-            return &[];
-        }
-    }
-    character
+/// Returns the first character of a text, or `None` if the bytes at its beginning are not valid UTF-8.
+fn first_character(text: &[u8]) -> Option<char> {
+    let (front, _) = text.split_at(text.len().min(LONGEST_CHARACTER));
+    let mut chunks = front.utf8_chunks();
+    let chunk = chunks.next()?;
+    let mut characters = chunk.valid().chars();
+    characters.next()
 }

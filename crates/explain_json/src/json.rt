@@ -1,5 +1,6 @@
 //! Conversion of a refusal or of warnings to JSON objects, one a line.
 
+use crate::escapes::visible_json;
 use explain_all::mistakes::{Diagnostic, Hint, Mistakes, Note, mistakes_of};
 use explain_text::line_index::LineIndex;
 use explain_text::position::{Position, position_of};
@@ -12,6 +13,8 @@ use std::alloc::{AllocError, Global};
 
 /// Returns the mistakes of a text as JSON objects in the order of the text, each on a line of its own, or `None` if the
 /// text is accepted.
+///
+/// Characters that a terminal would not show as letters or signs are escaped.
 ///
 /// The object has the file, the span, the code and name of the rule, the message, a hint or `null`, and the related
 /// spans.
@@ -62,7 +65,8 @@ fn add_line(
 ) -> Result<(), AllocError> {
     let described = described(alloc, file, text, refusal)?;
     let line = described.to_string(alloc)?;
-    out.extend_from_slice(line.as_bytes())?;
+    let shown = visible_json(alloc, line.as_str())?;
+    out.extend_from_slice(shown.as_bytes())?;
     out.push(b'\n')?;
     Ok(())
 }
@@ -208,7 +212,8 @@ fn warning_line(
     let message = sentence(alloc, lines.text(), warning)?;
     let message = string_of(alloc, message.as_slice())?;
     let described = warning_value(alloc, file, lines, warning, message)?;
-    described.to_string(alloc)
+    let line = described.to_string(alloc)?;
+    visible_json(alloc, line.as_str())
 }
 
 /// Converts a warning to a JSON object.
