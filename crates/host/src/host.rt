@@ -41,8 +41,8 @@ pub trait Host {
         ensures ok { IfOk result (λ word. history self.new ≡ Argument (option_map string_bytes word) ∷ history self.old) }
         ensures err { OnErr result (history self.new ≡ Failed ∷ history self.old) };
 
-    /// Returns the name with links resolved. `None` if there is no such file, or if the machine cannot resolve the
-    /// name.
+    /// Returns the name with links resolved, or the name that a link leads to at which there is no file. `None` if there
+    /// is neither, or if the machine cannot resolve the name.
     ///
     /// # Errors
     ///
@@ -77,8 +77,11 @@ pub trait Host {
         ensures noted { MatchResult result (λ n. history self.new ≡ Got (take n buffer.new) ∷ history self.old)
             (λ _. history self.new ≡ Broken ∷ history self.old) };
 
-    /// Creates a new file and opens it for writing. Fails if the name exists.
-    fn begin(&mut self, name: &str) -> Result<(), HostError>
+    /// Creates a new file that is to take the place of the file `place`, and opens it for writing. It has the mode of
+    /// that file, if there is one.
+    ///
+    /// Fails if the name exists, or if the file `place` is there and may not be written.
+    fn begin(&mut self, name: &str, place: &str) -> Result<(), HostError>
         ensures ok { OnOk result (history self.new ≡ Began name.now ∷ history self.old) }
         ensures err { OnErr result (history self.new ≡ Failed ∷ history self.old) };
 
@@ -93,7 +96,8 @@ pub trait Host {
         ensures noted { MatchResult result (λ n. history self.new ≡ Put (take n piece.now) ∷ history self.old)
             (λ _. history self.new ≡ Failed ∷ history self.old) };
 
-    /// Renames the file `before` to `name`, in place of a file of that name.
+    /// Renames the file `before` to `name`, in place of a file of that name. What was written to the file that is open
+    /// for writing is on its medium before, as far as the machine promises that.
     fn rename(&mut self, before: &str, name: &str) -> Result<(), HostError>
         ensures ok { OnOk result (history self.new ≡ Renamed before.now name.now ∷ history self.old) }
         ensures err { OnErr result (history self.new ≡ Failed ∷ history self.old) };

@@ -5,16 +5,25 @@ use host::identity::Identity;
 use host::{CommandLineError, HostError};
 use std::alloc::{AllocError, Global};
 use std::env::{self, Args};
-use std::fs::{self, File, Metadata, OpenOptions};
+use std::fs::{self, File, Metadata, OpenOptions, Permissions};
 use std::io::{self, ErrorKind, Read, Write};
 use std::os::fd::AsRawFd;
-use std::os::unix::fs::MetadataExt;
+use std::os::unix::fs::{MetadataExt, OpenOptionsExt, PermissionsExt};
 
 /// Name of standard input on a command line.
 const INPUT_WORD: &str = "-";
 
 /// Name of standard input in the file system.
 const INPUT_NAME: &str = "/dev/stdin";
+
+/// Maximum number of links that are followed to a name at which there is no file, as on the system.
+const MAX_LINKS: u8 = 40;
+
+/// The part of a file's mode that says who may read, write and execute it.
+const ACCESS_BITS: u32 = 0o777;
+
+/// The mode of a file that takes the place of no other; the system takes from it what the user has excluded.
+const DEFAULT_MODE: u32 = 0o666;
 
 /// Maximum number of attempts of a call that signals interrupt.
 pub(crate) const TRIES: u8 = 64;
@@ -47,13 +56,45 @@ pub(crate) fn next_word(
     }
 }
 
-/// Returns the name with links resolved, or `None` if it cannot be resolved.
+/// Returns the name with links resolved, or the name that a link leads to at which there is no file. Returns `None` if
+/// there is neither.
 pub(crate) fn led_to(rt: &HostRuntime, name: &str) -> Result<Option<String>, AllocError> {
     match fs::canonicalize(rt, name) {
         Ok(found) => Ok(Some(found.into_string())),
         Err(error) if error.kind() == ErrorKind::OutOfMemory => Err(AllocError),
-        Err(_) => Ok(None),
+        Err(_) => led_nowhere(rt, name),
     }
+}
+
+/// Returns the name at which there is no file and to which the link of this name leads, through further links if need
+/// be. Returns `None` if the name is not that of a link, or if the links lead in a circle.
+fn led_nowhere(rt: &HostRuntime, name: &str) -> Result<Option<String>, AllocError> {
+    let mut reached = None;
+    let mut next = String::from_str(rt.alloc(), name)?;
+    for _ in 0..MAX_LINKS {
+        match fs::read_link(rt, next.as_str()) {
+            Ok(target) => {
+                next = beside(rt, next.as_str(), target.as_str())?;
+                reached = Some(String::from_str(rt.alloc(), next.as_str())?);
+            }
+            Err(error) if error.kind() == ErrorKind::OutOfMemory => return Err(AllocError),
+            Err(_) => return Ok(reached),
+        }
+    }
+    Ok(None)
+}
+
+/// Returns the name that a link means: its target, seen from the folder of the link if it does not begin at the root.
+fn beside(rt: &HostRuntime, link: &str, target: &str) -> Result<String, AllocError> {
+    let mut name = String::new(rt.alloc());
+    if !target.starts_with('/') {
+        if let Some((folder, _)) = link.rsplit_once('/') {
+            name.push_str(folder)?;
+            name.push_str("/")?;
+        }
+    }
+    name.push_str(target)?;
+    Ok(name)
 }
 
 /// Converts file metadata to an identity.
@@ -134,14 +175,54 @@ pub(crate) fn read_some(rt: &HostRuntime, input: &mut Input, buffer: &mut [u8]) 
     Err(ErrorKind::Interrupted.into())
 }
 
-/// Creates a new file and opens it for writing.
-pub(crate) fn begin_file(rt: &HostRuntime, name: &str) -> io::Result<File> {
-    raised(
+/// Returns the mode of the file of this name, or `None` if there is no such file.
+///
+/// The file is opened for writing for that, and is not changed. So a file that may not be written is an error, also one
+/// that the system executes, such as the program itself.
+pub(crate) fn replaced_mode(rt: &HostRuntime, name: &str) -> io::Result<Option<u32>> {
+    match OpenOptions::new().write(true).open(rt, name) {
+        Ok(file) => Ok(Some(file.metadata()?.mode() & ACCESS_BITS)),
+        Err(error) if error.kind() == ErrorKind::NotFound => Ok(None),
+        Err(error) => Err(error),
+    }
+}
+
+/// Creates a new file and opens it for writing. It has this mode, or that of a new file. A file that cannot have the mode
+/// is removed.
+pub(crate) fn begin_file(rt: &HostRuntime, name: &str, mode: Option<u32>) -> io::Result<File> {
+    let file = raised(
         OpenOptions::new()
             .write(true)
             .create_new(true)
+            .mode(mode.unwrap_or(DEFAULT_MODE))
             .open(rt, name)?,
-    )
+    )?;
+    match set_mode(&file, mode) {
+        Ok(()) => Ok(file),
+        Err(error) => {
+            let _ = fs::remove_file(rt, name);
+            Err(error)
+        }
+    }
+}
+
+/// Sets the mode of a file, unless it has it already.
+fn set_mode(file: &File, wanted: Option<u32>) -> io::Result<()> {
+    let Some(mode) = wanted else {
+        return Ok(());
+    };
+    if file.metadata()?.mode() & ACCESS_BITS == mode {
+        return Ok(());
+    }
+    file.set_permissions(Permissions::from_mode(mode))
+}
+
+/// Waits until what was written to the file is on its medium.
+pub(crate) fn sync_file(output: &Option<File>) -> io::Result<()> {
+    match output {
+        Some(file) => file.sync_all(),
+        None => Ok(()),
+    }
 }
 
 /// Truncates an existing file and opens it for writing.

@@ -1,9 +1,9 @@
-//! The operating system as a host. Each method makes one call, then records it with its result.
+//! The operating system as a host. Each method makes its call, then records it with its result.
 ghost use Rattle.std.specs.Prelude.{◌≡◌, []};
 
 use crate::files::{
     Input, begin_file, empty_file, find, input_file, led_to, next_word, open_input, read_some,
-    write_some,
+    replaced_mode, sync_file, write_some,
 };
 use host::identity::Identity;
 use host::record::{
@@ -24,6 +24,8 @@ pub struct System<'r> {
     input: Input,
     output: Option<File>,
     reason: Option<Error>,
+    /// The name of the new file that could not be created, if that was the last failed call.
+    uncreated: Option<String>,
     log: Record,
 }
 
@@ -40,6 +42,7 @@ impl<'r> System<'r> {
             input: Input::Closed,
             output: None,
             reason: None,
+            uncreated: None,
             log: Record::new(),
         }
     }
@@ -47,6 +50,15 @@ impl<'r> System<'r> {
     /// Returns the error of the last failed call that opened, read, created, wrote or renamed a file, if any.
     pub fn reason(&self) -> Option<&Error> {
         self.reason.as_ref()
+    }
+
+    /// Returns the name of the new file that could not be created, if that was the last failed call and memory sufficed
+    /// for the name.
+    pub fn uncreated(&self) -> Option<&str> {
+        match &self.uncreated {
+            Some(name) => Some(name.as_str()),
+            None => None,
+        }
     }
 }
 
@@ -153,8 +165,16 @@ impl Host for System<'_> {
         }
     }
 
-    fn begin(&mut self, name: &str) -> Result<(), HostError> {
-        match begin_file(self.rt, name) {
+    fn begin(&mut self, name: &str, place: &str) -> Result<(), HostError> {
+        let mode = match replaced_mode(self.rt, place) {
+            Ok(mode) => mode,
+            Err(error) => {
+                self.reason = Some(error);
+                self.log.note(&[FAILED], &[]);
+                return Err(HostError);
+            }
+        };
+        match begin_file(self.rt, name, mode) {
             Ok(file) => {
                 self.output = Some(file);
                 self.log.note(&[BEGAN], name.as_bytes());
@@ -162,6 +182,7 @@ impl Host for System<'_> {
             }
             Err(error) => {
                 self.reason = Some(error);
+                self.uncreated = String::from_str(self.rt.alloc(), name).ok();
                 self.log.note(&[FAILED], &[]);
                 Err(HostError)
             }
@@ -198,7 +219,11 @@ impl Host for System<'_> {
     }
 
     fn rename(&mut self, before: &str, name: &str) -> Result<(), HostError> {
-        match fs::rename(self.rt, before, name) {
+        let renamed = match sync_file(&self.output) {
+            Ok(()) => fs::rename(self.rt, before, name),
+            Err(error) => Err(error),
+        };
+        match renamed {
             Ok(()) => {
                 self.log.note_two(before.as_bytes(), name.as_bytes());
                 Ok(())

@@ -10,7 +10,7 @@ ghost use Rattle.swt_process.specs.Reads.{AreRead};
 
 use crate::each::{VerdictObserver, check_files};
 use crate::files::read_files;
-use crate::place::{find_place, name_beside};
+use crate::place::{find_beside, find_place};
 use crate::traced::with_trace;
 use bumpalo::Bump;
 use host::Host;
@@ -67,7 +67,7 @@ fn read<H: Host>(
     let mut known = Vec::new(alloc);
     let files = read_files(host, alloc, &mut known, line, names.as_slice())?;
     let place = find_place(host, alloc, line)?;
-    let beside = name_beside(alloc, place.as_str(), process)?;
+    let beside = find_beside(host, alloc, place.as_str(), process)?;
     Ok(CommandInput {
         files,
         known,

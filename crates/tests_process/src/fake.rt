@@ -310,7 +310,7 @@ impl Host for FakeHost {
         Err(HostError)
     }
 
-    fn begin(&mut self, name: &str) -> Result<(), HostError> {
+    fn begin(&mut self, name: &str, _place: &str) -> Result<(), HostError> {
         if self.is_done() && self.file(name).is_none() {
             if let Ok(file) = self.add(name, &[]) {
                 self.output = Some(file);
