@@ -14,11 +14,13 @@ ghost use Rattle.host_system.specs.Systems.{events_of};
 mod explanations;
 mod non_utf8;
 mod progress;
+mod standard_error;
 
 use crate::explanations::ending::{EndedProcess, explain_end};
 use crate::explanations::verdicts::VerdictReporter;
 use crate::non_utf8::write_foreign;
 use crate::progress::ProgressReporter;
+use crate::standard_error::write_line;
 use host::Stream;
 use host_system::stream::Standard;
 use host_system::system::System;
@@ -125,6 +127,7 @@ fn perform<'r, R: Threads + Wait + Sync>(
             files: files.as_slice(),
             unprinted: out.reason(),
             reason: host.reason(),
+            uncreated: host.uncreated(),
         };
         explain_end(rt, &verdicts, ended);
     }
@@ -171,14 +174,11 @@ fn write_usage(rt: &HostRuntime, words: &[Word]) -> Result<(), AllocError> {
         let _ = eprintln!(rt; "{}", LineFault::Usage);
         return Ok(());
     };
-    match meant(rt.alloc(), &wrong)? {
-        Some(name) => {
-            let _ = eprintln!(rt; "{wrong}: did you mean {name}?");
-        }
-        None => {
-            let _ = eprintln!(rt; "{wrong}");
-        }
-    }
+    let text = match meant(rt.alloc(), &wrong)? {
+        Some(name) => format!(in rt.alloc(); "{wrong}: did you mean {name}?")?,
+        None => format!(in rt.alloc(); "{wrong}")?,
+    };
+    write_line(rt, text.as_str())?;
     if wrong.wants_usage() {
         let _ = eprintln!(rt; "{}", LineFault::Usage);
     }

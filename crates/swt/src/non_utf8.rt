@@ -2,8 +2,8 @@
 
 use std::alloc::AllocError;
 use std::env::{Env, FillError};
-use std::io::Write;
 use std::str;
+use visible_text::visible::visible_bytes;
 
 /// Maximum length of a file name in bytes. Longer words are skipped.
 const MAX_WORD_BYTES: usize = 4096;
@@ -11,7 +11,7 @@ const MAX_WORD_BYTES: usize = 4096;
 /// Bound on the number of words, larger than any command line.
 const MAX_WORDS: usize = 16_777_216;
 
-/// Reports on standard error the first word of the command line that is not valid UTF-8, with its bytes unchanged.
+/// Reports on standard error the first word of the command line that is not valid UTF-8, its other bytes as their codes.
 /// Returns true if there is one.
 pub fn write_foreign(rt: &HostRuntime) -> Result<bool, AllocError> {
     let mut room = vec![in rt.alloc(); 0u8; MAX_WORD_BYTES]?;
@@ -32,12 +32,10 @@ pub fn write_foreign(rt: &HostRuntime) -> Result<bool, AllocError> {
 }
 
 fn write_word(rt: &HostRuntime, word: &[u8]) -> Result<(), AllocError> {
-    let mut line = Vec::from_slice(rt.alloc(), b"swt: ")?;
-    line.extend_from_slice(word)?;
-    line.extend_from_slice(
-        b" is no UTF-8, as each word has to be: a file of such a name is read as standard input, -\n",
-    )?;
+    let shown = visible_bytes(rt.alloc(), word)?;
     // If this cannot be written, the status is enough.
-    let _ = rt.stderr().write_all(line.as_slice());
+    let _ = eprintln!(rt;
+        "swt: {shown} is no UTF-8, as each word has to be: a file of such a name is read as standard input, -"
+    );
     Ok(())
 }

@@ -23,7 +23,7 @@ use Rattle.swt_status.specs.Statuses.{number_of}
 use Rattle.swt_command.specs.declared.end.CommandEnd.{CommandEnd}
 use Rattle.swt_command.specs.declared.end.CommandEnd.TheVariants as End
 use Rattle.swt_command.specs.EndOf.{IsEndOf, ended_as, status_of_end, stop_of}
-use Rattle.swt_command.specs.Files.{Files, HasScript, name_at}
+use Rattle.swt_command.specs.Files.{Files, HasScript, shown_at}
 use Rattle.swt_command.specs.Means.{IsKept}
 use Rattle.swt_command.specs.Owes.{Does, Owes, Says, status_of}
 use Rattle.swt_command.specs.Runs.{Ran, Runs}
@@ -78,7 +78,7 @@ ended_err (End.Replay run) stop h = none_some h
 ended_err (End.RefusedTrace refused) stop h = ap Err (same_stop h)
 ended_err (End.Failed given) stop h = ap Err (same_stop h)
 
-pub says_stop : (line : Line) (end : CommandEnd) (stop : CommandStop) (err new : Held) → stop_of end ≡ Some stop → Given err (trouble_line stop.trouble (name_at (files_of line) stop.place)) new
+pub says_stop : (line : Line) (end : CommandEnd) (stop : CommandStop) (err new : Held) → stop_of end ≡ Some stop → Given err (trouble_line stop.trouble (shown_at (files_of line) stop.place)) new
     → Says line (ended_as end) err new
 says_stop line end stop err new h given = subst (λ (r : Result Status CommandStop). Says line r err new) (sym (ended_err end stop h)) given
 

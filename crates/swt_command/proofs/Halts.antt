@@ -25,7 +25,7 @@ use Rattle.swt_status.specs.Troubles.{trouble_status}
 use Rattle.swt_status.specs.Traces.{StopsAtTrace}
 use Rattle.swt_command.specs.Causes.{HasFailed, IsReplay, IsRun, LacksMemory, PrintedBefore, no_run, no_thread, no_trace, stranger, unprinted, unread, untraced, wrong_end}
 use Rattle.swt_command.specs.Checks.{Judged, StopsBy, check_status}
-use Rattle.swt_command.specs.Files.{Files, HasCode, StopsAt, name_at, source_of}
+use Rattle.swt_command.specs.Files.{Files, HasCode, StopsAt, name_at, shown_at, source_of}
 use Rattle.swt_command.specs.Listings.{StopsListing}
 use Rattle.swt_command.specs.Means.{StopsMean, status_by}
 use Rattle.swt_command.specs.Owes.{Does, Owes, Says, status_of}
@@ -364,7 +364,7 @@ memory_tells line files out out_new err err_new trace trace_new number o e = by 
   where
     by : (done : Result Status CommandStop) → Does line files done out out_new trace trace_new → Says line done err err_new → number_of (status_of done) ≡ 6 → LacksMemory line files out out_new err err_new trace trace_new
     by (Ok status) d s e = let k = over line files status out out_new trace trace_new d in absurd (omega (arith, k.low, e))
-    by (Err stop) d s e = lacks line files out out_new err err_new trace trace_new stop.trouble (name_at (files_of line) stop.place) e s (halted line files stop out out_new trace trace_new d)
+    by (Err stop) d s e = lacks line files out out_new err err_new trace trace_new stop.trouble (shown_at (files_of line) stop.place) e s (halted line files stop out out_new trace trace_new d)
 
 pub failed_tells : (line : Line) (files : Files) (out out_new err err_new trace trace_new : Held) (number : ℕ) → Owes line files out out_new err err_new trace trace_new number → number ≡ 7
     → HasFailed line files out out_new err err_new trace trace_new
@@ -373,7 +373,7 @@ failed_tells line files out out_new err err_new trace trace_new number o e = by 
     by : (done : Result Status CommandStop) → Does line files done out out_new trace trace_new → Says line done err err_new → number_of (status_of done) ≡ 7 → HasFailed line files out out_new err err_new trace trace_new
     by (Ok status) d s e = let k = over line files status out out_new trace trace_new d in absurd (omega (arith, k.low, e))
     by (Err stop) d s e =
-        fails line files out out_new err err_new trace trace_new stop.trouble (name_at (files_of line) stop.place) (reads_some line files stop out out_new trace trace_new d) e s
+        fails line files out out_new err err_new trace trace_new stop.trouble (shown_at (files_of line) stop.place) (reads_some line files stop out out_new trace trace_new d) e s
         (halted line files stop out out_new trace trace_new d)
 
 pub writes_tell : (line : Line) (files : Files) (out out_new err err_new trace trace_new : Held) (number : ℕ) → Owes line files out out_new err err_new trace trace_new number

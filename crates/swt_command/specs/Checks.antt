@@ -10,14 +10,15 @@ use Rattle.swt_status.specs.declared.failure.CommandFailure.{CommandFailure}
 use Rattle.swt_status.specs.declared.failure.CommandFailure.TheVariants as Is
 use Rattle.swt_command.specs.Files.{Files, source_of, name_at}
 use Rattle.swt_command.specs.Sinks.{Held, Kept, Took, Lost}
+use Rattle.visible_text.specs.Visible.{visible}
 
 abbrev pub verdict_text : Verdict → List ℕ
 verdict_text None = codes ": accepted"
 verdict_text (Some r) = codes ": refused " ++ refusal_text r
 
--- `FILE: accepted` or `FILE: refused S1 AssignedTwice 11 12`
+-- `FILE: accepted` or `FILE: refused S1 AssignedTwice 11 12`, with the name of the file as it is shown
 abbrev pub verdict_line : List ℕ → Verdict → List ℕ
-verdict_line file v = text_line (file ++ verdict_text v)
+verdict_line file v = text_line (visible file ++ verdict_text v)
 
 -- a line for each verdict, with the name of its file
 abbrev pub verdict_lines : List (List ℕ) → List Verdict → List ℕ

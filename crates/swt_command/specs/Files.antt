@@ -8,6 +8,7 @@ use Rattle.compile.specs.Compiled.{IsCompiled}
 use Rattle.swt_status.specs.Verdicts.{IsRefusal}
 use Rattle.swt_status.specs.declared.failure.CommandFailure.{CommandFailure}
 use Rattle.swt_status.specs.declared.failure.CommandFailure.TheVariants.{Unread, Refused, Memory}
+use Rattle.visible_text.specs.Visible.{visible}
 
 -- the bytes of each file, or none if it cannot be read
 abbrev pub Files : Type 0
@@ -23,6 +24,10 @@ source_of files place = option_flatten (slice_get files place)
 -- the name at this index, among the names of files
 abbrev pub name_at : List (List ℕ) → ℕ → List ℕ
 name_at names place = unwrap_or (slice_get names place) []
+
+-- the name at this index as it is shown, empty if there is none
+abbrev pub shown_at : List (List ℕ) → ℕ → List ℕ
+shown_at names place = unwrap_or (option_map visible (slice_get names place)) []
 
 -- the file at this index has this script
 abbrev pub HasScript : Files → ℕ → Core → Type 0

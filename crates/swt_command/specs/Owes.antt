@@ -8,7 +8,7 @@ use Rattle.swt_status.specs.Statuses.{number_of}
 use Rattle.swt_status.specs.declared.stop.CommandStop.{CommandStop}
 use Rattle.swt_status.specs.Troubles.{trouble_status}
 use Rattle.swt_command.specs.Checks.{Checks}
-use Rattle.swt_command.specs.Files.{Files, name_at}
+use Rattle.swt_command.specs.Files.{Files, shown_at}
 use Rattle.swt_command.specs.Listings.{Lists}
 use Rattle.swt_command.specs.Means.{Means}
 use Rattle.swt_command.specs.Runs.{Replays, Runs}
@@ -24,10 +24,10 @@ Does (Run file engines workers steps wanted) files done out out_new trace trace_
     Runs files engines workers steps (is_some wanted) done out out_new trace trace_new
 Does (Replay file events) files done out out_new trace trace_new = Replays files done out out_new × Kept trace trace_new
 
--- a command that stops writes its message, with the file at which it stops; any other writes none
+-- a command that stops writes its message, with the file at which it stops, named as it is shown; any other writes none
 abbrev pub Says : Line → Result Status CommandStop → (err err_new : Held) → Type 0
 Says line (Ok status) err err_new = Kept err err_new
-Says line (Err stop) err err_new = Given err (trouble_line stop.trouble (name_at (files_of line) stop.place)) err_new
+Says line (Err stop) err err_new = Given err (trouble_line stop.trouble (shown_at (files_of line) stop.place)) err_new
 
 abbrev pub status_of : Result Status CommandStop → Status
 status_of (Ok status) = status

@@ -9,7 +9,7 @@ use Rattle.swt_status.specs.Names.{refusal_text}
 use Rattle.swt_status.specs.declared.failure.CommandFailure.{CommandFailure}
 use Rattle.swt_status.specs.declared.failure.CommandFailure.TheVariants as Is
 
--- the message of a failure at a file of this name
+-- the message of a failure at a file that is shown by this name
 abbrev pub trouble_line : CommandFailure → List ℕ → List ℕ
 trouble_line Is.Unread file = text_line (codes "swt: cannot read " ++ file)
 trouble_line (Is.Refused r) file = text_line (codes "swt: refused " ++ refusal_text r)

@@ -41,7 +41,7 @@ pub fn check_files<O: Sink>(
 {
     let mut status = Status::Done;
     for place in 0..names.len() {
-        match check_file(alloc, arena, names[place].as_str(), files, place, out) {
+        match check_file(alloc, arena, &names[place], files, place, out) {
             Ok(refusal) => status = after(refusal, status),
             Err(trouble) => return Err(CommandStop { place, trouble }),
         }
@@ -70,7 +70,7 @@ pub fn after(refusal: Option<Refusal>, status: Status) -> Status
 pub fn check_file<O: Sink>(
     alloc: Global,
     arena: &Bump,
-    name: &str,
+    name: &Word,
     files: &[Option<Vec<u8>>],
     place: usize,
     out: &mut O,
@@ -94,9 +94,9 @@ pub fn check_file<O: Sink>(
     }
 }
 
-/// Writes the verdict line of a file.
+/// Writes the verdict line of a file, with its name as it is shown.
 fn write_verdict<O: Sink>(
-    name: &str,
+    name: &Word,
     refusal: Option<Refusal>,
     out: &mut O,
 ) -> Result<(), SinkFault>
@@ -106,7 +106,7 @@ fn write_verdict<O: Sink>(
 {
     write_parts(
         out,
-        name.as_bytes(),
+        name.shown().as_bytes(),
         text_of(refusal).as_str().as_bytes(),
         b"\n",
     )

@@ -3,7 +3,7 @@ ghost use Rattle.std.specs.Prelude.{◌≡◌, ◌<◌, ◌∷◌, []};
 ghost use Rattle.swt_arguments.specs.Lines.{files_of};
 ghost use Rattle.swt_status.specs.Statuses.{number_of};
 ghost use Rattle.swt_command.specs.EndOf.{IsEndOf, ended_as, status_of_end};
-ghost use Rattle.swt_command.specs.Files.{contents, name_at};
+ghost use Rattle.swt_command.specs.Files.{contents, shown_at};
 ghost use Rattle.swt_command.specs.Owes.{Does, Owes, Says};
 ghost use Rattle.swt_command.specs.Sinks.{held};
 
@@ -66,7 +66,7 @@ fn report_stop<E: Sink>(line: &Line, end: &CommandEnd, err: &mut E)
 {
     match end.stop() {
         Some(stop) => {
-            let _ = write_failure(stop.trouble, name_of(line, stop.place), err);
+            let _ = write_failure(stop.trouble, shown_at(line, stop.place), err);
         }
         None => {}
     }
@@ -131,13 +131,13 @@ fn perform<R: Threads + Wait + Sync, G: Gate + RoundObserver, O: Sink, S: Sink>(
     }
 }
 
-/// Returns the name of the input file at this index, or the empty string if there is none.
-fn name_of(line: &Line, place: usize) -> &str
-    ensures { result.now ≡ name_at (files_of line.now) place }
+/// Returns the name of the input file at this index as it is shown, or the empty string if there is none.
+fn shown_at(line: &Line, place: usize) -> &str
+    ensures { result.now ≡ shown_at (files_of line.now) place }
 {
     match line {
         Line::Check { files } => match files.as_slice().get(place) {
-            Some(name) => name.as_str(),
+            Some(name) => name.shown(),
             None => "",
         },
         Line::Mean { file, .. } => first_of(file, place),
@@ -145,7 +145,7 @@ fn name_of(line: &Line, place: usize) -> &str
         Line::Run { file, .. } => first_of(file, place),
         Line::Replay { file, trace } => {
             if place == 0 {
-                file.as_str()
+                file.shown()
             } else {
                 first_of(trace, place - 1)
             }
@@ -153,9 +153,9 @@ fn name_of(line: &Line, place: usize) -> &str
     }
 }
 
-/// Returns the name of the only input file if the index is 0, else the empty string.
+/// Returns the name of the only input file as it is shown if the index is 0, else the empty string.
 fn first_of(file: &Word, place: usize) -> &str
-    ensures { result.now ≡ name_at (file.now ∷ []) place }
+    ensures { result.now ≡ shown_at (file.now ∷ []) place }
 {
-    if place == 0 { file.as_str() } else { "" }
+    if place == 0 { file.shown() } else { "" }
 }

@@ -8,7 +8,7 @@ use itoa::Buffer;
 use swt_status::failure::CommandFailure;
 use values::sink::{Sink, SinkFault};
 
-/// Writes the error message for a failure. `file` is the name of the file at which the command stopped.
+/// Writes the error message for a failure. `file` is the name of the file at which the command stopped, as it is shown.
 ///
 /// # Errors
 ///

@@ -4,7 +4,7 @@ ghost use Rattle.host.specs.Events.{asked, changes, inputs, links, reads};
 ghost use Rattle.swt_arguments.specs.declared.line.Line.TheVariants.{Check};
 ghost use Rattle.swt_command.specs.EndOf.{status_of_end};
 ghost use Rattle.swt_status.specs.Statuses.{number_of};
-ghost use Rattle.swt_command.specs.Files.{Files, name_at};
+ghost use Rattle.swt_command.specs.Files.{Files, shown_at};
 ghost use Rattle.swt_command.specs.Sinks.{Held, Kept, held};
 ghost use Rattle.swt_process.specs.Each.{ChecksEach, IsChecked};
 ghost use Rattle.swt_process.specs.Ends.{IsProcessEnd, Ran};
@@ -30,7 +30,7 @@ use values::sink::Sink;
 /// Receives the verdict of each file of `check`, after its line is written and before the next file is read.
 pub trait VerdictObserver {
     /// Receives a file with its verdict: its refusal, or `None` if it is accepted.
-    fn judge(&mut self, _name: &str, _text: &[u8], _refusal: Option<Refusal>) {}
+    fn judge(&mut self, _name: &Word, _text: &[u8], _refusal: Option<Refusal>) {}
 }
 
 /// An observer that ignores all verdicts.
@@ -101,7 +101,7 @@ pub fn check_all<H: Host, V: VerdictObserver, O: Sink, E: Sink>(
             CommandEnd::Checked(status),
         ),
         Err(stop) => {
-            let _ = write_failure(stop.trouble, name_at(names, stop.place), err);
+            let _ = write_failure(stop.trouble, shown_at(names, stop.place), err);
             (stop.trouble.status().number(), CommandEnd::Failed(stop))
         }
     }
@@ -122,12 +122,12 @@ fn conclude<E: Sink>(number: u8, warnings: WarningState, err: &mut E) -> u8
     }
 }
 
-/// Returns the file name at this index, or the empty string if there is none.
-fn name_at(names: &[Word], place: usize) -> &str
-    ensures { result.now ≡ name_at names.now place }
+/// Returns the file name at this index as it is shown, or the empty string if there is none.
+fn shown_at(names: &[Word], place: usize) -> &str
+    ensures { result.now ≡ shown_at names.now place }
 {
     match names.get(place) {
-        Some(name) => name.as_str(),
+        Some(name) => name.shown(),
         None => "",
     }
 }
@@ -164,7 +164,7 @@ fn check_each<H: Host, V: VerdictObserver, O: Sink>(
             host,
             alloc,
             &mut known,
-            names[place].as_str(),
+            &names[place],
             warnings,
             observer,
             out,
@@ -189,7 +189,7 @@ fn check_next<H: Host, V: VerdictObserver, O: Sink>(
     host: &mut H,
     alloc: Global,
     known: &mut Vec<Identity>,
-    name: &str,
+    name: &Word,
     warnings: &mut WarningState,
     observer: &mut V,
     out: &mut O,
@@ -204,7 +204,7 @@ fn check_next<H: Host, V: VerdictObserver, O: Sink>(
     ensures links { links (H.history host.new) ≡ links (H.history host.old) }
     ensures changes { changes (H.history host.new) ≡ changes (H.history host.old) }
 {
-    let file = match read_file(host, alloc, known, name, MAX_SOURCE) {
+    let file = match read_file(host, alloc, known, name.as_str(), MAX_SOURCE) {
         Ok(file) => file,
         Err(AllocError) => return Err(CommandFailure::Memory),
     };

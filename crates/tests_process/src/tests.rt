@@ -108,7 +108,7 @@ fn prints_and_traces(rt: HostRuntime) -> Result<(), LineFault> {
     assert_eq!(rt; came.out.bytes(), b"3\n".as_slice());
     assert_eq!(rt; came.err.bytes(), b"".as_slice());
     assert!(rt; came.fake.begins("t", b"swt-trace "));
-    assert!(rt; came.fake.bytes("t.7.part").is_none());
+    assert!(rt; came.fake.bytes("swt.7.part").is_none());
     Ok(())
 }
 
@@ -153,6 +153,36 @@ fn traces_through_a_link(rt: HostRuntime) -> Result<(), LineFault> {
     let came = came_of(&rt, alloc, fake)?;
     assert_eq!(rt; came.status, 0);
     assert!(rt; came.fake.begins("far", b"swt-trace "));
+    Ok(())
+}
+
+/// A file that an earlier process of this number has left beside the place stays, and the trace takes another name.
+#[test]
+fn leaves_what_is_beside(rt: HostRuntime) -> Result<(), LineFault> {
+    let alloc = rt.alloc();
+    let mut fake = machine(alloc, 100, 0, &TRACED)?;
+    fake.add("s", SCRIPT)?;
+    fake.add("swt.7.part", b"left")?;
+    let came = came_of(&rt, alloc, fake)?;
+    assert_eq!(rt; came.status, 0);
+    assert!(rt; came.fake.begins("t", b"swt-trace "));
+    assert_eq!(rt; came.fake.bytes("swt.7.part"), Some(b"left".as_slice()));
+    Ok(())
+}
+
+/// A name cannot make a line of its own, nor command a terminal.
+#[test]
+fn shows_names(rt: HostRuntime) -> Result<(), LineFault> {
+    let alloc = rt.alloc();
+    let mut fake = machine(alloc, 100, 0, &["check", "s\nt", "lost\u{1b}\u{9b}"])?;
+    fake.add("s\nt", SCRIPT)?;
+    let came = came_of(&rt, alloc, fake)?;
+    assert_eq!(rt; came.status, 7);
+    assert_eq!(rt; came.out.bytes(), b"s\\x0at: accepted\n".as_slice());
+    assert_eq!(rt;
+        came.err.bytes(),
+        b"swt: cannot read lost\\x1bU+009B\n".as_slice()
+    );
     Ok(())
 }
 

@@ -2,9 +2,10 @@
 
 use crate::explanations::code::explain_code;
 use crate::explanations::failures::{
-    explain_count, explain_same_file, explain_unread, explain_unwritten,
+    explain_count, explain_same_file, explain_unread, explain_untraced, explain_unwritten,
 };
 use crate::explanations::verdicts::VerdictReporter;
+use crate::standard_error::write_lines;
 use compile::compile::read;
 use compile::fault::CompileFault;
 use explain_ends::blocked::add_blocked_end;
@@ -18,8 +19,9 @@ use explain_text::line_index::LineIndex;
 use explain_text::words::write_str;
 use flow::script::Flow;
 use std::alloc::{AllocError, Global};
-use std::io::{Error, Write};
+use std::io::Error;
 use swt_arguments::line::Line;
+use swt_arguments::word::Word;
 use swt_command::end::{CommandEnd, End, StoppedRun};
 use swt_status::failure::CommandFailure;
 use swt_status::stop::CommandStop;
@@ -35,6 +37,8 @@ pub struct EndedProcess<'e> {
     pub files: &'e [Option<Vec<u8>>],
     pub unprinted: Option<&'e Error>,
     pub reason: Option<&'e Error>,
+    /// The name of the new file that could not be created, if that was the last failed call on a file.
+    pub uncreated: Option<&'e str>,
 }
 
 /// What is explained of a script: the facts of its meaning, a run or a replay, or a refused trace.
@@ -78,7 +82,7 @@ fn write_end(
     ) = ended.end.stop()
     {
         return match ended.text(0) {
-            Some(text) => verdicts.report_mistakes(name_at(ended.line, 0), text),
+            Some(text) => report_first(verdicts, ended.line, text),
             None => Ok(()),
         };
     }
@@ -91,9 +95,19 @@ fn write_end(
     }
     let mut text = Vec::new(rt.alloc());
     add_end(rt.alloc(), ended, &mut text)?;
-    // If this cannot be written, the status is enough.
-    let _ = rt.stderr().write_all(text.as_slice());
-    Ok(())
+    write_lines(rt, text.as_slice())
+}
+
+/// Reports the mistakes of the text of the first input file.
+fn report_first(
+    verdicts: &VerdictReporter<'_>,
+    line: &Line,
+    text: &[u8],
+) -> Result<(), AllocError> {
+    match file_at(line, 0) {
+        Some(name) => verdicts.report_mistakes(name, text),
+        None => Ok(()),
+    }
 }
 
 /// Reports how many of the files of a check are accepted, if there are two or more.
@@ -117,7 +131,7 @@ fn add_unchecked(line: &Line, stopped: usize, out: &mut Vec<u8>) -> Result<(), A
     let mut place: usize = 0;
     for file in files.as_slice() {
         if place > stopped {
-            add_name(out, place - 1 == stopped, file.as_str())?;
+            add_name(out, place - 1 == stopped, file.shown())?;
         }
         place = place.saturating_add(1);
     }
@@ -166,7 +180,7 @@ fn add_end(alloc: Global, ended: EndedProcess<'_>, out: &mut Vec<u8>) -> Result<
 fn add_code(alloc: Global, ended: EndedProcess<'_>, out: &mut Vec<u8>) -> Result<(), AllocError> {
     match (ended.line, ended.text(0)) {
         (Line::Code { file, form, .. }, Some(text)) => {
-            explain_code(alloc, file.as_str(), text, *form, out)
+            explain_code(alloc, file.shown(), text, *form, out)
         }
         _ => Ok(()),
     }
@@ -212,7 +226,9 @@ fn add_failure(
             None => Ok(()),
         },
         CommandFailure::Untraced => match (trace_of(ended.line), ended.reason) {
-            (Some(trace), Some(error)) => explain_unwritten(alloc, trace, error, out),
+            (Some(trace), Some(error)) => {
+                explain_untraced(alloc, ended.uncreated.unwrap_or(trace), error, out)
+            }
             (Some(trace), None) => explain_same_file(trace, out),
             (None, _) => Ok(()),
         },
@@ -221,33 +237,32 @@ fn add_failure(
     }
 }
 
-/// Returns the name of the input file at this index, or the empty string if there is none.
+/// Returns the name of the input file at this index as it is shown, or the empty string if there is none.
 fn name_at(line: &Line, place: usize) -> &str {
-    match line {
-        Line::Check { files } => match files.as_slice().get(place) {
-            Some(name) => name.as_str(),
-            None => "",
-        },
-        Line::Mean { file, .. } => file.as_str(),
-        Line::Code { file, .. } => file.as_str(),
-        Line::Run { file, .. } => file.as_str(),
-        Line::Replay { file, trace } => {
-            if place == 0 {
-                file.as_str()
-            } else {
-                trace.as_str()
-            }
-        }
+    match file_at(line, place) {
+        Some(name) => name.shown(),
+        None => "",
     }
 }
 
-/// Returns the name of the trace of a run, if one is written.
+/// Returns the input file at this index, or `None` if there is none.
+fn file_at(line: &Line, place: usize) -> Option<&Word> {
+    match line {
+        Line::Check { files } => files.as_slice().get(place),
+        Line::Mean { file, .. } => Some(file),
+        Line::Code { file, .. } => Some(file),
+        Line::Run { file, .. } => Some(file),
+        Line::Replay { file, trace } => Some(if place == 0 { file } else { trace }),
+    }
+}
+
+/// Returns the name of the trace of a run as it is shown, if one is written.
 fn trace_of(line: &Line) -> Option<&str> {
     match line {
         Line::Run {
             trace: Some(trace),
             ..
-        } => Some(trace.as_str()),
+        } => Some(trace.shown()),
         _ => None,
     }
 }

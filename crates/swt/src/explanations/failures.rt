@@ -5,6 +5,7 @@ use explain_text::words::write_str;
 use std::alloc::{AllocError, Global};
 use std::io::Error;
 use swt_arguments::line::Line;
+use visible_text::visible::visible;
 
 /// Appends `FILE: cannot read: ` and the system's reason, if there is one.
 pub fn explain_unread(
@@ -27,6 +28,18 @@ pub fn explain_unwritten(
     out: &mut Vec<u8>,
 ) -> Result<(), AllocError> {
     add_reason(alloc, name, ": W1 Write: ", error, out)
+}
+
+/// Appends why a trace could not be written. `name` is that of the file that the system has refused: the trace, or the
+/// new file beside it.
+pub fn explain_untraced(
+    alloc: Global,
+    name: &str,
+    error: &Error,
+    out: &mut Vec<u8>,
+) -> Result<(), AllocError> {
+    let shown = visible(alloc, name)?;
+    explain_unwritten(alloc, shown.as_str(), error, out)
 }
 
 fn add_reason(

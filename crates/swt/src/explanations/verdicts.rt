@@ -1,11 +1,12 @@
 //! Refusals and warnings of texts on standard error.
 
+use crate::standard_error::write_lines;
 use explain_all::explain::all_explained;
 use explain_json::json::{json_lines, warning_lines};
 use explain_warnings::render;
 use std::alloc::AllocError;
-use std::io::Write;
 use swt_arguments::request::Request;
+use swt_arguments::word::Word;
 use swt_process::each::VerdictObserver;
 use swt_status::refusal::Refusal;
 
@@ -58,40 +59,37 @@ impl<'r> VerdictReporter<'r> {
     /// # Errors
     ///
     /// Returns `AllocError` if an allocation fails.
-    pub fn report_mistakes(&self, name: &str, text: &[u8]) -> Result<(), AllocError> {
+    pub fn report_mistakes(&self, name: &Word, text: &[u8]) -> Result<(), AllocError> {
         let alloc = self.rt.alloc();
         let mistakes = if self.json {
-            json_lines(alloc, name, text)?
+            json_lines(alloc, name.as_str(), text)?
         } else if self.explain {
-            all_explained(alloc, name, text)?
+            all_explained(alloc, name.shown(), text)?
         } else {
             None
         };
-        if let Some(mistakes) = mistakes {
-            // If this cannot be written, the status is enough.
-            let _ = self.rt.stderr().write_all(mistakes.as_slice());
+        match mistakes {
+            Some(mistakes) => write_lines(self.rt, mistakes.as_slice()),
+            None => Ok(()),
         }
-        Ok(())
     }
 
     /// Reports the warnings of an accepted text, if refusals are explained or warnings are denied.
-    fn report_warnings(&self, name: &str, text: &[u8]) -> Result<(), AllocError> {
+    fn report_warnings(&self, name: &Word, text: &[u8]) -> Result<(), AllocError> {
         let alloc = self.rt.alloc();
         let warnings = if self.json {
-            warning_lines(alloc, name, text)?
+            warning_lines(alloc, name.as_str(), text)?
         } else if self.explain || self.deny {
-            render::explained(alloc, name, text)?
+            render::explained(alloc, name.shown(), text)?
         } else {
             return Ok(());
         };
-        // If this cannot be written, the status is enough.
-        let _ = self.rt.stderr().write_all(warnings.as_slice());
-        Ok(())
+        write_lines(self.rt, warnings.as_slice())
     }
 }
 
 impl VerdictObserver for VerdictReporter<'_> {
-    fn judge(&mut self, name: &str, text: &[u8], refusal: Option<Refusal>) {
+    fn judge(&mut self, name: &Word, text: &[u8], refusal: Option<Refusal>) {
         let reported = match refusal {
             Some(_) => self.report_mistakes(name, text),
             None => {

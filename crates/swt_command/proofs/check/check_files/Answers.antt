@@ -17,8 +17,8 @@ returns-in-Err g c =
     let files : Files = contents c.args.files.now in
     let mid : Held = held (g.O.Sink.taken c.loop-place.out) (g.O.Sink.failures c.loop-place.out) in
     let new : Held = held (g.O.Sink.taken c.check_file.new.out) (g.O.Sink.failures c.check_file.new.out) in
-    let name : c.as_str.result.now ≡ name_at c.args.names.now c.loop-place.place =
-    c.as_str.ensures ∙ c.index-names-place.is ∙ name_here c.args.names.now c.loop-place.place c.index-names-place.result c.loop-place-test.true in
+    let name : c.index-names-place.result ≡ name_at c.args.names.now c.loop-place.place =
+    c.index-names-place.is ∙ name_here c.args.names.now c.loop-place.place c.index-names-place.result c.loop-place-test.true in
     at_stop c.args.names.now files c.loop-place.place c.loop-place.status c.in-Err.trouble (held (g.O.Sink.taken c.args.out.now) (g.O.Sink.failures c.args.out.now)) mid new
     c.loop-place.invariant.so_far c.loop-place-test.true (subst (λ (n : List ℕ). StopsBy n (source_of files c.loop-place.place) c.in-Err.trouble mid new) name c.in-Err.ensures)
 
@@ -27,8 +27,8 @@ loop-place-preserved g c =
     let files : Files = contents c.args.files.now in
     let mid : Held = held (g.O.Sink.taken c.loop-place.out) (g.O.Sink.failures c.loop-place.out) in
     let new : Held = held (g.O.Sink.taken c.check_file.new.out) (g.O.Sink.failures c.check_file.new.out) in
-    let name : c.as_str.result.now ≡ name_at c.args.names.now c.loop-place.place =
-    c.as_str.ensures ∙ c.index-names-place.is ∙ name_here c.args.names.now c.loop-place.place c.index-names-place.result c.loop-place-test.true in
+    let name : c.index-names-place.result ≡ name_at c.args.names.now c.loop-place.place =
+    c.index-names-place.is ∙ name_here c.args.names.now c.loop-place.place c.index-names-place.result c.loop-place-test.true in
     let said : IsSaid (name_at c.args.names.now c.loop-place.place) files c.loop-place.place c.in-Ok.refusal mid new =
     subst (λ (n : List ℕ). IsSaid n files c.loop-place.place c.in-Ok.refusal mid new) name c.in-Ok.ensures in
     let s : SoFar c.args.names.now files (c.loop-place.place + 1) (after c.in-Ok.refusal c.loop-place.status) (held (g.O.Sink.taken c.args.out.now) (g.O.Sink.failures c.args.out.now)) new =

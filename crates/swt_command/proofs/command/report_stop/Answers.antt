@@ -11,7 +11,7 @@ returns-in-Some g c =
     let new : Held = held (g.E.Sink.taken c.write_failure.new.err) (g.E.Sink.failures c.write_failure.new.err) in
     let stop = c.in-Some.stop in
     says_stop c.args.line.now c.args.end.now stop old new (sym c.stop.ensures ∙ c.in-Some.is)
-    (subst (λ (name : List ℕ). Given old (trouble_line stop.trouble name) new) c.name_of.ensures (given c.write_failure.result old new (trouble_line stop.trouble c.name_of.result.now) c.write_failure.ensures))
+    (subst (λ (name : List ℕ). Given old (trouble_line stop.trouble name) new) c.shown_at.ensures (given c.write_failure.result old new (trouble_line stop.trouble c.shown_at.result.now) c.write_failure.ensures))
 
 pub returns-in-None : goal.returns-in-None
 returns-in-None g c =

@@ -32,7 +32,7 @@ returns-in-Err-clause-ran g c =
     let stop = c.in-Err.stop in
     let h = g.H.Host.history c.check_each.new.host in
     let says : Says (Check c.args.names.now) (Err stop) old new =
-    subst (λ (name : List ℕ). Given old (trouble_line stop.trouble name) new) c.name_at.ensures (given c.write_failure.result old new (trouble_line stop.trouble c.name_at.result.now) c.write_failure.ensures) in
+    subst (λ (name : List ℕ). Given old (trouble_line stop.trouble name) new) c.shown_at.ensures (given c.write_failure.result old new (trouble_line stop.trouble c.shown_at.result.now) c.write_failure.ensures) in
     let number : c.number-in-Err.result ≡ number_of (trouble_status stop.trouble) = c.number-in-Err.ensures ∙ ap number_of c.status.ensures in (
       new,
       check_ran c.args.names.now h (Err stop) (held (g.O.Sink.taken c.args.out.now) (g.O.Sink.failures c.args.out.now))
