@@ -5,26 +5,32 @@ use Rattle.swt_arguments.specs.declared.line.Line.{Line}
 use Rattle.swt_arguments.specs.declared.line.Line.TheVariants.{Check, Mean, Code, Run, Replay}
 use Rattle.swt_arguments.specs.Lines.{files_of}
 use Rattle.swt_command.specs.Files.{Files, name_at}
+use Rattle.swt_status.specs.Traces.{LacksFirstLineEver}
 pub use Rattle.values.specs.Limits.{max_source}
-
--- maximum size in bytes of the file at this index: that of a script, or for a trace all that memory can hold
-abbrev pub most_at : Line → ℕ → ℕ
-most_at (Check names) place = max_source
-most_at (Mean file rounds) place = max_source
-most_at (Code file form) place = max_source
-most_at (Run file engines workers steps wanted) place = max_source
-most_at (Replay file trace) zero = max_source
-most_at (Replay file trace) (suc place) = 18446744073709551614
 
 -- enough of a file is read: all to its end, or one byte more than its maximum size
 abbrev pub IsEnough : (most : ℕ) → (bytes : Option (List ℕ)) → (ended : Bool) → Type 0
 IsEnough most None ended = Unit {0}
 IsEnough most (Some bytes) ended = (length bytes ≤ most + 1) × ((most < length bytes) ⊎ IsTrue ended)
 
+-- enough of a trace is read: all to its end, or so much that it is no trace whatever follows
+abbrev pub IsEnoughOfTrace : (bytes : Option (List ℕ)) → (ended : Bool) → Type 0
+IsEnoughOfTrace None ended = Unit {0}
+IsEnoughOfTrace (Some bytes) ended = LacksFirstLineEver bytes ⊎ IsTrue ended
+
+-- enough of the file at this index is read: of the second file of a replay as of a trace, of each other as of a script
+abbrev pub IsEnoughAt : Line → (place : ℕ) → (bytes : Option (List ℕ)) → (ended : Bool) → Type 0
+IsEnoughAt (Check names) place bytes ended = IsEnough max_source bytes ended
+IsEnoughAt (Mean file rounds) place bytes ended = IsEnough max_source bytes ended
+IsEnoughAt (Code file form) place bytes ended = IsEnough max_source bytes ended
+IsEnoughAt (Run file engines workers steps wanted) place bytes ended = IsEnough max_source bytes ended
+IsEnoughAt (Replay file trace) zero bytes ended = IsEnough max_source bytes ended
+IsEnoughAt (Replay file trace) (suc place) bytes ended = IsEnoughOfTrace bytes ended
+
 -- enough was read of each file, beginning with the file at this index
 abbrev pub AreEnough : Line → ℕ → List Read → Type 0
 AreEnough line place [] = Unit {0}
-AreEnough line place (r ∷ rs) = IsEnough (most_at line place) r.bytes r.ended × AreEnough line (suc place) rs
+AreEnough line place (r ∷ rs) = IsEnoughAt line place r.bytes r.ended × AreEnough line (suc place) rs
 
 -- each name was opened once, in order, and these are its bytes
 pub record AreRead (line : Line) (names : List (List ℕ)) (files : Files) (rs : List Read) : Type 0 where

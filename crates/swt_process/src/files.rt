@@ -1,32 +1,68 @@
 //! Reading of the input files of a line.
-ghost use Rattle.std.specs.Prelude.{◌≡◌, ◌<◌, [], reverse, IfOk, OnOk};
-ghost use Rattle.host.specs.Events.{asked, changes, inputs, links, reads};
+ghost use Rattle.std.specs.Prelude.{◌≡◌, ◌∷◌, [], reverse, IfOk, OnOk};
+ghost use Rattle.host.specs.Events.{asked, changes, ends, inputs, links, reads};
+ghost use Rattle.host.specs.Files.{bytes_of};
 ghost use Rattle.swt_command.specs.Files.{contents};
-ghost use Rattle.swt_process.specs.Reads.{AreRead, most_at};
+ghost use Rattle.swt_process.specs.Reads.{AreRead, IsEnoughAt};
 
 use host::Host;
 use host::identity::Identity;
-use host::reading::read_file;
+use host::reading::{FileJudge, read_file, read_until};
 use std::alloc::{AllocError, Global};
 use swt_arguments::line::Line;
 use swt_arguments::word::Word;
+use swt_status::trace::lacks_first_line;
 use values::limits::MAX_SOURCE;
 
-/// Returns the maximum size in bytes of the input file at this index. One byte more is read, so that a larger file is
-/// detected.
-fn most_at(line: &Line, place: usize) -> usize
-    ensures most { result ≡ most_at line.now place }
-    ensures within { result < u64.MAX }
+/// Decides that a file is no trace, whatever follows what was read.
+#[derive(Clone, Copy, Debug, Drop)]
+struct TraceJudge;
+
+impl FileJudge for TraceJudge {
+    ghost use Rattle.swt_status.specs.Traces.{LacksFirstLineEver};
+
+    ghost decides = { λ bytes. LacksFirstLineEver bytes };
+
+    fn is_decided(&self, bytes: &[u8]) -> bool {
+        lacks_first_line(bytes)
+    }
+}
+
+/// Reads the input file at this index: a script up to its maximum size and one byte more, so that a larger file is
+/// detected, and a trace until it is seen not to begin as one. Returns `None` if the file cannot be read.
+///
+/// # Errors
+///
+/// Returns `AllocError` if an allocation fails.
+#[tactic(auto, using(crate::proofs::Reading::enough_of, crate::proofs::Reading::enough_of_trace))]
+fn read_input<H: Host>(
+    host: &mut H,
+    alloc: Global,
+    known: &mut Vec<Identity>,
+    line: &Line,
+    place: usize,
+    name: &str,
+) -> Result<Option<Vec<u8>>, AllocError>
+    requires known { known.old.items ≡ inputs (H.history host.old) }
+    ensures read { IfOk result (λ file. reads (H.history host.new)
+        ≡ record { name = name.now; bytes = bytes_of file; ended = ends (H.history host.new) } ∷ reads (H.history host.old)) }
+    ensures enough { IfOk result (λ file. IsEnoughAt line.now place (bytes_of file) (ends (H.history host.new))) }
+    ensures known { OnOk result (known.new.items ≡ inputs (H.history host.new)) }
+    ensures asked { asked (H.history host.new) ≡ asked (H.history host.old) }
+    ensures links { links (H.history host.new) ≡ links (H.history host.old) }
+    ensures changes { changes (H.history host.new) ≡ changes (H.history host.old) }
 {
     match line {
         Line::Replay { .. } => {
             if place == 0 {
-                MAX_SOURCE
+                read_file(host, alloc, known, name, MAX_SOURCE)
             } else {
-                usize::MAX - 1
+                read_until(host, alloc, known, &TraceJudge, name)
             }
         }
-        _ => MAX_SOURCE,
+        Line::Check { .. } | Line::Mean { .. } | Line::Code { .. } | Line::Run { .. } => {
+            read_file(host, alloc, known, name, MAX_SOURCE)
+        }
     }
 }
 
@@ -54,8 +90,7 @@ pub fn read_files<H: Host>(
 {
     let mut files = Vec::new(alloc);
     for place in 0..names.len() {
-        let most = most_at(line, place);
-        let file = read_file(host, alloc, known, names[place].as_str(), most)?;
+        let file = read_input(host, alloc, known, line, place, names[place].as_str())?;
         files.push(file)?;
     }
     Ok(files)

@@ -5,6 +5,7 @@ use Rattle.swt_trace.specs.Replay.{IsFirstNoStep, IsWrongEnd}
 use Rattle.swt_trace.specs.Trace.{IsFirstBad}
 use Rattle.swt_trace.specs.declared.fault.ReplayFault.{ReplayFault}
 use Rattle.swt_trace.specs.declared.fault.ReplayFault.TheVariants as Replay
+pub use Rattle.swt_trace.specs.Trace.{LacksFirstLineEver}
 use Rattle.swt_status.specs.declared.failure.CommandFailure.{CommandFailure}
 use Rattle.swt_status.specs.declared.failure.CommandFailure.TheVariants as Is
 

@@ -12,6 +12,7 @@ use board_runs::report::Report;
 use board_runs::stopped::StoppedRun;
 use std::alloc::Global;
 use swt_trace::fault::ReplayFault;
+pub use swt_trace::read::lacks_first_line;
 use swt_trace::replay::replay_to_stop;
 use task_code::code::Code;
 use task_code::event::Event;

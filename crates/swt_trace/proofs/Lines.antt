@@ -10,7 +10,7 @@ use Rattle.swt_trace.specs.declared.fault.TraceError.TheVariants.{BadLine, Memor
 use Rattle.swt_trace.specs.declared.ending.Ending.{Ending}
 use Rattle.swt_trace.specs.declared.ending.Ending.TheVariants.{Quiet, Fault, Limit}
 use Rattle.swt_trace.specs.Trace.{Version, plain, ended, letter, worker_of, item_of, ending_letter, first_line, event_line, event_lines, ending_line, version_of, last_line, TraceText, max_events}
-use Rattle.swt_trace.specs.Trace.{IsInRange, IsLineThen, AreLinesThen, BeginsTrace, IsTrace, LacksLine, LacksFirstLine, LacksLast, LeavesBehind, LeavesMore, IsFirstBad}
+use Rattle.swt_trace.specs.Trace.{IsInRange, IsLineThen, AreLinesThen, BeginsTrace, IsTrace, LacksLine, LacksFirstLine, LacksFirstLineEver, LacksLast, LeavesBehind, LeavesMore, IsFirstBad}
 use Rattle.swt_trace.proofs.Numbers.{written_decimal, decimal_written, same_number}
 
 -- the events of a list that are in range, one by one
@@ -306,3 +306,15 @@ no_first_line bytes p q n e = inl (sym (number_named 1 n e), neither bytes p q)
 -- all bytes behind two
 pub behind_two : (bs : List ℕ) → 2 ≤ length bs → take (length bs - 2) (drop 2 bs) ≡ drop 2 bs
 behind_two bs l = grind (arith, common_steps)
+
+-- what twelve bytes more begin with, so many bytes begin with already
+front : (bytes : List ℕ) → 12 ≤ length bytes → (start : List ℕ) → length start ≡ 12 → (more behind : List ℕ) → bytes ++ more ≡ start ++ behind → bytes ≡ start ++ drop 12 bytes
+front bytes enough start long more behind e =
+    let one : take 12 (bytes ++ more) ≡ take 12 bytes = take-append-le bytes more 12 enough in
+    let other : take 12 (start ++ behind) ≡ start = take_at start behind 12 (sym long) in
+    sym (take-append-drop 12 bytes) ∙ ap (λ (xs : List ℕ). xs ++ drop 12 bytes) (sym one ∙ ap (take 12) e ∙ other)
+
+-- enough bytes that are no first line are none whatever follows
+pub no_first_line_ever : (bytes : List ℕ) → 12 ≤ length bytes → ((behind : List ℕ) → bytes ≢ first_line plain ++ behind) → ((behind : List ℕ) → bytes ≢ first_line ended ++ behind) → LacksFirstLineEver bytes
+no_first_line_ever bytes enough not_plain not_ended more plain behind e = not_plain (drop 12 bytes) (front bytes enough (first_line plain) refl more behind e)
+no_first_line_ever bytes enough not_plain not_ended more ended behind e = not_ended (drop 12 bytes) (front bytes enough (first_line ended) refl more behind e)

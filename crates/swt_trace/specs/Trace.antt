@@ -110,6 +110,10 @@ IsTrace bytes es e = BeginsTrace (version_of e) bytes es (last_line e)
 abbrev pub LacksFirstLine : List ℕ → Type 0
 LacksFirstLine bytes = (v : Version) (behind : List ℕ) → bytes ≢ first_line v ++ behind
 
+-- nor do they, whatever follows them
+abbrev pub LacksFirstLineEver : List ℕ → Type 0
+LacksFirstLineEver bytes = (more : List ℕ) → LacksFirstLine (bytes ++ more)
+
 -- the bytes do not begin with the line of an event
 abbrev pub LacksLine : List ℕ → Type 0
 LacksLine bytes = (e : Event) (rest : List ℕ) → IsLineThen bytes e rest → ⊥

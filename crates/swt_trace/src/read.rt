@@ -1,8 +1,8 @@
 //! Parser for traces of versions 1 and 2.
-ghost use Rattle.std.specs.Prelude.{◌≡◌, ◌≢◌, ◌^◌, ◌<◌, ◌≤◌, ◌++◌, ◌∷◌, ℕ, List, length, IfOk, IfErr, IfSome, IfNone};
+ghost use Rattle.std.specs.Prelude.{◌≡◌, ◌≢◌, ◌^◌, ◌<◌, ◌≤◌, ◌++◌, ◌∷◌, ℕ, List, length, IfOk, IfErr, IfSome, IfNone, IsTrue};
 ghost use Rattle.task_code.specs.declared.event.Event.{Event};
 ghost use Rattle.swt_trace.specs.declared.ending.Ending.{Ending};
-ghost use Rattle.swt_trace.specs.Trace.{IsTrace, IsFirstBad, IsInRange, AreLinesThen, LacksLine, plain, ended, first_line, event_line, ending_line, max_events, letter, worker_of, item_of};
+ghost use Rattle.swt_trace.specs.Trace.{IsTrace, IsFirstBad, IsInRange, AreLinesThen, LacksFirstLineEver, LacksLine, plain, ended, first_line, event_line, ending_line, max_events, letter, worker_of, item_of};
 
 use crate::ending::Ending;
 use crate::fault::TraceError;
@@ -53,6 +53,17 @@ pub fn read_trace(alloc: Global, bytes: &[u8]) -> Result<Trace, TraceError>
         return read_ended(alloc, lines);
     }
     Err(TraceError::BadLine(1))
+}
+
+/// Returns true only if no trace begins with the bytes, whatever follows: there are enough of them for the first line,
+/// and it is that of neither version.
+#[tactic(auto, using(crate::proofs::Lines::no_first_line_ever))]
+pub fn lacks_first_line(bytes: &[u8]) -> bool
+    ensures { IsTrue result → LacksFirstLineEver bytes.now }
+{
+    bytes.len() >= PLAIN_LINE.len()
+        && behind_plain(bytes).is_none()
+        && behind_ended(bytes).is_none()
 }
 
 /// Returns the lines after the first line of a trace of version 1.

@@ -4,18 +4,17 @@ use Rattle.std.specs.declared.alloc.Global.{Global}
 use Rattle.host.specs.Events.{ends, reads}
 use Rattle.host.specs.Files.{bytes_of}
 use Rattle.swt_command.specs.Files.{contents}
-use Rattle.swt_process.specs.Reads.{AreRead, IsEnough, most_at}
-use Rattle.swt_process.proofs.Reading.{enough_of, read_at}
+use Rattle.swt_process.specs.Reads.{AreRead, IsEnoughAt}
+use Rattle.swt_process.proofs.Reading.{read_at}
 use Rattle.swt_process.proofs.files.read_files.Goals as goal
 
 pub loop-place-preserved : goal.loop-place-preserved
 loop-place-preserved g c =
     let line = c.args.line.now in let names = c.args.names.now in let place = c.loop-place.place in
     let files = c.loop-place.files.items in let file = c.in_ok-file.file in let inv = c.loop-place.invariant in
-    let now = g.H.Host.history c.read_file.new.host in let d = c.index-names-place.result in
+    let now = g.H.Host.history c.read_input.new.host in let d = c.index-names-place.result in
     let name : c.as_str.result.now ≡ get_or names place d = c.as_str.ensures ∙ c.index-names-place.is in
-    let enough : IsEnough (most_at line place) (bytes_of file) (ends now) =
-    subst (λ (k : ℕ). IsEnough k (bytes_of file) (ends now)) c.most_at-most.ensures.most (enough_of c.most_at-most.result file (ends now) c.in_ok-file.ensures.bounded c.in_ok-file.ensures.whole) in
+    let enough : IsEnoughAt line place (bytes_of file) (ends now) = c.in_ok-file.ensures.enough in
     let pushed : c.push.new.self.items ≡ files ++ file ∷ [] = c.in_ok-push.ensures.items in
     record {
       read = subst (λ (fs : List (Option (Vec ℕ Global))). AreRead line (take (place + 1) names) (contents fs) (reverse (reads now))) (sym pushed)
@@ -23,7 +22,7 @@ loop-place-preserved g c =
           c.in_ok-file.ensures.read);
       count = rw (pushed, length-append) (omega (arith, inv.count));
       known = c.in_ok-file.ensures.known;
-      asked = c.read_file.ensures.asked ∙ inv.asked;
-      links = c.read_file.ensures.links ∙ inv.links;
-      changes = c.read_file.ensures.changes ∙ inv.changes;
+      asked = c.read_input.ensures.asked ∙ inv.asked;
+      links = c.read_input.ensures.links ∙ inv.links;
+      changes = c.read_input.ensures.changes ∙ inv.changes;
     }
