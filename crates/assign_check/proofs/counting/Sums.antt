@@ -277,6 +277,30 @@ pub empty_last : (one other set : List Bool) → nat_eq (length other) 0 ≡ tru
 empty_last one other set h is =
     turned (same_on (same_from (ap₂ (λ (a b : List Bool). sums (numbers a) (numbers b)) (sym is) (is_empty other h))) (zero_last (numbers set)))
 
+-- the numbers behind a first place that is false are greater by 1
+one_more : (b : Bool) (bs : List Bool) → Same (numbers (false ∷ b ∷ bs)) (sums (1 ∷ []) (numbers (b ∷ bs)))
+one_more b bs = record { to = to; back = back }
+  where
+    to : (n : ℕ) → n ∈ numbers (false ∷ b ∷ bs) → n ∈ sums (1 ∷ []) (numbers (b ∷ bs))
+    to zero i = absurd (cc (in_has (false ∷ b ∷ bs) zero i))
+    to (suc m) i =
+        let e : 1 + m ≡ suc m = omega arith in
+        subst (λ (z : ℕ). z ∈ sums (1 ∷ []) (numbers (b ∷ bs))) e (sums_in 1 m (1 ∷ []) (numbers (b ∷ bs)) first (has_in (b ∷ bs) m (in_has (false ∷ b ∷ bs) (suc m) i)))
+
+    back : (n : ℕ) → n ∈ sums (1 ∷ []) (numbers (b ∷ bs)) → n ∈ numbers (false ∷ b ∷ bs)
+    back n i =
+        let s = in_sums n (1 ∷ []) (numbers (b ∷ bs)) i in
+        elim (split_in s.of_one) [
+          | inl z ↦ (let e : suc s.other ≡ n = (let q = s.is in omega arith) in
+              subst (λ (k : ℕ). k ∈ numbers (false ∷ b ∷ bs)) e (has_in (false ∷ b ∷ bs) (suc s.other) (in_has (b ∷ bs) s.other s.of_other)))
+          | inr j ↦ elim j [ ]
+        ]
+
+pub once_first : (one other set : List Bool) → one ≡ false ∷ true ∷ [] → nat_eq (length other) 0 ≡ false → set ≡ false ∷ other → Same (numbers set) (sums (numbers one) (numbers other))
+once_first one [] set is some shift = absurd (cc (some))
+once_first one (b ∷ bs) set is some shift =
+    same_on (same_from (ap numbers shift)) (same_on (one_more b bs) (same_from (ap (λ (a : List Bool). sums (numbers a) (numbers (b ∷ bs))) (sym is))))
+
 -- both are empty
 pub empty_both : (one other set : List Bool) → length one ≤ 0 → length other ≤ 0 → length set ≤ 0 → Same (numbers set) (numbers one ++ numbers other)
 empty_both one other set le too also =

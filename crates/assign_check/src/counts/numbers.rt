@@ -1,7 +1,7 @@
 //! Sets of numbers of assignments, as bit vectors.
 //!
 //! The set contains each index at which the vector is true. As an exception, the empty vector is the set of 0 alone.
-ghost use Rattle.std.specs.Prelude.{◌≡◌, ◌++◌, ◌∷◌, [], ◌≤◌, ◌<◌, ◌^◌, IfOk, true, false, length};
+ghost use Rattle.std.specs.Prelude.{◌≡◌, ◌++◌, ◌∷◌, [], ◌≤◌, ◌<◌, ◌^◌, IfOk, IsTrue, true, false, length};
 ghost use Rattle.assign_check.specs.Faults as faults;
 ghost use Rattle.assign_check.specs.Sets as sets;
 
@@ -39,7 +39,27 @@ fn adds_up(one: &[bool], other: &[bool], number: usize) -> bool
     false
 }
 
-/// Returns the set of all sums of one number of each set.
+/// Returns true if a set is that of 1 alone, as `once` creates it.
+fn is_once(set: &[bool]) -> bool
+    ensures { IsTrue result → set.now ≡ false ∷ true ∷ [] }
+{
+    match set {
+        [zero, one] => !*zero && *one,
+        _ => false,
+    }
+}
+
+/// Returns the set of the numbers that are greater by 1 than those of a set that is not the empty vector.
+fn shifted(alloc: Global, set: &[bool]) -> Result<Vec<bool>, AllocError>
+    ensures { IfOk result (λ more. more.items ≡ false ∷ set.now) }
+{
+    let mut more = Vec::new(alloc);
+    more.push(false)?;
+    more.extend_from_slice(set)?;
+    Ok(more)
+}
+
+/// Returns the set of all sums of one number of each set. A first set of 1 alone takes the time of a copy.
 pub fn sum(alloc: Global, one: &[bool], other: &[bool]) -> Result<Vec<bool>, AllocError>
     ensures { IfOk result (λ set. sets.Same (sets.numbers set.items) (faults.sums (sets.numbers one.now) (sets.numbers other.now))) }
 {
@@ -48,6 +68,9 @@ pub fn sum(alloc: Global, one: &[bool], other: &[bool]) -> Result<Vec<bool>, All
     }
     if other.is_empty() {
         return Vec::from_slice(alloc, one);
+    }
+    if is_once(one) {
+        return shifted(alloc, other);
     }
     let mut set = Vec::new(alloc);
     for number in 0..one.len() + other.len() - 1 {
