@@ -420,6 +420,13 @@ impl Board {
         self.limit
     }
 
+    /// Lowers the limit to the number of events so far, so that no further event is accepted.
+    pub fn stop(&mut self)
+        ensures { self.new ≡ record self.old { limit = length self.old.history } }
+    {
+        self.limit = self.history.len() as u32;
+    }
+
     /// Returns the number of data. They are exactly those that were made and are not free: some item that has not ended
     /// may still read or write each. Runs in constant time and allocates no memory.
     pub fn stored(&self) -> usize

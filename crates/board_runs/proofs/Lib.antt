@@ -6,3 +6,4 @@ pub mod Alike
 pub mod Ordered
 pub mod Told
 pub mod Printed
+pub mod Texts

@@ -1,5 +1,5 @@
 -- The contents of a report.
-use Rattle.std.specs.Prelude.{◌≡◌, ◌⊎◌, ℕ, true, false, ◌<◌, ◌≤◌, List, [], map, length, slice_index, None, codes}
+use Rattle.std.specs.Prelude.{◌≡◌, ◌⊎◌, ℕ, Bool, true, false, ◌<◌, ◌≤◌, nat_lt, List, [], ◌∷◌, ◌++◌, map, length, slice_index, None, codes}
 use Rattle.std.specs.Fmt.{signed_decimal}
 use Rattle.dataflow.specs.Events.{tally}
 use Rattle.dataflow.specs.Machine.{Event}
@@ -46,6 +46,14 @@ line_bytes (Number n) = signed_decimal n
 line_bytes (Truth true) = codes "true"
 line_bytes (Truth false) = codes "false"
 
+-- the lines of the board
+abbrev pub lines_of : Seen → List (List ℕ)
+lines_of b = map line_bytes b.state.lines
+
+-- a line and the byte 10
+abbrev pub text_line : List ℕ → List ℕ
+text_line bytes = bytes ++ 10 ∷ []
+
 -- the report agrees with the board
 pub record Tells (b : Seen) (r : Report) : Type 0 where
   pub code : r.program ≡ b.code
@@ -65,3 +73,12 @@ pub record Reports (C : Code) (limit : ℕ) (r : Report) : Type 0 where
   pub run : Run C board.history board.state
   pub within : length board.history ≤ limit
   pub tells : Tells board r
+
+-- the run ended as at its limit, with fewer events than this
+abbrev is_short : End → (events limit : ℕ) → Bool
+is_short Ends.Limit events limit = nat_lt events limit
+is_short Ends.Quiet events limit = false
+is_short (Ends.Fault f) events limit = false
+
+abbrev pub is_cut : ℕ → Report → Bool
+is_cut limit r = is_short r.end (length r.history.items) limit

@@ -2,6 +2,7 @@
 #![tactic(auto)]
 
 pub mod laws;
+pub mod lines;
 pub mod one;
 pub mod report;
 pub mod step;

@@ -8,7 +8,7 @@ use Rattle.values.specs.Sinks.{Beginning}
 use Rattle.values.specs.declared.key.Key.{Key}
 use Rattle.values.specs.declared.key.Key.TheVariants.{Number, Text}
 use Rattle.swt_trace.specs.Report.{key_text, quoted, step_text}
-use Rattle.swt_trace.proofs.Pieces.{beginning_in}
+use Rattle.board_runs.proofs.Texts.{beginning_in, texts_at, texts_next}
 
 -- a beginning of the first part is one of the whole
 pub in_front : (old new part rest : List ℕ) → Beginning old part new → Beginning old (part ++ rest) new
@@ -29,36 +29,9 @@ line_parts start at path = simp append_assoc
 pub line_end : (start at path : List ℕ) → (start ++ (at ++ 32 ∷ path)) ++ 10 ∷ [] ≡ ((start ++ (at ++ 32 ∷ [])) ++ path) ++ 10 ∷ []
 line_end start at path = simp append_assoc
 
--- the texts up to a place, the text there and the texts behind it
-texts_at : {X : Type 0} (f : X → List ℕ) (xs : List X) (i : ℕ) (d : X) → i < length xs → flat_map f xs ≡ flat_map f (take i xs) ++ (f (get_or xs i d) ++ flat_map f (drop (suc i) xs))
-texts_at f [] i d l = absurd (omega (arith, l))
-texts_at f (x ∷ xs) zero d l = refl
-texts_at f (x ∷ xs) (suc i) d l = ap (λ ys. f x ++ ys) (texts_at f xs i d (omega (arith, l))) ∙ sym (append_assoc (f x) (flat_map f (take i xs)) _)
-
--- the texts up to the next place
-texts_next : {X : Type 0} (f : X → List ℕ) (xs : List X) (i : ℕ) (d : X) → i < length xs → flat_map f (take (suc i) xs) ≡ flat_map f (take i xs) ++ f (get_or xs i d)
-texts_next f [] i d l = absurd (omega (arith, l))
-texts_next f (x ∷ xs) zero d l = append-nil (f x)
-texts_next f (x ∷ xs) (suc i) d l = ap (λ ys. f x ++ ys) (texts_next f xs i d (omega (arith, l))) ∙ sym (append_assoc (f x) (flat_map f (take i xs)) _)
-
 -- a beginning of the text at a place is one of all texts
 pub in_texts : {X : Type 0} (f : X → List ℕ) (xs : List X) (i : ℕ) (d : X) (old mid new part : List ℕ) → i < length xs → mid ≡ old ++ flat_map f (take i xs) → part ≡ f (get_or xs i d) → Beginning mid part new → Beginning old (flat_map f xs) new
 in_texts f xs i d old mid new part l m p b = beginning_in old mid new (flat_map f xs) (flat_map f (take i xs)) part (flat_map f (drop (suc i) xs)) (texts_at f xs i d l ∙ ap (λ ys. flat_map f (take i xs) ++ (ys ++ flat_map f (drop (suc i) xs))) (sym p)) m b
-
--- a beginning of the texts up to a place and of the one there is one of all texts
-pub in_front_texts : {X : Type 0} (f : X → List ℕ) (xs : List X) (i : ℕ) (d : X) (old new part : List ℕ) → i < length xs → part ≡ f (get_or xs i d)
-    → Beginning old (flat_map f (take i xs) ++ part) new → Beginning old (flat_map f xs) new
-in_front_texts f xs i d old new part l p b =
-    beginning_in old old new (flat_map f xs) [] (flat_map f (take i xs) ++ part) (flat_map f (drop (suc i) xs))
-    (texts_at f xs i d l ∙ ap (λ ys. flat_map f (take i xs) ++ (ys ++ flat_map f (drop (suc i) xs))) (sym p) ∙ sym (append_assoc (flat_map f (take i xs)) part (flat_map f (drop (suc i) xs))))
-    (sym (append-nil old)) b
-
--- the texts up to a place with the one there are those up to the next
-pub texts_so_far : {X : Type 0} (f : X → List ℕ) (xs : List X) (i : ℕ) (d : X) (part : List ℕ) → i < length xs → part ≡ f (get_or xs i d)
-    → flat_map f (take i xs) ++ part ≡ flat_map f (take (i + 1) xs)
-texts_so_far f xs i d part l p =
-    let next : suc i ≡ i + 1 = omega arith in
-    ap (λ ys. flat_map f (take i xs) ++ ys) p ∙ sym (texts_next f xs i d l) ∙ ap (λ k. flat_map f (take k xs)) next
 
 -- what is written once the text at a place is
 pub next_text : {X : Type 0} (f : X → List ℕ) (xs : List X) (i : ℕ) (d : X) (old mid new part : List ℕ) → i < length xs → mid ≡ old ++ flat_map f (take i xs) → part ≡ f (get_or xs i d) → new ≡ mid ++ part → new ≡ old ++ flat_map f (take (i + 1) xs)

@@ -1,20 +1,11 @@
 -- A trace that is written in pieces.
-use Rattle.std.proofs.Common.{◌≡◌, ◌∙◌, sym, ap, refl, ℕ, zero, suc, ◌+◌, ◌<◌, List, [], ◌∷◌, ◌++◌, length, get_or, take, drop, arith, append-nil, append_assoc, length-append, Some}
+use Rattle.std.proofs.Common.{◌≡◌, ◌∙◌, sym, ap, refl, ℕ, zero, suc, ◌+◌, ◌<◌, List, [], ◌∷◌, ◌++◌, length, get_or, take, drop, arith, append-nil, append_assoc, Some}
 use Rattle.std.specs.Fmt.{decimal}
-use Rattle.std.proofs.Math.Seq.{take-append-add}
-use Rattle.std.proofs.lemmas.List.{take-append-le}
 use Rattle.task_code.specs.declared.event.Event.{Event}
 use Rattle.values.specs.Sinks.{Beginning}
+pub use Rattle.board_runs.proofs.Texts.{beginning_in}
 use Rattle.swt_trace.specs.declared.ending.Ending.{Ending}
 use Rattle.swt_trace.specs.Trace.{letter, worker_of, item_of, ended, first_line, event_line, event_lines, ending_line, TraceText}
-
--- a beginning of a piece, after what stands in front of it, is a beginning of the whole
-pub beginning_in : (old mid new whole front piece rest : List ℕ) → whole ≡ front ++ (piece ++ rest) → mid ≡ old ++ front → Beginning mid piece new → Beginning old whole new
-beginning_in old mid new whole front piece rest e m b = (
-  length front + b.0,
-  (rw (e, length-append, length-append) (omega (arith, b.1))),
-  (rw (b.2, m, e, take-append-add front (piece ++ rest) b.0, take-append-le b.0 piece rest b.1) (append_assoc old front (take b.0 piece))),
-)
 
 -- a line, and what stands behind it
 line_more : (e : Event) (a b : List ℕ) → event_line e a ++ b ≡ event_line e (a ++ b)

@@ -9,15 +9,12 @@ use Rattle.paths.specs.Names.{fault_name}
 use Rattle.board_runs.specs.declared.report.End.{End}
 use Rattle.board_runs.specs.declared.report.End.TheVariants as Ends
 use Rattle.board_runs.specs.declared.report.Report.{Report}
+pub use Rattle.board_runs.specs.Report.{text_line}
 use Rattle.values.specs.declared.key.Key.{Key}
 use Rattle.values.specs.declared.key.Key.TheVariants.{Number, Text}
 use Rattle.swt_trace.specs.declared.ending.Ending.{Ending}
 use Rattle.swt_trace.specs.declared.ending.Ending.TheVariants as Named
 use Rattle.swt_trace.specs.Trace.{TraceText}
-
--- a line and the byte 10
-abbrev pub text_line : List ℕ → List ℕ
-text_line bytes = bytes ++ 10 ∷ []
 
 -- a byte of a text, escaped as in a script: 10, 9, `\` and `"` are written with a `\` before them
 abbrev pub spelled : ℕ → List ℕ

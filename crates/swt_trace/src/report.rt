@@ -6,20 +6,18 @@
 ghost use Rattle.std.specs.Prelude.{◌≡◌, ◌<◌, ◌≤◌, ◌+◌, ◌++◌, ◌∷◌, [], length, codes, decimal, OnOk, OnErr};
 ghost use Rattle.std.specs.Fmt.{signed_decimal};
 ghost use Rattle.std.specs.List.{flat_map};
-ghost use Rattle.values.specs.Pages.{OnPage};
 ghost use Rattle.values.specs.Sinks.{Beginning};
 ghost use Rattle.paths.specs.Names.{fault_name};
 ghost use Rattle.swt_trace.specs.Report.{ReportText, text_line, quoted, spelled, step_text, path_text, statement_text, blocked_line, fault_line, limit_line, end_text};
 
 use crate::fault::WriteError;
 use arrayvec::ArrayString;
+pub use board_runs::lines::write_lines;
 use board_runs::report::{End, Report};
 use itoa::Buffer;
 use paths::{Fault, FaultKind, StatementInstance, Step};
-use values::Page;
 use values::key::Key;
 use values::sink::{Sink, SinkFault, write_all};
-use values::text::Text;
 
 /// Maximum number of bytes of a step: `/`, 20 digits of an offset, `.`, and 20 bytes of a key.
 const LONGEST_STEP: usize = 42;
@@ -47,39 +45,6 @@ pub fn write_report<W: Sink>(report: &Report, sink: &mut W) -> Result<(), WriteE
 {
     write_lines(&report.lines, sink)?;
     write_end(report, sink)?;
-    Ok(())
-}
-
-/// Writes the printed lines. Many lines are passed to the sink in one write.
-///
-/// # Errors
-///
-/// Returns `SinkFault` if a write failed. The sink then has received a prefix of the text.
-pub fn write_lines<W: Sink>(lines: &Vec<Text>, sink: &mut W) -> Result<(), SinkFault>
-    requires { W.failures sink.old < u64.MAX }
-    ensures ok { OnOk result (W.taken sink.new ≡ W.taken sink.old ++ flat_map text_line lines.now.items) }
-    ensures err { OnErr result (Beginning (W.taken sink.old) (flat_map text_line lines.now.items) (W.taken sink.new)) }
-    ensures failed { OnErr result (W.failures sink.old < W.failures sink.new) }
-    ensures none_failed { OnOk result (W.failures sink.new ≡ W.failures sink.old) }
-{
-    let mut page = Page::new();
-    for line in lines {
-        put_line(line.as_bytes(), &mut page, sink)?;
-    }
-    page.empty(sink)?;
-    Ok(())
-}
-
-/// Appends a line and the byte 10 to the page, which is written to the sink when it is full.
-fn put_line<W: Sink>(line: &[u8], page: &mut Page, sink: &mut W) -> Result<(), SinkFault>
-    requires { W.failures sink.old < u64.MAX }
-    ensures ok { OnOk result (OnPage (W.taken sink.old) (W.taken sink.new) page.new (page.old ++ text_line line.now)) }
-    ensures err { OnErr result (Beginning (W.taken sink.old) (page.old ++ text_line line.now) (W.taken sink.new)) }
-    ensures failed { OnErr result (W.failures sink.old < W.failures sink.new) }
-    ensures none_failed { OnOk result (W.failures sink.new ≡ W.failures sink.old) }
-{
-    page.put(sink, line)?;
-    page.put(sink, b"\n")?;
     Ok(())
 }
 

@@ -1,8 +1,8 @@
 use Rattle.std.proofs.Common.{◌≡◌, take}
 use Rattle.std.specs.List.{flat_map}
 use Rattle.values.specs.Pages.{OnPage}
-use Rattle.swt_trace.specs.Report.{text_line}
-use Rattle.swt_trace.proofs.report.write_lines.Given as goal
+use Rattle.board_runs.specs.Report.{text_line}
+use Rattle.board_runs.proofs.lines.write_lines.Given as goal
 
 abbrev pub invariant-loop-line : goal.invariant-loop-line
 invariant-loop-line g l = record {

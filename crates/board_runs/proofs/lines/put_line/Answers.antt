@@ -2,8 +2,8 @@ use Rattle.std.proofs.Common.{rules, subst, ℕ, List, [], ◌∷◌, ◌++◌, 
 use Rattle.values.specs.Sinks.{Beginning}
 use Rattle.values.specs.Pages.{OnPage}
 use Rattle.values.proofs.Beginnings.{in_front, lost_behind, more_on_page}
-use Rattle.swt_trace.specs.Report.{text_line}
-use Rattle.swt_trace.proofs.report.put_line.Goals as goal
+use Rattle.board_runs.specs.Report.{text_line}
+use Rattle.board_runs.proofs.lines.put_line.Goals as goal
 
 pub returns-in_err-put-clause-err : goal.returns-in_err-put-clause-err
 returns-in_err-put-clause-err g c =

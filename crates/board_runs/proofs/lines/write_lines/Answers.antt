@@ -4,9 +4,9 @@ use Rattle.std.specs.List.{flat_map}
 use Rattle.values.specs.Sinks.{Beginning}
 use Rattle.values.specs.Pages.{OnPage}
 use Rattle.values.proofs.Beginnings.{lost, lost_behind, more_on_page}
-use Rattle.swt_trace.specs.Report.{text_line}
-use Rattle.swt_trace.proofs.Parts.{in_front_texts, texts_so_far}
-use Rattle.swt_trace.proofs.report.write_lines.Goals as goal
+use Rattle.board_runs.specs.Report.{text_line}
+use Rattle.board_runs.proofs.Texts.{in_front_texts, texts_so_far}
+use Rattle.board_runs.proofs.lines.write_lines.Goals as goal
 
 pub returns-in_err-put_line-clause-err : goal.returns-in_err-put_line-clause-err
 returns-in_err-put_line-clause-err g c =
