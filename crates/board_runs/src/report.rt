@@ -214,7 +214,11 @@ fn into_text(alloc: Global, line: Scalar) -> Result<Text, AllocError>
 }
 
 /// Returns the text of a line. The code of a script prints texts alone, and those are shared.
-fn text_of(alloc: Global, line: &Scalar) -> Result<Text, AllocError>
+///
+/// # Errors
+///
+/// Returns `AllocError` if an allocation fails.
+pub fn text_of(alloc: Global, line: &Scalar) -> Result<Text, AllocError>
     ensures { IfOk result (λ text. text ≡ line_bytes line.now) }
 {
     match line {

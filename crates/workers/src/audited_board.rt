@@ -2,35 +2,43 @@
 //!
 //! The scheduler's mutex guards it. Each event is booked in a share of the worker that caused it. Once all shares are
 //! merged, the ledgers prove that the shares count the whole history of the board.
-ghost use Rattle.std.specs.Prelude.{◌≡◌, ◌≢◌, ◌⊎◌, ◌+◌, ◌<◌, ◌≤◌, ◌^◌, [], None, IfOk, IfErr, OnOk, OnErr, length, vec_len};
+ghost use Rattle.std.specs.Prelude.{◌≡◌, ◌≢◌, ◌⊎◌, ◌↔◌, ◌+◌, ◌<◌, ◌≤◌, ◌^◌, ◌++◌, ◌∷◌, [], None, IfOk, IfErr, IfNone, IfSome, IsTrue, OnOk, OnErr, length, vec_len};
+ghost use mathlib.Core.List.{IsPrefix};
 ghost use Rattle.dataflow.specs.Events.{backs};
 ghost use Rattle.dataflow.specs.Machine.{start};
 ghost use Rattle.task_code.specs.System.{code_system};
 ghost use Rattle.board.specs.Board.{Accepts, IsItems, IsWorker};
+ghost use Rattle.board_runs.specs.Report.{lines_of};
 ghost use Rattle.dataflow.specs.Machine as Machine;
 ghost use Rattle.workers.specs.StartLog.{AreItems};
 ghost use Rattle.workers.specs.Offering.{AreListed};
-ghost use Rattle.workers.specs.Threads.{MayRun, IsRunWorker, RunsTo};
+ghost use Rattle.workers.specs.Threads.{MayReport, MayRun, IsRunWorker, RunsTo};
+ghost use Rattle.workers.specs.Watched.{AreFirstLines};
 ghost use Rattle.values.specs.Limits.{max_threads};
 
 use crate::gate::RunParams;
 use crate::items::{CompletedItem, StartedItem};
+use crate::line_log::{LineLog, LinePrefix};
 use crate::ready_items::{list_ready_items, newly_ready_count};
 use crate::start_log::{LogPrefix, NewLog, StartLog};
 use board::board::Board;
 use board::refusal::BoardRefusal;
+use board_runs::report::text_of;
 use board_work::work::{Done, Work};
 use pool::offers::ReadyItem;
+use std::alloc::Global;
 use std::marker::{Model, PhantomData};
 use std::sync::ledger::{Book, Ledger, Share};
 use task_code::entry::Kind;
+use values::text::Text;
 use workers_policy::counters::RunCounters;
 
 /// Maximum number of items that may have become ready before the next event. No run with a countable number of events
 /// reaches it.
 const MAX_ENABLED: u64 = 1 << 62;
 
-/// Maximum length of the log of started work. Work begun later is not logged.
+/// Maximum length of the log of started work, and of that of lines. Work begun later is not logged, and lines behind it
+/// are not handed out.
 const MAX_LOGGED: u64 = 1 << 61;
 
 /// A reason to stop a run before its end.
@@ -39,10 +47,25 @@ pub enum StopReason {
     Memory,
     Spawn,
     Stranger,
+    /// The run was asked to stop as at its limit. It still has a report.
+    Asked,
 }
 
-/// The board, the log of started work, the stop reason, the number of items that became ready, and the ledgers of both
-/// counts.
+/// Returns true if a run with this stop reason has a report.
+fn may_report(stop: Option<StopReason>) -> bool
+    ensures { IsTrue result ↔ MayReport stop }
+{
+    match stop {
+        None => true,
+        Some(StopReason::Asked) => true,
+        Some(StopReason::Memory) => false,
+        Some(StopReason::Spawn) => false,
+        Some(StopReason::Stranger) => false,
+    }
+}
+
+/// The board, the log of started work, the stop reason, the number of items that became ready, the ledgers of both
+/// counts, and the log of the lines handed out.
 #[derive(Drop)]
 pub struct AuditedBoard<J: RunParams, E: Ledger, N: Ledger> {
     board: Board,
@@ -52,6 +75,8 @@ pub struct AuditedBoard<J: RunParams, E: Ledger, N: Ledger> {
     enabled_total: u64,
     events: Book<E>,
     enabled: Book<N>,
+    line_log: LineLog<J>,
+    shown: LinePrefix<J>,
     of: PhantomData<J>,
 }
 
@@ -64,16 +89,18 @@ impl<J: RunParams, E: Ledger, N: Ledger> Model for AuditedBoard<J, E, N> {
 
     ghost coded = { Prim.hlevel (codes, expr_code (Prim.hlevel codes), exprs_code (Prim.hlevel codes)) };
 
-    ghost view = { λ d. record { board = d.board; stop = d.stop; enabled_total = d.enabled_total; events = d.events.total; enabled = d.enabled.total; log = d.front } };
+    ghost view = { λ d. record { board = d.board; stop = d.stop; enabled_total = d.enabled_total; events = d.events.total; enabled = d.enabled.total; log = d.front; shown = d.shown } };
 
-    ghost invariant = { λ d. IsConsistent J.code J.limit J.engines J.workers (record { board = d.board; stop = d.stop; enabled_total = d.enabled_total; events = d.events.total; enabled = d.enabled.total; log = d.front }) };
+    ghost invariant = { λ d. IsConsistent J.code J.limit J.engines J.workers (record { board = d.board; stop = d.stop; enabled_total = d.enabled_total; events = d.events.total; enabled = d.enabled.total; log = d.front; shown = d.shown }) };
 }
 
 impl<J: RunParams, E: Ledger, N: Ledger> AuditedBoard<J, E, N> {
-    /// Creates the audited board of a run before any event, with empty ledgers and an empty log.
+    /// Creates the audited board of a run before any event, with empty ledgers and empty logs.
     pub fn new(
         board: Board,
         opened: NewLog,
+        line_log: LineLog<J>,
+        shown: LinePrefix<J>,
         events: Book<E>,
         enabled: Book<N>,
     ) -> AuditedBoard<J, E, N>
@@ -82,6 +109,7 @@ impl<J: RunParams, E: Ledger, N: Ledger> AuditedBoard<J, E, N> {
         requires first { (board.history ≡ []) × (board.state ≡ start (code_system board.code)) }
         requires empty { (events.total ≡ 0) × (enabled.total ≡ 0) }
         requires opened { opened.seen.book ≡ J.book }
+        requires none_shown { shown ≡ [] }
     {
         let (log, front) = opened.named::<J>();
         AuditedBoard {
@@ -92,16 +120,18 @@ impl<J: RunParams, E: Ledger, N: Ledger> AuditedBoard<J, E, N> {
             enabled_total: 0,
             events,
             enabled,
+            line_log,
+            shown,
             of: PhantomData,
         }
     }
 
-    /// Stops the run. The first reason given is kept.
+    /// Stops the run. The first reason given is kept, but `Asked` gives way to any other.
     pub fn halt(&mut self, why: StopReason)
         ensures stops { self.new.stop ≢ None }
         ensures rest { self.new ≡ record self.old { stop = self.new.stop } }
     {
-        if self.stop.is_none() {
+        if may_report(self.stop) {
             self.stop = Some(why);
         }
     }
@@ -125,6 +155,32 @@ impl<J: RunParams, E: Ledger, N: Ledger> AuditedBoard<J, E, N> {
     /// Returns the number of printed lines.
     pub fn lines(&self) -> usize {
         self.board.lines().len()
+    }
+
+    /// Hands out the line behind those of the prefix, which are the lines handed out so far. Returns `None` if the board
+    /// has no more lines or the line cannot be shared.
+    pub fn next_line(&mut self, alloc: Global, front: &mut LinePrefix<J>) -> Option<Text>
+        requires { AreFirstLines J.code J.limit front.old }
+        ensures line { IfSome result (λ line. front.new ≡ front.old ++ line ∷ []) }
+        ensures none { IfNone result (front.new ≡ front.old) }
+        ensures first { AreFirstLines J.code J.limit front.new }
+    {
+        if !front.is_prefix_of(&self.shown) || !self.shown.is_prefix_of(front) {
+            return None;
+        }
+        if front.len() >= MAX_LOGGED {
+            return None;
+        }
+        let _run = self.board.history();
+        let line = self.board.lines().get(front.len() as usize)?;
+        let line = text_of(alloc, line).ok()?;
+        let mut more = front.again();
+        if !more.add(&self.line_log, &line) {
+            return None;
+        }
+        *front = more.again();
+        self.shown = more;
+        Some(line)
     }
 
     /// Appends work that has just begun to the log, and returns the started item. The item is not logged if the log is
@@ -293,7 +349,7 @@ impl<J: RunParams, E: Ledger, N: Ledger> AuditedBoard<J, E, N> {
             enabled: all_enabled,
             ..
         } = self;
-        if stop.is_none() {
+        if may_report(*stop) {
             *stop = Some(StopReason::Memory);
         }
         let _within = board.history();
@@ -318,15 +374,21 @@ impl<J: RunParams, E: Ledger, N: Ledger> AuditedBoard<J, E, N> {
         self.enabled.audit(enabled);
     }
 
-    /// Closes the ledgers with the merged shares, which count the whole history. Returns the board, and the stop reason
-    /// if the run was stopped.
-    pub fn close(self, events: &mut Share<E>, enabled: &mut Share<N>) -> (Board, Option<StopReason>)
+    /// Closes the ledgers with the merged shares, which count the whole history. Returns the board, the stop reason if
+    /// the run was stopped, and true if the lines of the prefix are known to be the first ones of the board.
+    pub fn close(
+        self,
+        events: &mut Share<E>,
+        enabled: &mut Share<N>,
+        front: &LinePrefix<J>,
+    ) -> (Board, Option<StopReason>, bool)
         requires { (events.old.parts ≡ E.parts) × (enabled.old.parts ≡ N.parts) }
         ensures code { (result.0.code ≡ J.code) × (result.0.limit ≡ J.limit) }
         ensures within { length result.0.history ≤ J.limit }
         ensures run { RunsTo J.code J.engines J.workers result.0.history enabled.old.amount result.0.state }
-        ensures no_back { result.1 ≡ None → backs result.0.history ≡ 0 }
+        ensures no_back { MayReport result.1 → backs result.0.history ≡ 0 }
         ensures events { length result.0.history ≡ events.old.amount }
+        ensures shown { IsTrue result.2 → IsPrefix front.now (lines_of result.0) }
     {
         let AuditedBoard {
             board,
@@ -336,12 +398,15 @@ impl<J: RunParams, E: Ledger, N: Ledger> AuditedBoard<J, E, N> {
             enabled_total: _,
             events: mut book,
             enabled: mut enabled_ledger,
+            line_log: _,
+            shown,
             of: _,
         } = self;
         book.audit(events);
         enabled_ledger.audit(enabled);
         let _within = board.history();
-        (board, stop)
+        let is_first = front.is_prefix_of(&shown);
+        (board, stop, is_first)
     }
 }
 

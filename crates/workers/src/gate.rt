@@ -4,8 +4,8 @@ use board_work::work::{Done, Work};
 use std::alloc::AllocError;
 use std::marker::Brand;
 
-/// The ghost parameters of one run: its code, event limit, numbers of engines and workers, pool, and the book of its
-/// log of started work.
+/// The ghost parameters of one run: its code, event limit, numbers of engines and workers, pool, and the books of its
+/// logs of started work and of lines handed out.
 pub trait RunParams {
     ghost use Rattle.std.specs.Prelude.{ℕ};
     ghost use Rattle.logbook.specs.Pages.{Book};
@@ -23,6 +23,8 @@ pub trait RunParams {
     ghost pool: { PoolId };
 
     ghost book: { Book };
+
+    ghost lines: { Book };
 }
 
 impl RunParams for Brand {
@@ -40,6 +42,8 @@ impl RunParams for Brand {
     ghost pool = { no_pool };
 
     ghost book = { record { number = 0; log_name = 0; cells_name = 0 } };
+
+    ghost lines = { record { number = 0; log_name = 0; cells_name = 0 } };
 }
 
 /// A snapshot of the progress of a run.
@@ -74,6 +78,12 @@ pub trait Gate: Sync {
     /// Receives a snapshot of the progress. It is called outside the lock, after each critical section in which a
     /// thread may end or begin items.
     fn note(&self, _progress: Progress) {}
+
+    /// Returns true if the run is to stop. It is called once before the first event and then every few milliseconds, by
+    /// the thread that watches the run, outside the lock. Of a run that is not watched it is never called.
+    fn wants_stop(&self) -> bool {
+        false
+    }
 }
 
 /// A gate that computes each item at once, in the calling thread.

@@ -1,35 +1,44 @@
 //! The run of a program on threads, from the creation of the board to the audited report.
-ghost use Rattle.std.specs.Prelude.{ℕ, ◌≡◌, ◌≢◌, ◌+◌, ◌<◌, ◌≤◌, ◌^◌, None, Err, ◌↔◌, ◌⊎◌, [], if◌then◌else◌, All, IsTrue, IfOk, IfErr, OnErr, OnOk, count_by, length, nat_eq, nat_lt, slice_index, sum_by, vec_len, sum, map};
+ghost use Rattle.std.specs.Prelude.{ℕ, ◌≡◌, ◌≢◌, ◌+◌, ◌<◌, ◌≤◌, ◌^◌, ◌||◌, Err, ◌↔◌, ◌⊎◌, [], false, if◌then◌else◌, All, IsTrue, IfOk, IfErr, OnErr, OnOk, count_by, is_err, length, nat_eq, nat_lt, slice_index, sum_by, vec_len, sum, map};
+ghost use Rattle.std.specs.List.{flat_map};
+ghost use Rattle.std.specs.Thread.{IsSync};
+ghost use mathlib.Core.List.{IsPrefix};
 ghost use Rattle.dataflow.specs.Machine.{start};
 ghost use Rattle.pool.specs.Seats.{view, seat_pool, pool_id, seats_of, IsSeatOf};
 ghost use Rattle.pool.specs.Views.{beginner};
 ghost use Rattle.task_code.specs.System.{code_system};
-ghost use Rattle.board_runs.specs.Report.{Reports, Tells};
+ghost use Rattle.board_runs.specs.Report.{Reports, Tells, is_cut, text_line};
 ghost use Rattle.board_runs.specs.Stopped.{IsStopped};
 ghost use Rattle.workers.specs.Reports.{IsReport};
+ghost use Rattle.workers.specs.Threads.{MayReport, stopped_at};
+ghost use Rattle.workers.specs.Watched.{AreFirstLines, Counts, HasShown, IsLimit, Shows, Wrote};
 ghost use Rattle.values.specs.Limits.{max_threads};
+ghost use Rattle.values.specs.Sinks.{Beginning};
 
 use crate::audited_board::{AuditedBoard, StopReason};
 use crate::fault::RunFault;
 use crate::gate::{Gate, RunParams};
 use crate::idle_workers::IdleWorkers;
+use crate::line_log::{LinePrefix, NewLineLog};
 use crate::scheduler::Scheduler;
 use crate::start_log::NewLog;
 use crate::threads::run_team;
 use crate::totals::RunTotals;
+use crate::watch::{Watch, WatchedRun, watch_run};
 use crate::worker_state::{DrainedWorker, WorkerState};
 use board::board::Board;
 use board_program::program::Program;
-use board_runs::report::Report;
+use board_runs::report::{End, Report};
 use board_runs::stopped::{StoppedRun, stopped_run};
 use pool::{Pool, PoolSeat};
 use std::alloc::{AllocError, Global};
 use std::marker::Brand;
 use std::sync::ledger::{Blank, Ledger, Share};
 use std::sync::{Mutex, Wait};
-use std::thread::Threads;
+use std::thread::{Threads, join_mut};
 use task_code::entry::Kind;
 use values::limits::MAX_THREADS;
+use values::sink::{Sink, SinkFault};
 use workers_policy::active_threads::ActiveThreads;
 use workers_policy::counters::RunCounters;
 use workers_policy::ready_hints::ReadyHints;
@@ -171,11 +180,35 @@ fn tallies_match(reported: &[u32; MAX_THREADS], tallies: &[u64; MAX_THREADS]) ->
     true
 }
 
-/// Creates the report of a board on which no event is left to happen. The board is kept if that is wanted.
+/// Returns the board as the report has it: if the run was asked to stop, its limit is its number of events.
 ///
 /// # Errors
 ///
-/// Returns the fault of the stop reason if the run was stopped. Returns `Stranger` if the run is not over, and `Memory`
+/// Returns the fault of the stop reason if the run has no report.
+fn stopped_board(board: Board, stop: Option<StopReason>) -> Result<Board, RunFault>
+    ensures board { IfOk result (λ b. b ≡ stopped_at stop board) }
+    ensures may { OnOk result (MayReport stop) }
+    ensures fault { IfErr result (λ e. e ≢ RunFault.BadCount) }
+{
+    let mut board = board;
+    match stop {
+        None => Ok(board),
+        Some(StopReason::Asked) => {
+            board.stop();
+            Ok(board)
+        }
+        Some(StopReason::Memory) => Err(RunFault::Memory),
+        Some(StopReason::Spawn) => Err(RunFault::Spawn),
+        Some(StopReason::Stranger) => Err(RunFault::Stranger),
+    }
+}
+
+/// Creates the report of a board on which no event is left to happen, or of one whose run was asked to stop. The board is
+/// kept if that is wanted.
+///
+/// # Errors
+///
+/// Returns the fault of the stop reason if the run has no report. Returns `Stranger` if the run is not over, and `Memory`
 /// if offers were lost or an allocation fails.
 fn report(
     alloc: Global,
@@ -184,18 +217,13 @@ fn report(
     lost: u64,
     keeps: bool,
 ) -> Result<StoppedRun, RunFault>
-    ensures stopped { IfOk result (λ r. stop ≡ None) }
-    ensures tells { IfOk result (λ r. Tells board r.report) }
+    ensures may { OnOk result (MayReport stop) }
+    ensures tells { IfOk result (λ r. Tells (stopped_at stop board) r.report) }
     ensures kept { IfOk result (IsStopped keeps) }
     ensures none_lost { IfOk result (λ r. lost ≡ 0) }
     ensures fault { IfErr result (λ e. e ≢ RunFault.BadCount) }
 {
-    match stop {
-        None => {}
-        Some(StopReason::Memory) => return Err(RunFault::Memory),
-        Some(StopReason::Spawn) => return Err(RunFault::Spawn),
-        Some(StopReason::Stranger) => return Err(RunFault::Stranger),
-    }
+    let board = stopped_board(board, stop)?;
     if board.is_going() && !board.is_quiet() {
         return Err(RunFault::Stranger);
     }
@@ -255,26 +283,31 @@ fn pool_count(offered: u64, full: u64, draws: &[u64], holes: &[u64; 96]) -> Pool
     }
 }
 
-/// Closes the ledgers and the pool after all threads have ended, and returns the report with the pool counts.
+/// Closes the ledgers and the pool after all threads have ended, and returns the report with the pool counts. `front` are
+/// the lines that were handed out, `failed` says whether one of them could not be written.
 ///
 /// # Errors
 ///
-/// Returns the fault of the stop reason, `Stranger` if the counts differ, and `Memory` if offers were lost or an
-/// allocation fails.
+/// Returns the fault of the stop reason, `Stranger` if the counts or the lines differ, and `Memory` if offers were lost or
+/// an allocation fails.
 fn finish_run<J: RunParams, E: Ledger, N: Ledger>(
     alloc: Global,
     pool: Pool,
     audited_board: AuditedBoard<J, E, N>,
     totals: RunTotals<J, E, N>,
+    front: &LinePrefix<J>,
+    failed: bool,
     keeps: bool,
-) -> Result<(StoppedRun, PoolCount), RunFault>
+) -> Result<(WatchedRun, PoolCount), RunFault>
     requires pool { pool_id pool ≡ J.pool }
     requires seats { seats_of pool ≡ vec_len totals.seats }
     requires parts { (E.parts ≡ vec_len totals.seats) × (N.parts ≡ vec_len totals.seats) }
-    ensures report { IfOk result (λ r. IsReport J.code J.limit J.engines J.workers r.0.report r.1) }
-    ensures kept { IfOk result (λ r. IsStopped keeps r.0) }
-    ensures own { IfOk result (λ r. r.0.report.tallies ≡ totals.tallies) }
+    ensures report { IfOk result (λ r. (l : ℕ) × (l ≤ J.limit) × IsReport J.code l J.engines J.workers r.0.run.report r.1) }
+    ensures kept { IfOk result (λ r. IsStopped keeps r.0.run) }
+    ensures own { IfOk result (λ r. r.0.run.report.tallies ≡ totals.tallies) }
     ensures counts { IfOk result (λ r. (r.1.offered ≡ totals.offered) × (r.1.full ≡ totals.full) × (r.1.drawn ≡ sum totals.draws.items)) }
+    ensures shown { IfOk result (λ r. (r.0.shown ≡ length front.now) × IsPrefix front.now r.0.run.report.lines.items) }
+    ensures failed { IfOk result (λ r. r.0.failed ≡ failed) }
     ensures fault { IfErr result (λ e. e ≢ RunFault.BadCount) }
 {
     let RunTotals {
@@ -288,15 +321,84 @@ fn finish_run<J: RunParams, E: Ledger, N: Ledger>(
         lost,
         of: _,
     } = totals;
-    let (board, stop) = audited_board.close(&mut events, &mut enabled);
+    let (board, stop, is_first) = audited_board.close(&mut events, &mut enabled, front);
     let rest = pool.close(seats);
+    if !is_first {
+        return Err(RunFault::Stranger);
+    }
     let run = report(alloc, board, stop, lost, keeps)?;
     let run = check_tallies(run, &tallies)?;
     let count = pool_count(offered, full, draws.as_slice(), &rest.holes);
-    Ok((run, count))
+    let watched = WatchedRun {
+        run,
+        shown: front.len() as usize,
+        failed,
+    };
+    Ok((watched, count))
 }
 
-/// Runs a team of `count` threads until the run is over, and merges what the workers counted.
+/// Runs a team of `count` threads until the run is over. If the run is watched, the calling thread watches it, and the
+/// team has threads of its own. Returns true if a write failed.
+///
+/// # Errors
+///
+/// Returns `AllocError` if an allocation fails.
+fn run_and_watch<
+    J: RunParams + Send + Sync,
+    E: Ledger + Send + Sync,
+    N: Ledger + Send + Sync,
+    R: Threads + Wait + Sync,
+    G: Gate,
+    W: Sink,
+>(
+    rt: &R,
+    alloc: Global,
+    pool: &Pool,
+    shared: &Mutex<Scheduler<J, E, N>>,
+    count: usize,
+    gate: &G,
+    watch: Watch,
+    front: &mut LinePrefix<J>,
+    out: &mut W,
+) -> Result<bool, AllocError>
+    requires pool { pool_id pool.now ≡ J.pool }
+    requires sound { W.failures out.old < u64.MAX }
+    requires first { AreFirstLines J.code J.limit front.old }
+    requires none { front.old ≡ [] }
+    ensures shown { IfOk result (λ failed. Shows failed front.new (W.taken out.old) (W.taken out.new) × Counts failed (W.failures out.old) (W.failures out.new)) }
+    ensures wrote { Beginning (W.taken out.old) (flat_map text_line front.new) (W.taken out.new) }
+    ensures grows { W.failures out.old ≤ W.failures out.new }
+    ensures first { AreFirstLines J.code J.limit front.new }
+    ensures off { watch.live ≡ false → (front.new ≡ []) × (W.taken out.new ≡ W.taken out.old) × (W.failures out.new ≡ W.failures out.old) }
+{
+    let signal = WakeSignal::new();
+    if watch.is_off() {
+        run_team(rt, alloc, shared, &signal, pool, gate, count)?;
+        return Ok(false);
+    }
+    let signal = &signal;
+    let (team, shown) = join_mut(
+        rt,
+        &mut || -> Result<(), AllocError>
+            requires { pool_id pool.now ≡ J.pool }
+        {
+            let done = run_team(rt, alloc, shared, signal, pool, gate, count);
+            signal.stop_all();
+            done
+        },
+        &mut || -> Result<(), SinkFault>
+            requires { (W.failures out.entry.now < u64.MAX) × AreFirstLines J.code J.limit front.entry.now × (front.entry.now ≡ []) }
+            ensures { Shows (is_err result) front.exit.now (W.taken out.entry.now) (W.taken out.exit.now)
+                × Counts (is_err result) (W.failures out.entry.now) (W.failures out.exit.now)
+                × AreFirstLines J.code J.limit front.exit.now }
+        { watch_run(rt, alloc, shared, signal, gate, watch, front, out) },
+    );
+    team?;
+    Ok(shown.is_err())
+}
+
+/// Runs a team of `count` threads until the run is over, and merges what the workers counted. Returns true if a write
+/// failed.
 ///
 /// # Errors
 ///
@@ -307,6 +409,7 @@ fn run_and_collect<
     N: Ledger + Send + Sync,
     R: Threads + Wait + Sync,
     G: Gate,
+    W: Sink,
 >(
     rt: &R,
     alloc: Global,
@@ -316,14 +419,26 @@ fn run_and_collect<
     enabled: Share<N>,
     count: usize,
     gate: &G,
-) -> Result<RunTotals<J, E, N>, RunFault>
+    watch: Watch,
+    front: &mut LinePrefix<J>,
+    out: &mut W,
+) -> Result<(RunTotals<J, E, N>, bool), RunFault>
     requires shares { (events.parts ≡ 0) × (enabled.parts ≡ 0) × (events.amount ≡ 0) × (enabled.amount ≡ 0) }
     requires pool { pool_id pool.now ≡ J.pool }
-    ensures seats { IfOk result (λ s. vec_len s.seats ≡ count) }
+    requires sound { W.failures out.old < u64.MAX }
+    requires first { AreFirstLines J.code J.limit front.old }
+    requires none { front.old ≡ [] }
+    ensures seats { IfOk result (λ s. vec_len s.0.seats ≡ count) }
+    ensures shown { IfOk result (λ s. Shows s.1 front.new (W.taken out.old) (W.taken out.new) × Counts s.1 (W.failures out.old) (W.failures out.new)) }
+    ensures wrote { Beginning (W.taken out.old) (flat_map text_line front.new) (W.taken out.new) }
+    ensures grows { W.failures out.old ≤ W.failures out.new }
+    ensures first { AreFirstLines J.code J.limit front.new }
+    ensures off { watch.live ≡ false → (front.new ≡ []) × (W.taken out.new ≡ W.taken out.old) × (W.failures out.new ≡ W.failures out.old) }
     ensures fault { IfErr result (λ e. e ≢ RunFault.BadCount) }
 {
-    let signal = WakeSignal::new();
-    run_team(rt, alloc, shared, &signal, pool, gate, count)?;
+    let failed = run_and_watch(
+        rt, alloc, pool, shared, count, gate, watch, front, out,
+    )?;
     let Scheduler {
         audited_board,
         idle,
@@ -331,10 +446,10 @@ fn run_and_collect<
     } = shared.get_mut();
     let back = drain_all(alloc, pool, idle, count)?;
     let totals = collect_totals(alloc, audited_board, back, events, enabled)?;
-    Ok(totals)
+    Ok((totals, failed))
 }
 
-/// Runs a board with its ledgers, pool and log, and returns its report.
+/// Runs a board with its ledgers, pool and logs, and returns its report.
 ///
 /// # Errors
 ///
@@ -345,6 +460,7 @@ fn run<
     N: Ledger + Send + Sync,
     R: Threads + Wait + Sync,
     G: Gate,
+    W: Sink,
 >(
     rt: &R,
     alloc: Global,
@@ -352,27 +468,44 @@ fn run<
     seats: Vec<PoolSeat>,
     board: Board,
     opened: NewLog,
+    lines: NewLineLog,
     events: Blank,
     enabled: Blank,
     engines: u8,
     count: usize,
     gate: &G,
+    watch: Watch,
     keeps: bool,
-) -> Result<(StoppedRun, PoolCount), RunFault>
+    out: &mut W,
+) -> Result<(WatchedRun, PoolCount), RunFault>
     requires count { (count ≤ max_threads) × (engines ≡ J.engines) × (count ≡ J.engines + J.workers) × (vec_len seats ≡ count) × (seats_of pool ≡ count) }
     requires ledgers { (events.name ≡ E.name) × (events.parts ≡ E.parts) × (enabled.name ≡ N.name) × (enabled.parts ≡ N.parts) }
     requires parts { (events.parts ≡ count) × (enabled.parts ≡ count) }
     requires pool { pool_id pool ≡ J.pool }
     requires seats { All (λ s. IsSeatOf pool s × (view s ≡ beginner 1)) seats.items }
-    requires opened { opened.seen.book ≡ J.book }
+    requires opened { (opened.seen.book ≡ J.book) × (lines.seen.book ≡ J.lines) }
     requires board { (board.code ≡ J.code) × (board.limit ≡ J.limit) × (board.history ≡ []) × (board.state ≡ start (code_system board.code)) }
-    ensures report { IfOk result (λ r. IsReport J.code J.limit J.engines J.workers r.0.report r.1) }
-    ensures kept { IfOk result (λ r. IsStopped keeps r.0) }
+    requires sound { W.failures out.old < u64.MAX }
+    ensures report { IfOk result (λ r. (l : ℕ) × (l ≤ J.limit) × IsReport J.code l J.engines J.workers r.0.run.report r.1) }
+    ensures kept { IfOk result (λ r. IsStopped keeps r.0.run) }
+    ensures shown { IfOk result (λ r. HasShown r.0 (W.taken out.old) (W.taken out.new) × Counts r.0.failed (W.failures out.old) (W.failures out.new)) }
+    ensures wrote { OnErr result (Wrote J.code J.limit (W.taken out.old) (W.taken out.new)) }
+    ensures grows { W.failures out.old ≤ W.failures out.new }
+    ensures off { watch.live ≡ false → (W.taken out.new ≡ W.taken out.old) × (W.failures out.new ≡ W.failures out.old) }
     ensures fault { IfErr result (λ e. e ≢ RunFault.BadCount) }
 {
     let (event_ledger, mut all_events) = events.open::<E>();
     let (enabled_ledger, mut all_enabled) = enabled.open::<N>();
-    let audited_board = AuditedBoard::<J, E, N>::new(board, opened, event_ledger, enabled_ledger);
+    let (line_log, shown) = lines.named::<J>();
+    let mut front = shown.again();
+    let audited_board = AuditedBoard::<J, E, N>::new(
+        board,
+        opened,
+        line_log,
+        shown,
+        event_ledger,
+        enabled_ledger,
+    );
     let idle = new_idle_workers::<J, E, N>(
         alloc,
         engines,
@@ -388,7 +521,7 @@ fn run<
         hints: ReadyHints::new(alloc),
         active: ActiveThreads::new(),
     });
-    let totals = run_and_collect(
+    let (totals, failed) = run_and_collect(
         rt,
         alloc,
         &pool,
@@ -397,9 +530,12 @@ fn run<
         all_enabled,
         count,
         gate,
+        watch,
+        &mut front,
+        out,
     )?;
     let Scheduler { audited_board, .. } = shared.into_inner();
-    finish_run(alloc, pool, audited_board, totals, keeps)
+    finish_run(alloc, pool, audited_board, totals, &front, failed, keeps)
 }
 
 /// Runs a program on threads, and returns its report with the pool counts. See `run_threads_to_stop`, which can keep the
@@ -427,11 +563,31 @@ pub fn run_threads<R: Threads + Wait + Sync, G: Gate>(
     }
 }
 
+/// A sink that takes nothing.
+#[derive(Drop)]
+struct NoSink {
+    failures: u64,
+}
+
+impl Sink for NoSink {
+    ghost use Rattle.std.specs.Prelude.{[]};
+
+    ghost taken = { λ sink. [] };
+
+    ghost failures = { λ sink. sink.failures };
+
+    fn write(&mut self, _piece: &[u8]) -> Result<usize, SinkFault> {
+        self.failures += 1;
+        Err(SinkFault)
+    }
+}
+
 /// Runs a program on threads, and returns its report with the pool counts, and the board on which it ended if that is
 /// wanted.
 ///
 /// Engines have the numbers from 0 on and run control items; workers follow and run leaf items. At most `limit` events
-/// happen. The gate computes each item outside the lock. Blocks until all threads have ended.
+/// happen. The gate computes each item outside the lock, and is never asked whether the run is to stop. Blocks until all
+/// threads have ended.
 ///
 /// # Errors
 ///
@@ -454,27 +610,118 @@ pub fn run_threads_to_stop<R: Threads + Wait + Sync, G: Gate>(
     ensures kept { IfOk result (λ r. IsStopped keeps r.0) }
     ensures count { (result ≡ Err RunFault.BadCount) ↔ ((engines ≡ 0) ⊎ ((workers ≡ 0) ⊎ (max_threads < engines + workers))) }
 {
+    let mut out = NoSink { failures: 0 };
+    let (watched, count) = run_watched(
+        rt,
+        alloc,
+        program,
+        engines,
+        workers,
+        limit,
+        gate,
+        Watch::OFF,
+        keeps,
+        &mut out,
+    )?;
+    let WatchedRun { run, failed, .. } = watched;
+    if failed {
+        return Err(RunFault::Stranger);
+    }
+    Ok((run, count))
+}
+
+/// Returns true if the run of the report ended as at its limit, with fewer events than this.
+pub fn is_cut(report: &Report, limit: u32) -> bool
+    ensures { result ≡ is_cut limit report.now }
+{
+    match &report.end {
+        End::Limit => report.history.len() < limit as usize,
+        End::Quiet => false,
+        End::Fault(_) => false,
+    }
+}
+
+/// Checks that a run which nobody may stop was not stopped.
+///
+/// # Errors
+///
+/// Returns `Stranger` if it was.
+fn check_limit(watched: WatchedRun, limit: u32, stops: bool) -> Result<WatchedRun, RunFault>
+    ensures same { IfOk result (λ r. r ≡ watched) }
+    ensures whole { OnOk result (stops ≡ false → watched.failed ≡ false → is_cut limit watched.run.report ≡ false) }
+    ensures fault { IfErr result (λ e. e ≡ RunFault.Stranger) }
+{
+    if stops || watched.failed || !is_cut(&watched.run.report, limit) {
+        Ok(watched)
+    } else {
+        Err(RunFault::Stranger)
+    }
+}
+
+/// Runs a program on threads as `run_threads_to_stop` does, and watches the run.
+///
+/// If `watch.live`, the lines are written to `out` as they come, by a thread that runs no item and does not hold the lock.
+/// The last lines may be left: the result says how many were written. If a write fails, the run stops as at its limit.
+///
+/// If `watch.stop`, the gate is asked whether the run is to stop, once before the first event and then every few
+/// milliseconds. If so, the run ends as at its limit: no item begins any more, and those that run may end. The limit of
+/// its report is its number of events.
+///
+/// # Errors
+///
+/// Returns the errors of `run_threads_to_stop`. First lines of the run may then have been written.
+pub fn run_watched<R: Threads + Wait + Sync, G: Gate, W: Sink>(
+    rt: &R,
+    alloc: Global,
+    program: &Program,
+    engines: u8,
+    workers: u8,
+    limit: u32,
+    gate: &G,
+    watch: Watch,
+    keeps: bool,
+    out: &mut W,
+) -> Result<(WatchedRun, PoolCount), RunFault>
+    requires { W.failures out.old < u64.MAX }
+    ensures report { IfOk result (λ r. (l : ℕ) × IsLimit (watch.stop || r.0.failed) limit l × IsReport program.now l engines workers r.0.run.report r.1) }
+    ensures kept { IfOk result (λ r. IsStopped keeps r.0.run) }
+    ensures shown { IfOk result (λ r. HasShown r.0 (W.taken out.old) (W.taken out.new) × Counts r.0.failed (W.failures out.old) (W.failures out.new)) }
+    ensures wrote { OnErr result (Wrote program.now limit (W.taken out.old) (W.taken out.new)) }
+    ensures grows { W.failures out.old ≤ W.failures out.new }
+    ensures off { watch.live ≡ false → (W.taken out.new ≡ W.taken out.old) × (W.failures out.new ≡ W.failures out.old) }
+    ensures count { (result ≡ Err RunFault.BadCount) ↔ ((engines ≡ 0) ⊎ ((workers ≡ 0) ⊎ (max_threads < engines + workers))) }
+{
     let count = engines as usize + workers as usize;
     if engines == 0 || workers == 0 || count > MAX_THREADS {
         return Err(RunFault::BadCount);
     }
     let _whole = program.code().entry_count();
     let (pool, seats) = Pool::new(alloc, count)?;
-    let board = Board::new(alloc, program.share()?, limit)?;
+    let most = if watch.stop && gate.wants_stop() {
+        0
+    } else {
+        limit
+    };
+    let board = Board::new(alloc, program.share()?, most)?;
     let events = Blank::new(count as u64);
     let enabled = Blank::new(count as u64);
-    run::<Brand, Brand, Brand, R, G>(
+    let (watched, pool_count) = run::<Brand, Brand, Brand, R, G, W>(
         rt,
         alloc,
         pool,
         seats,
         board,
         NewLog::new(),
+        NewLineLog::new(),
         events,
         enabled,
         engines,
         count,
         gate,
+        watch,
         keeps,
-    )
+        out,
+    )?;
+    let watched = check_limit(watched, limit, watch.stop)?;
+    Ok((watched, pool_count))
 }

@@ -62,7 +62,7 @@ impl<J: RunParams, E: Ledger, N: Ledger> ThreadState<J, E, N> {
 }
 
 /// Stops the run for this reason, and wakes all threads.
-fn halt<J: RunParams, E: Ledger, N: Ledger, R: Wait>(
+pub fn halt<J: RunParams, E: Ledger, N: Ledger, R: Wait>(
     rt: &R,
     shared: &Mutex<Scheduler<J, E, N>>,
     signal: &WakeSignal,

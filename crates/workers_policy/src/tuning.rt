@@ -39,6 +39,9 @@ pub struct Tuning {
     pub max_sleep_us: u64,
     /// Duration, in microseconds, of the nap of a thread that could only open more of the script. Chosen by trial.
     pub nap_us: u64,
+    /// Duration, in microseconds, of the sleep of a thread that watches a run, between two looks at the lines. Shorter than
+    /// a person can see, and 500 looks a second are few beside the critical sections of the other threads.
+    pub watch_us: u64,
 }
 
 impl Tuning {
@@ -57,5 +60,6 @@ impl Tuning {
         min_sleep_us: 50,
         max_sleep_us: 1000,
         nap_us: 100,
+        watch_us: 2000,
     };
 }

@@ -96,7 +96,7 @@ impl WakeSignal {
         let mut nap = Tuning::MEASURED.min_sleep_us;
         for _ in rt.forever() {
             let heard = self.condvar.notifications();
-            if self.state() & STOPPED != 0 {
+            if self.is_stopped() {
                 return;
             }
             self.condvar.sleep(rt, heard, Duration::from_micros(nap));
@@ -110,9 +110,23 @@ impl WakeSignal {
     /// Sleeps for a short time, or until the run is over.
     pub fn nap<R: Wait>(&self, rt: &R) {
         let heard = self.condvar.notifications();
-        if self.state() & STOPPED == 0 {
+        if !self.is_stopped() {
             self.condvar
                 .sleep(rt, heard, Duration::from_micros(Tuning::MEASURED.nap_us));
+        }
+    }
+
+    /// Returns true if the run is over.
+    pub fn is_stopped(&self) -> bool {
+        self.state() & STOPPED != 0
+    }
+
+    /// Sleeps for as long as a thread that watches the run does between two looks, or until the run is over.
+    pub fn watch<R: Wait>(&self, rt: &R) {
+        let heard = self.condvar.notifications();
+        if !self.is_stopped() {
+            self.condvar
+                .sleep(rt, heard, Duration::from_micros(Tuning::MEASURED.watch_us));
         }
     }
 }
