@@ -14,10 +14,10 @@ use values::text::Text;
 /// # Errors
 ///
 /// Returns `SinkFault` if a write failed. The sink then has received a prefix of the text.
-pub fn write_lines<W: Sink>(lines: &Vec<Text>, sink: &mut W) -> Result<(), SinkFault>
+pub fn write_lines<W: Sink>(lines: &[Text], sink: &mut W) -> Result<(), SinkFault>
     requires { W.failures sink.old < u64.MAX }
-    ensures ok { OnOk result (W.taken sink.new ≡ W.taken sink.old ++ flat_map text_line lines.now.items) }
-    ensures err { OnErr result (Beginning (W.taken sink.old) (flat_map text_line lines.now.items) (W.taken sink.new)) }
+    ensures ok { OnOk result (W.taken sink.new ≡ W.taken sink.old ++ flat_map text_line lines.now) }
+    ensures err { OnErr result (Beginning (W.taken sink.old) (flat_map text_line lines.now) (W.taken sink.new)) }
     ensures failed { OnErr result (W.failures sink.old < W.failures sink.new) }
     ensures none_failed { OnOk result (W.failures sink.new ≡ W.failures sink.old) }
 {

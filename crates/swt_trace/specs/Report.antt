@@ -1,5 +1,5 @@
 -- The texts of reports and of their traces.
-use Rattle.std.specs.Prelude.{ℕ, ◌==◌, List, [], ◌∷◌, ◌++◌, length, codes, Some, if◌then◌else◌}
+use Rattle.std.specs.Prelude.{ℕ, ◌==◌, drop, List, [], ◌∷◌, ◌++◌, length, codes, Some, if◌then◌else◌}
 use Rattle.std.specs.List.{flat_map}
 use Rattle.std.specs.Fmt.{decimal, signed_decimal}
 use Rattle.paths.specs.declared.faults.Fault.{Fault}
@@ -14,7 +14,7 @@ use Rattle.values.specs.declared.key.Key.{Key}
 use Rattle.values.specs.declared.key.Key.TheVariants.{Number, Text}
 use Rattle.swt_trace.specs.declared.ending.Ending.{Ending}
 use Rattle.swt_trace.specs.declared.ending.Ending.TheVariants as Named
-use Rattle.swt_trace.specs.Trace.{TraceText}
+use Rattle.swt_trace.specs.Trace.{TraceText, ending_line, event_lines}
 
 -- a byte of a text, escaped as in a script: 10, 9, `\` and `"` are written with a `\` before them
 abbrev pub spelled : ℕ → List ℕ
@@ -66,11 +66,19 @@ end_text Ends.Limit r = limit_line (length r.history.items)
 abbrev pub ReportText : Report → List ℕ
 ReportText r = flat_map text_line r.lines.items ++ end_text r.end r
 
+-- the text of a report behind its first lines
+abbrev pub rest_of_report : ℕ → Report → List ℕ
+rest_of_report shown r = flat_map text_line (drop shown r.lines.items) ++ end_text r.end r
+
 -- the end of a run as a trace names it
 abbrev pub ending_of : End → Ending
 ending_of Ends.Quiet = Named.Quiet
 ending_of (Ends.Fault f) = Named.Fault
 ending_of Ends.Limit = Named.Limit
+
+-- what a trace of version 2 has behind its first line
+abbrev pub rest_of_trace : Report → List ℕ
+rest_of_trace r = event_lines r.history.items (ending_line (ending_of r.end) [])
 
 -- the text of a report's trace, in version 2
 abbrev pub TraceOf : Report → List ℕ

@@ -8,7 +8,7 @@ ghost use Rattle.std.specs.Fmt.{signed_decimal};
 ghost use Rattle.std.specs.List.{flat_map};
 ghost use Rattle.values.specs.Sinks.{Beginning};
 ghost use Rattle.paths.specs.Names.{fault_name};
-ghost use Rattle.swt_trace.specs.Report.{ReportText, text_line, quoted, spelled, step_text, path_text, statement_text, blocked_line, fault_line, limit_line, end_text};
+ghost use Rattle.swt_trace.specs.Report.{ReportText, text_line, quoted, rest_of_report, spelled, step_text, path_text, statement_text, blocked_line, fault_line, limit_line, end_text};
 
 use crate::fault::WriteError;
 use arrayvec::ArrayString;
@@ -43,7 +43,25 @@ pub fn write_report<W: Sink>(report: &Report, sink: &mut W) -> Result<(), WriteE
     ensures failed { OnErr result (W.failures sink.old < W.failures sink.new) }
     ensures none_failed { OnOk result (W.failures sink.new ≡ W.failures sink.old) }
 {
-    write_lines(&report.lines, sink)?;
+    write_lines(report.lines.as_slice(), sink)?;
+    write_end(report, sink)?;
+    Ok(())
+}
+
+/// Writes the text of a report behind its first lines, which have been written.
+///
+/// # Errors
+///
+/// Returns `Write` if a write failed. The sink then has received a prefix of that part.
+pub fn write_rest<W: Sink>(report: &Report, shown: usize, sink: &mut W) -> Result<(), WriteError>
+    requires sound { W.failures sink.old < u64.MAX }
+    requires within { shown ≤ length report.now.lines.items }
+    ensures ok { OnOk result (W.taken sink.new ≡ W.taken sink.old ++ rest_of_report shown report.now) }
+    ensures err { OnErr result (Beginning (W.taken sink.old) (rest_of_report shown report.now) (W.taken sink.new)) }
+    ensures failed { OnErr result (W.failures sink.old < W.failures sink.new) }
+    ensures none_failed { OnOk result (W.failures sink.new ≡ W.failures sink.old) }
+{
+    write_lines(&report.lines.as_slice()[shown..], sink)?;
     write_end(report, sink)?;
     Ok(())
 }

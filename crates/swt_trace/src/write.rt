@@ -2,7 +2,7 @@
 ghost use Rattle.std.specs.Prelude.{◌≡◌, ◌<◌, ◌++◌, ◌∷◌, [], length, decimal, OnOk, OnErr};
 ghost use Rattle.values.specs.Pages.{OnPage};
 ghost use Rattle.values.specs.Sinks.{Beginning};
-ghost use Rattle.swt_trace.specs.Report.{TraceOf, ending_of};
+ghost use Rattle.swt_trace.specs.Report.{TraceOf, ending_of, rest_of_trace};
 ghost use Rattle.swt_trace.specs.Trace.{ended, ending_line, event_line, event_lines, first_line};
 
 use crate::ending::Ending;
@@ -31,21 +31,67 @@ pub fn write_trace<W: Sink>(report: &Report, sink: &mut W) -> Result<(), WriteEr
     ensures failed { OnErr result (W.failures sink.old < W.failures sink.new) }
     ensures none_failed { OnOk result (W.failures sink.new ≡ W.failures sink.old) }
 {
-    write_events(report.history.as_slice(), sink)?;
+    write_behind(b"swt-trace 2\n", report, sink)
+}
+
+/// Writes the first line of a trace of version 2.
+///
+/// # Errors
+///
+/// Returns `Write` if a write failed. The sink then has received a prefix of the line.
+pub fn write_first_line<W: Sink>(sink: &mut W) -> Result<(), WriteError>
+    requires { W.failures sink.old < u64.MAX }
+    ensures ok { OnOk result (W.taken sink.new ≡ W.taken sink.old ++ first_line ended) }
+    ensures err { OnErr result (Beginning (W.taken sink.old) (first_line ended) (W.taken sink.new)) }
+    ensures failed { OnErr result (W.failures sink.old < W.failures sink.new) }
+    ensures none_failed { OnOk result (W.failures sink.new ≡ W.failures sink.old) }
+{
+    write_all(sink, b"swt-trace 2\n")?;
+    Ok(())
+}
+
+/// Writes the trace of a report without its first line.
+///
+/// # Errors
+///
+/// Returns `Write` if a write failed. The sink then has received a prefix of that part.
+pub fn write_rest_of_trace<W: Sink>(report: &Report, sink: &mut W) -> Result<(), WriteError>
+    requires { W.failures sink.old < u64.MAX }
+    ensures ok { OnOk result (W.taken sink.new ≡ W.taken sink.old ++ rest_of_trace report.now) }
+    ensures err { OnErr result (Beginning (W.taken sink.old) (rest_of_trace report.now) (W.taken sink.new)) }
+    ensures failed { OnErr result (W.failures sink.old < W.failures sink.new) }
+    ensures none_failed { OnOk result (W.failures sink.new ≡ W.failures sink.old) }
+{
+    write_behind(b"", report, sink)
+}
+
+/// Writes a text, and the trace of a report without its first line behind it.
+fn write_behind<W: Sink>(front: &[u8], report: &Report, sink: &mut W) -> Result<(), WriteError>
+    requires { W.failures sink.old < u64.MAX }
+    ensures ok { OnOk result (W.taken sink.new ≡ W.taken sink.old ++ (front.now ++ rest_of_trace report.now)) }
+    ensures err { OnErr result (Beginning (W.taken sink.old) (front.now ++ rest_of_trace report.now) (W.taken sink.new)) }
+    ensures failed { OnErr result (W.failures sink.old < W.failures sink.new) }
+    ensures none_failed { OnOk result (W.failures sink.new ≡ W.failures sink.old) }
+{
+    write_events(front, report.history.as_slice(), sink)?;
     write_ending(&report.end, sink)?;
     Ok(())
 }
 
-/// Writes the first line and the lines of the events.
-fn write_events<W: Sink>(events: &[PackedEvent], sink: &mut W) -> Result<(), SinkFault>
+/// Writes a text and the lines of the events.
+fn write_events<W: Sink>(
+    front: &[u8],
+    events: &[PackedEvent],
+    sink: &mut W,
+) -> Result<(), SinkFault>
     requires { W.failures sink.old < u64.MAX }
-    ensures ok { OnOk result (W.taken sink.new ≡ W.taken sink.old ++ (first_line ended ++ event_lines events.now [])) }
-    ensures err { OnErr result (Beginning (W.taken sink.old) (first_line ended ++ event_lines events.now []) (W.taken sink.new)) }
+    ensures ok { OnOk result (W.taken sink.new ≡ W.taken sink.old ++ (front.now ++ event_lines events.now [])) }
+    ensures err { OnErr result (Beginning (W.taken sink.old) (front.now ++ event_lines events.now []) (W.taken sink.new)) }
     ensures failed { OnErr result (W.failures sink.old < W.failures sink.new) }
     ensures none_failed { OnOk result (W.failures sink.new ≡ W.failures sink.old) }
 {
     let mut page = Page::new();
-    page.put(sink, b"swt-trace 2\n")?;
+    page.put(sink, front)?;
     for packed in events {
         put_event(packed.event(), &mut page, sink)?;
     }

@@ -112,7 +112,7 @@ fn show_lines<J: RunParams, E: Ledger, N: Ledger, R: Wait, W: Sink>(
         let scheduler = &mut *guard;
         take_lines(alloc, scheduler, front, batch);
     }
-    write_lines(batch, out)?;
+    write_lines(batch.as_slice(), out)?;
     let count = batch.len();
     batch.clear();
     Ok(count)

@@ -10,9 +10,9 @@ use Rattle.board_runs.proofs.lines.write_lines.Goals as goal
 
 pub returns-in_err-put_line-clause-err : goal.returns-in_err-put_line-clause-err
 returns-in_err-put_line-clause-err g c =
-    let ls = c.args.lines.now.items in let i = c.loop-line.line-index in
+    let ls = c.args.lines.now in let i = c.loop-line.line-index in
     let old = g.W.Sink.taken c.args.sink.now in let new = g.W.Sink.taken c.put_line.new.sink in
-    let l : i < length ls = rw (← c.deref-line-items.ensures.value) c.loop-line-test.true in
+    let l : i < length ls = c.loop-line-test.true in
     let p : text_line c.as_bytes.result.now ≡ text_line (get_or ls i c.line-item.result) = ap text_line (cc) in
     let b : Beginning old (flat_map text_line ls) new =
     in_front_texts text_line ls i c.line-item.result old new (text_line c.as_bytes.result.now) l p
@@ -22,9 +22,9 @@ returns-in_err-put_line-clause-err g c =
 
 pub loop-line-preserved : goal.loop-line-preserved
 loop-line-preserved g c =
-    let ls = c.args.lines.now.items in let i = c.loop-line.line-index in
+    let ls = c.args.lines.now in let i = c.loop-line.line-index in
     let old = g.W.Sink.taken c.args.sink.now in let new = g.W.Sink.taken c.put_line.new.sink in
-    let l : i < length ls = rw (← c.deref-line-items.ensures.value) c.loop-line-test.true in
+    let l : i < length ls = c.loop-line-test.true in
     let p : text_line c.as_bytes.result.now ≡ text_line (get_or ls i c.line-item.result) = ap text_line (cc) in
     record {
       on_page = subst (λ (t : List ℕ). OnPage old new c.put_line.new.page t) (texts_so_far text_line ls i c.line-item.result (text_line c.as_bytes.result.now) l p)
@@ -35,7 +35,7 @@ loop-line-preserved g c =
 
 pub returns-in_err-empty-clause-err : goal.returns-in_err-empty-clause-err
 returns-in_err-empty-clause-err g c =
-    let ls = c.args.lines.now.items in let i = c.loop-line.line-index in
+    let ls = c.args.lines.now in let i = c.loop-line.line-index in
     let old = g.W.Sink.taken c.args.sink.now in let new = g.W.Sink.taken c.empty.new.sink in
     let all : take i ls ≡ ls = grind (arith, common_steps) in
     let b : Beginning old (flat_map text_line ls) new =
