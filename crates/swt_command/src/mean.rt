@@ -80,7 +80,7 @@ fn write_known<W: Sink>(told: &MeaningSummary, sink: &mut W) -> Result<(), SinkF
     requires { W.failures sink.old < u64.MAX }
     ensures { Writes result (held (W.taken sink.old) (W.failures sink.old)) (known_text told.now) (held (W.taken sink.new) (W.failures sink.new)) }
 {
-    write_lines(told.lines.as_slice(), sink)?;
+    write_lines(&told.lines, sink)?;
     write_blocked(&told.blocked, sink)
 }
 

@@ -13,6 +13,7 @@ ghost use Rattle.swt_trace.specs.Report.{ReportText, text_line, quoted, rest_of_
 use crate::fault::WriteError;
 use arrayvec::ArrayString;
 pub use board_runs::lines::write_lines;
+use board_runs::lines::write_texts;
 use board_runs::report::{End, Report};
 use itoa::Buffer;
 use paths::{Fault, FaultKind, StatementInstance, Step};
@@ -43,7 +44,7 @@ pub fn write_report<W: Sink>(report: &Report, sink: &mut W) -> Result<(), WriteE
     ensures failed { OnErr result (W.failures sink.old < W.failures sink.new) }
     ensures none_failed { OnOk result (W.failures sink.new ≡ W.failures sink.old) }
 {
-    write_lines(report.lines.as_slice(), sink)?;
+    write_lines(&report.lines, sink)?;
     write_end(report, sink)?;
     Ok(())
 }
@@ -61,7 +62,7 @@ pub fn write_rest<W: Sink>(report: &Report, shown: usize, sink: &mut W) -> Resul
     ensures failed { OnErr result (W.failures sink.old < W.failures sink.new) }
     ensures none_failed { OnOk result (W.failures sink.new ≡ W.failures sink.old) }
 {
-    write_lines(&report.lines.as_slice()[shown..], sink)?;
+    write_texts(&report.lines.as_slice()[shown..], sink)?;
     write_end(report, sink)?;
     Ok(())
 }

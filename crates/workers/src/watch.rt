@@ -9,7 +9,7 @@ use crate::gate::{Gate, RunParams};
 use crate::line_log::LinePrefix;
 use crate::scheduler::Scheduler;
 use crate::threads::halt;
-use board_runs::lines::write_lines;
+use board_runs::lines::write_texts;
 use board_runs::stopped::StoppedRun;
 use std::alloc::Global;
 use std::sync::ledger::Ledger;
@@ -112,7 +112,7 @@ fn show_lines<J: RunParams, E: Ledger, N: Ledger, R: Wait, W: Sink>(
         let scheduler = &mut *guard;
         take_lines(alloc, scheduler, front, batch);
     }
-    write_lines(batch.as_slice(), out)?;
+    write_texts(batch.as_slice(), out)?;
     let count = batch.len();
     batch.clear();
     Ok(count)

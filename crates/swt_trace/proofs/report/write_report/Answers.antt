@@ -1,4 +1,4 @@
-use Rattle.std.proofs.Common.{rules, ◌∙◌, ◌++◌, ap, List}
+use Rattle.std.proofs.Common.{rules}
 use Rattle.std.specs.List.{flat_map}
 use Rattle.values.specs.Sinks.{Beginning}
 use Rattle.swt_trace.specs.Report.{ReportText, text_line, end_text}
@@ -9,5 +9,5 @@ pub returns-in_err-write_end-clause-err : goal.returns-in_err-write_end-clause-e
 returns-in_err-write_end-clause-err g c =
     let r = c.args.report.now in
     let b : Beginning (g.W.Sink.taken c.args.sink.now) (ReportText r) (g.W.Sink.taken c.write_end.new.sink) =
-    behind _ (g.W.Sink.taken c.write_lines.new.sink) _ (flat_map text_line r.lines.items) (end_text r.end r) (c.in_ok-write_lines.ensures.ok ∙ ap (λ (ls : List _). g.W.Sink.taken c.args.sink.now ++ flat_map text_line ls) c.as_slice.ensures.value) c.in_err-write_end.ensures.err in
+    behind _ (g.W.Sink.taken c.write_lines.new.sink) _ (flat_map text_line r.lines.items) (end_text r.end r) c.in_ok-write_lines.ensures.ok c.in_err-write_end.ensures.err in
     search (rules, b)

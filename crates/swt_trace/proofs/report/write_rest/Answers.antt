@@ -9,6 +9,6 @@ pub returns-in_err-write_end-clause-err : goal.returns-in_err-write_end-clause-e
 returns-in_err-write_end-clause-err g c =
     let r = c.args.report.now in
     let b : Beginning (g.W.Sink.taken c.args.sink.now) (rest_of_report c.args.shown r) (g.W.Sink.taken c.write_end.new.sink) =
-    behind _ (g.W.Sink.taken c.write_lines.new.sink) _ (flat_map text_line (drop c.args.shown r.lines.items)) (end_text r.end r)
-    (c.in_ok-write_lines.ensures.ok ∙ ap (λ (ls : List _). g.W.Sink.taken c.args.sink.now ++ flat_map text_line ls) c.index.ensures.value) c.in_err-write_end.ensures.err in
+    behind _ (g.W.Sink.taken c.write_texts.new.sink) _ (flat_map text_line (drop c.args.shown r.lines.items)) (end_text r.end r)
+    (c.in_ok-write_texts.ensures.ok ∙ ap (λ (ls : List _). g.W.Sink.taken c.args.sink.now ++ flat_map text_line ls) c.index.ensures.value) c.in_err-write_end.ensures.err in
     search (rules, b)

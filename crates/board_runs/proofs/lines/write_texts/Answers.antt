@@ -6,7 +6,7 @@ use Rattle.values.specs.Pages.{OnPage}
 use Rattle.values.proofs.Beginnings.{lost, lost_behind, more_on_page}
 use Rattle.board_runs.specs.Report.{text_line}
 use Rattle.board_runs.proofs.Texts.{in_front_texts, texts_so_far}
-use Rattle.board_runs.proofs.lines.write_lines.Goals as goal
+use Rattle.board_runs.proofs.lines.write_texts.Goals as goal
 
 pub returns-in_err-put_line-clause-err : goal.returns-in_err-put_line-clause-err
 returns-in_err-put_line-clause-err g c =

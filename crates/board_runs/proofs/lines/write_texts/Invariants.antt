@@ -2,7 +2,7 @@ use Rattle.std.proofs.Common.{◌≡◌, take}
 use Rattle.std.specs.List.{flat_map}
 use Rattle.values.specs.Pages.{OnPage}
 use Rattle.board_runs.specs.Report.{text_line}
-use Rattle.board_runs.proofs.lines.write_lines.Given as goal
+use Rattle.board_runs.proofs.lines.write_texts.Given as goal
 
 abbrev pub invariant-loop-line : goal.invariant-loop-line
 invariant-loop-line g l = record {
