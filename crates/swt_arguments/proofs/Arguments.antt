@@ -78,7 +78,10 @@ option_word c w e = each_option c IsWord (all c) w e
         record { long = refl; no_end = refl; is_marked = refl; no_file = refl; file_not = refl },
         (
           record { long = refl; no_end = refl; is_marked = refl; no_file = refl; file_not = refl },
-          (record { long = refl; no_end = refl; is_marked = refl; no_file = refl; file_not = refl }, tt),
+          (
+            record { long = refl; no_end = refl; is_marked = refl; no_file = refl; file_not = refl },
+            (record { long = refl; no_end = refl; is_marked = refl; no_file = refl; file_not = refl }, tt),
+          ),
         ),
       ),
     )
@@ -174,16 +177,18 @@ is_reader Run = record {
       let two = or_parts _ _ one.1 in
       let three = or_parts _ _ two.1 in
       let four = or_parts _ _ three.1 in
+      let five = or_parts _ _ four.1 in
       rw (
         name_unlike w (codes "engines") named one.0,
         name_unlike w (codes "workers") named two.0,
         name_unlike w (codes "steps") named three.0,
         name_unlike w (codes "trace") named four.0,
+        name_unlike w (codes "stop") named five.0,
       ) refl;
   file_at = refl;
   file_id = refl;
-  long = each_option Run (λ w. arg_by_long (shape_for Run).rules (drop 2 w) ≡ Some (option_arg w)) (refl, (refl, (refl, (refl, tt))));
-  id = each_option Run (λ w. arg_by_id (shape_for Run).rules w ≡ Some (option_arg w)) (refl, (refl, (refl, (refl, tt))));
+  long = each_option Run (λ w. arg_by_long (shape_for Run).rules (drop 2 w) ≡ Some (option_arg w)) (refl, (refl, (refl, (refl, (refl, tt)))));
+  id = each_option Run (λ w. arg_by_id (shape_for Run).rules w ≡ Some (option_arg w)) (refl, (refl, (refl, (refl, (refl, tt)))));
 }
 
 pub and_false : (b : Bool) → (b && false) ≡ false
@@ -199,7 +204,7 @@ plain_option c w e = each_option c (λ v. is_name v ≡ true) (all c) w e
     all Code = (refl, tt)
     all Replay = tt
     all Mean = (refl, tt)
-    all Run = (refl, (refl, (refl, (refl, tt))))
+    all Run = (refl, (refl, (refl, (refl, (refl, tt)))))
 
 strange_word : (c : Command) (behind : Bool) (w : Text) (ws : List Text) → is_plain w ≡ false → well_formed c behind (w ∷ ws) ≡ false
 strange_word c behind w ws k = go (has_option c w) refl

@@ -71,7 +71,7 @@ plain_app Check = record { simple = refl; subs = refl; bare = refl; defaults = (
 plain_app Code = record { simple = refl; subs = refl; bare = refl; defaults = (refl, (refl, tt)); checks = λ rows. refl }
 plain_app Replay = record { simple = refl; subs = refl; bare = refl; defaults = (refl, tt); checks = λ rows. refl }
 plain_app Mean = record { simple = refl; subs = refl; bare = refl; defaults = (refl, (refl, tt)); checks = λ rows. refl }
-plain_app Run = record { simple = refl; subs = refl; bare = refl; defaults = (refl, (refl, (refl, (refl, (refl, tt))))); checks = λ rows. refl }
+plain_app Run = record { simple = refl; subs = refl; bare = refl; defaults = (refl, (refl, (refl, (refl, (refl, (refl, tt)))))); checks = λ rows. refl }
 
 abbrev start : Walk
 start = standing [] None idle
@@ -198,7 +198,8 @@ twice_number least most default (v ∷ w ∷ vs) h = refl
 twice_text : (vs : List Text) → 2 ≤ length vs → written vs ≡ None
 twice_text [] h = absurd (omega arith)
 twice_text (v ∷ []) h = absurd (omega arith)
-twice_text (v ∷ w ∷ vs) h = refl
+twice_text ([] ∷ w ∷ vs) h = refl
+twice_text ((c ∷ cs) ∷ w ∷ vs) h = refl
 
 twice_pass : (given : Option CodeForm) (vs : List Text) → 2 ≤ length vs → with_passes given vs ≡ None
 twice_pass given [] h = absurd (omega arith)
@@ -209,10 +210,10 @@ and_then_none : {T U : Type 0} (o : Option T) → option_and_then {T = T} {U = U
 and_then_none None = refl
 and_then_none (Some x) = refl
 
-twice_line : (c : Command) (ws fs : List Text) (n : Option CodeForm) (o : Text) → has_option c o ≡ true → 2 ≤ length (values_of o false ws) → command_line c ws fs n ≡ None
-twice_line c ws fs n o is = each_option c (λ p. 2 ≤ length (values_of p false ws) → command_line c ws fs n ≡ None) (all c) o is
+twice_line : (c : Command) (ws fs : List Text) (n : Option CodeForm) (v : Option Bool) (o : Text) → has_option c o ≡ true → 2 ≤ length (values_of o false ws) → command_line c ws fs n v ≡ None
+twice_line c ws fs n v o is = each_option c (λ p. 2 ≤ length (values_of p false ws) → command_line c ws fs n v ≡ None) (all c) o is
   where
-    all : (d : Command) → EachOf (λ p. 2 ≤ length (values_of p false ws) → command_line d ws fs n ≡ None) (options_of d)
+    all : (d : Command) → EachOf (λ p. 2 ≤ length (values_of p false ws) → command_line d ws fs n v ≡ None) (options_of d)
     all Check = tt
     all Code = (λ h. rw (twice_pass n (values_of (codes "--after") false ws) h) (and_then_none (only fs)), tt)
     all Replay = tt
@@ -223,31 +224,34 @@ twice_line c ws fs n o is = each_option c (λ p. 2 ≤ length (values_of p false
         λ h. simp (twice_number 1 (max_threads - 1) 3 (values_of (codes "--workers") false ws) h, and_then_none) refl,
         (
           λ h. simp (twice_number 0 max_events 10000000 (values_of (codes "--steps") false ws) h, and_then_none) refl,
-          (λ h. simp (twice_text (values_of (codes "--trace") false ws) h, and_then_none) refl, tt),
+          (
+            λ h. simp (twice_text (values_of (codes "--trace") false ws) h, and_then_none) refl,
+            (λ h. simp (twice_text (values_of (codes "--stop") false ws) h, and_then_none) refl, tt),
+          ),
         ),
       ),
     )
 
-no_line : (c : Command) (ws behind : List Text) (n : Option CodeForm) → IsRead c ws (Err Usage) → formed_line c ws behind n ≡ None
-no_line c ws behind n (inl form) = rw form refl
-no_line c ws behind n (inr twice) =
-    rw (twice_line c ws (files_in false ws ++ behind) n twice.0 twice.1 twice.2) (one_way (well_formed c false ws && input_once (files_in false ws ++ behind)) None)
+no_line : (c : Command) (ws behind : List Text) (n : Option CodeForm) (v : Option Bool) → IsRead c ws (Err Usage) → formed_line c ws behind n v ≡ None
+no_line c ws behind n v (inl form) = rw form refl
+no_line c ws behind n v (inr twice) =
+    rw (twice_line c ws (files_in false ws ++ behind) n v twice.0 twice.1 twice.2) (one_way (well_formed c false ws && input_once (files_in false ws ++ behind)) None)
 
-answer_at : (c : Command) (ws behind : List Text) (n : Option CodeForm) (fault : LineFault) → IsRead c ws (Err fault) → Answers {A = Line} (formed_line c ws behind n) (Err fault)
-answer_at c ws behind n Usage is = no_line c ws behind n is
-answer_at c ws behind n Memory is = tt
+answer_at : (c : Command) (ws behind : List Text) (n : Option CodeForm) (v : Option Bool) (fault : LineFault) → IsRead c ws (Err fault) → Answers {A = Line} (formed_line c ws behind n v) (Err fault)
+answer_at c ws behind n v Usage is = no_line c ws behind n v is
+answer_at c ws behind n v Memory is = tt
 
 -- what was not read is no line
-pub failed_line : (c : Command) (ws behind : List Text) (n : Option CodeForm) (fault : LineFault) (r : Result Line LineFault) → IsRead c ws (Err fault) → IsErrAnd r (λ y. y ≡ fault)
-    → Answers (formed_line c ws behind n) r
-failed_line c ws behind n fault (Ok line) is h = absurd h
-failed_line c ws behind n fault (Err y) is h = rw h (answer_at c ws behind n fault is)
+pub failed_line : (c : Command) (ws behind : List Text) (n : Option CodeForm) (v : Option Bool) (fault : LineFault) (r : Result Line LineFault) → IsRead c ws (Err fault) → IsErrAnd r (λ y. y ≡ fault)
+    → Answers (formed_line c ws behind n v) r
+failed_line c ws behind n v fault (Ok line) is h = absurd h
+failed_line c ws behind n v fault (Err y) is h = rw h (answer_at c ws behind n v fault is)
 
 -- what a run's words and files give is its line
-run_is : (ws behind files : List Text) (n : Option CodeForm) (m : ArgMatches) → Holds Run ws m → files ≡ files_given m ++ behind → input_once files ≡ true
-    → formed_line Run ws behind n
-    ≡ run_line files (values_given m (codes "--engines")) (values_given m (codes "--workers")) (values_given m (codes "--steps")) (values_given m (codes "--trace"))
-run_is ws behind files n m holds are once =
+run_is : (ws behind files : List Text) (n : Option CodeForm) (v : Option Bool) (m : ArgMatches) → Holds Run ws m → files ≡ files_given m ++ behind → input_once files ≡ true
+    → formed_line Run ws behind n v
+    ≡ run_line files (values_given m (codes "--engines")) (values_given m (codes "--workers")) (values_given m (codes "--steps")) (values_given m (codes "--trace")) (values_given m (codes "--stop")) v
+run_is ws behind files n v m holds are once =
     let at : files ≡ files_in false ws ++ behind = are ∙ ap (λ fs. fs ++ behind) holds.files in
     let once_at : input_once (files_in false ws ++ behind) ≡ true = subst (λ fs. input_once fs ≡ true) at once in
     rw (
@@ -258,13 +262,14 @@ run_is ws behind files n m holds are once =
       holds.values (codes "--workers") refl,
       holds.values (codes "--steps") refl,
       holds.values (codes "--trace") refl,
+      holds.values (codes "--stop") refl,
     ) refl
 
-pub run_answers : (c : Command) (ws behind files : List Text) (n : Option CodeForm) (m : ArgMatches) (r : Result Line LineFault) → c ≡ Run → Holds c ws m
+pub run_answers : (c : Command) (ws behind files : List Text) (n : Option CodeForm) (v : Option Bool) (m : ArgMatches) (r : Result Line LineFault) → c ≡ Run → Holds c ws m
     → files ≡ files_given m ++ behind → input_once files ≡ true
-    → Answers {A = Line} (run_line files (values_given m (codes "--engines")) (values_given m (codes "--workers")) (values_given m (codes "--steps")) (values_given m (codes "--trace"))) r
-    → Answers {A = Line} (formed_line c ws behind n) r
-run_answers c ws behind files n m r is holds are once given =
+    → Answers {A = Line} (run_line files (values_given m (codes "--engines")) (values_given m (codes "--workers")) (values_given m (codes "--steps")) (values_given m (codes "--trace")) (values_given m (codes "--stop")) v) r
+    → Answers {A = Line} (formed_line c ws behind n v) r
+run_answers c ws behind files n v m r is holds are once given =
     let held = subst (λ d. Holds d ws m) is holds in
-    let line = run_is ws behind files n m held are once in
-    subst (λ d. Answers {A = Line} (formed_line d ws behind n) r) (sym is) (subst (λ x. Answers {A = Line} x r) (sym line) given)
+    let line = run_is ws behind files n v m held are once in
+    subst (λ d. Answers {A = Line} (formed_line d ws behind n v) r) (sym is) (subst (λ x. Answers {A = Line} x r) (sym line) given)

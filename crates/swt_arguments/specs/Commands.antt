@@ -18,7 +18,7 @@ command_of w =
 -- the options of a command with a value
 abbrev pub options_of : Command → List (List ℕ)
 options_of Mean = codes "--rounds" ∷ []
-options_of Run = codes "--engines" ∷ codes "--workers" ∷ codes "--steps" ∷ codes "--trace" ∷ []
+options_of Run = codes "--engines" ∷ codes "--workers" ∷ codes "--steps" ∷ codes "--trace" ∷ codes "--stop" ∷ []
 options_of Code = codes "--after" ∷ []
 options_of Check = []
 options_of Replay = []
@@ -32,7 +32,7 @@ abbrev pub flags_of : Command → List (List ℕ)
 flags_of Code = codes "--dot" ∷ codes "--draw" ∷ explain_flags
 flags_of Check = codes "--json" ∷ codes "--deny-warnings" ∷ explain_flags
 flags_of Mean = codes "--progress" ∷ explain_flags
-flags_of Run = codes "--progress" ∷ explain_flags
+flags_of Run = codes "--progress" ∷ codes "--live" ∷ explain_flags
 flags_of Replay = explain_flags
 
 -- whether a word is an option of the command without a value

@@ -31,6 +31,14 @@ progress_given Code ws = Some false
 progress_given Run ws = flag_given (often (codes "--progress") ws)
 progress_given Replay ws = Some false
 
+-- whether to write the lines of a run as they come, for `run` only
+abbrev pub live_given : Command → List (List ℕ) → Option Bool
+live_given Check ws = Some false
+live_given Mean ws = Some false
+live_given Code ws = Some false
+live_given Run ws = flag_given (often (codes "--live") ws)
+live_given Replay ws = Some false
+
 -- whether to report refusals as JSON, for `check` only
 abbrev pub json_given : Command → List (List ℕ) → Option Bool
 json_given Check ws = flag_given (often (codes "--json") ws)
@@ -61,7 +69,7 @@ request_with c ws behind =
     (progress_given c ws))
     (all_given ws))
     (explain_given ws))
-    (formed_line c (all_divided c (unflagged c ws)) behind (form_given ws))
+    (formed_line c (all_divided c (unflagged c ws)) behind (form_given ws) (live_given c ws))
 
 -- a command with these words after it
 abbrev pub behind_command : Command → List (List ℕ) → Option Request

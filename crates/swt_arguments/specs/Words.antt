@@ -82,10 +82,11 @@ only [] = None
 only (w ∷ []) = Some w
 only (w ∷ v ∷ ws) = None
 
--- the output file, which may be absent: none if several are given, or `-`
+-- the output file, which may be absent: none if several are given, or `-`, or one without a name
 abbrev pub written : List (List ℕ) → Option (Option (List ℕ))
 written [] = Some None
-written (w ∷ []) = if bytes_eq w (codes "-") then None else Some (Some w)
+written ([] ∷ []) = None
+written ((c ∷ cs) ∷ []) = if bytes_eq (c ∷ cs) (codes "-") then None else Some (Some (c ∷ cs))
 written (w ∷ v ∷ ws) = None
 
 -- a result is what the words give; `Usage` is returned only if they give nothing, and `Memory` for any words

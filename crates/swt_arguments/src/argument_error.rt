@@ -305,12 +305,12 @@ fn wrong_value<'a>(option: &'a str, value: &'a str) -> Option<ArgumentError<'a>>
     if is(option, "--after") {
         return wrong_pass(option, value);
     }
-    let Some(taken) = NumberOption::of(option) else {
-        return wrong_name(value);
-    };
     if value.is_empty() {
         return Some(no_value(option));
     }
+    let Some(taken) = NumberOption::of(option) else {
+        return wrong_name(value);
+    };
     let (least, most) = taken.range();
     match number_within(value, least, most) {
         Some(_) => None,

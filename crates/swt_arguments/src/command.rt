@@ -48,7 +48,8 @@ impl Command {
         match self {
             Command::Code => is(word, "--dot") || is(word, "--draw") || explains(word),
             Command::Check => is(word, "--json") || is(word, "--deny-warnings") || explains(word),
-            Command::Run | Command::Mean => is(word, "--progress") || explains(word),
+            Command::Mean => is(word, "--progress") || explains(word),
+            Command::Run => is(word, "--progress") || is(word, "--live") || explains(word),
             Command::Replay => explains(word),
         }
     }
@@ -65,6 +66,7 @@ impl Command {
                     || is(word, "--workers")
                     || is(word, "--steps")
                     || is(word, "--trace")
+                    || is(word, "--stop")
             }
             Command::Check | Command::Replay => false,
         }
@@ -95,8 +97,10 @@ impl Command {
                 "--workers",
                 "--steps",
                 "--trace",
+                "--stop",
                 "--explain",
                 "--progress",
+                "--live",
             ],
         }
     }

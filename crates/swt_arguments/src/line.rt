@@ -3,7 +3,7 @@ ghost use Rattle.std.specs.Prelude.{◌≡◌, ◌-◌, ◌≤◌, ◌++◌, [],
 ghost use Rattle.swt_arguments.specs.Numbers.{number_given};
 ghost use Rattle.swt_arguments.specs.Words.{Answers};
 ghost use Rattle.swt_arguments.specs.Reader.{files_given, values_given};
-ghost use Rattle.swt_arguments.specs.Lines.{formed_line, check_line, mean_line, code_line, run_line, replay_line, files_of, IsInRange};
+ghost use Rattle.swt_arguments.specs.Lines.{formed_line, check_line, mean_line, code_line, observed, run_line, replay_line, files_of, IsInRange};
 ghost use Rattle.values.specs.Limits.{max_threads};
 
 use crate::code_form::{CodeForm, with_passes};
@@ -66,6 +66,17 @@ pub enum Line {
         steps: u32,
         trace: Option<Word>,
     },
+    /// Runs a script as `Run` does. If `live`, its lines are written as they come; if a file is named by `stop`, the run
+    /// ends as at its limit once there is a file of this name.
+    Observed {
+        file: Word,
+        engines: u8,
+        workers: u8,
+        steps: u32,
+        trace: Option<Word>,
+        live: bool,
+        stop: Option<Word>,
+    },
     /// Replays a trace of a script and reports the run.
     Replay {
         file: Word,
@@ -80,9 +91,10 @@ impl Line {
     {
         match self {
             Line::Check { files } => copies(alloc, files.as_slice()),
-            Line::Mean { file, .. } | Line::Code { file, .. } | Line::Run { file, .. } => {
-                one(alloc, file)
-            }
+            Line::Mean { file, .. }
+            | Line::Code { file, .. }
+            | Line::Run { file, .. }
+            | Line::Observed { file, .. } => one(alloc, file),
             Line::Replay { file, trace } => two(alloc, file, trace),
         }
     }
@@ -111,15 +123,17 @@ fn copies(alloc: Global, words: &[Word]) -> Result<Vec<Word>, AllocError>
 }
 
 /// Parses the line of a command. `words` are its options and files, `behind` the files after `--`, and `form` is the
-/// form that the options of `code` without a value ask for, if they ask for one.
+/// form that the options of `code` without a value ask for, if they ask for one. `live` says whether `--live` is given; it
+/// is `None` if that is repeated.
 pub fn read(
     alloc: Global,
     command: Command,
     words: &[Word],
     behind: &[Word],
     form: Option<CodeForm>,
+    live: Option<bool>,
 ) -> Result<Line, LineFault>
-    ensures line { Answers (formed_line command words.now behind.now form) result }
+    ensures line { Answers (formed_line command words.now behind.now form live) result }
     ensures in_range { IfOk result IsInRange }
 {
     let matches = reading::read(alloc, command, words)?;
@@ -131,7 +145,7 @@ pub fn read(
         Command::Check => read_check(files),
         Command::Mean => read_mean(alloc, &files, &matches),
         Command::Code => read_code(alloc, &files, form, &matches),
-        Command::Run => read_run(alloc, &files, &matches),
+        Command::Run => read_run(alloc, &files, &matches, live),
         Command::Replay => read_replay(alloc, &files),
     }
 }
@@ -184,10 +198,15 @@ fn read_code(
     }
 }
 
-fn read_run(alloc: Global, files: &[Word], matches: &ArgMatches) -> Result<Line, LineFault>
+fn read_run(
+    alloc: Global,
+    files: &[Word],
+    matches: &ArgMatches,
+    live: Option<bool>,
+) -> Result<Line, LineFault>
     ensures line { Answers (run_line files.now (values_given matches.now (codes "--engines"))
         (values_given matches.now (codes "--workers")) (values_given matches.now (codes "--steps"))
-        (values_given matches.now (codes "--trace"))) result }
+        (values_given matches.now (codes "--trace")) (values_given matches.now (codes "--stop")) live) result }
     ensures in_range { IfOk result IsInRange }
 {
     let file = words::only(alloc, files)?;
@@ -195,13 +214,43 @@ fn read_run(alloc: Global, files: &[Word], matches: &ArgMatches) -> Result<Line,
     let workers = thread_count(matches, "--workers", 3)?;
     let steps = number(matches, "--steps", 0, MAX_EVENTS as u32, 10_000_000)?;
     let trace = words::written(alloc, matches.get_str("--trace"))?;
-    Ok(Line::Run {
+    let stop = words::written(alloc, matches.get_str("--stop"))?;
+    let Some(live) = live else {
+        return Err(LineFault::Usage);
+    };
+    Ok(observed(file, engines, workers, steps, trace, live, stop))
+}
+
+/// Returns the line of a run, which is observed if its lines are to be written as they come or it may be stopped.
+fn observed(
+    file: Word,
+    engines: u8,
+    workers: u8,
+    steps: u32,
+    trace: Option<Word>,
+    live: bool,
+    stop: Option<Word>,
+) -> Line
+    ensures { result ≡ observed file engines workers steps trace live stop }
+{
+    if live || stop.is_some() {
+        return Line::Observed {
+            file,
+            engines,
+            workers,
+            steps,
+            trace,
+            live,
+            stop,
+        };
+    }
+    Line::Run {
         file,
         engines,
         workers,
         steps,
         trace,
-    })
+    }
 }
 
 fn read_replay(alloc: Global, files: &[Word]) -> Result<Line, LineFault>

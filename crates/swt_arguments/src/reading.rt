@@ -94,7 +94,8 @@ fn run_reader<'a>(alloc: Global) -> Result<clap::Command<'a>, AllocError>
     ensures { IfOk result (λ reader. app_of reader ≡ app_with (options_of Run)) }
 {
     let steps = with_option(alloc, thread_options(alloc)?, "--steps", "steps")?;
-    with_option(alloc, steps, "--trace", "trace")
+    let trace = with_option(alloc, steps, "--trace", "trace")?;
+    with_option(alloc, trace, "--stop", "stop")
 }
 
 /// Creates a reader with the options for engines and workers.

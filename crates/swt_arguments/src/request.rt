@@ -2,7 +2,7 @@
 ghost use Rattle.std.specs.Prelude.{◌≡◌, [], ◌∷◌, IfOk, MatchOption};
 ghost use Rattle.swt_arguments.specs.Forms.{form_given};
 ghost use Rattle.swt_arguments.specs.Lines.{formed_line, IsInRange};
-ghost use Rattle.swt_arguments.specs.Requests.{all_given, behind_command, deny_given, explain_given, json_given, one_given, progress_given, request_of, request_with};
+ghost use Rattle.swt_arguments.specs.Requests.{all_given, behind_command, deny_given, explain_given, json_given, live_given, one_given, progress_given, request_of, request_with};
 ghost use Rattle.swt_arguments.specs.Words.{all_divided, before_dashes, behind_dashes, divided, unflagged, Answers};
 
 use crate::code_form::form_given;
@@ -91,12 +91,33 @@ fn read_line(
     behind: &[Word],
 ) -> Result<Line, LineFault>
     ensures line { Answers (formed_line command (all_divided command (unflagged command words.now)) behind.now
-        (form_given words.now)) result }
+        (form_given words.now) (live_given command words.now)) result }
     ensures in_range { IfOk result IsInRange }
 {
     let others = unflagged(alloc, command, words)?;
     let parts = all_divided(alloc, command, others.as_slice())?;
-    line::read(alloc, command, parts.as_slice(), behind, form_given(words))
+    line::read(
+        alloc,
+        command,
+        parts.as_slice(),
+        behind,
+        form_given(words),
+        live_given(command, words),
+    )
+}
+
+/// Returns true if `--live` is given to `run`, or `None` if it is repeated.
+fn live_given(command: Command, words: &[Word]) -> Option<bool>
+    ensures { result ≡ live_given command words.now }
+{
+    match command {
+        Command::Run => match words::often("--live", words) {
+            0 => Some(false),
+            1 => Some(true),
+            _ => None,
+        },
+        Command::Check | Command::Mean | Command::Code | Command::Replay => Some(false),
+    }
 }
 
 /// Returns the words before the first `--`.

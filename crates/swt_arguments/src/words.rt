@@ -28,14 +28,14 @@ pub fn only(alloc: Global, files: &[Word]) -> Result<Word, LineFault>
     }
 }
 
-/// Returns a copy of the name of the output file, if one is given. `Usage` if it is `-`.
+/// Returns a copy of the name of the output file, if one is given. `Usage` if it is `-` or empty.
 pub fn written(alloc: Global, text: Option<&str>) -> Result<Option<Word>, LineFault>
     ensures { Answers (written (option_to_list (option_map (λ t. t.now) text.entry))) result }
 {
     match text {
         None => Ok(None),
         Some(text) => {
-            if is(text, "-") {
+            if text.is_empty() || is(text, "-") {
                 return Err(LineFault::Usage);
             }
             Ok(Some(Word::new(String::from_str(alloc, text)?)))
