@@ -1,5 +1,5 @@
 -- The causes that the status of a process alone identifies.
-use Rattle.std.specs.Prelude.{◌≡◌, ◌⊎◌, ℕ, ◌<◌, true, false, List, [], length, Some, None}
+use Rattle.std.specs.Prelude.{◌≡◌, ◌⊎◌, ◌&&◌, ℕ, ◌<◌, is_some, true, false, List, [], length, Some, None}
 use Rattle.dataflow.specs.System.{In}
 use Rattle.task_code.specs.Code.{Code as ScriptCode}
 use Rattle.paths.specs.declared.faults.Fault.{Fault}
@@ -8,7 +8,7 @@ use Rattle.board_runs.specs.declared.report.End.TheVariants as Was
 use Rattle.board_runs.specs.declared.report.Report.{Report}
 use Rattle.swt_arguments.specs.Lines.{files_of}
 use Rattle.swt_arguments.specs.declared.line.Line.{Line}
-use Rattle.swt_arguments.specs.declared.line.Line.TheVariants.{Check, Mean, Code, Run, Replay}
+use Rattle.swt_arguments.specs.declared.line.Line.TheVariants.{Check, Mean, Code, Run, Observed, Replay}
 use Rattle.swt_trace.specs.Replay.{IsFirstNoStep, IsWrongEnd}
 use Rattle.swt_trace.specs.Report.{ReportText}
 use Rattle.swt_trace.specs.Trace.{IsFirstBad}
@@ -21,6 +21,7 @@ use Rattle.swt_command.specs.Checks.{Judged}
 use Rattle.swt_command.specs.Files.{Files, HasCode, source_of}
 use Rattle.swt_command.specs.Listings.{IsAcceptedAt}
 use Rattle.swt_command.specs.Means.{ToldOf, mean_text}
+use Rattle.swt_command.specs.Observed.{OpenedBefore, RanTo, ShowedBefore}
 use Rattle.swt_command.specs.Runs.{IsBadCount, Ran, Replayed}
 use Rattle.swt_command.specs.Sinks.{Held, Given, Kept, Took}
 use Rattle.swt_command.specs.Troubles.{trouble_line}
@@ -35,6 +36,7 @@ AsksBadly (Check names) = ⊥
 AsksBadly (Mean file rounds) = ⊥
 AsksBadly (Code file form) = ⊥
 AsksBadly (Run file engines workers steps wanted) = IsBadCount engines workers
+AsksBadly (Observed file engines workers steps wanted live stop) = IsBadCount engines workers
 AsksBadly (Replay file events) = ⊥
 
 -- OUTPUT THAT IS COMPLETE
@@ -42,6 +44,8 @@ AsksBadly (Replay file events) = ⊥
 -- the report of a run of the script, or of the events of a trace, was printed
 abbrev pub Reported : Line → Files → Report → (out new : Held) → Type 0
 Reported (Run file engines workers steps wanted) files r out new = Ran files engines workers steps r × Took out (ReportText r) new
+Reported (Observed file engines workers steps wanted live stop) files r out new =
+    RanTo (is_some stop) files engines workers steps r × Took out (ReportText r) new
 Reported (Replay file events) files r out new = Replayed files r × Took out (ReportText r) new
 Reported _ files r out new = ⊥
 
@@ -85,18 +89,26 @@ AtLimit line files out new =
 
 -- CAUSES OF STOPPED COMMANDS
 
--- nothing was printed, except the lines of the preceding files by `check`
+-- nothing was printed, except the lines of the preceding files by `check`, and lines of a run as they came
 abbrev pub PrintedBefore : Line → Files → (out new : Held) → Type 0
 PrintedBefore (Check names) files out new = (vs : List Verdict) × (length vs < length names) × Judged names files vs out new
+PrintedBefore (Observed file engines workers steps wanted live stop) files out new = ShowedBefore live files steps out new
 PrintedBefore _ files out new = Kept out new
 
--- the message of this failure, which names no file, was written; nothing else was printed and nothing traced
+-- nothing was traced, except the first line before an observed run
+abbrev pub TracedBefore : Line → (trace new : Held) → Type 0
+TracedBefore (Observed file engines workers steps wanted live stop) trace new = OpenedBefore (live && is_some wanted) trace new
+TracedBefore _ trace new = Kept trace new
+
+-- the message of this failure, which names no file, was written; of the report nothing was printed, and of the run nothing
+-- traced, but what comes before its end
 abbrev pub Stopped : CommandFailure → Line → Files → (out out_new err err_new trace trace_new : Held) → Type 0
 Stopped trouble line files out out_new err err_new trace trace_new =
-    PrintedBefore line files out out_new × Given err (trouble_line trouble []) err_new × Kept trace trace_new
+    PrintedBefore line files out out_new × Given err (trouble_line trouble []) err_new × TracedBefore line trace trace_new
 
 abbrev pub IsRun : Line → Type 0
 IsRun (Run file engines workers steps wanted) = Unit {0}
+IsRun (Observed file engines workers steps wanted live stop) = Unit {0}
 IsRun _ = ⊥
 
 abbrev pub IsReplay : Line → Type 0

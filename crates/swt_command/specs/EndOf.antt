@@ -1,6 +1,7 @@
 -- What a command came to, as its caller owns it.
-use Rattle.std.specs.Prelude.{◌≡◌, ℕ, Bool, List, Option, Some, None, Result, Ok, Err, IfSome}
+use Rattle.std.specs.Prelude.{◌≡◌, ℕ, Bool, false, List, MatchBool, Option, Some, None, Result, Ok, Err, IfSome, is_some}
 use Rattle.task_code.specs.Code.{Code}
+use Rattle.board_runs.specs.Report.{is_cut}
 use Rattle.board_runs.specs.Stopped.{IsStopped}
 use Rattle.board_runs.specs.declared.stopped.StoppedRun.{StoppedRun}
 use Rattle.swt_arguments.specs.declared.line.Line.{Line}
@@ -17,7 +18,10 @@ use Rattle.swt_command.specs.declared.end.CommandEnd.TheVariants as End
 use Rattle.swt_command.specs.Files.{Files, HasCode, source_of}
 use Rattle.swt_command.specs.Listings.{IsAcceptedAt}
 use Rattle.swt_command.specs.Means.{IsKept, ToldOf, mean_status}
+use Rattle.swt_command.specs.Observed.{RanTo}
 use Rattle.swt_command.specs.Runs.{Ran, Replayed}
+use Rattle.swt_command.specs.Sinks.{Given, Held}
+use Rattle.swt_command.specs.Troubles.{stopped_line}
 
 -- the status of a command that returns something else
 abbrev pub with_status : {A : Type 0} → (A → Status) → Result A CommandStop → Result Status CommandStop
@@ -62,7 +66,18 @@ IsEndOf (Lines.Check names) files keeps (End.Checked status) = Unit {0}
 IsEndOf (Lines.Mean file rounds) files keeps (End.Meaning told) = ToldOf files rounds told.summary × IsKept files rounds keeps told.known
 IsEndOf (Lines.Code file form) files keeps (End.Listing text) = IsAcceptedAt files 0
 IsEndOf (Lines.Run file engines workers steps trace) files keeps (End.Run run) = Ran files engines workers steps run.report × IsStopped keeps run
+IsEndOf (Lines.Observed file engines workers steps trace live stop) files keeps (End.Run run) =
+    RanTo (is_some stop) files engines workers steps run.report × IsStopped keeps run
 IsEndOf (Lines.Replay file events) files keeps (End.Replay run) = Replayed files run.report × IsStopped keeps run
 IsEndOf (Lines.Replay file events) files keeps (End.RefusedTrace refused) = IsRefusal files keeps refused
 IsEndOf line files keeps (End.Failed stop) = Unit {0}
 IsEndOf _ files keeps _ = ⊥
+
+-- the run was stopped: it ended as at its limit, with fewer events
+abbrev pub was_stopped : Line → CommandEnd → Bool
+was_stopped (Lines.Observed file engines workers steps trace live stop) (End.Run run) = is_cut steps run.report
+was_stopped _ _ = false
+
+-- a run that was stopped is said to be
+abbrev pub SaysStopped : Line → CommandEnd → (err err_new : Held) → Type 0
+SaysStopped line end err err_new = MatchBool (was_stopped line end) (Given err stopped_line err_new) (Unit {0})

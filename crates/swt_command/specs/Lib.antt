@@ -7,6 +7,7 @@ pub mod Means
 pub mod OneThread
 pub mod Owes
 pub mod Runs
+pub mod Observed
 pub mod Sinks
 pub mod Troubles
 pub mod Same

@@ -23,6 +23,10 @@ trouble_line Is.Memory file = text_line (codes "swt: no memory")
 trouble_line Is.Unprinted file = text_line (codes "swt: cannot write")
 trouble_line Is.Untraced file = text_line (codes "swt: cannot write")
 
+-- the message of a run that was stopped
+abbrev pub stopped_line : List ℕ
+stopped_line = text_line (codes "swt: stopped")
+
 -- the failure of a refused script; without a refusal an allocation failed
 abbrev pub trouble_of : Option Refusal → CommandFailure
 trouble_of None = Is.Memory

@@ -2,7 +2,7 @@
 ghost use Rattle.std.specs.Prelude.{◌≡◌, ◌<◌, ◌∷◌, []};
 ghost use Rattle.swt_arguments.specs.Lines.{files_of};
 ghost use Rattle.swt_status.specs.Statuses.{number_of};
-ghost use Rattle.swt_command.specs.EndOf.{IsEndOf, ended_as, status_of_end};
+ghost use Rattle.swt_command.specs.EndOf.{IsEndOf, SaysStopped, ended_as, status_of_end, was_stopped};
 ghost use Rattle.swt_command.specs.Files.{contents, name_at};
 ghost use Rattle.swt_command.specs.Owes.{Does, Owes, Says};
 ghost use Rattle.swt_command.specs.Sinks.{held};
@@ -11,8 +11,9 @@ use crate::check::check_files;
 use crate::code::code;
 use crate::end::CommandEnd;
 use crate::mean::mean;
+use crate::observed::run_observed;
 use crate::run::{replay, run};
-use crate::trouble::write_failure;
+use crate::trouble::{write_failure, write_stopped};
 use bumpalo::Bump;
 use meaning::observer::RoundObserver;
 use std::alloc::Global;
@@ -22,6 +23,8 @@ use swt_arguments::line::Line;
 use swt_arguments::word::Word;
 use values::sink::Sink;
 use workers::gate::Gate;
+use workers::run::is_cut;
+use workers::watch::Watch;
 
 /// Runs the command of the line on its input files. Returns the exit status of the process, and what the command came
 /// to. `files` holds the bytes of each input file of the line, in order, or `None` for a file that could not be read.
@@ -53,22 +56,41 @@ pub fn command<R: Threads + Wait + Sync, G: Gate + RoundObserver, O: Sink, E: Si
         (held (S.taken trace.old) (S.failures trace.old)) (held (S.taken trace.new) (S.failures trace.new)) result.0 }
     ensures end { IsEndOf line.now (contents files.now) keeps result.1 }
     ensures status { result.0 ≡ number_of (status_of_end result.1) }
+    ensures stopped { SaysStopped line.now result.1 (held (E.taken err.old) (E.failures err.old)) (held (E.taken err.new) (E.failures err.new)) }
 {
     let end = perform(rt, alloc, arena, line, files, keeps, gate, out, trace);
     report_stop(line, &end, err);
     (end.status().number(), end)
 }
 
-/// Writes the error message of a command that failed.
+/// Writes the error message of a command that failed, or that of a run that was stopped.
 fn report_stop<E: Sink>(line: &Line, end: &CommandEnd, err: &mut E)
     requires { E.failures err.old < u64.MAX }
-    ensures { Says line.now (ended_as end.now) (held (E.taken err.old) (E.failures err.old)) (held (E.taken err.new) (E.failures err.new)) }
+    ensures says { Says line.now (ended_as end.now) (held (E.taken err.old) (E.failures err.old)) (held (E.taken err.new) (E.failures err.new)) }
+    ensures stopped { SaysStopped line.now end.now (held (E.taken err.old) (E.failures err.old)) (held (E.taken err.new) (E.failures err.new)) }
 {
     match end.stop() {
         Some(stop) => {
             let _ = write_failure(stop.trouble, name_of(line, stop.place), err);
         }
-        None => {}
+        None => {
+            if was_stopped(line, end) {
+                let _ = write_stopped(err);
+            }
+        }
+    }
+}
+
+/// Returns true if the end is that of an observed run that was stopped: it ended as at its limit, with fewer events.
+fn was_stopped(line: &Line, end: &CommandEnd) -> bool
+    ensures { result ≡ was_stopped line.now end.now }
+{
+    match line {
+        Line::Observed { steps, .. } => match end {
+            CommandEnd::Run(run) => is_cut(&run.report, *steps),
+            _ => false,
+        },
+        _ => false,
     }
 }
 
@@ -120,6 +142,28 @@ fn perform<R: Threads + Wait + Sync, G: Gate + RoundObserver, O: Sink, S: Sink>(
                 Err(stop) => CommandEnd::Failed(stop),
             }
         }
+        Line::Observed {
+            engines,
+            workers,
+            steps,
+            trace: wanted,
+            live,
+            stop,
+            ..
+        } => {
+            let is_wanted = wanted.is_some();
+            let watch = Watch {
+                live: *live,
+                stop: stop.is_some(),
+            };
+            match run_observed(
+                rt, alloc, arena, files, *engines, *workers, *steps, watch, is_wanted, keeps, gate,
+                out, trace,
+            ) {
+                Ok(run) => CommandEnd::Run(run),
+                Err(stop) => CommandEnd::Failed(stop),
+            }
+        }
         Line::Code { form, .. } => match code(alloc, arena, files, *form, out) {
             Ok(text) => CommandEnd::Listing(text),
             Err(stop) => CommandEnd::Failed(stop),
@@ -143,6 +187,7 @@ fn name_of(line: &Line, place: usize) -> &str
         Line::Mean { file, .. } => first_of(file, place),
         Line::Code { file, .. } => first_of(file, place),
         Line::Run { file, .. } => first_of(file, place),
+        Line::Observed { file, .. } => first_of(file, place),
         Line::Replay { file, trace } => {
             if place == 0 {
                 file.as_str()

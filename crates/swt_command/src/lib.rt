@@ -12,6 +12,7 @@ pub mod end;
 pub mod laws;
 mod mean;
 pub mod meaning_summary;
+mod observed;
 mod parts;
 mod passes;
 mod pictures;

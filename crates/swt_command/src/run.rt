@@ -126,7 +126,7 @@ fn stopped_run<R: Threads + Wait + Sync, G: Gate>(
 }
 
 /// Converts a fault of the run into the command failure.
-fn trouble_of(fault: RunFault) -> CommandFailure
+pub fn trouble_of(fault: RunFault) -> CommandFailure
     ensures { result ≡ run_trouble fault }
 {
     match fault {

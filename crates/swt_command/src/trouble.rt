@@ -1,12 +1,24 @@
 //! Error messages of commands that fail.
 ghost use Rattle.std.specs.Prelude.{◌<◌, ◌++◌};
 ghost use Rattle.swt_command.specs.Sinks.{Writes, held};
-ghost use Rattle.swt_command.specs.Troubles.{trouble_line};
+ghost use Rattle.swt_command.specs.Troubles.{stopped_line, trouble_line};
 
 use crate::parts::write_parts;
 use itoa::Buffer;
 use swt_status::failure::CommandFailure;
 use values::sink::{Sink, SinkFault};
+
+/// Writes the message of a run that was stopped.
+///
+/// # Errors
+///
+/// Returns `SinkFault` if a write fails. The sink then has received a prefix of the line.
+pub fn write_stopped<E: Sink>(err: &mut E) -> Result<(), SinkFault>
+    requires { E.failures err.old < u64.MAX }
+    ensures { Writes result (held (E.taken err.old) (E.failures err.old)) stopped_line (held (E.taken err.new) (E.failures err.new)) }
+{
+    write_parts(err, b"swt: ", b"stopped", b"\n")
+}
 
 /// Writes the error message for a failure. `file` is the name of the file at which the command stopped.
 ///

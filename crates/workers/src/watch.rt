@@ -52,6 +52,22 @@ pub struct WatchedRun {
     pub failed: bool,
 }
 
+impl WatchedRun {
+    ghost use Rattle.std.specs.Prelude.{◌≡◌};
+
+    /// Returns the run alone.
+    pub fn into_run(self) -> StoppedRun
+        ensures { result ≡ self.run }
+    {
+        let WatchedRun {
+            run,
+            shown: _,
+            failed: _,
+        } = self;
+        run
+    }
+}
+
 // Written out, so that the owner drops the value by one call.
 impl Drop for WatchedRun {
     fn drop(self) {
