@@ -126,6 +126,34 @@ impl<H: Host + Drop, K: TraceContext> TraceFile<H, K> {
     ghost use Rattle.host.specs.TraceFiles.{host_of, failures_of};
     ghost use Rattle.host.specs.Traces.{IsKept};
 
+    /// Gives up the trace, and returns the machine. A temporary file is removed, and nothing is renamed.
+    pub fn discard(self) -> H
+        ensures past { learnt (H.history result) ≡ K.learnt }
+        ensures known { inputs (H.history result) ≡ inputs (H.history (host_of self)) }
+        ensures safe { is_safe K.place (H.history result) ≡ true }
+        ensures given { given (H.history result) ≡ given (H.history (host_of self)) }
+        ensures cut { replaced (H.history result) ≡ [] }
+        ensures unchanged { given (H.history (host_of self)) ≡ [] → failures_of self ≡ 0
+            → changes (H.history result) ≡ K.changed }
+    {
+        let TraceFile {
+            mut host,
+            known,
+            place,
+            beside,
+            state,
+            failures: _,
+            of: _,
+        } = self;
+        if state == TraceState::Beside {
+            let _ = host.remove(beside.as_str());
+        }
+        drop(known);
+        drop(place);
+        drop(beside);
+        host
+    }
+
     /// Moves the trace to its final name if every write succeeded, and returns the machine.
     ///
     /// The flag is false only if every write succeeded but the trace could not be renamed. A temporary file that is not

@@ -1,5 +1,5 @@
 -- The end of a process.
-use Rattle.std.specs.Prelude.{◌≡◌, ◌<◌, ◌⊎◌, ◌||◌, ◌==◌, ℕ, Bool, List, [], length, map, None, option_to_list, true}
+use Rattle.std.specs.Prelude.{◌≡◌, ◌<◌, ◌⊎◌, ◌||◌, ◌==◌, ℕ, Bool, List, [], false, length, map, None, option_to_list, true}
 use Rattle.host.specs.Events.{Event, changes, given, is_safe, is_unplaced, links, reads, replaced}
 use Rattle.host.specs.Traces.{IsKept}
 use Rattle.swt_arguments.specs.declared.line.Line.{Line}
@@ -18,11 +18,15 @@ use Rattle.swt_process.specs.Reads.{HasRead}
 abbrev pub is_reported : ℕ → Bool
 is_reported number = number == 0 || (number == 3 || (number == 4 || number == 5))
 
--- the status is the command's, a complete trace is in its place, and a trace with a failed write is not; or the machine
--- refused to move a complete trace there, which is reported
+-- a complete trace is in its place; or the command failed before the trace was complete, and the place is as it was
+abbrev pub IsPlaced : (place : List ℕ) (h : List Event) (number : ℕ) → Type 0
+IsPlaced place h number = IsKept place h ⊎ ((is_reported number ≡ false) × (replaced h ≡ []))
+
+-- the status is the command's, a complete trace is in its place, and one that is not complete or with a failed write is
+-- not; or the machine refused to move a complete trace there, which is reported
 abbrev pub Closes : (place : List ℕ) (h : List Event) (trace : Held) (number : ℕ) (mid err : Held) (status : ℕ) → Type 0
 Closes place h trace number mid err status =
-    ((status ≡ number) × Kept mid err × (trace.failures ≡ 0 → IsKept place h) × (0 < trace.failures → replaced h ≡ []))
+    ((status ≡ number) × Kept mid err × (trace.failures ≡ 0 → IsPlaced place h number) × (0 < trace.failures → replaced h ≡ []))
     ⊎ ((status ≡ 7) × (is_reported number ≡ true) × (trace.failures ≡ 0) × (0 < length trace.bytes)
     × (is_unplaced place h ≡ true) × Given mid (trouble_line Untraced []) err)
 

@@ -2,11 +2,12 @@
 use Rattle.std.specs.Prelude.{ℕ, List, [], ◌∷◌, Option, Some, None, unwrap_or}
 use Rattle.host.specs.Events.{Link}
 use Rattle.swt_arguments.specs.declared.line.Line.{Line}
-use Rattle.swt_arguments.specs.declared.line.Line.TheVariants.{Check, Mean, Code, Run, Replay}
+use Rattle.swt_arguments.specs.declared.line.Line.TheVariants.{Check, Mean, Code, Run, Observed, Replay}
 
 -- the name that a line gives for a trace
 abbrev pub trace_of : Line → Option (List ℕ)
 trace_of (Run file engines workers steps wanted) = wanted
+trace_of (Observed file engines workers steps wanted live stop) = wanted
 trace_of (Check names) = None
 trace_of (Mean file rounds) = None
 trace_of (Code file form) = None

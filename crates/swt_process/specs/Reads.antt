@@ -2,7 +2,7 @@
 use Rattle.std.specs.Prelude.{◌≡◌, ◌⊎◌, ◌≤◌, ◌<◌, ◌+◌, ℕ, zero, suc, Bool, List, [], ◌∷◌, ◌++◌, length, map, reverse, take, Option, Some, None, IsTrue}
 use Rattle.host.specs.Events.{Read}
 use Rattle.swt_arguments.specs.declared.line.Line.{Line}
-use Rattle.swt_arguments.specs.declared.line.Line.TheVariants.{Check, Mean, Code, Run, Replay}
+use Rattle.swt_arguments.specs.declared.line.Line.TheVariants.{Check, Mean, Code, Run, Observed, Replay}
 use Rattle.swt_arguments.specs.Lines.{files_of}
 use Rattle.swt_command.specs.Files.{Files, name_at}
 pub use Rattle.values.specs.Limits.{max_source}
@@ -13,6 +13,7 @@ most_at (Check names) place = max_source
 most_at (Mean file rounds) place = max_source
 most_at (Code file form) place = max_source
 most_at (Run file engines workers steps wanted) place = max_source
+most_at (Observed file engines workers steps wanted live stop) place = max_source
 most_at (Replay file trace) zero = max_source
 most_at (Replay file trace) (suc place) = 18446744073709551614
 
@@ -50,6 +51,7 @@ StopsReading (Check names) files number rs = EndsReading names files number rs
 StopsReading (Mean file rounds) files number rs = ⊥
 StopsReading (Code file form) files number rs = ⊥
 StopsReading (Run file engines workers steps wanted) files number rs = ⊥
+StopsReading (Observed file engines workers steps wanted live stop) files number rs = ⊥
 StopsReading (Replay file trace) files number rs = ⊥
 
 -- each file of the line was read; or, by a check that ended with this status, those up to the file at which it stopped

@@ -4,7 +4,7 @@ use Rattle.host.specs.Events.{Read}
 use Rattle.explain_warnings.specs.Warnings.{AreWarnings}
 use Rattle.explain_warnings.specs.declared.warning.Warning.{Warning}
 use Rattle.swt_arguments.specs.declared.line.Line.{Line}
-use Rattle.swt_arguments.specs.declared.line.Line.TheVariants.{Check, Mean, Code, Run, Replay}
+use Rattle.swt_arguments.specs.declared.line.Line.TheVariants.{Check, Mean, Code, Run, Observed, Replay}
 use Rattle.swt_status.specs.declared.failure.CommandFailure.TheVariants.{Memory}
 use Rattle.swt_command.specs.Sinks.{Held, Given, Kept}
 use Rattle.swt_command.specs.Troubles.{trouble_line}
@@ -17,6 +17,7 @@ denies_for (Check names) denies = denies
 denies_for (Mean file rounds) denies = false
 denies_for (Code file form) denies = false
 denies_for (Run file engines workers steps wanted) denies = false
+denies_for (Observed file engines workers steps wanted live stop) denies = false
 denies_for (Replay file trace) denies = false
 
 -- these are the bytes of a file with a warning

@@ -17,6 +17,10 @@ fn trace_of(line: &Line) -> Option<&str>
             trace: Some(trace),
             ..
         } => Some(trace.as_str()),
+        Line::Observed {
+            trace: Some(trace),
+            ..
+        } => Some(trace.as_str()),
         _ => None,
     }
 }

@@ -36,7 +36,7 @@ fn is_reported(number: u8) -> bool
 /// Runs the command of the line on these bytes, with a trace for the name `place`. Returns the exit status, what the
 /// command came to, and the machine.
 ///
-/// If a complete trace cannot be moved to its name, the error is reported, and the status and the end are those of
+/// The trace of a command that failed is given up. If a complete trace cannot be moved to its name, the error is reported, and the status and the end are those of
 /// `Untraced`.
 pub fn with_trace<
     R: Threads + Wait + Sync,
@@ -80,22 +80,21 @@ pub fn with_trace<
     let (status, end) = command(
         rt, alloc, arena, line, files, keeps, gate, out, err, &mut trace,
     );
+    if !is_reported(status) {
+        return (status, end, trace.discard());
+    }
     let (is_kept, host) = trace.finish();
     if is_kept {
         return (status, end, host);
     }
-    if is_reported(status) {
-        let _ = write_failure(CommandFailure::Untraced, "", err);
-        let stop = CommandStop {
-            place: 0,
-            trouble: CommandFailure::Untraced,
-        };
-        return (
-            stop.trouble.status().number(),
-            CommandEnd::Failed(stop),
-            host,
-        );
-    }
-    // A command that failed has no trace to keep.
-    (status, end, host)
+    let _ = write_failure(CommandFailure::Untraced, "", err);
+    let stop = CommandStop {
+        place: 0,
+        trouble: CommandFailure::Untraced,
+    };
+    (
+        stop.trouble.status().number(),
+        CommandEnd::Failed(stop),
+        host,
+    )
 }
