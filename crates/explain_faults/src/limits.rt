@@ -3,7 +3,7 @@
 use explain_text::words::{write_count, write_str};
 use std::alloc::AllocError;
 
-/// The progress of a run that was cut off: the number of events, of ready items and of running items.
+/// The progress of a run that was cut off or stopped: the number of events, of ready items and of running items.
 #[derive(Clone, Copy, Debug, PartialEq, Eq)]
 pub struct LimitCounts {
     pub events: usize,
@@ -28,6 +28,22 @@ pub fn add_limit_of_steps(
         out,
         "; --steps N allows N events, which are starts and ends of items\n",
     )
+}
+
+/// Appends the diagnostic for a run that was stopped before its limit of events.
+///
+/// # Errors
+///
+/// Returns `AllocError` if an allocation fails.
+pub fn add_stop_of_run(
+    out: &mut Vec<u8>,
+    file: &str,
+    left: LimitCounts,
+) -> Result<(), AllocError> {
+    write_str(out, file)?;
+    write_str(out, ": limit: stopped after ")?;
+    write_left(out, left)?;
+    write_str(out, "\n")
 }
 
 /// Appends the diagnostic for a trace that ends before the script's run does.

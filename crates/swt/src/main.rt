@@ -15,7 +15,8 @@ mod explanations;
 mod non_utf8;
 mod progress;
 
-use crate::explanations::ending::{EndedProcess, explain_end};
+use crate::explanations::ending::{EndedProcess, explain_end, trace_of};
+use crate::explanations::failures::tell_no_folder;
 use crate::explanations::verdicts::VerdictReporter;
 use crate::non_utf8::write_foreign;
 use crate::progress::ProgressReporter;
@@ -28,6 +29,7 @@ use std::sync::Wait;
 use std::thread::Threads;
 use swt_arguments::argument_error::first_wrong;
 use swt_arguments::fault::LineFault;
+use swt_arguments::line::Line;
 use swt_arguments::nearest::meant;
 use swt_arguments::request::Request;
 use swt_arguments::word::Word;
@@ -94,9 +96,14 @@ fn perform<'r, R: Threads + Wait + Sync>(
         result.0 }
     ensures asked { asked (events_of result.1) ≡ asked (events_of host.entry) }
 {
-    let reporter = ProgressReporter::new(rt, request.progress);
+    let reporter = ProgressReporter::new(rt, request.progress, stop_of(&request.line));
     let mut verdicts = VerdictReporter::new(rt, request);
     let number = process::id(rt.process());
+    if request.explain {
+        if let Some(trace) = late_trace(&request.line) {
+            tell_no_folder(rt, trace);
+        }
+    }
     let ProcessEnd {
         status,
         end,
@@ -129,6 +136,25 @@ fn perform<'r, R: Threads + Wait + Sync>(
         explain_end(rt, &verdicts, ended);
     }
     (status, host)
+}
+
+/// Returns the name of the file that stops the run, if there is one.
+fn stop_of(line: &Line) -> Option<&str> {
+    match line {
+        Line::Observed {
+            stop: Some(stop),
+            ..
+        } => Some(stop.as_str()),
+        _ => None,
+    }
+}
+
+/// Returns the name of the trace, if it is not opened before the end of the run.
+fn late_trace(line: &Line) -> Option<&str> {
+    match line {
+        Line::Observed { live: true, .. } => None,
+        _ => trace_of(line),
+    }
 }
 
 /// Reports why the words are not a request, and returns the status.

@@ -1,15 +1,19 @@
-//! Progress of a run or of the rounds of a meaning, reported once a second.
+//! Progress of a run or of the rounds of a meaning, reported once a second, and the file that stops a run.
 
 use board_work::work::{Done, Work};
 use meaning::observer::{RoundObserver, RoundProgress};
 use std::alloc::AllocError;
+use std::fs;
 use std::io::IsTerminal;
 use std::sync::atomic::{AtomicU64, Ordering};
 use std::time::Instant;
 use workers::gate::{Gate, Progress};
 
+/// The second of a look that has not been made.
+const NEVER: u64 = u64::MAX;
+
 /// A gate and round observer that computes each item at once. If requested, it reports the progress once a second on
-/// standard error.
+/// standard error, and looks once a second for the file that stops a run.
 #[derive(Drop)]
 pub struct ProgressReporter<'a> {
     rt: &'a HostRuntime,
@@ -19,17 +23,42 @@ pub struct ProgressReporter<'a> {
     wanted: bool,
     /// The last second since the start in which progress was reported.
     told: AtomicU64,
+    /// The name of the file that stops a run, if there is one.
+    stop: Option<&'a str>,
+    /// The last second since the start in which the file was looked for.
+    looked: AtomicU64,
 }
 
 impl ProgressReporter<'_> {
-    /// Creates a reporter. It reports progress if this is requested and the system has a clock.
-    pub fn new(rt: &HostRuntime, wanted: bool) -> ProgressReporter<'_> {
+    /// Creates a reporter. It reports progress if this is requested and the system has a clock. A run stops once there is
+    /// a file of the name `stop`.
+    pub fn new<'a>(
+        rt: &'a HostRuntime,
+        wanted: bool,
+        stop: Option<&'a str>,
+    ) -> ProgressReporter<'a> {
         ProgressReporter {
             rt,
             start: Instant::now(rt).ok(),
             wanted,
             told: AtomicU64::new(0),
+            stop,
+            looked: AtomicU64::new(NEVER),
         }
+    }
+
+    /// Returns true at the first call, and then at the first call in each second. Without a clock it always returns true.
+    fn is_due(&self) -> bool {
+        let Some(start) = &self.start else {
+            return true;
+        };
+        let Ok(elapsed) = start.elapsed(self.rt) else {
+            return true;
+        };
+        let second = elapsed.as_secs();
+        let looked = self.looked.load(Ordering::SeqCst);
+        self.looked.store(second, Ordering::SeqCst);
+        looked != second
     }
 
     /// Reports that the end is explained, on a terminal or if progress is requested, if the run has taken a second or
@@ -91,6 +120,13 @@ impl Gate for ProgressReporter<'_> {
     fn note(&self, progress: Progress) {
         if let Some(second) = self.next_second() {
             self.tell(second, progress);
+        }
+    }
+
+    fn wants_stop(&self) -> bool {
+        match self.stop {
+            Some(name) => self.is_due() && fs::metadata(self.rt, name).is_ok(),
+            None => false,
         }
     }
 }

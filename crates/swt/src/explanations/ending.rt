@@ -9,7 +9,7 @@ use compile::compile::read;
 use compile::fault::CompileFault;
 use explain_ends::blocked::add_blocked_end;
 use explain_ends::faults::add_fault_end;
-use explain_ends::limits::{add_limit_of_replay, add_limit_of_run};
+use explain_ends::limits::{add_limit_of_replay, add_limit_of_run, add_stopped_run};
 use explain_ends::meaning::add_meaning_end;
 use explain_ends::script::StoppedScript;
 use explain_ends::trace_refusals::{TracedScript, add_refused_trace};
@@ -24,6 +24,7 @@ use swt_command::end::{CommandEnd, End, StoppedRun};
 use swt_status::failure::CommandFailure;
 use swt_status::stop::CommandStop;
 use swt_status::trace::RefusedTrace;
+use workers::run::is_cut;
 
 /// The end of a process: its line, whether every blocked statement is reported, what the command came to, the bytes of
 /// the input files, and the errors of standard output and of the last failed call on a file, if any.
@@ -231,6 +232,7 @@ fn name_at(line: &Line, place: usize) -> &str {
         Line::Mean { file, .. } => file.as_str(),
         Line::Code { file, .. } => file.as_str(),
         Line::Run { file, .. } => file.as_str(),
+        Line::Observed { file, .. } => file.as_str(),
         Line::Replay { file, trace } => {
             if place == 0 {
                 file.as_str()
@@ -242,9 +244,13 @@ fn name_at(line: &Line, place: usize) -> &str {
 }
 
 /// Returns the name of the trace of a run, if one is written.
-fn trace_of(line: &Line) -> Option<&str> {
+pub fn trace_of(line: &Line) -> Option<&str> {
     match line {
         Line::Run {
+            trace: Some(trace),
+            ..
+        } => Some(trace.as_str()),
+        Line::Observed {
             trace: Some(trace),
             ..
         } => Some(trace.as_str()),
@@ -326,6 +332,9 @@ fn explain_run(
         End::Quiet => add_blocked_end(script, run.report.blocked.as_slice(), ended.all, out),
         End::Limit => match ended.line {
             Line::Replay { .. } => add_limit_of_replay(script, out),
+            Line::Observed { steps, .. } if is_cut(&run.report, *steps) => {
+                add_stopped_run(script, out)
+            }
             _ => add_limit_of_run(script, out),
         },
     }

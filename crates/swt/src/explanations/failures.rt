@@ -1,9 +1,10 @@
-//! Explanation of unreadable and unwritable files, and of too many threads.
+//! Explanation of unreadable and unwritable files, of a trace without a folder, and of too many threads.
 
 use explain_ends::add_bad_count;
 use explain_text::words::write_str;
 use std::alloc::{AllocError, Global};
-use std::io::Error;
+use std::fs;
+use std::io::{Error, ErrorKind};
 use swt_arguments::line::Line;
 
 /// Appends `FILE: cannot read: ` and the system's reason, if there is one.
@@ -52,10 +53,31 @@ pub fn explain_same_file(name: &str, out: &mut Vec<u8>) -> Result<(), AllocError
     )
 }
 
+/// Says on standard error that the folder of a trace is not there. If this cannot be written, the run begins all the same.
+pub fn tell_no_folder(rt: &HostRuntime, trace: &str) {
+    let Some((folder, _name)) = trace.rsplit_once('/') else {
+        return;
+    };
+    if folder.is_empty() {
+        return;
+    }
+    match fs::metadata(rt, folder) {
+        Err(error) if error.kind() == ErrorKind::NotFound => {
+            let _ = eprintln!(rt; "{trace}: W1 Write: there is no folder {folder}, so the trace will not be written");
+        }
+        _ => {}
+    }
+}
+
 /// Appends the explanation for a run with too many threads.
 pub fn explain_count(line: &Line, out: &mut Vec<u8>) -> Result<(), AllocError> {
     match line {
         Line::Run {
+            engines,
+            workers,
+            ..
+        }
+        | Line::Observed {
             engines,
             workers,
             ..

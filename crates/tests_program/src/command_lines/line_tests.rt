@@ -94,6 +94,25 @@ fn shown_line(alloc: Global, line: &Line) -> Result<String, AllocError> {
             steps,
             trace,
         } => shown_run(alloc, file.as_str(), (*engines, *workers, *steps), trace),
+        Line::Observed {
+            file,
+            engines,
+            workers,
+            steps,
+            trace,
+            live,
+            stop,
+        } => {
+            let mut text = shown_run(alloc, file.as_str(), (*engines, *workers, *steps), trace)?;
+            if *live {
+                text.push_str(" live")?;
+            }
+            if let Some(stop) = stop {
+                text.push_str(" stop ")?;
+                text.push_str(stop.as_str())?;
+            }
+            Ok(text)
+        }
         Line::Replay { file, trace } => {
             format!(in alloc; "replay {} {}", file.as_str(), trace.as_str())
         }
