@@ -11,10 +11,10 @@ _swt() {
     check) words="--explain --explain=all --json --deny-warnings" ;;
     mean) words="--rounds --explain --explain=all --progress" ;;
     code) words="--after --dot --draw --explain --explain=all" ;;
-    run) words="--engines --workers --steps --trace --explain --explain=all --progress" ;;
+    run) words="--engines --workers --steps --trace --stop --explain --explain=all --progress --live" ;;
     replay) words="--explain --explain=all" ;;
   esac
-  case $before in --rounds|--engines|--workers|--steps) return ;; --trace) words="" ;; --after) words="parse types fold lower merge emit" ;; esac
+  case $before in --rounds|--engines|--workers|--steps) return ;; --trace|--stop) words="" ;; --after) words="parse types fold lower merge emit" ;; esac
   if [[ -z $command || $command == help || $command == explain || $before == --after || $word == -* ]]; then
     mapfile -t COMPREPLY < <(compgen -W "$words" -- "$word")
   else

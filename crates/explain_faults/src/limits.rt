@@ -35,11 +35,7 @@ pub fn add_limit_of_steps(
 /// # Errors
 ///
 /// Returns `AllocError` if an allocation fails.
-pub fn add_stop_of_run(
-    out: &mut Vec<u8>,
-    file: &str,
-    left: LimitCounts,
-) -> Result<(), AllocError> {
+pub fn add_stop_of_run(out: &mut Vec<u8>, file: &str, left: LimitCounts) -> Result<(), AllocError> {
     write_str(out, file)?;
     write_str(out, ": limit: stopped after ")?;
     write_left(out, left)?;

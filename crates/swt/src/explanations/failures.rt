@@ -63,7 +63,9 @@ pub fn tell_no_folder(rt: &HostRuntime, trace: &str) {
     }
     match fs::metadata(rt, folder) {
         Err(error) if error.kind() == ErrorKind::NotFound => {
-            let _ = eprintln!(rt; "{trace}: W1 Write: there is no folder {folder}, so the trace will not be written");
+            let _ = eprintln!(rt;
+                "{trace}: W1 Write: there is no folder {folder}, so the trace will not be written"
+            );
         }
         _ => {}
     }
