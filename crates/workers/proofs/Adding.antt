@@ -5,17 +5,16 @@ use Rattle.std.proofs.lemmas.Bool.Decides.{nat_tests}
 use mathlib.Core.List.{IsPrefix}
 use prog.Atomic.{either}
 use Rattle.logbook.specs.Pages.{Cell, cell, keeps, no_nib, step, Moves, Goes}
-use Rattle.board_work.specs.Assigned.{Assigned}
 use Rattle.workers.specs.StartLog.{IsCounted, Adds}
 use Rattle.workers.proofs.Prefixes.{prefix_of_same_length}
 
-abbrev pub shown : List Assigned → List Assigned
+abbrev pub shown : {A : Type 0} → List A → List A
 shown log = []
 
-abbrev pub moved : List Assigned → List Assigned → ℕ → Type 0
+abbrev pub moved : {A : Type 0} → List A → List A → ℕ → Type 0
 moved xs ys n = Unit {0}
 
-pub adds_goes : (log v : List Assigned) (e : Assigned) (old : ℕ) → length v ≡ old → IsPrefix v log
+pub adds_goes : {A : Type 0} (log v : List A) (e : A) (old : ℕ) → length v ≡ old → IsPrefix v log
     → (b : Bool) → (length log == old) ≡ b
     → Goes IsCounted shown moved 0 (v, (no_nib, None)) (λ n. either (n == old) (old + 1) n) (Adds (step 0 old (old + 1) e) (v, (no_nib, None))) ((length log, true) ∷ (0, true) ∷ []) log
 adds_goes log v e old len pre true is =
@@ -43,7 +42,7 @@ adds_goes log v e old len pre false is =
     )
 
 -- whatever the book is, the exchange adds the entry to all that was seen, or finds that the log is longer
-pub adds_moves : (v : List Assigned) (e : Assigned) (old : ℕ) → length v ≡ old
+pub adds_moves : {A : Type 0} (v : List A) (e : A) (old : ℕ) → length v ≡ old
     → Moves IsCounted shown moved 0 (v, (no_nib, None)) (λ n. either (n == old) (old + 1) n) (Adds (step 0 old (old + 1) e) (v, (no_nib, None)))
 adds_moves v e old len cs log kept pre away =
     let P : List Cell → Type 0 = λ c. (0 < length c) × ((cell c 0).1 ≡ true) × Goes IsCounted shown moved 0 (v, (no_nib, None)) (λ n. either (n == old) (old + 1) n) (Adds (step 0 old (old + 1) e) (v, (no_nib, None))) c log in
