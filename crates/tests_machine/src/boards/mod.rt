@@ -1,0 +1,5 @@
+//! Tests of the board and of what its items compute.
+
+mod board_tests;
+mod board_work_tests;
+mod given_back_tests;
