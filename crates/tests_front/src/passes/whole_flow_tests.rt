@@ -1,6 +1,6 @@
 //! Flows of scripts that are accepted are whole; a flow is not, once a declaration is taken out.
 
-use crate::flows::flow;
+use crate::passes::flows::flow;
 use flow::script::Flow;
 use std::alloc::Global;
 use std::process::Abort;

@@ -1,6 +1,6 @@
 //! Arrays with texts as keys: every order in which some scripts can run, each compared with the expected output.
 
-use crate::order_tests::{RunResults, always};
+use crate::runs::order_tests::{RunResults, always};
 use tests_codes::scripts::two_texts_of_one_hash;
 
 #[test]

@@ -1,6 +1,6 @@
 use Rattle.std.proofs.Common.{◌≡◌, ◌+◌, All, vec_len}
 use Rattle.pool.specs.Seats.{IsSeatOf}
-use Rattle.tests_leaves.proofs.pool_tests.hands_of.Given as goal
+use Rattle.tests_leaves.proofs.pools.pool_tests.hands_of.Given as goal
 
 abbrev pub invariant-loop-seat : goal.invariant-loop-seat
 invariant-loop-seat l = record {

@@ -1,7 +1,7 @@
 //! A script lowered, with what its flow keeps for a listing alone.
 
 use crate::asserts::{boxed, is_equal};
-use crate::flows::{flow, lowered};
+use crate::passes::flows::{flow, lowered};
 use bumpalo::Bump;
 use flow::script::{Flow, Function};
 use flow::statement::{Action, Block};

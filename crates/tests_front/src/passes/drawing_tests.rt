@@ -1,6 +1,6 @@
 //! What is drawn of scripts, as text for `dot`.
 
-use crate::flows::flow;
+use crate::passes::flows::flow;
 use crate::rows::parts;
 use show_drawing::drawing::drawing;
 use std::alloc::Global;

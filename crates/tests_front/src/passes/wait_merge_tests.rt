@@ -1,7 +1,7 @@
 //! Waits one in another become one; one with two statements in it stays.
 
 use crate::asserts::is_equal;
-use crate::flows::flow;
+use crate::passes::flows::flow;
 use flow::script::Flow;
 use flow::statement::Action;
 use std::alloc::Global;

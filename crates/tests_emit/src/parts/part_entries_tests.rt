@@ -1,8 +1,8 @@
 //! Each call of `part_entries` on a plain case: `y = A[6] + f(A[6])` and its parts.
 
 use crate::asserts::{boxed, holds, is_equal};
-use crate::flows::{array, call, computed, element, element_parts, functions, scalar, sum};
 use crate::lists::{one, put};
+use crate::parts::flows::{array, call, computed, element, element_parts, functions, scalar, sum};
 use emit_cells::cells::{self, handed, pass_cell, pass_parts};
 use emit_cells::data::{add_data, add_scalar};
 use emit_cells::entries::{EntryOrigin, StatementContext, entry, push_entry};

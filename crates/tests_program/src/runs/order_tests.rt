@@ -2,7 +2,7 @@
 //! written here.
 use crate::asserts::{boxed, holds, is_equal};
 use crate::doing::{code_of, known_of, program_of, report_of};
-use crate::sink::MemorySink;
+use crate::runs::sink::MemorySink;
 use board::Board;
 use board_runs::report::{End, Report};
 use board_runs::step::finish;

@@ -1,8 +1,8 @@
 //! Each call of `emit_parts` on a plain case.
 
 use crate::asserts::{boxed, holds, is_equal};
-use crate::flows::{array, call_part, computed, element, output, scalar, sum};
 use crate::lists::two;
+use crate::parts::flows::{array, call_part, computed, element, output, scalar, sum};
 use emit_cells::cell_views::{note_seen, placed_seen};
 use emit_cells::names::{named, own};
 use emit_cells::needs::{PlainNeed, listed, note, note_name, place_of};
