@@ -40,7 +40,7 @@ fn names_have_data(rt: &impl Abort, data_state: &DataState) {
     is_equal(rt, datum_at(instances, 0, None), None);
 }
 
-/// What a slot stands for that was packed, if there is memory for so great numbers.
+/// The slot after packing and unpacking, or `None` if its numbers are too large.
 fn repacked(slot: Slot) -> Option<Slot> {
     match PackedSlot::of(slot) {
         Ok(packed) => Some(packed.slot()),
@@ -198,13 +198,13 @@ fn turns(alloc: Global, data_state: &Fixture) -> Result<Vec<PendingInstance>, Al
     Ok(list)
 }
 
-/// The key of the one around is kept, and that there is none.
+/// The key of the enclosing instance is kept, and so is its absence.
 fn keeps_the_outer(rt: &impl Abort) {
     let outer = ParentKey::of(7).expect(rt, "a key");
     is_equal(rt, (outer.key(), ParentKey::none().key()), (Some(7), None));
 }
 
-/// A step is kept, and that there is none.
+/// A step is kept, and so is its absence.
 fn keeps_the_step(rt: &impl Abort) {
     let kept = LastStep::to_number(40, 3);
     let step = kept.step().expect(rt, "memory").expect(rt, "a step");
@@ -249,7 +249,7 @@ fn loops_have_turns(rt: HostRuntime) {
     is_last_turn(&rt, list.last().expect(&rt, "a turn"));
 }
 
-/// Places the turns in the script's instance, and gives the key of the last.
+/// Places the turns in the script's instance, and returns the key of the last one.
 fn place_turns(rt: &impl Abort, alloc: Global, data_state: &mut Fixture) -> usize {
     let list = turns(alloc, data_state).expect(rt, "memory");
     let instances = &mut data_state.data_state.instances;
@@ -257,7 +257,7 @@ fn place_turns(rt: &impl Abort, alloc: Global, data_state: &mut Fixture) -> usiz
     last.expect(rt, "memory").expect(rt, "a key")
 }
 
-/// How many instances and items there are.
+/// The numbers of instances and of items.
 fn counts(data_state: &Fixture) -> (usize, usize) {
     (data_state.data_state.instances.len(), data_state.rows.len())
 }

@@ -16,7 +16,7 @@ use std::process::Abort;
 use values::datum_kind::DatumKind;
 use values::value::Scalar;
 
-/// How many instances and data there are.
+/// The numbers of instances and of data.
 fn counts(opened: &Fixture) -> (usize, usize) {
     (
         opened.data_state.instances.len(),

@@ -1,4 +1,4 @@
-//! What is worked out of `boolean x = true; assert(x, "");`: where its names lead, and what its entries and its body hold.
+//! The program of `boolean x = true; assert(x, "");`: the data of its names, and the tables of its entries and its body.
 ghost use Rattle.std.specs.Prelude.{◌≡◌};
 ghost use Rattle.board_program.specs.Program.{IsLeads};
 
@@ -70,7 +70,7 @@ fn entries_have_their_data(rt: HostRuntime) {
     assert!(rt; program.entry(2).is_none());
 }
 
-/// What is asserted wants the first slot's value.
+/// The asserted expression needs the value of the first slot.
 fn asserts_wants(rt: &impl Abort, program: &Program) {
     let asserts = program.entry(1).expect(rt, "an entry");
     assert!(rt;

@@ -180,7 +180,7 @@ fn first_is_missed(rt: &impl Abort, view: Environment<'_>) {
     assert!(rt; view.is_missing_any(&ResolvedNeed::Stored(Some(FIRST))));
 }
 
-/// What is missed is listed.
+/// The missing inputs are listed.
 fn first_is_listed(rt: &impl Abort, alloc: Global, view: Environment<'_>) {
     let mut inputs = SmallVec::new(alloc);
     let listed = view.list_missing(&[ResolvedNeed::Stored(Some(FIRST))], &mut inputs);
@@ -205,7 +205,7 @@ fn an_item_misses_what_is_not_known(rt: HostRuntime) {
     first_is_known(&rt, opened.view());
 }
 
-/// The first datum's value is found, and an array that is none is missing.
+/// The value of the first datum is found, and the array under its number is missing, since it is a scalar.
 fn are_found(found: &[Answer]) -> bool {
     matches!(found, [Answer::Found(Scalar::Truth(true)), Answer::Missing])
 }
@@ -230,7 +230,7 @@ fn needs_are_answered(rt: HostRuntime) {
     two_are_answered(&rt, rt.alloc(), opened.view(), &needs);
 }
 
-/// Of a variable that is read so often and never written.
+/// The counts of a variable with `reads` reads and no write.
 fn own(reads: u64) -> LocalVariable {
     LocalVariable {
         shape: DatumKind::Single,
@@ -251,7 +251,7 @@ fn make_three(rt: &impl Abort, store: &mut Store, slots: &mut [PackedSlot]) {
     assert!(rt; made.is_ok());
 }
 
-/// Nobody may read or write the second variable, and the third is a turn's.
+/// The second variable has no reader and no writer, and the third is the variable of a turn.
 #[test]
 fn data_are_made_for_variables(rt: HostRuntime) {
     let mut store = Store::new(rt.alloc());

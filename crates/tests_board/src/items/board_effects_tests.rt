@@ -11,7 +11,7 @@ use std::process::Abort;
 use values::fault::OpFault;
 use values::value::{Scalar, Value};
 
-/// What the item of the entry does that came to this.
+/// The effect of the entry's item with this outcome.
 fn effect(
     rt: &impl Abort,
     alloc: Global,
@@ -49,7 +49,7 @@ fn the_script_opens_its_block(rt: HostRuntime) {
     opens_one(&rt, &opens);
 }
 
-/// A leaf that came to true.
+/// The outcome `true` of a leaf.
 fn truth() -> Outcome {
     Outcome::Leaf(Ok(Value::from_truth(true)))
 }

@@ -55,7 +55,7 @@ fn are_both(needs: &[Need]) -> bool {
     }
 }
 
-/// What a constant is as a number.
+/// The number of a constant.
 fn number(placed: &expr::Expr) -> Option<i64> {
     match placed {
         expr::Expr::Constant(Scalar::Number(n)) => Some(*n),
@@ -63,7 +63,7 @@ fn number(placed: &expr::Expr) -> Option<i64> {
     }
 }
 
-/// Which need it is.
+/// The index of the need.
 fn need(placed: &expr::Expr) -> Option<u32> {
     match placed {
         expr::Expr::Need(place) => Some(*place),
@@ -247,7 +247,7 @@ fn literals_and_names_are_plain(rt: HostRuntime) {
     is_equal(&rt, is_plain_alone(rt.alloc(), &element.form), false);
 }
 
-/// A call, and the cell of the scalar of node 6 behind it.
+/// A call, and the cell of the scalar of node 6 after it.
 fn outer_behind_call(rt: &impl Abort, alloc: Global) -> Box<OuterCell<Global>> {
     let outer = OuterCell {
         parts: call_part(alloc).expect(rt, "memory"),
@@ -264,7 +264,7 @@ fn what_a_call_gives_is_not_plain_behind_it(rt: HostRuntime) {
     holds(&rt, is_outer_plain(&outer));
 }
 
-/// What is seen of a plain cell and of another one.
+/// The expressions of a plain cell and of another one.
 fn seen(
     rt: &impl Abort,
     alloc: Global,
@@ -277,7 +277,7 @@ fn seen(
     needs
 }
 
-/// Which need another cell is seen as.
+/// The index of the need that stands for another cell.
 fn need_seen(
     rt: &impl Abort,
     alloc: Global,

@@ -48,7 +48,7 @@ pub fn sum(
     Ok(Expr::Operation(Operation::Sum(signs), operands))
 }
 
-/// A cell that works this out.
+/// A cell that computes this.
 pub fn computed(node: u32, expr: Expr<Global>) -> Cell<Global> {
     Cell {
         node,

@@ -25,7 +25,7 @@ const STANDING: StatementContext = StatementContext {
     inputs: 0,
 };
 
-/// What is handed over, by the nodes of cells.
+/// The arguments that are passed, by the nodes of cells.
 type Passed = IndexMap<u32, Argument>;
 
 /// A datum of the block itself.
@@ -36,7 +36,7 @@ fn datum(node: u32, array: bool) -> Name {
     }
 }
 
-/// What an entry does, in a letter.
+/// The act of an entry, as a letter.
 fn letter(act: &Act) -> u8 {
     match act {
         Act::Cell(_) => b'c',
@@ -46,7 +46,7 @@ fn letter(act: &Act) -> u8 {
     }
 }
 
-/// What entries do, in letters.
+/// The acts of entries, as letters.
 fn letters(alloc: Global, entries: &[Entry]) -> Result<Vec<u8>, AllocError> {
     let mut found = Vec::new(alloc);
     for entry in entries {
@@ -101,26 +101,26 @@ fn is_sixth(need: &Need) -> bool {
     }
 }
 
-/// Nothing is handed over.
+/// No argument is passed.
 fn none_passed(rt: &impl Abort, alloc: Global) -> Box<Passed> {
     boxed(rt, alloc, IndexMap::new(alloc))
 }
 
-/// What is handed over for the parts.
+/// The arguments passed for the parts.
 fn passed_parts(rt: &impl Abort, alloc: Global, parts: &Vec<CellPart<Global>>) -> Box<Passed> {
     let mut passed = none_passed(rt, alloc);
     pass_parts(alloc, &mut passed, 0, parts).expect(rt, "memory");
     passed
 }
 
-/// What is handed over for an outermost cell and its parts.
+/// The arguments passed for an outermost cell and its parts.
 fn passed_outer(rt: &impl Abort, alloc: Global, outer: &OuterCell<Global>) -> Box<Passed> {
     let mut passed = none_passed(rt, alloc);
     pass_outer(alloc, &mut passed, 0, outer).expect(rt, "memory");
     passed
 }
 
-/// What is handed over for the cell of node 9, the number 5.
+/// The argument passed for the cell of node 9, the number 5.
 fn passed_five(rt: &impl Abort, alloc: Global) -> Box<Passed> {
     let cell = boxed(rt, alloc, computed(9, Expr::Number(5)));
     let mut passed = none_passed(rt, alloc);
@@ -128,7 +128,7 @@ fn passed_five(rt: &impl Abort, alloc: Global) -> Box<Passed> {
     passed
 }
 
-/// Which number it is, if it is one.
+/// The number, if the value is one.
 fn number(argument: &Option<Argument>) -> Option<i64> {
     match argument {
         Some(Argument::Fixed(Scalar::Number(n))) => Some(*n),
@@ -136,7 +136,7 @@ fn number(argument: &Option<Argument>) -> Option<i64> {
     }
 }
 
-/// Which number is handed over for the cell of a node, if one is.
+/// The number that is passed for the cell of a node, if one is.
 fn handed_number(rt: &impl Abort, passed: &Passed, node: u32) -> Option<i64> {
     let found = handed(passed, node).expect(rt, "memory");
     number(&found)
@@ -199,7 +199,7 @@ fn sum_entries(rt: &impl Abort, alloc: Global, outer: &OuterCell<Global>) -> Vec
     entries
 }
 
-/// The entries of what a statement does not work out itself.
+/// The entries of the cells that a statement does not compute itself.
 fn own_entries(rt: &impl Abort, alloc: Global, outer: &OuterCell<Global>) -> Vec<Entry> {
     let functions = functions(alloc).expect(rt, "memory");
     let passed = passed_outer(rt, alloc, outer);
@@ -312,7 +312,7 @@ fn part_data(alloc: Global, parts: &Vec<CellPart<Global>>) -> Result<Vec<Variabl
     Ok(makes)
 }
 
-/// The data of an outermost cell, also where its statement works it out itself.
+/// The data of an outermost cell, also where its statement computes it itself.
 fn outer_data(alloc: Global, outer: &OuterCell<Global>) -> Result<Vec<Variable>, AllocError> {
     let mut makes = Vec::new(alloc);
     add_outer_data(&mut makes, outer)?;

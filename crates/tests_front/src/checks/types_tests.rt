@@ -37,7 +37,7 @@ Y6 NotAFunction 0 3 | foo(1);
 Y6 NotAFunction 7 8 | int x; f();
 Y6 NotAFunction 8 9 | int x = g(1);"#;
 
-// A literal under texts is met behind its elements, at its `[`.
+// A literal under texts is refused after its elements, at its `[`.
 const KEYS: &str = r#"Y3 Mismatch 16 17 | int A[string] = [1];
 Y3 Mismatch 17 20 | int A[string] = ["a"];
 Y3 Mismatch 17 18 | int A[string]; A[1] = 1;
@@ -86,7 +86,7 @@ fn own(what: Binding) -> Reference {
 const NAMES: &[u8] =
     b"(int r) f(int A[]) { r = size(A); } int B[]; int x = f(B); if (true) { printf(\"%i\", x); }";
 
-/// What the names of that text are.
+/// The names of that text.
 fn names(rt: &impl Abort, alloc: Global) -> Typed {
     let script = parse(alloc, NAMES).expect(rt, "a script");
     check(alloc, &script).expect(rt, "a script that is well typed")

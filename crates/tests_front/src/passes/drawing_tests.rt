@@ -1,4 +1,4 @@
-//! What is drawn of scripts, as text for `dot`.
+//! Drawings of scripts, as text for `dot`.
 
 use crate::passes::flows::flow;
 use crate::rows::parts;
@@ -23,12 +23,12 @@ fn picture(alloc: Global, text: &[u8]) -> Option<Vec<u8>> {
     drawing(alloc, text, &found).ok()
 }
 
-/// Whether a part stands in a text.
+/// Returns true if a text contains a part.
 fn has_part(text: &[u8], part: &[u8]) -> bool {
     text.windows(part.len().max(1)).any(|found| found == part)
 }
 
-/// What is drawn of the row's text has the part that the row wants.
+/// The drawing of the row's text contains the part that the row expects.
 fn is_drawn(rt: &impl Abort, alloc: Global, row: &str) {
     let (wanted, text) = parts(rt, row);
     let drawn = picture(alloc, text).expect(rt, "a script");

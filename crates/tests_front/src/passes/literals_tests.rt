@@ -1,4 +1,4 @@
-//! Literals, and what operations on them come to.
+//! Literals, and the values of operations on them.
 
 use constant_fold::literal_values::{outcome, scalar};
 use lexer::token::Span;

@@ -12,7 +12,7 @@ use syntax_trees::tree::Script;
 
 const TEXT: &[u8] = b"(int r) f(int n) { r = n; } int x = 1; wait (x) { wait (x) { } }";
 
-/// What a statement does, in a letter.
+/// The action of a statement, as a letter.
 fn letter<A: Allocator>(action: &Action<A>) -> u8 {
     match action {
         Action::Declare(_) => b'd',
@@ -22,7 +22,7 @@ fn letter<A: Allocator>(action: &Action<A>) -> u8 {
     }
 }
 
-/// What the statements of a block do, in letters.
+/// The actions of the statements of a block, as letters.
 fn letters<A: Allocator>(machine: Global, block: &Block<A>) -> Result<Vec<u8>, AllocError> {
     let mut found = Vec::new(machine);
     for statement in &block.statements {

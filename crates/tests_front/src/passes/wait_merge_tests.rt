@@ -7,7 +7,7 @@ use flow::statement::Action;
 use std::alloc::Global;
 use wait_merge::merge;
 
-/// How many headers the last statement has behind its own, where it is a `wait`, and how many statements are in it.
+/// The number of further headers of the last statement, if it is a `wait`, and the number of statements in it.
 fn headers(flow: &Flow<Global>) -> Option<(usize, usize)> {
     match &flow.body.statements.last()?.action {
         Action::Wait { inner, content, .. } => Some((inner.len(), content.statements.len())),
@@ -15,7 +15,7 @@ fn headers(flow: &Flow<Global>) -> Option<(usize, usize)> {
     }
 }
 
-/// The same of a text whose waits were merged.
+/// The numbers of headers and statements of a text whose waits were merged.
 fn merged(alloc: Global, text: &[u8]) -> Option<(usize, usize)> {
     let found = merge(flow(alloc, text)?).ok()?;
     headers(&found)

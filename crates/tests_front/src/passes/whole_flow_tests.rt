@@ -15,7 +15,7 @@ int A[] = [1, 2]; int i = 1; int b = A[A[i] - 1]; foreach v, k in A { printf("%i
 (int B[]) f(int A[]) { foreach v, k in A { B[k] = v; } } int A[]; A[1] = 2; int B[] = f(A); printf("%i", size(B));
 int x = 1; int y = 2; wait (x) { wait (y) { wait (x, y) { int z = x + y; wait (z) { printf("%i", z); } } } }"#;
 
-/// Whether the flow of a text is whole, where it has one.
+/// Returns true if the flow of a text is whole, or `None` if it has no flow.
 fn judgement(alloc: Global, text: &[u8]) -> Option<bool> {
     let found = flow(alloc, text)?;
     Some(found.is_whole())

@@ -192,7 +192,7 @@ fn goes_on_behind_a_token(rt: HostRuntime) {
     assert!(rt; Lexer::behind(text, 19).next().is_none());
 }
 
-/// The fault of the first byte is told so.
+/// The message of the fault of the first byte is this text.
 fn is_told(rt: &impl Abort, alloc: Global, fault: LexFault, wanted: &str) {
     let told = format!(in alloc; "{fault}").expect(rt, "memory");
     is_equal(rt, told.as_str(), wanted);

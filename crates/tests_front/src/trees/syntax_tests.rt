@@ -67,7 +67,7 @@ fn is_judged(rt: &impl Abort, alloc: Global, text: &[u8], wanted: Option<ParseFa
     is_equal(rt, fault_in(&Bump::new(alloc), text), wanted);
 }
 
-/// A beginning of a text that is no script is refused with a place, and not for want of memory.
+/// A prefix of a text that is not a script is refused with a position, and not for want of memory.
 fn is_cut(rt: &impl Abort, alloc: Global, text: &[u8], accepted: bool) {
     let fault = fault_of(alloc, text);
     let answered = match fault {
@@ -78,7 +78,7 @@ fn is_cut(rt: &impl Abort, alloc: Global, text: &[u8], accepted: bool) {
     is_judged(rt, alloc, text, fault);
 }
 
-// A function is a script, as are spaces behind it, and as is the whole.
+// A function is a script, also with spaces after it, and so is the whole text.
 #[test]
 fn beginnings_of_a_text(rt: HostRuntime) {
     for n in 0..FIB.len() + 1 {
@@ -97,7 +97,7 @@ P2 Unexpected 77 77 | (int r) fib(int n) { if (n < 2) { r = n; } else { r = fib(
 L3 OpenString 86 88 | (int r) fib(int n) { if (n < 2) { r = n; } else { r = fib(n-1) + fib(n-2); } } printf("%
 P2 Unexpected 100 100 | (int r) fib(int n) { if (n < 2) { r = n; } else { r = fib(n-1) + fib(n-2); } } printf("%i", fib(10))"#;
 
-/// A text with a piece of it so many times.
+/// A text with a piece `times` times.
 fn repeated(
     alloc: Global,
     before: &[u8],
@@ -113,7 +113,7 @@ fn repeated(
     Ok(text)
 }
 
-/// A number in so many brackets, as a text.
+/// A number in `times` brackets, as a text.
 fn brackets(alloc: Global, times: usize) -> Result<Vec<u8>, AllocError> {
     let closed = repeated(alloc, b"1", b")", times, b";")?;
     repeated(alloc, b"int x = ", b"(", times, closed.as_slice())
@@ -160,7 +160,7 @@ fn lengths(rt: HostRuntime) {
     is_judged(&rt, alloc, text.as_slice(), Some(LONG));
 }
 
-/// The fault is told so.
+/// The message of the fault is this text.
 fn is_told(rt: &impl Abort, alloc: Global, fault: ParseFault, wanted: &str) {
     let told = format!(in alloc; "{fault}").expect(rt, "memory");
     is_equal(rt, told.as_str(), wanted);
@@ -190,7 +190,7 @@ fn stands<A: Allocator>(rt: &impl Abort, expr: &Expr<A>, number: u32, first: Spa
     is_equal(rt, (expr.number, expr.first, expr.to), (number, first, to));
 }
 
-// The statement is number 1, x 2; behind the sum's 1, the expression y and its name stand before the last operand.
+// The statement is number 1, x 2; after the sum's 1, the expression y and its name stand before the last operand.
 fn is_product<A: Allocator>(rt: &impl Abort, product: &Expr<A>) {
     stands(rt, product, 3, Span::at(4, 1), 17);
     let ExprKind::Chain(_, operands) = &product.kind else {

@@ -32,7 +32,7 @@ fn declaration(alloc: Global, statement: u32, word: u32) -> Result<Item<Global>,
     Ok(Item::Statement(Box::new(alloc, declaration)?))
 }
 
-/// A part is numbered from the number that it is given, and the next one is behind its own.
+/// A part is numbered from the given number on, and the next number is the one after its own.
 #[test]
 fn a_part_takes_the_numbers_behind(rt: HostRuntime) -> Result<(), Fail> {
     let mut item = declaration(rt.alloc(), 9, 9)?;

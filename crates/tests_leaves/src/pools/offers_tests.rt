@@ -1,4 +1,4 @@
-//! What one thread offers, draws and loses.
+//! The offers, draws and losses of one thread.
 
 ghost use Rattle.std.specs.Prelude.{◌≡◌, ◌+◌, ◌<◌, IfOk};
 ghost use Rattle.pool.specs.Seats.{IsSeatOf};

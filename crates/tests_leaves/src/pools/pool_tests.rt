@@ -43,7 +43,7 @@ fn is_offered(rt: &impl Abort, pool: &Pool, seat: &mut PoolSeat, class: u8, numb
     );
 }
 
-/// A take of this kind gives this number, or none.
+/// A take of this kind returns this number, or none.
 fn gives(rt: &impl Abort, pool: &Pool, seat: &mut PoolSeat, kind: HoleKind, number: Option<u64>)
     requires { IsSeatOf pool.now seat.old }
     ensures { IsSeatOf pool.now seat.new }
@@ -112,7 +112,7 @@ fn fill_past(rt: &impl Abort, pool: &Pool, seat: &mut PoolSeat)
     is_equal(rt, pool.offer(seat, HoleKind::Leaf, 1, 17), Offer::Full(17));
 }
 
-/// What lies in a hole where one class is full.
+/// The contents of a hole where one class is full.
 fn wanted_in(place: usize) -> u64 {
     if 64 <= place && place < 80 {
         place as u64 - 63
@@ -263,7 +263,7 @@ fn sort_both(offered: &mut Vec<u64>, taken: &mut Vec<u64>) -> Result<(), AllocEr
     taken.sort()
 }
 
-/// What the hands offered came out of the pool once.
+/// Each offered number was taken from the pool once.
 fn is_balanced(rt: &impl Abort, alloc: Global, pool: Pool, hands: Vec<ThreadSeat>)
     requires each { All (λ h. IsSeatOf pool h.seat) hands.items }
     requires all { vec_len hands ≡ seats_of pool }

@@ -82,7 +82,7 @@ fn two_inputs(rt: &impl Abort, alloc: Global, rules: &mut Rules) {
     wakes(rt, alloc, rules, Input::Whole(2), &[5]);
 }
 
-/// What is known already wakes nothing, and then an item that waits for it anew.
+/// An input that is known already wakes no item, and then one that waits for it anew.
 fn known_again(rt: &impl Abort, alloc: Global, rules: &mut Rules) {
     wakes(rt, alloc, rules, Input::Whole(2), &[]);
     waits_for(rt, alloc, rules, Input::Whole(2), 5);
@@ -144,7 +144,7 @@ fn are_both(items: &[u64], one: u64, other: u64) -> bool {
     items == [one, other].as_slice() || items == [other, one].as_slice()
 }
 
-/// Lays room by for so many items, of one input each.
+/// Reserves room for `count` items of one input each.
 fn reserve(rt: &impl Abort, rules: &mut Rules, items: usize) {
     rules.reserve(items).expect(rt, "memory");
 }
@@ -219,7 +219,7 @@ fn an_item_of_three_inputs_waits_in_memory_that_was_taken(rt: HostRuntime) {
     three_inputs(&rt, rt.alloc(), &mut rules);
 }
 
-/// So many elements of an array, and as many scalars, in turn, with the first element twice.
+/// `count` elements of an array, and as many scalars, in turn, with the first element twice.
 fn elements_and_scalars(
     alloc: Global,
     array: u64,
@@ -234,7 +234,7 @@ fn elements_and_scalars(
     Ok(inputs)
 }
 
-/// An item waits for so many elements of array 3, and as many scalars.
+/// An item waits for `count` elements of array 3, and as many scalars.
 fn waits_for_many(rt: &impl Abort, alloc: Global, rules: &mut Rules, count: u8, item: u64) {
     let inputs = elements_and_scalars(alloc, 3, count).expect(rt, "memory");
     waits(rt, rules, inputs, item);
@@ -268,7 +268,7 @@ fn many_inputs_wake_with_the_last_of_them(rt: HostRuntime) {
     many_one_by_one(&rt, rt.alloc(), &mut rules, 200);
 }
 
-/// Two items wait for the elements of one array, in whose place another's are told first; then it is closed, and the scalars are told.
+/// Two items wait for the elements of one array. Those of another array in the same slot become known first; then the array is closed, and the scalars become known.
 fn closed_before_scalars(rt: &impl Abort, alloc: Global, rules: &mut Rules) {
     waits_for_many(rt, alloc, rules, 30, 5);
     waits_for_many(rt, alloc, rules, 30, 6);

@@ -20,7 +20,7 @@ fn put(rt: &impl Abort, queue: &mut Queue, kind: Kind, entries: &[(i32, u64)]) {
     }
 }
 
-/// The queue gives these numbers one after another, and then none of this kind.
+/// The queue returns these numbers one after another, and then none of this kind.
 fn gives(rt: &impl Abort, queue: &mut Queue, kind: Kind, numbers: &[u64]) {
     for no in numbers {
         is_equal(rt, queue.first(kind), Some(*no));
@@ -174,7 +174,7 @@ fn put_five(rt: &impl Abort, queue: &mut Queue) {
     }
 }
 
-/// Lays room by for three leaves, and where the memory is refused, sees that nothing changed and lays it by again.
+/// Reserves room for three leaves; if that fails, checks that nothing changed and reserves it again.
 fn reserve_three(rt: &impl Abort, queue: &mut Queue) {
     if queue.reserve(Kind::Leaf, 3).is_err() {
         is_equal(rt, queue.first(Kind::Leaf), None);

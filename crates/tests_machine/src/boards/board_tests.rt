@@ -1,4 +1,4 @@
-//! Runs of small codes, call by call, and results that are handed in where they do not belong.
+//! Runs of small codes, call by call, and results that are returned for the wrong item.
 ghost use Rattle.board.specs.Board.{IsWorker};
 
 use crate::asserts::{are_events, is_equal, last_of};
@@ -20,7 +20,7 @@ fn board_over(rt: &impl Abort, alloc: Global, code: Code, limit: u32) -> Box<Boa
     Box::new(alloc, board).expect(rt, "memory")
 }
 
-/// A board over `printf("hello");` with so many events at most.
+/// A board over `printf("hello");` with at most `limit` events.
 fn hello_board(rt: &impl Abort, alloc: Global, limit: u32) -> Box<Board> {
     board_over(rt, alloc, hello(alloc).expect(rt, "a code"), limit)
 }
@@ -198,7 +198,7 @@ fn runs_on_one(rt: &impl Abort, board: &mut Board) {
     is_equal(rt, begin_on(board, 1, 1), Err(BoardRefusal::NotReady));
 }
 
-/// That worker alone gives it back, and once.
+/// Only that worker returns the item, and once.
 fn is_given_back_once(rt: &impl Abort, board: &mut Board) {
     is_equal(rt, board.back(2, 1), Err(BoardRefusal::NotYours));
     is_equal(rt, board.back(1, 1), Ok(()));
@@ -229,7 +229,7 @@ fn the_limit_ends_a_board(rt: HostRuntime) {
     is_ended(&rt, &mut board, done);
 }
 
-/// What the item of `printf("other");` comes to, on a board of its own.
+/// The outcome of the item of `printf("other");`, on a board of its own.
 fn others_result(rt: &impl Abort, alloc: Global) -> Done {
     let code = printed(alloc, b"other").expect(rt, "a code");
     let mut board = board_over(rt, alloc, code, 100);
@@ -258,14 +258,14 @@ fn asserted_board(rt: &impl Abort, alloc: Global, holds: bool) -> Box<Board> {
     board_over(rt, alloc, asserted(alloc, holds).expect(rt, "a code"), 100)
 }
 
-/// What the other item of `asserted` comes to on worker 1, once the script and the assignment have ended.
+/// The outcome of the other item of `asserted` on worker 1, once the script and the assignment have ended.
 fn asserting(rt: &impl Abort, board: &mut Board) -> Done {
     works(rt, board, 0, 1);
     works(rt, board, 1, 2);
     done_on(board, 1, 3).expect(rt, "done")
 }
 
-/// So many items can begin since the last event, this one first, and so many data are stored.
+/// These numbers of items are new and ready since the last event, this one first, and of data are stored.
 fn tells(
     rt: &impl Abort,
     board: &Board,
@@ -288,7 +288,7 @@ fn items_and_data_come_and_go(rt: HostRuntime) {
     tells(&rt, &board, 0, None, 0);
 }
 
-/// What that other item comes to, on a board of its own.
+/// The outcome of that other item, on a board of its own.
 fn asserted_result(rt: &impl Abort, alloc: Global, holds: bool) -> Done {
     let mut board = asserted_board(rt, alloc, holds);
     asserting(rt, &mut board)
@@ -311,14 +311,14 @@ fn other_inputs_are_strange(rt: HostRuntime) {
     takes(&rt, &mut board, strange, same);
 }
 
-/// The result comes too late for worker 4, and is handed back.
+/// The result comes too late for worker 4, and is returned.
 fn comes_too_late(rt: &impl Abort, board: &mut Board, done: Done) -> Done {
     let (done, refused) = board.end(4, done).err().expect(rt, "refused");
     is_equal(rt, refused, BoardRefusal::NotYours);
     done
 }
 
-/// A result comes too late once its item was given back; another worker that begins the item may hand it in.
+/// A result comes too late once its item was given back; another worker that begins the item may return it.
 #[test]
 fn a_result_given_back_is_another_workers(rt: HostRuntime) {
     let mut board = hello_board(&rt, rt.alloc(), 100);

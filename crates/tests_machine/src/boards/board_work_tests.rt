@@ -1,4 +1,4 @@
-//! Values and faults of expressions, and what items of each kind come to. The expected values are worked out by the rules
+//! Values and faults of expressions, and the outcomes of items of each kind. The expected values follow from the rules
 //! of the language: `%/` cuts toward zero, a left operand's fault is met first, and every operator is strict.
 
 use crate::asserts::is_equal;
@@ -121,7 +121,7 @@ fn result_text(rt: &impl Abort, alloc: Global, outcome: &Result<Value, OpFault>)
     }
 }
 
-/// What a control entry computes, as a text.
+/// The result of a control entry, as a text.
 fn computed_text(rt: &impl Abort, alloc: Global, computed: &ControlResult) -> String {
     match computed {
         ControlResult::Fails(EntryFault::NoElement) => String::from_str(alloc, "no element"),
@@ -139,7 +139,7 @@ fn computed_text(rt: &impl Abort, alloc: Global, computed: &ControlResult) -> St
     .expect(rt, "memory")
 }
 
-/// What an entry computes, as a text.
+/// The outcome of an entry, as a text.
 fn outcome_text(rt: &impl Abort, alloc: Global, outcome: &Outcome) -> String {
     match outcome {
         Outcome::Leaf(result) => result_text(rt, alloc, result),
@@ -154,14 +154,14 @@ F2 DivideByZero | f10/1=&
 false | tf&
 true | 12<";
 
-/// What the expression of a text without needs comes to, as a text.
+/// The value of the expression of a text without needs, as a text.
 fn value_text(rt: &impl Abort, alloc: Global, text: &[u8]) -> String {
     let expr = expr(rt, alloc, text);
     let result = evaluate(alloc, &expr, &[]).expect(rt, "memory");
     result_text(rt, alloc, &result)
 }
 
-/// A row's expression comes to what stands before it.
+/// A row's expression has the value that stands before it.
 fn is_right(rt: &impl Abort, alloc: Global, row: &str) {
     let (wanted, text) = row.split_once(" | ").expect(rt, "a row has two parts");
     let text = value_text(rt, alloc, text.as_bytes());
@@ -223,26 +223,26 @@ fn is_outcome(rt: &impl Abort, alloc: Global, outcome: &Outcome, wanted: &str) {
     is_equal(rt, text.as_str(), wanted);
 }
 
-/// An entry that does this comes to what is wanted, asked for alone.
+/// An entry with this act has the expected outcome, computed alone.
 fn gives(rt: &impl Abort, alloc: Global, act: &Act, answers: &[Answer], wanted: &str) {
     let outcome = outcome_of(alloc, act, answers).expect(rt, "memory");
     is_outcome(rt, alloc, &outcome, wanted);
 }
 
-/// The work of an item whose entry does this comes to what is wanted.
+/// The work of an item whose entry has this act has the expected outcome.
 fn works(rt: &impl Abort, alloc: Global, act: Act, answers: Vec<Answer>, wanted: &str) {
     let done = done(rt, job(rt, alloc, act), answers);
     is_outcome(rt, alloc, done.outcome(), wanted);
 }
 
-/// An entry that does this comes to what is wanted, asked for alone and as the work of an item.
+/// An entry with this act has the expected outcome, computed alone and as the work of an item.
 fn comes_to(rt: &impl Abort, alloc: Global, act: Act, answer: Answer, wanted: &str) {
     let answers = Vec::from_array(alloc, [answer]).expect(rt, "memory");
     gives(rt, alloc, &act, answers.as_slice(), wanted);
     works(rt, alloc, act, answers, wanted);
 }
 
-/// What the tests' entries get for their first need.
+/// The answer for the first need of the tests' entries.
 fn five() -> Answer {
     Answer::Found(Scalar::Number(5))
 }
@@ -336,7 +336,7 @@ fn the_script_is_opened(rt: HostRuntime) {
     assert!(rt; done.result().is_none());
 }
 
-/// What an entry comes to that stores the expression's value.
+/// The outcome of an entry that stores the expression's value.
 fn stored(rt: &impl Abort, alloc: Global, text: &[u8]) -> Done {
     let act = Act::Set(TARGET, expr(rt, alloc, text));
     let answers = Vec::from_array(alloc, [five()]).expect(rt, "memory");

@@ -10,7 +10,7 @@ use std::process::Abort;
 use tests_codes::codes::hello;
 use values::value::Scalar;
 
-/// So often the item is given back.
+/// Number of times that the item is given back.
 const PAIRS: u32 = 1_000;
 
 /// A board over `printf("hello");`, in a box, since a test that owns a board by itself takes long to prove.

@@ -27,7 +27,7 @@ fn parameter(up: usize, index: usize) -> Name {
     }
 }
 
-/// An operator between what the first need gave and the other operand.
+/// An operator between the answer of the first need and the other operand.
 fn two(rt: &impl Abort, alloc: Global, operator: Operator, right: Expr) -> Expr {
     let operands = Vec::from_array(alloc, [Expr::Need(0), right]).expect(rt, "memory");
     Expr::Operation(operator, operands)
@@ -196,7 +196,7 @@ fn fibonacci(rt: &impl Abort, alloc: Global) -> Draft {
     code
 }
 
-/// What is printed by an entry that prints a format without operands.
+/// The text printed by an entry that prints a format without operands.
 fn printed(code: &Code, number: u32) -> Option<&[FormatPiece]> {
     match &code.entry(number)?.act {
         Act::Print(Expr::Operation(Operator::Printf(format), _)) => Some(format.pieces()),
@@ -243,7 +243,7 @@ fn is_entry(rt: &impl Abort, code: &Draft, number: u32, letter: u8, offset: usiz
     assert_eq!(rt; shared_mark(rt, code, number), Some(offset), "at {number}");
 }
 
-/// The body of the second branch has its opener, and so many entries and variables.
+/// The body of the second branch has its opener, and these numbers of entries and variables.
 fn has_branch(rt: &impl Abort, code: &Draft) {
     let branch = code.body(3).expect(rt, "a body");
     is_equal(rt, branch.opener, Opener::ByStep(3));

@@ -1,4 +1,4 @@
-//! Beginnings of a trace, run again.
+//! Replays of the prefixes of a trace.
 
 use crate::asserts::is_equal;
 use board_runs::report::{End, Report};
@@ -12,7 +12,7 @@ const TRACE: &[u8] = b"swt-trace 1\nB 0 1\nE 0 1\nB 1 2\nE 1 2\n";
 
 const ENDED: &[u8] = b"swt-trace 2\nB 0 1\nE 0 1\nB 1 2\nE 1 2\nQ\n";
 
-/// How many events a run has, and whether it is over, or why there is none.
+/// The number of events of a run, and whether it is over, or why there is no run.
 fn told(answer: &Result<Report, ReplayFault>) -> Result<(usize, bool), ReplayFault> {
     match answer {
         Ok(report) => Ok((report.history.len(), matches!(report.end, End::Quiet))),
@@ -20,13 +20,13 @@ fn told(answer: &Result<Report, ReplayFault>) -> Result<(usize, bool), ReplayFau
     }
 }
 
-/// What a text comes to, run again as a trace of `printf("hello");`.
+/// The result of a replay of a text as a trace of `printf("hello");`.
 fn answer(rt: &impl Abort, alloc: Global, text: &[u8]) -> Result<(usize, bool), ReplayFault> {
     let code = hello(alloc).expect(rt, "a code");
     told(&replay(alloc, &code, text))
 }
 
-/// A beginning of version 1 is the trace of a run where it ends behind a line, and else its last line is bad.
+/// A prefix in version 1 is the trace of a run if it ends after a line; otherwise its last line is bad.
 #[test]
 fn beginnings_are_run_again(rt: HostRuntime) {
     is_equal(&rt, TRACE.len(), 36);
@@ -41,7 +41,7 @@ fn beginnings_are_run_again(rt: HostRuntime) {
     is_equal(&rt, answer(&rt, rt.alloc(), TRACE), Ok((4, true)));
 }
 
-/// One of version 2 is none: its last line is bad, or the one that is not there.
+/// A prefix in version 2 is not a trace: its last line is bad, or the missing line.
 #[test]
 fn beginnings_without_an_end_are_not(rt: HostRuntime) {
     is_equal(&rt, ENDED.len(), 38);

@@ -17,7 +17,7 @@ fn program_of(rt: &impl Abort, alloc: Global) -> Program {
     Program::new(alloc, code).expect(rt, "memory")
 }
 
-/// The report of a run with these choices, and so many events at most.
+/// The report of a run with these choices, and at most `limit` events.
 fn run_of(rt: &impl Abort, alloc: Global, choices: &[u32], limit: u32) -> Report {
     let program = program_of(rt, alloc);
     run_one(alloc, &program, choices, limit).expect(rt, "memory")

@@ -30,14 +30,14 @@ const HELLO_EVENTS: [Event; 4] = [
     Event::End { worker: 1, item: 2 },
 ];
 
-const MOST: &[u8] = b"swt-trace 1\nK 63 18446744073709551615\n";
+const LAST_WORKER_AND_ITEM: &[u8] = b"swt-trace 1\nK 63 18446744073709551615\n";
 
 const MOST_EVENTS: [Event; 1] = [Event::Back {
     worker: 63,
     item: u64::MAX,
 }];
 
-/// The same traces of version 2, of runs that were cut off.
+/// The traces of version 2, of runs that were cut off.
 const CUT_HELLO: &[u8] = b"swt-trace 2\nB 0 1\nE 0 1\nB 1 2\nE 1 2\nL\n";
 
 const CUT_MOST: &[u8] = b"swt-trace 2\nK 63 18446744073709551615\nL\n";
@@ -58,7 +58,7 @@ fn is_bad(rt: &impl Abort, alloc: Global, text: &[u8], line: u64) {
 #[test]
 fn traces_are_read(rt: HostRuntime) {
     is_read(&rt, rt.alloc(), HELLO, &HELLO_EVENTS, None);
-    is_read(&rt, rt.alloc(), MOST, &MOST_EVENTS, None);
+    is_read(&rt, rt.alloc(), LAST_WORKER_AND_ITEM, &MOST_EVENTS, None);
     is_read(&rt, rt.alloc(), b"swt-trace 1\n", &[], None);
 }
 
@@ -74,7 +74,7 @@ fn ends_are_read(rt: HostRuntime) {
     is_read(&rt, rt.alloc(), b"swt-trace 2\nF\n", &[], fault);
 }
 
-/// A beginning is read where it ends behind a line, and else its last line is bad.
+/// A prefix is read if it ends after a line; otherwise its last line is bad.
 #[test]
 fn beginnings_are_read(rt: HostRuntime) {
     assert_eq!(rt; HELLO.len(), 36);
@@ -88,7 +88,7 @@ fn beginnings_are_read(rt: HostRuntime) {
     }
 }
 
-/// A beginning of a trace of version 2 is none: its last line is bad, or the one that is not there.
+/// A prefix of a trace of version 2 is not a trace: its last line is bad, or the missing line.
 #[test]
 fn beginnings_name_no_end(rt: HostRuntime) {
     assert_eq!(rt; CUT_HELLO.len(), 38);
@@ -103,7 +103,7 @@ const BAD_SECOND_LINES: &str =
 
 const BAD_FIRST_LINES: &str = "|\n|swt-trace 1|swt-trace 2|swt-trace 3\n| swt-trace 1\n";
 
-/// A trace with these lines behind its first.
+/// A trace with these lines after its first.
 fn trace_of(rt: &impl Abort, alloc: Global, lines: &str) -> String {
     format!(in alloc; "swt-trace 1\n{lines}").expect(rt, "memory")
 }
@@ -122,7 +122,7 @@ fn bad_lines_are_refused(rt: HostRuntime) {
 
 const BAD_ENDS: &str = "|Q|q\n|X\n|Q \n|QQ\n|\n|B 64 1\nQ\n|Q\r\n";
 
-/// In version 2 the line that names the end is wanted, and nothing stands behind it.
+/// Version 2 requires the line that names the end, and nothing follows it.
 #[test]
 fn bad_ends_are_refused(rt: HostRuntime) {
     for end in BAD_ENDS.split('|') {
@@ -253,7 +253,7 @@ fn limit_report(rt: &impl Abort, alloc: Global, events: &[Event]) -> Report {
     report_with(rt, alloc, events, End::Limit, Vec::new(alloc))
 }
 
-/// The report's trace is written, so many bytes at once.
+/// The report's trace is written, `at_once` bytes at once.
 fn is_traced(rt: &impl Abort, alloc: Global, report: &Report, trace: &[u8], at_once: usize) {
     let mut sink = sink_of(alloc, at_once, 0);
     is_equal(rt, write_trace(report, &mut sink).err(), None);
@@ -291,7 +291,7 @@ fn traces_name_the_end(rt: HostRuntime) {
     is_named(&rt, rt.alloc(), End::Fault(fault), b"swt-trace 2\nF\n");
 }
 
-/// A report is written as this text, so many bytes at once.
+/// A report is written as this text, `at_once` bytes at once.
 fn is_text(rt: &impl Abort, alloc: Global, report: &Report, text: &[u8], at_once: usize) {
     let mut sink = sink_of(alloc, at_once, 0);
     is_equal(rt, write_report(report, &mut sink).err(), None);
@@ -410,7 +410,7 @@ fn showing_stops_at_a_refused_write(rt: HostRuntime) {
     }
 }
 
-/// What the trace of `printf("hello");` with these lines comes to, run again.
+/// The result of a replay of the trace of `printf("hello");` with these lines.
 fn replayed(rt: &impl Abort, alloc: Global, lines: &str) -> Result<Report, ReplayFault> {
     let code = hello(alloc).expect(rt, "a code");
     let trace = trace_of(rt, alloc, lines);
@@ -439,7 +439,7 @@ fn bad_traces_are_not_replayed(rt: HostRuntime) {
     is_equal(&rt, stranger, Some(ReplayFault::NotARun(3)));
 }
 
-/// What the trace of version 2 of `printf("hello");` with these lines comes to, run again.
+/// The result of a replay of the trace of version 2 of `printf("hello");` with these lines.
 fn ended(rt: &impl Abort, alloc: Global, lines: &str) -> Result<Report, ReplayFault> {
     let code = hello(alloc).expect(rt, "a code");
     let trace = format!(in alloc; "swt-trace 2\n{lines}").expect(rt, "memory");

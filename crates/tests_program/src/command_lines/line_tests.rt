@@ -1,4 +1,4 @@
-//! Each command on plain words, its defaults and ranges, and words that are no command.
+//! Each command on plain words, its defaults and ranges, and words that are not a command.
 use crate::asserts::{boxed, holds, is_equal};
 use crate::doing::{command_of, request_of, words_of};
 use std::alloc::{AllocError, Global};
@@ -13,7 +13,7 @@ use swt_arguments::pass::Pass;
 use swt_arguments::request::Request;
 use swt_arguments::word::Word;
 
-/// The words of a line are no request.
+/// The words of a line are not a request.
 fn is_usage(rt: &impl Abort, alloc: Global, line: &str) -> bool {
     let read = request_of(rt, alloc, line);
     matches!(&*read, Err(LineFault::Usage))
@@ -25,14 +25,14 @@ fn has_wrong(rt: &impl Abort, alloc: Global, line: &str) -> bool {
     first_wrong(words.as_slice()).is_some()
 }
 
-/// The line is no command, and something is wrong with its words.
+/// The line is not a command, and something is wrong with its words.
 fn is_no_command(rt: &impl Abort, alloc: Global, line: &str) {
     let is_usage = is_usage(rt, alloc, line);
     let has_wrong = has_wrong(rt, alloc, line);
     is_equal(rt, (line, is_usage, has_wrong), (line, true, true));
 }
 
-/// Each of these lines is no command, and something is wrong with its words.
+/// Each of these lines is not a command, and something is wrong with its words.
 fn are_no_commands(rt: &impl Abort, alloc: Global, lines: &str) {
     for line in lines.lines() {
         is_no_command(rt, alloc, line);
@@ -79,7 +79,7 @@ fn shown_form(form: CodeForm) -> &'static str {
     }
 }
 
-/// What a line asks for, in one text.
+/// The request of a line, in one text.
 fn shown_line(alloc: Global, line: &Line) -> Result<String, AllocError> {
     match line {
         Line::Check { files } => checked(alloc, files.as_slice()),
@@ -135,7 +135,7 @@ fn fault_word(fault: &LineFault) -> &'static str {
     }
 }
 
-/// What was read of a line in one text, to compare.
+/// The result of reading a line in one text, to compare.
 fn shown(alloc: Global, read: &Result<Request, LineFault>) -> Result<String, AllocError> {
     match read {
         Ok(request) => shown_request(alloc, request),
@@ -150,7 +150,7 @@ fn is_shown(rt: &impl Abort, alloc: Global, line: &str, text: &str) {
     is_equal(rt, found.as_str(), text);
 }
 
-/// What a row wants, and its line.
+/// The expected text of a row, and its line.
 fn parts<'a>(rt: &impl Abort, row: &'a str) -> (&'a str, &'a str) {
     row.split_once(" | ").expect(rt, "a row has two parts")
 }
@@ -347,7 +347,7 @@ fn other_names(rt: HostRuntime) {
     are_shown(&rt, rt.alloc(), OTHER_NAMES);
 }
 
-/// Numbers of steps that are none. The last has no bytes.
+/// Words for `--steps` that are not numbers in its range. The last has no bytes.
 const NO_STEPS: &str = "\
 run a --steps 4294967296
 run a --steps 99999999999999999999
@@ -359,7 +359,7 @@ fn steps_range(rt: HostRuntime) {
     are_no_commands(&rt, rt.alloc(), NO_STEPS);
 }
 
-/// The names of files in one text, with a space behind each.
+/// The names of files in one text, with a space after each.
 fn names_of(alloc: Global, files: &[Word]) -> Result<String, AllocError> {
     let mut text = String::new(alloc);
     for file in files {
@@ -382,7 +382,7 @@ fn are_needed(rt: &impl Abort, alloc: Global, line: &str, names: &str) {
     needs_files(rt, alloc, &request.line, names);
 }
 
-// The names, with a space behind each, and the line that needs them.
+// The names, with a space after each, and the line that needs them.
 const NEEDED: &str = "\
 b a  | check b a
 a  | mean a
@@ -418,7 +418,7 @@ fn has_text(rt: &impl Abort, alloc: Global, wrong: ArgumentError<'_>, text: &str
     is_equal(rt, found.as_str(), text);
 }
 
-/// What is wrong with the words has this text.
+/// The complaint about the words has this text.
 fn is_complained(rt: &impl Abort, alloc: Global, line: &str, text: &str) {
     let words = words_of(alloc, line).expect(rt, "memory");
     let wrong = first_wrong(words.as_slice()).expect(rt, "something is wrong");
@@ -496,7 +496,7 @@ fn nearest_names(rt: HostRuntime) {
     }
 }
 
-/// Returns true if the whole usage is to be told behind what is wrong with a line.
+/// Returns true if the whole usage is to be printed after the complaint about a line.
 fn calls_for_usage(rt: &impl Abort, alloc: Global, line: &str) -> bool {
     let words = words_of(alloc, line).expect(rt, "memory");
     let wrong = first_wrong(words.as_slice()).expect(rt, "something is wrong");

@@ -8,7 +8,7 @@ use syntax::error::ParseFault;
 use syntax::parser::parse;
 use syntax_trees::tree::Script;
 
-/// What a text is read to over an allocator, in a box. The functions that take any allocator are proved much faster than over the
+/// The result of reading a text over an allocator, in a box. The functions that take any allocator are proved much faster than over the
 /// arena alone.
 fn read<A: Allocator + Clone>(
     rt: &impl Abort,

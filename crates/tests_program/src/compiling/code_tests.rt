@@ -37,7 +37,7 @@ fn is_refused(rt: &impl Abort, alloc: Global, src: &[u8], wanted: &str) {
     is_equal(rt, text.as_str(), wanted);
 }
 
-/// The script's code has so many entries and bodies.
+/// The script's code has these numbers of entries and bodies.
 fn has_counts(rt: &impl Abort, alloc: Global, src: &[u8], counts: (usize, usize)) {
     let code = code_of(rt, alloc, src);
     is_equal(rt, (code.entry_count(), code.body_count()), counts);
@@ -63,7 +63,7 @@ fn counts_entries_and_bodies(rt: HostRuntime) {
     }
 }
 
-/// What is refused: the answer, and the script.
+/// Refused scripts: the refusal, and the script.
 const REFUSED: &str = r#"L1 BadByte 0 1 | #
 P2 Unexpected 7 10 | import mpe;
 Y1 Unknown 13 14 | printf("%i", y);
@@ -114,7 +114,7 @@ fn waits_for(code: &Code, number: u32, at: usize, places: &[usize]) -> bool {
     entry.at == at && entry.offset == at
 }
 
-/// Returns true if the script's body makes so many scalars, and has the first so many entries.
+/// Returns true if the script's body makes this number of scalars, and has this number of entries from the first on.
 fn is_body(code: &Code, makes: usize, count: u32) -> bool {
     let Some(body) = code.body(0) else {
         return false;
@@ -143,7 +143,7 @@ fn prints_need_and_seven(code: &Code, number: u32) -> bool {
     }
 }
 
-/// The code of an assignment, and of a print behind it that has a priority.
+/// The code of an assignment, and of a print after it that has a priority.
 fn has_placed_operands(rt: &impl Abort, code: &Code) {
     holds(rt, is_body(code, 1, 2));
     holds(rt, waits_for(code, 0, 0, &[]));

@@ -59,7 +59,7 @@ fn a_value_is_used_in_the_round_behind_it(rt: HostRuntime) {
     is_known_in_three_rounds(&rt, &known);
 }
 
-/// What is known of a flow before its first round, where all that is ready is open and all that is finished is closed.
+/// The knowledge of a flow before its first round, where each ready block is open and each finished array is closed.
 fn known_at_first(rt: &impl Abort, alloc: Global, flow: &Flow<Global>) -> Box<Knowledge> {
     let mut state = RoundState::new(alloc, flow).expect(rt, "memory");
     let most = usize::MAX;
@@ -131,7 +131,7 @@ fn second_waits(
     waits(rt, alloc, sites, known, &blocked[1]);
 }
 
-/// What is known of a flow after ten rounds at most.
+/// The knowledge of a flow after at most ten rounds.
 fn known_over(rt: &impl Abort, alloc: Global, flow: &Flow<Global>) -> Box<Knowledge> {
     let known = rounds(alloc, flow, 10).expect(rt, "memory");
     boxed(rt, alloc, known)
@@ -173,7 +173,7 @@ fn turns_of_a_loop_are_places(rt: HostRuntime) {
     has_fault_in_turn(&rt, &known);
 }
 
-/// Returns true if the rounds of a script are over, where so many turns and statements may be live.
+/// Returns true if the rounds of a script are over, where at most `most` turns and statements may be live.
 fn end_within(
     rt: &impl Abort,
     alloc: Global,
@@ -187,7 +187,7 @@ fn end_within(
     }
 }
 
-/// A script is too large for so many, and not for a hundred.
+/// A script is too large for `most` live statements, and not for a hundred.
 fn is_larger(rt: &impl Abort, alloc: Global, script: &[u8], most: usize) {
     is_equal(
         rt,
@@ -225,7 +225,7 @@ fn what_has_no_end_soon_is_too_large(rt: HostRuntime) {
     }
 }
 
-/// Keeps how far the rounds were when it was told last.
+/// Keeps the progress of the rounds that was reported last.
 #[derive(Drop)]
 struct LastRounds {
     done: AtomicU64,

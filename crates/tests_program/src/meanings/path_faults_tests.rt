@@ -45,7 +45,7 @@ fn opened(rt: &impl Abort, alloc: Global, fact_base: &mut FactBase, instance: us
         .expect(rt, "memory")
 }
 
-/// Opens a block in each block, until no path fits behind the last, and says which that is.
+/// Opens a block in each block, until no path fits after the last, and returns that one.
 fn open_all(rt: &impl Abort, alloc: Global, fact_base: &mut FactBase) -> usize {
     let mut last = 0;
     for _ in 0..MAX_PATH_STEPS {
@@ -75,7 +75,7 @@ fn a_fault_is_told(rt: HostRuntime) {
     is_fault(&rt, &news, FaultKind::Overflow, site, 9);
 }
 
-/// What is told of a statement with a path that is too long, or not.
+/// The faults of a statement with a path that is too long, or not.
 fn told(rt: &impl Abort, alloc: Global, fact_base: &FactBase, site: LiveStatement) -> Vec<Fact> {
     let mut news = Vec::new(alloc);
     add_deep(fact_base, site, &mut news).expect(rt, "memory");
@@ -105,7 +105,7 @@ fn write_element(rt: &impl Abort, alloc: Global, fact_base: &mut FactBase, site:
     fact_base.facts.add(alloc, fact).expect(rt, "memory");
 }
 
-/// What is told of a statement for the elements of the array.
+/// The faults of a statement for the elements of the array.
 fn told_of_items(
     rt: &impl Abort,
     alloc: Global,

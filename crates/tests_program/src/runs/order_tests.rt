@@ -1,5 +1,5 @@
-//! Every order in which small scripts can run, each compared with what the script means, worked out by rounds, and with what is
-//! written here.
+//! Every order in which small scripts can run, each compared with the meaning of the script, computed by rounds, and with the result
+//! that is written here.
 use crate::asserts::{boxed, holds, is_equal};
 use crate::doing::{code_of, known_of, program_of, report_of};
 use crate::runs::sink::MemorySink;
@@ -25,7 +25,7 @@ fn sorted_lines<'a>(alloc: Global, report: &'a Report) -> Result<Vec<&'a [u8]>, 
     Ok(printed)
 }
 
-/// What the runs of a script have: its lines, sorted by bytes, and what is said behind them of one that ends quiet; or, where it
+/// The expected result of the runs of a script: its lines, sorted by bytes, and the rest of the report of a quiet run; or, where it
 /// has faults, one of these, and some of its lines.
 #[derive(Clone, Copy)]
 pub struct RunResults {
@@ -52,7 +52,7 @@ fn end_of_lines(lines: &[Text]) -> usize {
     place
 }
 
-/// What the report says behind its lines is one of these.
+/// The report's text after its lines is one of these.
 fn has_end(rt: &impl Abort, alloc: Global, report: &Report, ends: &[&[u8]]) -> bool {
     let out = told(rt, alloc, report);
     let end = out
@@ -63,7 +63,7 @@ fn has_end(rt: &impl Abort, alloc: Global, report: &Report, ends: &[&[u8]]) -> b
     ends.contains(&end)
 }
 
-/// The lines are those that were worked out for the script, or some of them where the report has a fault.
+/// The lines are the expected ones of the script, or some of them where the report has a fault.
 fn are_worked(end: &End, printed: &[&[u8]], worked: &RunResults) -> bool {
     match end {
         End::Quiet => !worked.has_faults && printed == worked.lines,
@@ -74,7 +74,7 @@ fn are_worked(end: &End, printed: &[&[u8]], worked: &RunResults) -> bool {
     }
 }
 
-/// The report has what was worked out for the script.
+/// The report is as expected for the script.
 fn is_worked(rt: &impl Abort, alloc: Global, report: &Report, worked: &RunResults) -> bool {
     let printed = sorted_lines(alloc, report).expect(rt, "memory");
     are_worked(&report.end, printed.as_slice(), worked) && has_end(rt, alloc, report, worked.ends)
@@ -160,7 +160,7 @@ fn is_known(rt: &impl Abort, alloc: Global, report: &Report, known: &Knowledge) 
     }
 }
 
-/// What a script means: worked out by rounds, and written here.
+/// The meaning of a script: computed by rounds, and written here.
 #[derive(Clone, Copy)]
 struct MeaningText<'a> {
     known: &'a Knowledge,
@@ -178,7 +178,7 @@ impl MeaningText<'_> {
     }
 }
 
-/// The choice of a turn, 0 behind the last.
+/// The choice of a turn, 0 after the last.
 fn choice_at(choices: &[u32], turn: usize) -> u32 {
     match choices.get(turn) {
         Some(choice) => *choice,
@@ -244,7 +244,7 @@ fn board_of(rt: &impl Abort, alloc: Global, code: &Code) -> Box<Board> {
     boxed(rt, alloc, board)
 }
 
-/// How many items can begin at each turn, by these choices and then by 0.
+/// The number of items that can begin at each turn, by these choices and then by 0.
 fn widths(rt: &impl Abort, alloc: Global, code: &Code, choices: &[u32]) -> Vec<usize> {
     let mut board = board_of(rt, alloc, code);
     let mut widths = Vec::new(alloc);
@@ -266,7 +266,7 @@ fn raised(alloc: Global, choices: &[u32], place: usize) -> Result<Vec<u32>, Allo
     Ok(next)
 }
 
-/// The last place where the choice can be greater, where so many items can begin at each turn.
+/// The last place where the choice can be greater, by the numbers of items that can begin at each turn.
 fn last_to_raise(choices: &[u32], widths: &[usize]) -> Option<usize> {
     for back in 0..widths.len() {
         let place = widths.len() - 1 - back;
@@ -278,7 +278,7 @@ fn last_to_raise(choices: &[u32], widths: &[usize]) -> Option<usize> {
     None
 }
 
-/// Returns true if a run by these choices comes to what the script means.
+/// Returns true if a run by these choices has the meaning of the script as its result.
 fn comes_to(
     rt: &impl Abort,
     alloc: Global,
@@ -290,7 +290,7 @@ fn comes_to(
     meant.allows(rt, alloc, &report)
 }
 
-/// The choices behind these: the last that can be greater is greater by one.
+/// The choices after these: the last that can be greater is greater by one.
 fn choices_behind(
     rt: &impl Abort,
     alloc: Global,
@@ -304,8 +304,8 @@ fn choices_behind(
     }
 }
 
-/// In how many orders one thread can run a script, where each comes to what the script means. None where one does not, or
-/// where there are so many or more.
+/// The number of orders in which one thread can run a script, if each results in the meaning of the script. None if one does not, or
+/// if there are `most` or more.
 fn orders(
     rt: &impl Abort,
     alloc: Global,
@@ -326,7 +326,7 @@ fn orders(
     None
 }
 
-/// In how many orders one thread can run the script, where each comes to what is known and what is written.
+/// The number of orders in which one thread can run the script, if each has the computed and the written result.
 fn orders_of(
     rt: &impl Abort,
     alloc: Global,
@@ -338,7 +338,7 @@ fn orders_of(
     orders(rt, alloc, &code, most, meant)
 }
 
-/// The script can be run in so many orders, and each comes to what it means.
+/// The script can be run in `wanted` orders, and each results in its meaning.
 fn has_orders(rt: &impl Abort, alloc: Global, script: &[u8], wanted: u32) {
     let known = known_of(rt, alloc, script, 100);
     holds(rt, known.finished());
@@ -378,7 +378,7 @@ fn every_order_of_scalars(rt: HostRuntime) {
     }
 }
 
-/// Every order of the script comes to this and to what it means, and there is more than one order.
+/// Every order of the script has this result and that of its meaning, and there is more than one order.
 pub fn always(rt: &impl Abort, alloc: Global, script: &[u8], worked: &RunResults) {
     let known = known_of(rt, alloc, script, 100);
     let meant = MeaningText {

@@ -22,7 +22,7 @@ fn events_of(run: &Result<Report, CommandStop>) -> Result<usize, CommandStop> {
     }
 }
 
-/// The run that a trace of `hello` is of has so many events, or a command stops there.
+/// The run of a trace of `hello` has this number of events, or a command stops there.
 fn has_events(rt: &impl Abort, alloc: Global, trace: &[u8], wanted: Result<usize, CommandStop>) {
     is_equal(rt, events_of(&traced(rt, alloc, trace)), wanted);
 }

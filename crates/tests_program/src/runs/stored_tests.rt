@@ -1,4 +1,4 @@
-//! How many data a board holds: after whole runs, and step by step.
+//! The number of data that a board holds, after whole runs and step by step.
 ghost use Rattle.board.specs.Board.{IsWorker};
 
 use crate::asserts::{boxed, is_equal};
@@ -8,8 +8,8 @@ use std::alloc::Global;
 use std::process::Abort;
 use task_code::entry::Kind;
 
-/// The most items of a run here.
-const MOST: u32 = 100_000;
+/// Maximum number of items of a run in these tests.
+const MAX_ITEMS: u32 = 100_000;
 
 /// A board of a script.
 fn board_of(rt: &impl Abort, alloc: Global, script: &[u8]) -> Box<Board> {
@@ -21,7 +21,7 @@ fn board_of(rt: &impl Abort, alloc: Global, script: &[u8]) -> Box<Board> {
 /// The first item that can begin does so and ends, until none is left. Returns how many data are stored then.
 fn stored_after(rt: &impl Abort, alloc: Global, script: &[u8]) -> usize {
     let mut board = board_of(rt, alloc, script);
-    for _ in 0..MOST {
+    for _ in 0..MAX_ITEMS {
         match board.first() {
             None => break,
             Some((Kind::Control, item)) => is_equal(rt, board.perform(0, item), Ok(true)),
@@ -51,7 +51,7 @@ fn an_array_that_waits_for_its_own_size_stays(rt: HostRuntime) {
     is_equal(&rt, stored_after(&rt, rt.alloc(), script), 2);
 }
 
-/// An item begins and ends on a worker, and so many data are stored then.
+/// An item begins and ends on a worker, and this number of data is stored then.
 fn stores(rt: &impl Abort, board: &mut Board, worker: u8, item: u64, data: usize)
     requires { IsWorker worker }
 {

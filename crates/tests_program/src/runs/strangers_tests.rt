@@ -15,7 +15,7 @@ fn board_of(rt: &impl Abort, alloc: Global, script: &[u8]) -> Box<Board> {
     boxed(rt, alloc, board)
 }
 
-/// What the item comes to on worker 1, once these have ended, one after the other.
+/// The outcome of the item on worker 1, once these have ended, one after the other.
 fn computed(rt: &impl Abort, board: &mut Board, first: &[u64], item: u64) -> Done {
     for number in first {
         is_equal(rt, board.perform(0, *number), Ok(true));
@@ -50,7 +50,7 @@ fn takes_its_own(rt: &impl Abort, board: &mut Board, strange: Done, own: Done, l
     }
 }
 
-/// Two arrays of one size: what is printed of the one is no result for the other, although the size alone is asked.
+/// Two arrays of one size: the printed result for the one is not accepted for the other, although only the size is needed.
 #[test]
 fn an_array_of_the_same_size_is_strange(rt: HostRuntime) {
     let alloc = rt.alloc();
