@@ -119,7 +119,13 @@ fn action<A: Allocator>(action: &mut Action<A>) -> Result<(), AllocError>
             absorb(inner, content)?;
             Ok(())
         }
-        _ => Ok(()),
+        Action::Declare(_)
+        | Action::Call { .. }
+        | Action::Assign { .. }
+        | Action::Fill { .. }
+        | Action::Insert { .. }
+        | Action::Print { .. }
+        | Action::Assert { .. } => Ok(()),
     }
 }
 
