@@ -66,7 +66,18 @@ fn literal_of(act: &Act, place: usize) -> Option<&Scalar>
                 Argument::Named(_) => None,
             }
         }
-        _ => None,
+        Act::Cell(_)
+        | Act::Read
+        | Act::Set(_, _)
+        | Act::Fill(_, _)
+        | Act::Copy(_)
+        | Act::InsertElement(_, _, _)
+        | Act::Print(_)
+        | Act::Assert(_)
+        | Act::If(_, _, _)
+        | Act::Range(_, _, _, _)
+        | Act::Each(_)
+        | Act::Wait(_, _) => None,
     }
 }
 

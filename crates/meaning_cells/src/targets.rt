@@ -54,7 +54,12 @@ pub fn is_assigned<A: Allocator>(what: NameBinding, action: &Action<A>) -> bool
         Action::Range { body, .. } => is_assigned_in(what, body),
         Action::Each { body, .. } => is_assigned_in(what, body),
         Action::Wait { content, .. } => is_assigned_in(what, content),
-        _ => false,
+        Action::Declare(_)
+        | Action::Call { .. }
+        | Action::Fill { .. }
+        | Action::Insert { .. }
+        | Action::Print { .. }
+        | Action::Assert { .. } => false,
     }
 }
 
