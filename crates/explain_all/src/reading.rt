@@ -1,9 +1,9 @@
 //! Further mistakes of a text that is not read as a script: after a refusal, the next statement is read where one
 //! begins.
 //!
-//! The next statement begins behind a `;` or a brace, or at a keyword that begins both a statement and a line. The text
+//! The next statement begins after a `;` or a brace, or at a keyword that begins both a statement and a line. The text
 //! from there on is parsed, with blanks in place of what comes before. Blocks that were opened there are remembered, so
-//! that the ends of these blocks are no mistakes.
+//! that the ends of these blocks are not mistakes.
 
 use crate::mistakes::{FurtherMistakes, Stage, stage_of};
 use crate::search::{MAX_CHECKS, Search};
@@ -21,7 +21,7 @@ struct Resumption {
 }
 
 /// The state of the scan for the end of a statement: the open blocks of the script, the open brackets of the statement,
-/// and the open braces that are no blocks.
+/// and the open braces that do not begin blocks.
 #[derive(Clone, Copy)]
 struct BracketScan {
     open: usize,
@@ -148,7 +148,7 @@ fn next_statement(
     None
 }
 
-/// Returns the place behind a token that ends a statement or opens a block, and behind an `else` that follows a `}`.
+/// Returns the place after a token that ends a statement or opens a block, and after an `else` that follows a `}`.
 fn behind(tokens: &[PlacedToken], index: usize, open: usize) -> Resumption {
     let mut last = index;
     let mut open = open;
@@ -168,7 +168,7 @@ fn behind(tokens: &[PlacedToken], index: usize, open: usize) -> Resumption {
 }
 
 impl BracketScan {
-    /// Takes the next token, and returns true if a statement or a block ends or begins behind it.
+    /// Takes the next token, and returns true if a statement or a block ends or begins after it.
     ///
     /// A `;` in brackets ends a statement only at the end of its line.
     fn takes(&mut self, kind: TokenKind, ends_line: bool) -> bool {
@@ -252,7 +252,7 @@ fn begins_line(text: &[u8], at: usize) -> bool {
     true
 }
 
-/// Returns true if only blanks stand on the line behind an offset, or a comment `//`.
+/// Returns true if only blanks stand on the line after an offset, or a comment `//`.
 fn ends_line(text: &[u8], at: usize) -> bool {
     for from in at..end_of_line(text, at) {
         let to = from.saturating_add(2);

@@ -105,7 +105,7 @@ pub fn end_of_line(text: &[u8], from: usize) -> usize {
     text.len()
 }
 
-/// Returns the last byte of a line that is no blank, as a token, if it is a `;` or a brace.
+/// Returns the last byte of a line that is not a blank, as a token, if it is a `;` or a brace.
 fn last_of_line(text: &[u8], from: usize, to: usize) -> Option<PlacedToken> {
     let mut last = None;
     for at in from..to {

@@ -160,7 +160,7 @@ fn begin_of(tokens: &[PlacedToken], index: usize, part: Span) -> usize {
     first
 }
 
-/// Returns the index behind the last token of the expression around a token, or of the operand that begins there.
+/// Returns the index after the last token of the expression around a token, or of the operand that begins there.
 fn end_of(tokens: &[PlacedToken], index: usize, part: Span, is_operand: bool) -> usize {
     let mut end = index;
     for _ in index..tokens.len() {
@@ -187,7 +187,7 @@ fn is_closing(kind: TokenKind) -> bool {
     matches!(kind, TokenKind::CloseRound | TokenKind::CloseSquare)
 }
 
-/// Returns true if an expression begins behind a token of this kind, or ends before it.
+/// Returns true if an expression begins after a token of this kind, or ends before it.
 fn is_limit(kind: TokenKind) -> bool {
     is_opening(kind)
         || matches!(

@@ -19,7 +19,7 @@ const LITERALS: [&str; 3] = ["0", "\"\"", "true"];
 /// The rules of types and names, as far as they are mended in different ways.
 #[derive(Clone, Copy, Debug, PartialEq, Eq)]
 enum Rule {
-    /// A name that is not visible, or that is no function: a mistake whatever the types are.
+    /// A name that is not visible, or that is not a function: a mistake whatever the types are.
     NoSuchName,
     Declared,
     Mismatch,

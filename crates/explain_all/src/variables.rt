@@ -260,7 +260,7 @@ fn of_variable(
     Ok(found)
 }
 
-/// Returns the offset at which the body of the function around an offset begins, behind its brace.
+/// Returns the offset at which the body of the function around an offset begins, after its brace.
 fn body_around(at: usize, script: &Script<Global>) -> usize {
     match function_around(at, script) {
         None => at,

@@ -143,7 +143,7 @@ fn fits(word: &str, token: Token<'_>, around: &TokenContext<'_>) -> bool {
     }
 }
 
-/// Returns true if a token is written as this text. Of what is no token the beginning is compared.
+/// Returns true if a token is written as this text. For bytes that are not a token, the prefix is compared.
 fn is_written(text: &[u8], token: Token<'_>) -> bool {
     if token.kind == TokenKind::End {
         token.text.starts_with(text)

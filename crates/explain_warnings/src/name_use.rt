@@ -33,7 +33,7 @@ pub enum NameUseKind {
     KeyTwice,
     /// A chain of `&&` or `||` of which one operand is to guard a division in the next.
     IdleGuard,
-    /// An operation on literals that overflows, a divisor 0, the string of a `toint` that is no number, or the
+    /// An operation on literals that overflows, a divisor 0, the string of a `toint` that is not a number, or the
     /// condition of an `assert`, the literal `false`.
     AlwaysFails,
 }

@@ -1,5 +1,5 @@
 //! Tests of forms that end every run which computes them with a fault: literals that overflow, a divisor 0, a `toint` of
-//! a string literal that is no number, and an `assert` of `false`.
+//! a string literal that is not a number, and an `assert` of `false`.
 ghost use Rattle.std.specs.Prelude.{◌≡◌, map, slice_get};
 ghost use Rattle.syntax_trees.specs.View.{expression_view, form_view};
 ghost use Rattle.language.specs.Tree.{expressions_of};
@@ -11,7 +11,7 @@ use std::alloc::Allocator;
 use syntax_trees::tree::{Expr, ExprKind, Operator, Prefix};
 use values::number::{add, multiply, negate, parse, subtract};
 
-/// Returns the value of a number behind a minus sign, or `None` for any other prefix.
+/// Returns the value of a number after a minus sign, or `None` for any other prefix.
 fn prefixed_value(prefix: Prefix, value: Option<i64>) -> Option<i64>
     ensures { result ≡ specs.prefixed_value prefix value }
 {
@@ -169,7 +169,7 @@ fn form_is_no_number<A: Allocator>(kind: &ExprKind<A>) -> bool
     }
 }
 
-/// Returns true if this is a `toint` of a string literal that is no number.
+/// Returns true if this is a `toint` of a string literal that is not a number.
 pub fn is_no_number<A: Allocator>(function: &[u8], argument: &Expr<A>) -> bool
     ensures { result ≡ specs.is_no_number function.now (expression_view argument.now) }
 {

@@ -91,7 +91,7 @@ pub struct VariableInfo<'a> {
     pub is_output: bool,
 }
 
-/// A use of the variable of a node in a statement. Many nodes are cells, which are no variables.
+/// A use of the variable of a node in a statement. Many nodes are cells, which are not variables.
 #[derive(Clone, Copy, PartialEq, Eq, Debug, Drop)]
 pub struct VariableUse {
     pub statement: usize,

@@ -1,6 +1,6 @@
 //! Colours of a drawing, its first lines and its legend.
 //!
-//! The colours are told apart by people who see no red and green, and by lightness. Each element also has a class, so
+//! The colours differ for people who see no red and green, and in lightness. Each element also has a class, so
 //! that a style sheet can give other colours to the picture that `dot` makes.
 
 use crate::analysis::scene::{BoxKind, Branch, Frame};
