@@ -1,6 +1,6 @@
-// Two variables that wait for each other: no statement can run, and the run reports the blocked statements. Prints: swt: blocked 192 / | swt: blocked 199 / | swt: blocked 206 /
+// A variable and an element that wait for each other: no statement can run, and the run reports the blocked statements. Prints: swt: blocked 206 / | swt: blocked 216 / | swt: blocked 226 /
 int x;
-int y;
-x = y;
-y = x;
+int A[];
+x = A[0];
+A[0] = x;
 printf("%i", x);

@@ -1,4 +1,4 @@
-//! How long data take in the store.
+//! Times of the data store.
 ghost use Rattle.std.specs.Bool.{OnTrue};
 ghost use Rattle.data_store.specs.Stores.{IsArrayAt};
 
@@ -11,7 +11,7 @@ use values::datum_kind::DatumKind;
 use values::key::{Key, KeyRef};
 use values::value::Scalar;
 
-/// Makes so many scalars with a value each, which one may read.
+/// Makes `count` scalars with a value each, of one reader.
 fn make_all(alloc: Global, store: &mut Store, count: u64) -> Result<Vec<DatumNo>, AllocError> {
     let mut made = Vec::new(alloc);
     for _number in 0..count {
@@ -22,7 +22,7 @@ fn make_all(alloc: Global, store: &mut Store, count: u64) -> Result<Vec<DatumNo>
     Ok(made)
 }
 
-/// Takes back the hold on each.
+/// Releases the hold on each.
 fn free_all(store: &mut Store, made: &[DatumNo]) {
     for d in made {
         if store.is_live(*d) && store.reads(*d) > 0 {
@@ -40,7 +40,7 @@ fn key_of(number: u64, scattered: bool) -> i64 {
     }
 }
 
-/// Inserts so many elements, and counts them.
+/// Inserts `count` elements. Returns their number.
 fn insert_all(store: &mut Store, d: DatumNo, count: u64, scattered: bool) -> u64
     requires { IsArrayAt store.old d }
     ensures { IsArrayAt store.new d }
@@ -55,7 +55,7 @@ fn insert_all(store: &mut Store, d: DatumNo, count: u64, scattered: bool) -> u64
     inserted
 }
 
-/// Looks so many keys up, and counts those found.
+/// Looks `count` keys up. Returns the number of those found.
 fn find_all(store: &Store, d: DatumNo, count: u64, scattered: bool) -> u64
     requires { IsArrayAt store.now d }
 {
@@ -76,7 +76,7 @@ struct Batch {
     made: Vec<DatumNo>,
 }
 
-/// Makes so many stores of so many scalars each.
+/// Makes a number of stores with the same number of scalars each.
 fn make_batches(alloc: Global, batches: u64, count: u64) -> Result<Vec<Batch>, AllocError> {
     let mut all = Vec::new(alloc);
     for _batch in 0..batches {
@@ -87,7 +87,7 @@ fn make_batches(alloc: Global, batches: u64, count: u64) -> Result<Vec<Batch>, A
     Ok(all)
 }
 
-/// Takes back the holds on the scalars of each store, and counts those that are left.
+/// Releases the holds on the scalars of each store. Returns the number of those that are left.
 fn free_batches(batches: &mut [Batch]) -> usize {
     let mut left = 0usize;
     for batch in batches.iter_mut() {
@@ -107,7 +107,7 @@ fn is_array(store: &Store, d: DatumNo) -> bool
     }
 }
 
-/// Makes so many arrays with so many elements each, and counts the elements.
+/// Makes a number of arrays with the same number of elements each. Returns the number of elements.
 fn fill_arrays(
     store: &mut Store,
     filled: &mut Vec<DatumNo>,
@@ -124,7 +124,7 @@ fn fill_arrays(
     Ok(inserted)
 }
 
-/// Looks so many keys up in each array, and counts those found.
+/// Looks a number of keys up in each array. Returns the number of those found.
 fn find_each(store: &Store, filled: &[DatumNo], count: u64, scattered: bool) -> u64 {
     let mut found = 0u64;
     for d in filled {
@@ -135,7 +135,7 @@ fn find_each(store: &Store, filled: &[DatumNo], count: u64, scattered: bool) -> 
     found
 }
 
-/// Asks for each array as a whole, and counts the elements.
+/// Reads each array as a whole. Returns the number of elements.
 fn list_each(store: &mut Store, filled: &[DatumNo]) -> Result<usize, AllocError> {
     let mut listed = 0usize;
     for d in filled {
@@ -146,7 +146,7 @@ fn list_each(store: &mut Store, filled: &[DatumNo]) -> Result<usize, AllocError>
     Ok(listed)
 }
 
-/// Prints the times of a million scalars made and freed, so many in each store.
+/// Prints the times of a million scalars made and freed, `count` in each store.
 fn time_cells(
     rt: &(impl Clock + Print),
     alloc: Global,
@@ -167,7 +167,7 @@ fn time_cells(
     )
 }
 
-/// Prints the times of a million inserts, of look-ups, and of the first call for each whole array, so many elements in each.
+/// Prints the times of a million inserts, of look-ups, and of the first call for each whole array, with `count` elements in each.
 fn time_inserts(
     rt: &(impl Clock + Print),
     alloc: Global,
@@ -179,7 +179,7 @@ fn time_inserts(
     time_store(rt, alloc, &mut store, arrays, count, scattered)
 }
 
-/// The same, of an empty store.
+/// Prints the times of an empty store.
 fn time_store(
     rt: &(impl Clock + Print),
     alloc: Global,
@@ -197,7 +197,7 @@ fn time_store(
     tell(rt, start, "elements sorted", arrays, listed as u64)
 }
 
-/// Prints the time of inserts, and gives the arrays.
+/// Prints the time of inserts, and returns the arrays.
 fn time_fills(
     rt: &(impl Clock + Print),
     alloc: Global,

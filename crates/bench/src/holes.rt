@@ -1,4 +1,4 @@
-//! How long a number takes through the pool.
+//! Times of the pool.
 
 ghost use Rattle.std.specs.Prelude.{◌<◌};
 ghost use Rattle.pool.specs.Seats.{IsSeatOf};
@@ -10,7 +10,7 @@ use std::time::{Clock, Instant};
 
 const ROUNDS: u32 = 10_000_000;
 
-/// Offers a number and takes one, so many times, and counts those taken.
+/// Offers a number and takes one, `count` times. Returns the number of those taken.
 fn count_taken(pool: &Pool, seat: &mut PoolSeat, class: u8) -> u64
     requires seat { IsSeatOf pool.now seat.old }
     requires class { class < 3 }

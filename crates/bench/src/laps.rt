@@ -1,4 +1,4 @@
-//! How long whole scripts take: compiled, and run on one thread, on two and on four.
+//! Times of whole scripts: compiled, and run on one thread, on two and on four.
 
 use crate::scripts::{SCRIPTS, Script};
 use board_program::program::Program;
@@ -16,7 +16,7 @@ use workers::run::run_threads;
 /// Number of engines and workers. Where there are none, one thread does it all, without a lock.
 const CREWS: [(u8, u8); 4] = [(0, 0), (1, 1), (1, 3), (2, 2)];
 
-/// What a run of the program leaves, on one thread or, where there are engines, on so many engines and workers.
+/// The report of a run of the program, on one thread or, if there are engines, on these numbers of engines and workers.
 fn run<R: Threads + Wait + Sync>(
     rt: &R,
     alloc: Global,
@@ -33,7 +33,7 @@ fn run<R: Threads + Wait + Sync>(
     }
 }
 
-/// How many items a run has, and the nanoseconds of each, from the board's making to the report's. The report is let go after that.
+/// The number of items of a run, and the nanoseconds of each, from the creation of the board to that of the report. The report is freed after that.
 fn items_and_nanos<R: Clock + Threads + Wait + Sync>(
     rt: &R,
     alloc: Global,

@@ -1,4 +1,4 @@
-//! How long items take through the queue.
+//! Times of the queue of ready items.
 
 use crate::watch::tell;
 use std::alloc::{AllocError, Global};
@@ -16,7 +16,7 @@ fn priority_of(number: u64, scattered: bool) -> i32 {
     }
 }
 
-/// Puts so many items.
+/// Puts `count` items.
 fn put_all(queue: &mut Queue, count: u64, scattered: bool) -> Result<(), AllocError> {
     for number in 0..count {
         queue.put(Kind::Leaf, priority_of(number, scattered), number)?;
@@ -24,7 +24,7 @@ fn put_all(queue: &mut Queue, count: u64, scattered: bool) -> Result<(), AllocEr
     Ok(())
 }
 
-/// Removes every other item, and counts those removed.
+/// Removes every other item. Returns the number of those removed.
 fn remove_half(queue: &mut Queue, count: u64, scattered: bool) -> u64 {
     let mut removed = 0u64;
     for number in (0..count).step_by(2) {
@@ -35,7 +35,7 @@ fn remove_half(queue: &mut Queue, count: u64, scattered: bool) -> u64 {
     removed
 }
 
-/// Takes until so many takes have been made, and counts the items taken.
+/// Takes `count` times. Returns the number of items taken.
 fn take_all(queue: &mut Queue, count: u64) -> u64 {
     let mut taken = 0u64;
     for _ in 0..count {
@@ -57,7 +57,7 @@ fn time_size(
     time_calls(rt, &mut queue, count, scattered)
 }
 
-/// The same, of an empty queue.
+/// Prints the times of an empty queue.
 fn time_calls(
     rt: &(impl Clock + Print),
     queue: &mut Queue,
@@ -93,7 +93,7 @@ fn priorities_of(scattered: bool) -> &'static str {
     }
 }
 
-/// The next of a row of numbers that look as if drawn.
+/// Returns the next pseudorandom number.
 fn drawn(seed: u64) -> u64 {
     let x = seed
         .wrapping_mul(6_364_136_223_846_793_005)
@@ -107,7 +107,7 @@ fn some_of(seed: u64, above: u64, len: u64) -> u64 {
     above.wrapping_add(2).wrapping_add(drawn)
 }
 
-/// While so many wait: puts one more, takes the first, and takes a drawn one out and puts it again, so many times.
+/// While `len` items wait: puts one more, takes the first, and takes a random one out and puts it again, `turns` times.
 fn turn_over(queue: &mut Queue, len: u64, turns: u64) -> Result<u64, AllocError> {
     let (mut taken, mut seed) = (0u64, 7u64);
     for turn in 0..turns {
@@ -124,13 +124,13 @@ fn turn_over(queue: &mut Queue, len: u64, turns: u64) -> Result<u64, AllocError>
     Ok(taken)
 }
 
-/// Prints the time of turns, each a put, a take, a remove and a put, while so many wait.
+/// Prints the time of rounds of a put, a take, a remove and a put, while `len` items wait.
 fn time_turns(rt: &(impl Clock + Print), alloc: Global, len: u64) -> io::Result<()> {
     let mut queue = Queue::new(alloc);
     time_turns_in(rt, &mut queue, len)
 }
 
-/// The same, of an empty queue.
+/// Prints the times of an empty queue.
 fn time_turns_in(rt: &(impl Clock + Print), queue: &mut Queue, len: u64) -> io::Result<()> {
     let turns = 1_000_000u64;
     for number in 1..len {

@@ -93,7 +93,7 @@ impl Script {
     }
 }
 
-/// So many scalars, each but the first from the one before.
+/// A script of `count` scalars, each but the first computed from the one before.
 fn chain(alloc: Global, count: u32) -> Result<String, AllocError> {
     let mut text = format!(in alloc; "int x0=0;")?;
     for number in 1..count {

@@ -1,4 +1,4 @@
-//! How long the tokens of 1 MiB take.
+//! Times of the tokens of 1 MiB.
 
 use lexer::Lexer;
 use std::alloc::{AllocError, Global};

@@ -1,4 +1,4 @@
-//! How long the trees of 1 MiB take.
+//! Times of parsing 1 MiB.
 
 use bumpalo::Bump;
 use std::alloc::{AllocError, Allocator, Global};
@@ -8,10 +8,10 @@ use syntax::parser::parse;
 
 const LEN: usize = 1_048_576;
 
-/// How often each text is read.
+/// Number of times that each text is read.
 const ROUNDS: u32 = 12;
 
-/// A kind of text, that is repeated.
+/// A kind of repeated text.
 #[derive(Clone, Copy)]
 enum Kind {
     Names,
@@ -26,7 +26,7 @@ enum Kind {
     Loops,
 }
 
-/// What a text of a kind is called.
+/// The name of a kind of text.
 fn title(kind: Kind) -> &'static str {
     match kind {
         Kind::Names => "x=y;",
@@ -42,7 +42,7 @@ fn title(kind: Kind) -> &'static str {
     }
 }
 
-/// Appends the same bytes so many times.
+/// Appends the same bytes `times` times.
 fn put(to: &mut Vec<u8>, bytes: &[u8], times: usize) -> Result<(), AllocError> {
     for _ in 0..times {
         to.extend_from_slice(bytes)?;
@@ -50,7 +50,7 @@ fn put(to: &mut Vec<u8>, bytes: &[u8], times: usize) -> Result<(), AllocError> {
     Ok(())
 }
 
-/// What a text of a kind repeats.
+/// The text that a kind repeats.
 fn unit(alloc: Global, kind: Kind) -> Result<Vec<u8>, AllocError> {
     let mut unit = Vec::new(alloc);
     match kind {

@@ -1,4 +1,4 @@
-//! How long items take that wait for their inputs.
+//! Times of the tables in which items wait for their inputs.
 
 use crate::watch;
 use rules::input::Input;
@@ -26,7 +26,7 @@ fn pair(alloc: Global, number: u64) -> Result<SmallVec<Input, 2>, AllocError> {
     Ok(inputs)
 }
 
-/// Lets so many items wait, each for a pair of its own.
+/// Adds `count` items, each of which waits for a pair of its own.
 fn add_all(alloc: Global, rules: &mut Rules, count: u64) -> Result<(), AllocError> {
     for number in 0..count {
         let inputs = pair(alloc, number)?;
@@ -41,7 +41,7 @@ fn tell(rules: &mut Rules, input: &Input, out: &mut Vec<u64>) {
     }
 }
 
-/// Tells the scalars and then the elements.
+/// Makes the scalars known, and then the elements.
 fn tell_all(rules: &mut Rules, count: u64, out: &mut Vec<u64>) {
     for number in 0..count {
         tell(rules, &Input::Whole(number), out);
@@ -51,7 +51,7 @@ fn tell_all(rules: &mut Rules, count: u64, out: &mut Vec<u64>) {
     }
 }
 
-/// So many rules, in each of which so many items wait.
+/// A number of tables, in each of which a number of items wait.
 fn add_each(alloc: Global, parts: u64, count: u64) -> Result<Vec<Rules>, AllocError> {
     let mut all = Vec::new(alloc);
     for _part in 0..parts {
@@ -62,14 +62,14 @@ fn add_each(alloc: Global, parts: u64, count: u64) -> Result<Vec<Rules>, AllocEr
     Ok(all)
 }
 
-/// Tells each all that its items wait for.
+/// Makes all inputs of the waiting items known in each table.
 fn tell_each(all: &mut [Rules], count: u64, out: &mut Vec<u64>) {
     for rules in all.iter_mut() {
         tell_all(rules, count, out);
     }
 }
 
-/// Prints the times of a million adds and of twice as many knowns, with so many items in each.
+/// Prints the times of a million adds and of twice as many knowns, with `count` items in each table.
 fn time_size(rt: &(impl Clock + Print), alloc: Global, parts: u64, count: u64) -> io::Result<()> {
     let mut out = Vec::with_capacity(alloc, 1_000_000)?;
     let start = Instant::now(rt)?;
@@ -86,7 +86,7 @@ fn time_size(rt: &(impl Clock + Print), alloc: Global, parts: u64, count: u64) -
     )
 }
 
-/// Adds an item for each of so many data in turn, and tells it.
+/// Adds an item for each of a number of data in turn, and makes that datum known.
 fn use_again(
     alloc: Global,
     rules: &mut Rules,
@@ -104,13 +104,13 @@ fn use_again(
     Ok(())
 }
 
-/// Prints the time of a million adds and knowns of the same few data while so many items wait on others.
+/// Prints the time of a million adds and knowns of the same few data while `count` items wait on others.
 fn time_again(rt: &(impl Clock + Print), alloc: Global, count: u64) -> io::Result<()> {
     let mut rules = Rules::new(alloc);
     time_few(rt, alloc, &mut rules, count)
 }
 
-/// The same, of rules without items.
+/// Prints the times of an empty table.
 fn time_few(
     rt: &(impl Clock + Print),
     alloc: Global,
@@ -130,7 +130,7 @@ fn time_few(
     )
 }
 
-/// Lets so many items wait for one datum, with room for as many more.
+/// Adds `count` items that wait for one datum, with room for as many more.
 fn add_to_one(alloc: Global, rules: &mut Rules, count: u64) -> Result<(), AllocError> {
     rules.reserve((count as usize).saturating_mul(2))?;
     for number in 0..count {
@@ -141,14 +141,14 @@ fn add_to_one(alloc: Global, rules: &mut Rules, count: u64) -> Result<(), AllocE
     Ok(())
 }
 
-/// Prints the time of a million adds and knowns of a datum that shares its list with one for which so many items wait, where
+/// Prints the time of a million adds and knowns of a datum that shares its list with one for which `count` items wait, where
 /// there are four lists for each of them, or one less than that.
 fn time_shared(rt: &(impl Clock + Print), alloc: Global, count: u64) -> io::Result<()> {
     let mut rules = Rules::new(alloc);
     time_list(rt, alloc, &mut rules, count)
 }
 
-/// The same, of rules without items.
+/// Prints the times of an empty table.
 fn time_list(
     rt: &(impl Clock + Print),
     alloc: Global,

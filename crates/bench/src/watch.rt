@@ -1,9 +1,9 @@
-//! What a part took, in words.
+//! Lines about the time of a part.
 
 use std::io;
 use std::time::{Clock, Instant};
 
-/// Prints what so many calls took since they began, and what they came to.
+/// Prints the time of `calls` calls since they began, and their result.
 pub fn tell(
     rt: &(impl Clock + Print),
     start: Instant,

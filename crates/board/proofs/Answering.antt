@@ -66,7 +66,7 @@ literal_scalar C (s ∷ p) zero (Parameter k b) c h = by (λ r e. literal_scalar
         named rs k r e n = sym (argument_kind rs k b r e) ∙ n
 literal_scalar C (s ∷ p) (suc up) x c h = literal_scalar C p up x c h
 
-no_literal : {A : Type 0} (C : Code) (p : List Step) (r : Name) (c : Scalar) → is_array_name r ≡ true → place_at C p r ≡ Constant c → A
+pub no_literal : {A : Type 0} (C : Code) (p : List Step) (r : Name) (c : Scalar) → is_array_name r ≡ true → place_at C p r ≡ Constant c → A
 no_literal C p r c a h = yes_no a (literal_scalar C p r.up r.owned c h)
 
 module _ (C : Code) (p : List Step) (s : CodeState) where

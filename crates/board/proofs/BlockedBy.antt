@@ -87,7 +87,7 @@ plain_in m (n ∷ ns) h = by (plain_in m ns) (is_same_plain m n) refl h
     by f false e k = (let x = f k in (x.0, inr x.1))
 
 module _ (C : Code) (I : IsCode C) where
-  headers_plain : (e : ℕ) (hs : List Header) (b : ℕ) → (entry C e).act ≡ Wait hs b → (h : Header) → In h hs → (m : Need) → In m h.needs → (is_plain m ≡ true) × In m (entry C e).needs
+  pub headers_plain : (e : ℕ) (hs : List Header) (b : ℕ) → (entry C e).act ≡ Wait hs b → (h : Header) → In h hs → (m : Need) → In m h.needs → (is_plain m ≡ true) × In m (entry C e).needs
   headers_plain e hs b a h i m j =
       let shape = (and_parts (list_all _ (entry C e).needs) (has_shape (entry C e).act (entry C e).needs) (I.shape e)).1 in
       let headers : has_headers hs (entry C e).needs ≡ true = subst (λ z. has_shape z (entry C e).needs ≡ true) a shape in
@@ -95,10 +95,10 @@ module _ (C : Code) (I : IsCode C) where
       plain_in m (entry C e).needs (every_in (λ n. list_any (is_same_plain n) (entry C e).needs) h.needs each m j)
 
   module _ (fs : List (Option Frame)) (cs : List (Option Counted)) (k b : ℕ) where
-    abbrev led : Name → Slot
+    abbrev pub led : Name → Slot
     led r = led_slot fs k (spot_in C b r)
 
-    same_missed : (n : Need) → wanted_missed C cs (led_slot fs k) (wanted_in C b n) ≡ missed C cs led n
+    pub same_missed : (n : Need) → wanted_missed C cs (led_slot fs k) (wanted_in C b n) ≡ missed C cs led n
     same_missed (Stored r) = refl
     same_missed (Closed r) = refl
     same_missed (At a r) = refl
@@ -141,7 +141,7 @@ module _ (C : Code) (I : IsCode C) (es : List Event) (core : BoardState) (t : St
 
   -- the statement of a live row
   module _ (n k e c : ℕ) (r : Row) (there : row_of rows n ≡ Some r) (job : r.job ≡ Does k e c) (live : r.status ≡ Over → ⊥) where
-    home : (f : Frame) × (slot_at fs k ≡ Some f) × In e (body C f.body).entries
+    pub home : (f : Frame) × (slot_at fs k ≡ Some f) × In e (body C f.body).entries
     home = t.stands.frames.there n k e c r there job live
 
     own : (i : CodeItem) × In i s.items × (i.task ≡ Item e (Fields.path_of fs k) c)
@@ -150,7 +150,7 @@ module _ (C : Code) (I : IsCode C) (es : List Event) (core : BoardState) (t : St
       | inr y ↦ (record { number = n; task = task_of fs r.job; runs = y.runs }, item_there C I (layout_of C) es F t.stands n r there y, ap (task_of fs) job)
     ]
 
-    res : (x : Name) → In x (entry C e).reads → Resolved C t.stands.names (led C I fs cs k home.0.body x) (place_at C (Fields.path_of fs k) x)
+    pub res : (x : Name) → In x (entry C e).reads → Resolved C t.stands.names (led C I fs cs k home.0.body x) (place_at C (Fields.path_of fs k) x)
     res x i = subst (λ (z : Slot). Resolved C t.stands.names z (place_at C (Fields.path_of fs k) x)) (slot_by C fs k home.0.body t.kept.few x) (resolved C I (layout_of C) es F t.stands own.0 own.1 n k e c r home.0 own.2 there job live home.1 x i)
 
     offset_told : (a : Act) → (entry C e).act ≡ a → (o at : ℕ) → (blocked_offset C fs cs k o a ≡ Some at) ↔ ((counts a ≡ true) × IsBlockedAt C (IsKnown (code_system C) s) (Fields.path_of fs k) a o at)
@@ -171,6 +171,15 @@ module _ (C : Code) (I : IsCode C) (es : List Event) (core : BoardState) (t : St
     offset_told (Range l h w z) q o at = plain_told o at
     offset_told (Each z) q o at = plain_told o at
 
+    -- where and how the statement is blocked
+    pub job_offset : (p : Place) → blocked_job C fs cs (Does k e c) ≡ Some p → (counts (entry C e).act ≡ true) × IsBlockedAt C (IsKnown (code_system C) s) (Fields.path_of fs k) (entry C e).act (entry C e).at p.at
+    job_offset p h = made (blocked_offset C fs cs k (entry C e).at (entry C e).act) refl (sym (ap (λ b. if b then option_map (λ z. at_place z (Fields.path_of fs k)) (blocked_offset C fs cs k (entry C e).at (entry C e).act) else None) (lt_complete e (length C.entries) (I.there home.0.body e home.2))) ∙ h)
+      where
+        made : (o : Option ℕ) → blocked_offset C fs cs k (entry C e).at (entry C e).act ≡ o → option_map (λ z. at_place z (Fields.path_of fs k)) o ≡ Some p → (counts (entry C e).act ≡ true) × IsBlockedAt C (IsKnown (code_system C) s) (Fields.path_of fs k) (entry C e).act (entry C e).at p.at
+        made None q g = none_some g
+        made (Some at) q g =
+            subst (λ (z : Place). (counts (entry C e).act ≡ true) × IsBlockedAt C (IsKnown (code_system C) s) (Fields.path_of fs k) (entry C e).act (entry C e).at z.at) (some_same g) ((offset_told (entry C e).act refl (entry C e).at at).0 q)
+
     job_blocked : (p : Place) → blocked_job C fs cs (Does k e c) ≡ Some p → Blocked C s p.at p.path
     job_blocked p h = made (blocked_offset C fs cs k (entry C e).at (entry C e).act) refl (sym (ap (λ b. if b then option_map (λ z. at_place z (Fields.path_of fs k)) (blocked_offset C fs cs k (entry C e).at (entry C e).act) else None) (lt_complete e (length C.entries) (I.there home.0.body e home.2))) ∙ h)
       where
@@ -180,7 +189,7 @@ module _ (C : Code) (I : IsCode C) (es : List Event) (core : BoardState) (t : St
             let b = (offset_told (entry C e).act refl (entry C e).at at).0 q in
             subst (λ (z : Place). Blocked C s z.at z.path) (some_same g) (record { item = own.0; there = own.1; number = e; chunk = c; is = own.2; counted = b.0; stands = b.1 })
 
-    blocked_here : (at : ℕ) → counts (entry C e).act ≡ true → IsBlockedAt C (IsKnown (code_system C) s) (Fields.path_of fs k) (entry C e).act (entry C e).at at → blocked_job C fs cs (Does k e c) ≡ Some (at_place at (Fields.path_of fs k))
+    pub blocked_here : (at : ℕ) → counts (entry C e).act ≡ true → IsBlockedAt C (IsKnown (code_system C) s) (Fields.path_of fs k) (entry C e).act (entry C e).at at → blocked_job C fs cs (Does k e c) ≡ Some (at_place at (Fields.path_of fs k))
     blocked_here at h g =
         ap (λ b. if b then option_map (λ z. at_place z (Fields.path_of fs k)) (blocked_offset C fs cs k (entry C e).at (entry C e).act) else None) (lt_complete e (length C.entries) (I.there home.0.body e home.2))
         ∙ ap (option_map (λ z. at_place z (Fields.path_of fs k))) ((offset_told (entry C e).act refl (entry C e).at at).1 (h, g))

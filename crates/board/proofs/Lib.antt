@@ -18,6 +18,7 @@ pub mod GoingKind
 pub mod HoldsFit
 pub mod Kept
 pub mod Marked
+pub mod Misses
 pub mod Moves
 pub mod NoMore
 pub mod OpensWell
@@ -31,6 +32,7 @@ pub mod Queues
 pub mod Ranked
 pub mod Readies
 pub mod Reading
+pub mod Remaining
 pub mod RoomAfter
 pub mod Rooms
 pub mod Showing

@@ -8,7 +8,7 @@ use Rattle.task_code.specs.Code.{Code}
 use Rattle.task_code.specs.Compute.{Computed}
 use Rattle.board_program.specs.Spots.{layout_of}
 use Rattle.board_program.specs.Tables.{is_place}
-use Rattle.board_effects.specs.Effects.{GoesWell, IsEffect, lines_in}
+use Rattle.board_effects.specs.Effects.{GoesWell, IsEffect}
 use Rattle.board_effects.specs.declared.effect.Effect.{Effect}
 use Rattle.board_effects.specs.declared.effect.Effect.TheVariants.{Fails, Inserts, Opens, Passes, Prints, InsertsElement, Stores}
 use Rattle.board_changes.specs.World.{target_of, values_of}

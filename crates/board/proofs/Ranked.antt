@@ -1,12 +1,12 @@
 -- The order of statements, and lists in it.
-use Rattle.std.proofs.Common.{◌≡◌, ◌↔◌, ◌⊎◌, inl, inr, ℕ, zero, suc, ◌+◌, ◌-◌, ◌<◌, Bool, true, false, ◌&&◌, List, [], ◌∷◌, ◌++◌, drop, length, map, Option, None, Some, refl, sym, ap, ◌∙◌, subst, arith}
+use Rattle.std.proofs.Common.{◌≡◌, ◌↔◌, ◌⊎◌, inl, inr, ℕ, zero, suc, ◌+◌, ◌-◌, ◌<◌, Bool, true, false, ◌&&◌, List, [], ◌∷◌, ◌++◌, length, map, Option, None, Some, refl, sym, ap, ◌∙◌, subst, arith}
 use Rattle.std.specs.Prelude.{if◌then◌else◌, nat_eq, nat_lt, reverse, slice_get, slice_index_or}
 use Rattle.std.specs.Cmp.{IsStrictWeakOrder}
 use Rattle.std.specs.List.Sorted.{IsPermutation, IsSortedBy}
 use Rattle.dataflow.specs.System.{In}
 use Rattle.dataflow.proofs.Lists.{in_left, in_map, in_right, in_split, in_unmap}
 use Rattle.paths.specs.declared.statements.StatementInstance.{StatementInstance}
-use Rattle.task_code.proofs.Equal.{nat_same, nat_sound}
+use Rattle.task_code.proofs.Equal.{nat_sound}
 use Rattle.board_items.proofs.Lists.{in_back, in_moved}
 use Rattle.board_history.proofs.Tests.{none_some, some_same}
 use Rattle.paths.specs.Order.{path_below, same_path, same_statement, statement_below}

@@ -64,14 +64,14 @@ datum_made C I u xs e h p a i m =
     ]
 
 -- an element that is found
-found_in : (k : Key) (xs : Elements) (v : Scalar) → found k xs ≡ Some v → In (k, v) xs
+pub found_in : (k : Key) (xs : Elements) (v : Scalar) → found k xs ≡ Some v → In (k, v) xs
 found_in k [] v = λ h. none_some h
 found_in k (x ∷ xs) v =
     choose (λ (r : Option Scalar). r ≡ Some v → In (k, v) (x ∷ xs)) (same_key k x.0) (Some x.1) (found k xs)
     (λ t h. let e = same_key-eq k x.0 t in let u = some_same h in inl (λ i. (e i, sym u i)))
     (λ t h. inr (found_in k xs v h))
 
-in_found : (k : Key) (xs : Elements) (v : Scalar) → In (k, v) xs → found k xs ≡ None → ⊥
+pub in_found : (k : Key) (xs : Elements) (v : Scalar) → In (k, v) xs → found k xs ≡ None → ⊥
 in_found k [] v i = λ h. i
 in_found k (x ∷ xs) v i =
     choose (λ (r : Option Scalar). r ≡ None → ⊥) (same_key k x.0) (Some x.1) (found k xs)

@@ -7,7 +7,7 @@ use Rattle.board_history.specs.Ending.{job_kind, job_priority}
 use Rattle.board_history.specs.Fields.{Over, Ready, Row, row_of, task_of}
 use Rattle.board_history.proofs.Marking.{RowIs, item, status_is}
 use Rattle.board_history.proofs.Tests.{none_some, some_same}
-use Rattle.task_code.specs.Code.{Code, Control, Kind, Leaf}
+use Rattle.task_code.specs.Code.{Code, Kind}
 use Rattle.task_code.specs.Machine.{CanBegin, CodeItem, CodeState}
 use Rattle.task_code.specs.View.{event_view}
 use Rattle.task_code.specs.System.{task_kind, task_priority}

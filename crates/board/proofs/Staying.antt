@@ -1,6 +1,5 @@
 -- Work of an item stays its own.
-use Rattle.std.proofs.Common.{◌≡◌, ℕ, List, map, refl, sym, ap, ◌∙◌, subst}
-use Rattle.dataflow.specs.System.{Answer}
+use Rattle.std.proofs.Common.{◌≡◌, ℕ, map, sym, ap, ◌∙◌, subst}
 use Rattle.dataflow.specs.Machine.{Event, SeesAll}
 use Rattle.dataflow.specs.History.{log_of}
 use Rattle.dataflow.proofs.Steps.{run_follows}

@@ -25,7 +25,7 @@ use Rattle.task_code.specs.Whole.{IsCode}
 use Rattle.values.specs.declared.key.Key.{Key}
 use Rattle.board.specs.Stuck.{misses_none}
 
-cons_nil : {A X : Type 0} {y : X} {ys : List X} → ◌≡◌ {A = List X} (y ∷ ys) [] → A
+pub cons_nil : {A X : Type 0} {y : X} {ys : List X} → ◌≡◌ {A = List X} (y ∷ ys) [] → A
 cons_nil h = absurd (cc)
 
 none_sound : (ws : List (Want ℕ)) → misses_none ws ≡ true → ws ≡ []
@@ -57,7 +57,7 @@ module _ (C : Code) (I : IsCode C) (L : Layout) (es : List Event) (F : Fields.Fi
   zero_is : (n : ℕ) → nat_eq n 0 ≡ true → n ≡ 0
   zero_is n h = nat_sound n 0 h
 
-  array_by : (d : ℕ) (q : List Step) (v : Variable) → In (d, Datum q v) x.names → (array_wanted (is_shut (slot_at F.cells d)) d ≡ []) ↔ AllKnown (ClosedArray (Datum q v) ∷ [])
+  pub array_by : (d : ℕ) (q : List Step) (v : Variable) → In (d, Datum q v) x.names → (array_wanted (is_shut (slot_at F.cells d)) d ≡ []) ↔ AllKnown (ClosedArray (Datum q v) ∷ [])
   array_by d q v h = (
     λ w. one_known (ClosedArray (Datum q v)) (counts_closed (code_system C) code_tests (code_told C) x.state (Datum q v) there (sym c.2.writes ∙ zero_is c.0.writes (shut (is_shut (slot_at F.cells d)) (ap is_shut c.1) w))),
     λ k. ap (λ b. array_wanted b d) (ap is_shut c.1 ∙ subst (λ n. nat_eq n 0 ≡ true) (sym (c.2.writes ∙ closed_counts (code_system C) code_tests (code_told C) x.state (Datum q v) (k (ClosedArray (Datum q v)) (inl refl)))) refl),

@@ -10,6 +10,7 @@ pub mod Marked
 pub mod Numbers
 pub mod Queues
 pub mod Ready
+pub mod Remains
 pub mod Room
 pub mod Rows
 pub mod Sorting

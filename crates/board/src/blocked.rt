@@ -192,7 +192,7 @@ impl BoardState {
 
     /// Returns the instance and the offset at which the statement of the item is blocked, or `None` if it is not
     /// blocked.
-    fn blocked_at(
+    pub(crate) fn blocked_at(
         &self,
         program: &Program,
         item: ItemRecord,

@@ -2,7 +2,7 @@
 //!
 //! Each accepted event is appended to the history. A refused call changes nothing, apart from `perform` when it fails
 //! after its Begin.
-ghost use Rattle.std.specs.Prelude.{ℕ, ℤ, ◌≡◌, ◌⊎◌, ◌<◌, ◌≤◌, ◌^◌, ◌∷◌, [], map, length, vec_len, MatchBool, IfOk, IfErr, IfSome, IfNone, OnOk, OnErr, IsTrue, ◌↔◌, None, Some, slice_get};
+ghost use Rattle.std.specs.Prelude.{ℕ, ℤ, ◌+◌, ◌≡◌, ◌⊎◌, ◌<◌, ◌≤◌, ◌^◌, ◌∷◌, [], map, length, vec_len, MatchBool, IfOk, IfErr, IfSome, IfNone, OnOk, OnErr, IsTrue, ◌↔◌, None, Some, option_map, slice_get};
 ghost use Rattle.dataflow.specs.Machine.{start};
 ghost use Rattle.dataflow.specs.Machine as Machine;
 ghost use Rattle.task_code.specs.Machine.{CodeItem, DataAreExact, Quiet, Run, run_log};
@@ -18,16 +18,20 @@ ghost use Rattle.board.specs.Numbers.{AreNumbered};
 ghost use Rattle.board.specs.Stored.{AreSoMany};
 ghost use Rattle.board.specs.Ready.{AreReady, HasKind, IsFirst, IsNext, IsReady};
 ghost use Rattle.board.specs.Blocked.{AreBlocked, IsFaultOf};
+ghost use Rattle.board.specs.Remains.{AreSoManyRunning, HasStatus, IsBlockedItem, IsLeft, IsNoneLeft, IsPathOf, Sees};
 ghost use Rattle.dataflow.specs.System.{In};
 
 use crate::refusal::BoardRefusal;
+use crate::remains::LeftItem;
 use crate::state::BoardState;
+use board_data::inputs::Environment;
+use board_instances::instance::path_of;
 use board_instances::item::{ItemStatus, ItemTask, item_of};
 use board_items::items::order_of;
 use board_program::program::Program;
 use board_work::answer::Answer;
 use board_work::work::{Done, Work, WorkTask};
-use paths::{Fault, StatementInstance};
+use paths::{Fault, StatementInstance, Step};
 use rules::input::Input;
 use std::alloc::{AllocError, Global};
 use std::marker::Model;
@@ -548,6 +552,111 @@ impl Board {
         ensures { IfOk result (λ statements. AreBlocked self.now.code self.now.state statements.items) }
     {
         self.core.blocked(&self.program)
+    }
+
+    // What is left when a run has stopped.
+
+    /// Returns the number of items that were created. They are numbered from 1.
+    pub fn item_count(&self) -> usize
+        ensures next { self.now.state.next ≡ result + 1 }
+        ensures within { (number i : ℕ) → IsLeft self.now number i → (0 < number) × (number ≤ result) }
+    {
+        self.core.items.rows.len()
+    }
+
+    /// Returns the number of items that are running.
+    pub fn running_count(&self) -> usize
+        ensures { AreSoManyRunning self.now.state.items result }
+    {
+        self.core.items.running
+    }
+
+    /// Returns an upper bound of the numbers of all data.
+    pub fn data_bound(&self) -> usize {
+        self.core.data_state.store.bound()
+    }
+
+    /// Returns the item with this number, or `None` if there is none, it has ended, or it opens the script.
+    pub fn left_item(&self, number: u64) -> Option<LeftItem>
+        ensures some { IfSome result (λ left. IsLeft self.now number left.entry × HasStatus self.now number left.status) }
+        ensures only { IfSome result (λ left. (i : ℕ) → IsLeft self.now number i → i ≡ left.entry) }
+        ensures none { IfNone result (IsNoneLeft self.now number) }
+    {
+        self.core.live_item(number)
+    }
+
+    /// Returns the entry of the item with this number, whether it has ended or not. Returns `None` if there is no such
+    /// item, or if it opens the script.
+    pub fn entry_of(&self, number: u64) -> Option<u32>
+        ensures left { (i : ℕ) → IsLeft self.now number i → result ≡ Some i }
+        ensures none { self.now.state.next ≤ number → result ≡ None }
+    {
+        match item_of(self.core.items.rows.as_slice(), number) {
+            Some(found) => match found.job() {
+                ItemTask::Does { entry, .. } => Some(entry),
+                ItemTask::Script => None,
+            },
+            None => None,
+        }
+    }
+
+    /// Returns the environment of the item with this number, which answers what the names and needs of its entry refer
+    /// to. Returns `None` if there is no such item that has not ended.
+    ///
+    /// Only the names that the entry may read or write are meaningful: the data of others can be free.
+    pub fn environment(&self, number: u64) -> Option<Environment<'_>>
+        ensures some { IfSome result (λ environment. Sees self.now number environment) }
+        ensures none { IfNone result (IsNoneLeft self.now number) }
+    {
+        match self.core.live_item(number) {
+            Some(left) => Some(self.core.view(&self.program, left.instance)),
+            None => None,
+        }
+    }
+
+    /// Returns the path of the instance of the item with this number, outermost step first. The path is empty if there
+    /// is no such item that has not ended.
+    ///
+    /// # Errors
+    ///
+    /// Returns `AllocError` if an allocation fails.
+    pub fn path_to(&self, number: u64) -> Result<Vec<Step>, AllocError>
+        ensures { IfOk result (λ steps. IsPathOf self.now number steps.items) }
+    {
+        let state = &self.core;
+        match state.live_item(number) {
+            Some(left) => path_of(state.alloc, &state.data_state.instances, left.instance),
+            None => Ok(Vec::new(state.alloc)),
+        }
+    }
+
+    /// Returns the offset at which the statement of the item with this number is blocked, or `None` if the item is not
+    /// that of a blocked statement.
+    ///
+    /// # Errors
+    ///
+    /// Returns `AllocError` if an allocation fails.
+    pub fn blocked_offset(&self, number: u64) -> Result<Option<usize>, AllocError>
+        ensures some { IfOk result (λ found. IfSome found (λ at. IsBlockedItem self.now number at)) }
+        ensures none { IfOk result (λ found. IfNone found ((at : ℕ) → IsBlockedItem self.now number at → ⊥)) }
+    {
+        match item_of(self.core.items.rows.as_slice(), number) {
+            Some(row) => {
+                let found = self.core.blocked_at(&self.program, row)?;
+                Ok(offset_in(found))
+            }
+            None => Ok(None),
+        }
+    }
+}
+
+/// Returns the offset of an instance and an offset.
+fn offset_in(found: Option<(usize, usize)>) -> Option<usize>
+    ensures { result ≡ option_map (λ (p : ℕ × ℕ). p.1) found }
+{
+    match found {
+        Some((_instance, at)) => Some(at),
+        None => None,
     }
 }
 

@@ -17,6 +17,7 @@ mod notify;
 mod numbering;
 mod opened;
 pub mod refusal;
+pub mod remains;
 mod room;
 mod state;
 

@@ -1,12 +1,13 @@
 //! The mutable state of a board, and its transitions at Begin and Back.
-ghost use Rattle.std.specs.Prelude.{◌≡◌, [], IfOk, IfNone, IfSome, None};
-ghost use Rattle.board_history.specs.Fields.{Job as PureJob};
+ghost use Rattle.std.specs.Prelude.{◌≡◌, ◌≢◌, ℕ, [], IfOk, IfNone, IfSome, None, Some};
+ghost use Rattle.board_history.specs.Fields.{Does, Job as PureJob, Over, Status, row_of};
 ghost use Rattle.task_code.specs.Code.{Code};
-ghost use Rattle.board_instances.specs.View.{job_view, rows_view};
+ghost use Rattle.board_instances.specs.View.{job_view, rows_view, status_view};
 ghost use Rattle.board.specs.Inside.{Stand};
 ghost use Rattle.board.specs.Marked.{HasBegun, HasReturned};
 ghost use Rattle.board.specs.Rows.{IsReady, RunsOn};
 
+use crate::remains::LeftItem;
 use board_changes::data_state::DataState;
 use board_data::inputs::Environment;
 use board_instances::item::{ItemStatus, ItemTask, item_of};
@@ -83,6 +84,31 @@ impl BoardState {
             instances: &self.data_state.instances,
             store: &self.data_state.store,
             at,
+        }
+    }
+
+    /// Returns the item of an entry with this number, or `None` if there is none, it has ended, or it opens the script.
+    pub fn live_item(&self, number: u64) -> Option<LeftItem>
+        ensures some { IfSome result (λ left. row_of (rows_view self.now.items.rows.items) number
+            ≡ Some (record { job = Does left.instance left.entry left.chunk; status = status_view left.status })) }
+        ensures live { IfSome result (λ left. left.status ≢ ItemStatus.Over) }
+        ensures none { IfNone result ((k e c : ℕ) (m : Status) → row_of (rows_view self.now.items.rows.items) number ≡ Some (record { job = Does k e c; status = m }) → m ≡ Over) }
+    {
+        match item_of(self.items.rows.as_slice(), number) {
+            Some(found) if found.status() != ItemStatus::Over => match found.job() {
+                ItemTask::Does {
+                    entry,
+                    instance,
+                    chunk,
+                } => Some(LeftItem {
+                    entry,
+                    instance,
+                    chunk,
+                    status: found.status(),
+                }),
+                ItemTask::Script => None,
+            },
+            _ => None,
         }
     }
 

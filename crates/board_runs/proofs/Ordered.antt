@@ -1,13 +1,9 @@
 -- Statements in the order of texts: two lists of the same ones are the same.
-use Rattle.std.proofs.Common.{◌≡◌, ◌⊎◌, inl, inr, ℕ, ◌<◌, Bool, true, false, ◌||◌, ◌&&◌, List, [], ◌∷◌, map, refl, sym, ap, ◌∙◌, subst, arith}
-use Rattle.std.specs.Prelude.{nat_eq, nat_lt, reverse}
+use Rattle.std.proofs.Common.{◌≡◌, ◌⊎◌, inl, inr, ℕ, ◌<◌, true, List, [], ◌∷◌, map, refl, sym, ap, ◌∙◌, subst, arith}
+use Rattle.std.specs.Prelude.{nat_lt, reverse}
 use Rattle.std.proofs.lemmas.List.{reverse-reverse}
-use Rattle.std.proofs.lemmas.Bool.{and_parts}
 use Rattle.dataflow.specs.System.{In}
-use Rattle.values.specs.Keys.{key_below, same_key}
-use Rattle.values.proofs.Keys.{above_differs, below_differs, key_below-asymmetric}
 use Rattle.task_code.specs.Places as Places
-use Rattle.task_code.proofs.Equal.{nat_sound}
 use Rattle.paths.specs.declared.statements.StatementInstance.{StatementInstance}
 use Rattle.paths.specs.declared.steps.Step.{Step}
 use Rattle.board_instances.specs.View.{step_view}

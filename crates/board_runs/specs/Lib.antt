@@ -1,3 +1,4 @@
 pub mod Report
 pub mod Same
 pub mod Turns
+pub mod Stopped

@@ -5,4 +5,5 @@ pub mod laws;
 pub mod one;
 pub mod report;
 pub mod step;
+pub mod stopped;
 mod tally;

@@ -4,6 +4,9 @@
 pub static BYTE_RULES: &str = r#"
 # Signs of other languages.
 when found=. & % |
+found=. last=$name before_last=in first=foreach -> write foreach v, k in A { .. } for values and keys, or foreach i in [0:size(A) - 1] { .. }
+found=. last=console System Console sys std io -> write printf("%s", s);
+found=.length .size .count .len last=$text -> a string has no length: keep its letters in an array, and write size(A)
 found=.length .size .count .len last=$name ] -> write size(A) for the number of elements
 found=.push .append .add -> write an element by its key: A[i] = 3;
 found=. first=@ second=prio -> a priority is a whole number: @prio=5 f(3);

@@ -44,6 +44,7 @@ first=foreach last=$name before_last=in found=$name ; $beginning -> a { is missi
 
 # The head of a function.
 when found=( first=$type second=@last gap!=line comment
+second=main -> leave main and its braces out: a script begins with its first statement
 next=$type ) -> write the outputs first, in brackets: (int r) f(int n) { r = n; }
 -> write int A[]; for an array, and int x = 3; for a value
 when found=$type last=@first outer={

@@ -41,7 +41,7 @@ opener=( opener_before=$value_start ->opener a ) is missing for the (
 # A comma outside of brackets.
 when found=, opener!=( [
 gap=none last=$number joined=$number -> write 1000 for 1,000
-gap=none last=$number next=$end -> write 1000 for 1,000
+gap=none last=$number next=$end -> leave this , out: 1000 for 1,000, and a statement ends with ;
 first=foreach -> a loop has a value and at most a key: foreach v, i in A { .. }
 first=$type third=[ last!=] -> write the values of an array in square brackets: int A[] = [1, 2];
 first=$type -> declare one name at a time: int x; int y;
@@ -127,6 +127,7 @@ last=$name opener={ $end -> write A[0] for an element, and f(x) for a call; a bl
 # Round brackets.
 when found=(
 last=range before_last=in -> write foreach i in [0:9] { .. }, with both ends of the range
+last=enumerate items keys values before_last=in -> write foreach v, k in A { .. }, with the value and the key of each element
 last=$name before_last=in -> give the array a name first: int A[] = f(3); foreach v in A { .. }
 last=$type gap!=line comment -> declare the names before: int x; int y; (x, y) = f(1);
 last=) $number gap!=line comment -> write * to multiply, 3 * (4), and f(3) for a call
@@ -150,6 +151,7 @@ second=$type outer=( -> leave the length out: int A[]; takes any numbers as keys
 found=$type -> leave the length out: int A[]; takes any numbers as keys, and int A[string]; strings
 when found=$type
 next=( last=$value_start -> write toint(s) for the number in a string, and fromint(n) for the string of a number
+last=( opener_before=$operator , next=) -> leave the type out, or write toint(s) for the number in a string, and fromint(n) for the string of a number
 last=( opener_before=$operator , -> write toint(s) for the number in a string, and fromint(n) for the string of a number
 
 # A ; or an else too many.
@@ -175,6 +177,7 @@ last=@ -> write @prio=5 before a call: @prio=5 f(3);
 when found=@first
 found=$number $text true false - ! -> assign this value or print it: int y = x + 1;, printf("%i", x + 1);
 when found!=@first
+first=exit quit stop halt first=@last found=; -> leave it out: a run ends when all statements have run
 first=( first=@last found=$plain -> assign this value or print it: int y = x + 1;, printf("%i", x + 1);
 first=$name first=@last found=; $arithmetic -> assign this value or print it: int y = x + 1;, printf("%i", x + 1);
 first=$name closed=@first last=) ] found=; $arithmetic -> assign this value or print it: int y = x + 1;, printf("%i", x + 1);

@@ -1,5 +1,7 @@
 mod Added
+mod Bits
 mod Calling
+mod Cycling
 mod Failing
 mod First
 mod Guarding

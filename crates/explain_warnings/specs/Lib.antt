@@ -1,7 +1,9 @@
+pub mod Cycles
 pub mod Endless
 pub mod Failures
 pub mod Forms
 pub mod Guards
+pub mod Lists
 pub mod Marks
 pub mod Mentions
 pub mod Occurrences
@@ -9,3 +11,4 @@ pub mod Repeats
 pub mod View
 pub mod WarningNames
 pub mod Warnings
+pub mod Ways

@@ -10,7 +10,7 @@ use Rattle.explain_warnings.specs.declared.name_use.NameUseKind.TheVariants.{Dec
 use Rattle.explain_warnings.specs.declared.name_use.NameUse.{NameUse}
 use Rattle.explain_warnings.specs.Failures.{form_overflows, is_zero_divisor, is_no_number, never_holds}
 use Rattle.explain_warnings.specs.Guards.{guards_nothing}
-use Rattle.explain_warnings.specs.Repeats.{repeats}
+use Rattle.explain_warnings.specs.Lists.{list_mistakes}
 pub use Rattle.explain_warnings.specs.Occurrences.{name_use, at_expression, noted}
 use Rattle.explain_warnings.specs.Forms.{is_empty, below_one, is_extra_line, always_holds, is_without, right_needs}
 
@@ -114,9 +114,9 @@ over_mentions (range low high step) = emptiness low high step ++ (reads_of low +
 abbrev pub byte_at : ℕ → Span
 byte_at from = record { from = from; to = min (from + 1) 18446744073709551615 }
 
--- a block without a statement, at its brace, and the keys that two of its statements write
+-- a block without a statement, at its brace, and the mistakes of its statements as a whole
 abbrev pub block_mistakes : Body → List NameUse
-block_mistakes (body from ss) = noted (is_without ss) (record { kind = EmptyBlock; number = 0; at = byte_at from }) ++ repeats [] ss
+block_mistakes (body from ss) = noted (is_without ss) (record { kind = EmptyBlock; number = 0; at = byte_at from }) ++ list_mistakes ss
 
 abbrev mutual
   pub mentions_in : Statement → List NameUse
@@ -144,7 +144,7 @@ abbrev mutual
 
 -- a function may be without a statement
 abbrev pub function_mentions : Body → List NameUse
-function_mentions (body from ss) = repeats [] ss ++ all_mentions ss
+function_mentions (body from ss) = list_mistakes ss ++ all_mentions ss
 
 -- the occurrences in all statements, including those in functions
 abbrev pub part_mentions : Part → List NameUse

@@ -19,6 +19,7 @@ warning_code Kind.KeyTwice = codes "V12"
 warning_code Kind.IdleGuard = codes "V13"
 warning_code Kind.AlwaysFails = codes "V14"
 warning_code Kind.EndlessCall = codes "V15"
+warning_code Kind.CircularWait = codes "V16"
 
 abbrev pub warning_name : WarningKind → List ℕ
 warning_name Kind.NeverUsed = codes "NeverUsed"
@@ -36,3 +37,4 @@ warning_name Kind.KeyTwice = codes "KeyTwice"
 warning_name Kind.IdleGuard = codes "IdleGuard"
 warning_name Kind.AlwaysFails = codes "AlwaysFails"
 warning_name Kind.EndlessCall = codes "EndlessCall"
+warning_name Kind.CircularWait = codes "CircularWait"

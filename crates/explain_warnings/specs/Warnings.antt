@@ -9,12 +9,12 @@ use Rattle.explain_warnings.specs.declared.name_use.NameUseKind.{NameUseKind}
 use Rattle.explain_warnings.specs.declared.name_use.NameUseKind.TheVariants as Is
 use Rattle.explain_warnings.specs.declared.name_use.NameUse.{NameUse}
 use Rattle.explain_warnings.specs.declared.warning.WarningKind.{WarningKind}
-use Rattle.explain_warnings.specs.declared.warning.WarningKind.TheVariants.{NeverUsed, NeverRead, IdleInput, EmptyRange, ExtraLine, NeverWritten, NeverCalled, EmptyBlock, StepBelowOne, AlwaysHolds, WaitsForItself, KeyTwice, IdleGuard, AlwaysFails, EndlessCall}
+use Rattle.explain_warnings.specs.declared.warning.WarningKind.TheVariants.{NeverUsed, NeverRead, IdleInput, EmptyRange, ExtraLine, NeverWritten, NeverCalled, EmptyBlock, StepBelowOne, AlwaysHolds, WaitsForItself, KeyTwice, IdleGuard, AlwaysFails, EndlessCall, CircularWait}
 use Rattle.explain_warnings.specs.declared.warning.Warning.{Warning}
 use Rattle.explain_warnings.specs.Endless.{own_call}
+use Rattle.explain_warnings.specs.Lists.{tree_mistakes}
 use Rattle.explain_warnings.specs.Mentions.{is_spared, mentions_in, function_mentions, tree_mentions}
 use Rattle.explain_warnings.specs.Marks.{uses_local, uses_input, counted, is_called}
-use Rattle.explain_warnings.specs.Repeats.{tree_repeats}
 
 abbrev pub warned : Option WarningKind → Span → List Warning
 warned None at = []
@@ -53,6 +53,7 @@ warning_by Is.WaitsForItself u n = Some WaitsForItself
 warning_by Is.KeyTwice u n = Some KeyTwice
 warning_by Is.IdleGuard u n = Some IdleGuard
 warning_by Is.AlwaysFails u n = Some AlwaysFails
+warning_by Is.CircularWait u n = Some CircularWait
 
 abbrev pub warning_at : Uses → NameUse → Option WarningKind
 warning_at u m = warning_by m.kind u m.number
@@ -102,11 +103,11 @@ uses_in t tree = record {
   called = is_called t 0 tree;
 }
 
--- the keys that two statements outside of all functions write, then the warnings of the parts
+-- the mistakes of the statements outside of all functions as a whole, then the warnings of the parts
 abbrev pub tree_warnings : Table → Uses → Tree → List Warning
-tree_warnings t u tree = warnings_at u (tree_repeats [] tree) ++ parts_warnings t u 0 tree
+tree_warnings t u tree = warnings_at u (tree_mistakes tree) ++ parts_warnings t u 0 tree
 
--- all warnings of a script, in the order of its text; those of keys that two statements write stand before the others
+-- all warnings of a script, in the order of its text; those of keys that two statements write, and then those of cycles, stand before the others
 -- of their list, and that of a call without end before the others of its function's block
 abbrev pub warnings : Table → Tree → List Warning
 warnings t tree = tree_warnings t (uses_in t tree) tree

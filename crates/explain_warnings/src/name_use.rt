@@ -36,6 +36,8 @@ pub enum NameUseKind {
     /// An operation on literals that overflows, a divisor 0, the string of a `toint` that is no number, or the
     /// condition of an `assert`, the literal `false`.
     AlwaysFails,
+    /// The first one of plain statements in a cycle, of which each waits for the variable that the next one assigns.
+    CircularWait,
 }
 
 /// An occurrence: its kind, its place, and the number of the name or of the node at that place, which is 0 for a brace.

@@ -78,7 +78,7 @@ fn begins_with_name(warning_kind: WarningKind) -> bool {
     match warning_kind {
         WarningKind::NeverUsed | WarningKind::NeverRead | WarningKind::IdleInput => true,
         WarningKind::NeverWritten | WarningKind::NeverCalled | WarningKind::WaitsForItself => true,
-        WarningKind::KeyTwice | WarningKind::EndlessCall => true,
+        WarningKind::KeyTwice | WarningKind::EndlessCall | WarningKind::CircularWait => true,
         WarningKind::EmptyRange | WarningKind::ExtraLine | WarningKind::EmptyBlock => false,
         WarningKind::StepBelowOne | WarningKind::AlwaysHolds | WarningKind::IdleGuard => false,
         WarningKind::AlwaysFails => false,
@@ -104,6 +104,9 @@ fn words_of(warning_kind: WarningKind) -> &'static str {
         }
         WarningKind::AlwaysFails => "the result is out of range, so this always fails",
         WarningKind::EndlessCall => "calls itself in each call, so no call ends",
+        WarningKind::CircularWait => {
+            "waits for itself through other variables, so none of them gets a value"
+        }
     }
 }
 
@@ -139,6 +142,9 @@ pub fn hint_of(warning_kind: WarningKind) -> &'static str {
         WarningKind::EndlessCall => {
             "call it in an if that ends the calls, as if (n == 0) { r = 0; } else { r = f(n - 1); }"
         }
+        WarningKind::CircularWait => {
+            "each waits for the next: compute one of them without the others, as x = 1;"
+        }
     }
 }
 
@@ -162,6 +168,7 @@ pub fn code_of(warning_kind: WarningKind) -> &'static str
         WarningKind::IdleGuard => "V13",
         WarningKind::AlwaysFails => "V14",
         WarningKind::EndlessCall => "V15",
+        WarningKind::CircularWait => "V16",
     }
 }
 
@@ -185,6 +192,7 @@ pub fn name_of(warning_kind: WarningKind) -> &'static str
         WarningKind::IdleGuard => "IdleGuard",
         WarningKind::AlwaysFails => "AlwaysFails",
         WarningKind::EndlessCall => "EndlessCall",
+        WarningKind::CircularWait => "CircularWait",
     }
 }
 

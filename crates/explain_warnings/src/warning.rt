@@ -10,7 +10,7 @@ ghost use Rattle.explain_warnings.specs.View.{uses_of};
 ghost use Rattle.explain_warnings.specs.Warnings as specs;
 
 use crate::mistakes::endless::own_call;
-use crate::mistakes::repeats::tree_repeats;
+use crate::mistakes::lists::tree_mistakes;
 use crate::name_use::{NameUse, NameUseKind};
 use crate::occurrences::name_uses::{function_body, is_spared, statement, tree_mentions};
 use crate::sets::calls::{called_marks, is_function};
@@ -53,6 +53,8 @@ pub enum WarningKind {
     AlwaysFails,
     /// A call by which each call of a function calls it again.
     EndlessCall,
+    /// A variable that waits for others that wait for it.
+    CircularWait,
 }
 
 /// A warning with its place: a name, the beginning of an expression, or a brace.
@@ -73,8 +75,8 @@ struct NamesInUse<'a> {
 }
 
 /// Returns the warnings of a well typed script in the order of its text. `typed`: the table of its names. Those of keys
-/// that two statements write stand before the others of their list, and that of a call without end before the others of
-/// its function's block.
+/// that two statements write, and then those of cycles, stand before the others of their list, and that of a call
+/// without end before the others of its function's block.
 ///
 /// Names that begin with `_` and loop variables count as used.
 ///
@@ -99,8 +101,8 @@ pub fn warnings<A: Allocator>(
         element_read: element_read.as_slice(),
         called: called.as_slice(),
     };
-    let repeats = tree_repeats(alloc, script)?;
-    parts(alloc, typed, &uses, repeats.as_slice(), script)
+    let first = tree_mistakes(alloc, script)?;
+    parts(alloc, typed, &uses, first.as_slice(), script)
 }
 
 /// Returns the warnings at the occurrences outside of all functions that stand first, and those of the parts.
@@ -276,6 +278,7 @@ fn warning_at(uses: &NamesInUse<'_>, name_use: NameUse) -> Option<WarningKind>
         NameUseKind::KeyTwice => Some(WarningKind::KeyTwice),
         NameUseKind::IdleGuard => Some(WarningKind::IdleGuard),
         NameUseKind::AlwaysFails => Some(WarningKind::AlwaysFails),
+        NameUseKind::CircularWait => Some(WarningKind::CircularWait),
     }
 }
 

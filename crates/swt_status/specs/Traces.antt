@@ -3,6 +3,8 @@ use Rattle.std.specs.Prelude.{ℕ, List, Option, Some, None}
 use Rattle.task_code.specs.Code.{Code}
 use Rattle.swt_trace.specs.Replay.{IsFirstNoStep, IsWrongEnd}
 use Rattle.swt_trace.specs.Trace.{IsFirstBad}
+use Rattle.swt_trace.specs.declared.fault.ReplayFault.{ReplayFault}
+use Rattle.swt_trace.specs.declared.fault.ReplayFault.TheVariants as Replay
 use Rattle.swt_status.specs.declared.failure.CommandFailure.{CommandFailure}
 use Rattle.swt_status.specs.declared.failure.CommandFailure.TheVariants as Is
 
@@ -15,3 +17,10 @@ StopsAtTrace (Some bytes) code (Is.NotARun n) = IsFirstNoStep code bytes n
 StopsAtTrace (Some bytes) code (Is.WrongEnd n) = IsWrongEnd code bytes n
 StopsAtTrace (Some bytes) code Is.Memory = Unit {0}
 StopsAtTrace _ code _ = ⊥
+
+-- the fault of a replay as the failure of a command
+abbrev pub replay_failure : ReplayFault → CommandFailure
+replay_failure (Replay.BadLine n) = Is.BadLine n
+replay_failure (Replay.NotARun n) = Is.NotARun n
+replay_failure (Replay.WrongEnd n) = Is.WrongEnd n
+replay_failure Replay.Memory = Is.Memory

@@ -5,5 +5,6 @@ pub mod Parts
 pub mod Steps
 pub mod Events
 pub mod Faults
+pub mod Refusals
 pub mod Replays
 pub mod Again

@@ -1,5 +1,7 @@
 //! Errors of reading, replaying and writing traces and reports.
+use board::Board;
 use std::alloc::{AllocError, AllocFailed};
+use task_code::event::Event;
 use thiserror::Error;
 use values::sink::SinkFault;
 
@@ -75,6 +77,76 @@ impl From<TraceError> for ReplayFault {
             TraceError::BadLine(line) => ReplayFault::BadLine(line),
             TraceError::Memory => ReplayFault::Memory,
         }
+    }
+}
+
+/// A replay that was refused: the fault, the board at that point if it was kept, and the event that is not a step.
+pub struct RefusedReplay {
+    pub fault: ReplayFault,
+    pub board: Option<Board>,
+    pub event: Option<Event>,
+}
+
+// Written out, so that the owner drops the value by one call.
+impl Drop for RefusedReplay {
+    fn drop(self) {
+        let RefusedReplay {
+            fault: _,
+            board: _,
+            event: _,
+        } = self;
+    }
+}
+
+impl RefusedReplay {
+    ghost use Rattle.std.specs.Prelude.{◌≡◌, None};
+
+    /// Returns the fault, the board and the event.
+    pub fn into_parts(self) -> (ReplayFault, Option<Board>, Option<Event>)
+        ensures fault { result.0 ≡ self.fault }
+        ensures board { result.1 ≡ self.board }
+        ensures event { result.2 ≡ self.event }
+    {
+        let RefusedReplay {
+            fault,
+            board,
+            event,
+        } = self;
+        (fault, board, event)
+    }
+
+    /// Creates the refusal of a replay of which no board is left.
+    pub(crate) fn alone(fault: ReplayFault) -> RefusedReplay
+        ensures fault { result.fault ≡ fault }
+        ensures board { result.board ≡ None }
+    {
+        RefusedReplay {
+            fault,
+            board: None,
+            event: None,
+        }
+    }
+}
+
+impl From<AllocError> for RefusedReplay {
+    ghost use Rattle.std.specs.Prelude.{◌≡◌, None};
+    ghost use Rattle.swt_trace.specs.declared.fault.ReplayFault.TheVariants.{Memory};
+
+    ghost from_gives = { λ _ refused. (refused.fault ≡ Memory) × (refused.board ≡ None) };
+
+    fn from(refused: AllocError) -> RefusedReplay {
+        RefusedReplay::alone(ReplayFault::from(refused))
+    }
+}
+
+impl From<TraceError> for RefusedReplay {
+    ghost use Rattle.std.specs.Prelude.{◌≡◌, None};
+    ghost use Rattle.swt_trace.specs.Faults.{replay_fault};
+
+    ghost from_gives = { λ fault refused. (refused.fault ≡ replay_fault fault) × (refused.board ≡ None) };
+
+    fn from(fault: TraceError) -> RefusedReplay {
+        RefusedReplay::alone(ReplayFault::from(fault))
     }
 }
 

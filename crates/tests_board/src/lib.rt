@@ -4,18 +4,8 @@
 #[cfg(test)]
 mod asserts;
 #[cfg(test)]
-mod board_code_tests;
+mod instances;
 #[cfg(test)]
-mod board_data_tests;
-#[cfg(test)]
-mod board_effects_tests;
-#[cfg(test)]
-mod board_frames_tests;
-#[cfg(test)]
-mod board_items_tests;
-#[cfg(test)]
-mod board_openings_tests;
-#[cfg(test)]
-mod loop_chunks_tests;
+mod items;
 #[cfg(test)]
 mod worlds;

@@ -109,7 +109,7 @@ fn open_world(alloc: Global) -> Result<Fixture, AllocError> {
 }
 
 impl Fixture {
-    /// What the script's instance sees.
+    /// The environment of the script's instance.
     pub fn view(&self) -> Environment<'_> {
         Environment {
             program: &self.program,

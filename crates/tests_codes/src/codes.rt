@@ -14,7 +14,7 @@ use task_code::expr::{Expr, Operator};
 use values::format::{Format, FormatError};
 use values::value::Scalar;
 
-/// What prints a format without conversions.
+/// An entry that prints a format without conversions.
 fn printing(alloc: Global, format: Format) -> Act
     ensures { act_view result ≡ Print (operation (printf format) no_operand) }
 {
@@ -90,7 +90,7 @@ fn set_truth(alloc: Global, truth: bool) -> Result<Entry, AllocError>
     })
 }
 
-/// What asserts the first answer.
+/// An entry that asserts its first answer.
 fn asserting_first() -> Act
     ensures { act_view result ≡ Assert (need 0) }
 {

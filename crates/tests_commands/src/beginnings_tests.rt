@@ -10,13 +10,13 @@ const HELLO: &[u8] = b"printf(\"hello\");";
 
 const TRACE: &[u8] = b"swt-trace 1\nB 0 1\nE 0 1\nB 1 2\nE 1 2\n";
 
-/// What is printed and said of a beginning of a trace, and the status.
+/// The output, the error output and the status for a prefix of a trace.
 fn replays<R: Threads + Wait + Sync + Abort>(rt: &R, alloc: Global, trace: &[u8], wanted: &str) {
     let done = perform(rt, alloc, "replay f t", &[Some(HELLO), Some(trace)], WIDE);
     is_equal(rt, done.text(rt, alloc).as_str(), wanted);
 }
 
-/// One that ends behind a line is the trace of a run that met its limit; of another the last line is bad.
+/// A prefix that ends after a line is the trace of a run that met its limit; the last line of any other prefix is bad.
 #[test]
 fn beginnings_of_a_trace_are_answered(rt: HostRuntime) {
     is_equal(&rt, TRACE.len(), 36);

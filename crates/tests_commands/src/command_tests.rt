@@ -14,7 +14,7 @@ const TWICE: &[u8] = b"int x = 1; x = 2;";
 
 const TRACE: &[u8] = b"swt-trace 1\nB 0 1\nE 0 1\n";
 
-/// What a command printed, said and traced, and its status, in one text.
+/// The output, the error output and the trace of a command, and its status, in one text.
 fn done_in<R: Threads + Wait + Sync + Abort>(
     rt: &R,
     alloc: Global,
@@ -50,7 +50,7 @@ fn does_so<R: Threads + Wait + Sync + Abort>(
     does(rt, alloc, line, &[Some(source)], WIDE, wanted);
 }
 
-/// The same of each of these files.
+/// The result of the command for each of these files.
 fn each_does_so<R: Threads + Wait + Sync + Abort>(
     rt: &R,
     alloc: Global,
@@ -107,7 +107,7 @@ const COMPUTING: [(&[u8], &str); 4] = [
     ),
 ];
 
-/// What is asserted, and texts that are joined.
+/// Assertions, and joined texts.
 const ASSERTING: [(&[u8], &str); 5] = [
     (
         b"assert(1 == 2, \"m\");",
@@ -207,7 +207,7 @@ fn is_refused<R: Threads + Wait + Sync + Abort>(
     does_so(rt, alloc, "check f", source, wanted.as_str());
 }
 
-/// What is refused: the answer, and the script.
+/// Refused scripts: the refusal, and the script.
 const REFUSED: &str = r#"L1 BadByte 0 1 | #
 L2 BadNumber 0 2 | 01
 L3 OpenString 0 2 | "a

@@ -55,7 +55,7 @@ impl Sink for LimitedSink {
     }
 }
 
-/// What a command printed, said and traced, and its status.
+/// The output, the error output and the trace of a command, and its status.
 #[derive(Drop)]
 pub(crate) struct CommandOutput {
     pub out: Vec<u8>,
@@ -98,13 +98,13 @@ fn words_of(alloc: Global, line: &str) -> Result<Vec<Word>, AllocError> {
     Ok(words)
 }
 
-/// What the words of a line ask for.
+/// The request of a command line.
 fn request_in(alloc: Global, line: &str) -> Result<Request, LineFault> {
     let words = words_of(alloc, line)?;
     Request::read(alloc, words.as_slice())
 }
 
-/// What the words of a command ask for.
+/// The request of the words of a command.
 pub(crate) fn command_of(rt: &impl Abort, alloc: Global, line: &str) -> Box<Request> {
     let request = request_in(alloc, line).expect(rt, "a command");
     boxed(rt, alloc, request)
@@ -144,7 +144,7 @@ pub(crate) fn perform<R: Threads + Wait + Sync + Abort>(
     boxed(rt, alloc, done)
 }
 
-/// What the command of a line does with these files.
+/// The result of a command line over these files.
 fn done_by<R: Threads + Wait + Sync>(
     rt: &R,
     alloc: Global,

@@ -6,7 +6,7 @@ use std::process::Abort;
 use std::sync::Wait;
 use std::thread::Threads;
 
-/// What the trace of a run of the script does again.
+/// The result of a replay of the trace of a run of the script.
 fn replayed<R: Threads + Wait + Sync + Abort>(
     rt: &R,
     alloc: Global,
@@ -163,7 +163,7 @@ const ARRAYS: [(&[u8], &[u8], u8); 4] = [
     (b"int A[]; A[0] = size(A);", b"swt: blocked 9 /\n", 4),
 ];
 
-/// Loops up to the greatest number, in a function, and behind a fault.
+/// Loops up to the greatest number, in a function, and after a fault.
 const LOOPS: [(&[u8], &[u8], u8); 4] = [
     (
         b"foreach i in [9223372036854775806:9223372036854775807] { printf(\"%i\", i); }",
@@ -286,7 +286,7 @@ fn add_steps(text: &mut String, step: &str) -> Result<(), AllocError> {
     Ok(())
 }
 
-/// What is said of a fault at the 2,048th step of a path, by its offset with the first step, and the others.
+/// The report of a fault at the 2,048th step of a path, by its offset with the first step, and the others.
 fn too_deep_at(alloc: Global, first: &str, others: &str) -> Result<String, AllocError> {
     let mut text = format!(in alloc; "swt: fault F6 TooDeep {first}")?;
     add_steps(&mut text, others)?;
@@ -315,7 +315,7 @@ fn too_deep(rt: HostRuntime) {
     is_too_deep(&rt, rt.alloc(), script, "19 /48.0", "/23.0");
 }
 
-/// One that would hand on its caller's array leaves the array open: its size is never printed.
+/// A function that would pass its caller's array to itself leaves the array open: its size is never printed.
 #[test]
 fn an_array_that_calls_may_write_stays_open(rt: HostRuntime) {
     let script =

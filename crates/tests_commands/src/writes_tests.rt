@@ -58,7 +58,7 @@ impl Sink for FullSink {
     }
 }
 
-/// What a command prints into a sink that takes nothing behind so many bytes, what it says, and its status.
+/// The output of a command to a sink that accepts nothing after `room` bytes, its error output, and its status.
 fn idles<R: Threads + Wait + Sync>(
     rt: &R,
     alloc: Global,
@@ -83,7 +83,7 @@ fn idles<R: Threads + Wait + Sync>(
     (out.bytes, err.bytes, status)
 }
 
-/// A command that cannot print more than so many bytes, since a write takes nothing, says so.
+/// A command reports that it cannot print more than `room` bytes, where a write accepts nothing.
 fn stops_at_nothing<R: Threads + Wait + Sync + Abort>(
     rt: &R,
     alloc: Global,
@@ -99,7 +99,7 @@ fn stops_at_nothing<R: Threads + Wait + Sync + Abort>(
     is_equal(rt, (err.as_slice(), status), (CANNOT, 7));
 }
 
-/// A command that cannot print more than so many bytes, since a write fails, says so.
+/// A command reports that it cannot print more than `room` bytes, where a write fails.
 fn stops_at_a_failure<R: Threads + Wait + Sync + Abort>(
     rt: &R,
     alloc: Global,

@@ -1,4 +1,4 @@
-//! Numbers of bodies, one behind the other.
+//! Consecutive numbers of bodies.
 
 use crate::asserts::is_equal;
 use task_code::body_numbers::{behind, next, next_number};

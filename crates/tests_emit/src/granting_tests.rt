@@ -21,7 +21,7 @@ const X: Variable = Variable {
     array: false,
 };
 
-/// `x`, seen from so many blocks further in.
+/// `x`, named from `up` blocks further in.
 fn x(up: usize) -> Name {
     Name {
         up,

@@ -6,12 +6,8 @@ mod asserts;
 #[cfg(test)]
 mod body_numbers_tests;
 #[cfg(test)]
-mod emit_parts_tests;
-#[cfg(test)]
-mod flows;
-#[cfg(test)]
 mod granting_tests;
 #[cfg(test)]
 mod lists;
 #[cfg(test)]
-mod part_entries_tests;
+mod parts;

@@ -3,7 +3,7 @@ ghost use Rattle.std.specs.Prelude.{◌≡◌, ◌++◌, ◌∷◌, [], IfOk, On
 
 use std::alloc::{AllocError, Global};
 
-/// Puts one more behind the others.
+/// Appends an item.
 pub fn put<T: Drop>(all: &mut Vec<T>, last: T) -> Result<(), AllocError>
     ensures { OnOk result (all.new.items ≡ all.old.items ++ last ∷ []) }
 {

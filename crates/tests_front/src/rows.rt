@@ -18,7 +18,7 @@ fn told(alloc: Global, fault: &impl Display, place: Option<Span>) -> Result<Stri
     }
 }
 
-/// What the parser says of a text.
+/// The answer of the parser for a text.
 fn reading(alloc: Global, text: &[u8]) -> Result<String, AllocError> {
     match parse(alloc, text) {
         Ok(_script) => String::from_str(alloc, "accepted"),
@@ -26,7 +26,7 @@ fn reading(alloc: Global, text: &[u8]) -> Result<String, AllocError> {
     }
 }
 
-/// What the check of single assignment says of a script that is well typed.
+/// The answer of the single-assignment check for a well-typed script.
 fn assignments(
     alloc: Global,
     script: &Script<Global>,
@@ -38,7 +38,7 @@ fn assignments(
     }
 }
 
-/// What the first of the checks that refuses a script says of it.
+/// The answer of the first check that refuses a script.
 fn checked(alloc: Global, script: &Script<Global>) -> Result<String, AllocError> {
     match types::check(alloc, script) {
         Ok(typed) => assignments(alloc, script, &typed),
@@ -46,7 +46,7 @@ fn checked(alloc: Global, script: &Script<Global>) -> Result<String, AllocError>
     }
 }
 
-/// What the first of the parser and the checks that refuses a text says of it.
+/// The answer of the parser, or of the first check that refuses a text.
 fn judgement(alloc: Global, text: &[u8]) -> Result<String, AllocError> {
     match parse(alloc, text) {
         Ok(script) => checked(alloc, &script),
@@ -78,7 +78,7 @@ fn all_warnings(alloc: Global, text: &[u8]) -> Result<String, AllocError> {
     Ok(said)
 }
 
-/// What a row wants, and its text.
+/// The expected answer of a row, and its text.
 pub fn parts<'a>(rt: &impl Abort, row: &'a str) -> (&'a str, &'a [u8]) {
     let (wanted, text) = row.split_once(" | ").expect(rt, "a row has two parts");
     (wanted, text.as_bytes())

@@ -308,7 +308,7 @@ fn both_tell(rt: &impl Abort, store: &Store, scalar: DatumNo, array: DatumNo) {
     is_equal(rt, letter(store, array), Some(b'k'));
 }
 
-/// Neither a scalar that is given up nor a number that was never handed out tells a shape.
+/// Neither a freed scalar nor a number that was never allocated has a shape.
 fn none_tells(rt: &impl Abort, store: &mut Store, scalar: DatumNo) {
     release(store, scalar);
     is_equal(rt, letter(store, scalar), None);

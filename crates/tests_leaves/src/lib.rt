@@ -6,12 +6,8 @@ mod asserts;
 #[cfg(test)]
 mod data_store_tests;
 #[cfg(test)]
-mod offers_tests;
-#[cfg(test)]
 mod option_numbers_tests;
 #[cfg(test)]
-mod pool_tests;
+mod pools;
 #[cfg(test)]
-mod rules_tests;
-#[cfg(test)]
-mod work_queue_tests;
+mod waiting;

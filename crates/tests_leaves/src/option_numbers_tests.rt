@@ -1,4 +1,4 @@
-//! Numbers of options: one that is given, none, and what is no number between two.
+//! Numbers of options: a given one, none, and words that are not a number in the range.
 
 use crate::asserts::is_equal;
 use swt_arguments::option_number::{number, number_within};

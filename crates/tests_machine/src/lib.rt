@@ -4,20 +4,8 @@
 #[cfg(test)]
 mod asserts;
 #[cfg(test)]
-mod beginnings_tests;
+mod boards;
 #[cfg(test)]
-mod board_tests;
+mod codes;
 #[cfg(test)]
-mod board_work_tests;
-#[cfg(test)]
-mod given_back_tests;
-#[cfg(test)]
-mod packed_events_tests;
-#[cfg(test)]
-mod ref_counting_tests;
-#[cfg(test)]
-mod runs_tests;
-#[cfg(test)]
-mod swt_trace_tests;
-#[cfg(test)]
-mod task_code_tests;
+mod runs;

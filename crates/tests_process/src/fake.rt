@@ -9,7 +9,7 @@ use host::record::{
 use host::{CommandLineError, Host, HostError, Stream};
 use std::alloc::{AllocError, Global};
 
-/// A name of a file. A name that is a link has another one behind it.
+/// A name of a file. A name that is a link leads to another one.
 #[derive(Drop)]
 struct Entry {
     name: String,
@@ -17,7 +17,7 @@ struct Entry {
     target: Option<String>,
 }
 
-/// A machine in memory. It reads and writes so many bytes at once, and refuses the call that has this number.
+/// A machine in memory. It reads and writes at most `at_once` bytes at once, and refuses the call that has the number `refused`.
 #[derive(Drop)]
 pub struct FakeHost {
     alloc: Global,
@@ -167,7 +167,7 @@ impl FakeHost {
         self.calls != self.refused
     }
 
-    /// Puts a beginning of the piece behind what the output has.
+    /// Appends a prefix of the piece to the output.
     fn append(&mut self, piece: &[u8]) -> Option<usize>
         ensures within { IfSome result (λ n. n ≤ length piece.now) }
         ensures same { events_of self.new ≡ events_of self.old }

@@ -18,7 +18,7 @@ const PROCESS: u32 = 7;
 /// A script that prints 3.
 const SCRIPT: &[u8] = b"int x; int y; x = y + 1; y = 2; printf(\"%i\", x);";
 
-/// What came of a process: the status, what was printed and what was said, and the machine.
+/// The end of a process: its status, its output and error output, and the machine.
 #[derive(Drop)]
 struct ProcessResult {
     status: u8,
@@ -48,7 +48,7 @@ fn copies(alloc: Global, words: &[&str]) -> Result<Vec<String>, AllocError> {
     Ok(all)
 }
 
-/// What comes of the process that the machine has the words for.
+/// Runs the process with the words of the machine.
 fn came_of<R: Threads + Wait + Sync>(
     rt: &R,
     alloc: Global,
@@ -119,7 +119,7 @@ fn traces_over_no_script(rt: HostRuntime) -> Result<(), LineFault> {
     Ok(())
 }
 
-/// So is the file that standard output goes to.
+/// The file that standard output goes to is kept, too.
 #[test]
 fn traces_over_no_stream(rt: HostRuntime) -> Result<(), LineFault> {
     let alloc = rt.alloc();

@@ -23,13 +23,13 @@ pub(crate) fn words_of(alloc: Global, line: &str) -> Result<Vec<Word>, AllocErro
     Ok(words)
 }
 
-/// What the words of a line ask for.
+/// The request of a command line.
 fn request_in(alloc: Global, line: &str) -> Result<Request, LineFault> {
     let words = words_of(alloc, line)?;
     Request::read(alloc, words.as_slice())
 }
 
-/// What the words of a line ask for, or why they are no command.
+/// The request of a command line, or why it is not a command.
 pub(crate) fn request_of(
     rt: &impl Abort,
     alloc: Global,
@@ -38,7 +38,7 @@ pub(crate) fn request_of(
     boxed(rt, alloc, request_in(alloc, line))
 }
 
-/// What the words of a command ask for.
+/// The request of the words of a command.
 pub(crate) fn command_of(rt: &impl Abort, alloc: Global, line: &str) -> Box<Request> {
     let request = request_in(alloc, line).expect(rt, "a command");
     boxed(rt, alloc, request)
@@ -50,7 +50,7 @@ pub(crate) fn flow_of(rt: &impl Abort, alloc: Global, script: &[u8]) -> Box<Flow
     boxed(rt, alloc, flow)
 }
 
-/// What is known of a script after so many rounds at most.
+/// The knowledge of a script after at most `most` rounds.
 pub(crate) fn known_of(rt: &impl Abort, alloc: Global, script: &[u8], most: u32) -> Box<Knowledge> {
     let flow = flow_of(rt, alloc, script);
     let known = rounds(alloc, &flow, most).expect(rt, "memory");
@@ -63,13 +63,13 @@ pub(crate) fn code_of(rt: &impl Abort, alloc: Global, script: &[u8]) -> Box<Code
     boxed(rt, alloc, code)
 }
 
-/// The code with all that is worked out of it.
+/// The code with its tables.
 pub(crate) fn program_of(rt: &impl Abort, alloc: Global, code: &Code) -> Program {
     let code = code.copy().expect(rt, "memory");
     Program::new(alloc, code).expect(rt, "memory")
 }
 
-/// The report of a run of the code by these choices, with so many events at most.
+/// The report of a run of the code by these choices, with at most `limit` events.
 pub(crate) fn report_of(
     rt: &impl Abort,
     alloc: Global,

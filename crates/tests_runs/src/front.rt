@@ -29,7 +29,7 @@ use swt_library::{
     AssignFault, CompileFault, Compiled, Flow, Knowledge, ParseFault, Script, TypeFault, Typed,
 };
 
-/// So often a call is made at most.
+/// Maximum number of times that a call is made.
 const TRIES: u32 = 2;
 
 /// The most rounds of a meaning.
@@ -146,7 +146,7 @@ fn read<A: Allocator + Clone>(
     Ok(None)
 }
 
-/// What the names of a tree are.
+/// The names of a tree.
 fn typed_of<A: Allocator>(
     rt: &HostRuntime,
     machine: Global,
@@ -184,7 +184,7 @@ fn single_of<A: Allocator>(
     Ok(None)
 }
 
-/// The same tree once more.
+/// A copy of the tree.
 fn copied<A: Allocator + Clone>(
     rt: &HostRuntime,
     alloc: &A,
@@ -246,7 +246,7 @@ fn lowered<A: Allocator + Clone>(
     Ok(None)
 }
 
-/// The same with its waits merged. A refused call has let go of the flow that it was handed.
+/// The flow with its waits merged. A failed call has freed the flow that was passed to it.
 fn merged<A: Allocator + Clone>(
     rt: &HostRuntime,
     alloc: &A,
@@ -274,7 +274,7 @@ fn merged<A: Allocator + Clone>(
     Ok(None)
 }
 
-/// What a script means.
+/// The meaning of a script.
 fn known_of<A: Allocator + Clone>(
     rt: &HostRuntime,
     machine: Global,

@@ -9,16 +9,16 @@ use swt_library::runs::{new_board, report_of};
 use swt_library::scripts::CompiledScript;
 use swt_library::{Board, BoardRefusal, Kind, Report, Work};
 
-/// So often a call is made at most.
+/// Maximum number of times that a call is made.
 const TRIES: u8 = 3;
 
 /// The first worker that an item is begun on.
 const FIRST: u8 = 4;
 
 /// The most events.
-const LIMIT: u32 = 1_000_000;
+const MAX_EVENTS_OF_A_RUN: u32 = 1_000_000;
 
-/// What a board shows without taking memory.
+/// The queries of a board that allocate nothing.
 #[derive(Clone, Copy, PartialEq, Eq)]
 struct BoardReadout {
     events: usize,
@@ -51,7 +51,7 @@ pub fn try_board(rt: &HostRuntime, alloc: Global, code: &CompiledScript) -> io::
     let Some(mut board) = opened(rt, alloc, code)? else {
         return wrong(rt, "no board");
     };
-    for _ in 0..LIMIT {
+    for _ in 0..MAX_EVENTS_OF_A_RUN {
         match board.first() {
             None => break,
             Some((_, item)) => try_item(rt, &mut board, item)?,
@@ -68,7 +68,7 @@ fn opened(rt: &HostRuntime, alloc: Global, code: &CompiledScript) -> io::Result<
     for _ in 0..TRIES {
         match code.copy() {
             Err(_) => note(rt, "copy")?,
-            Ok(copy) => match new_board(alloc, copy, LIMIT) {
+            Ok(copy) => match new_board(alloc, copy, MAX_EVENTS_OF_A_RUN) {
                 Ok(board) => return Ok(Some(board)),
                 Err(_) => note(rt, "new")?,
             },

@@ -10,11 +10,11 @@ use swt_library::runs::{replay, run_one, run_threads};
 use swt_library::scripts::CompiledScript;
 use swt_library::{DirectGate, ReplayFault, Report, RunFault, write_trace};
 
-/// So often a call is made at most.
+/// Maximum number of times that a call is made.
 const TRIES: u32 = 2;
 
 /// The most events.
-const LIMIT: u32 = 1_000_000;
+const MAX_EVENTS_OF_A_RUN: u32 = 1_000_000;
 
 /// Runs code on one thread and then by the trace of that run, and prints both reports.
 pub fn try_one_thread(rt: &HostRuntime, alloc: Global, code: &CompiledScript) -> io::Result<()> {
@@ -34,7 +34,7 @@ pub fn try_one_thread(rt: &HostRuntime, alloc: Global, code: &CompiledScript) ->
 /// A run on one thread.
 fn ran(rt: &HostRuntime, alloc: Global, code: &CompiledScript) -> io::Result<Option<Report>> {
     for _ in 0..TRIES {
-        match run_one(alloc, code, &[], LIMIT) {
+        match run_one(alloc, code, &[], MAX_EVENTS_OF_A_RUN) {
             Ok(report) => return Ok(Some(report)),
             Err(_) => note(rt, "run_one")?,
         }
@@ -71,7 +71,7 @@ fn again(
     Ok(None)
 }
 
-/// Runs code on two threads and prints the report. Memory that is refused to a thread's start is told apart from other memory.
+/// Runs code on two threads and prints the report. A failed allocation of a thread's start is distinguished from other allocations.
 pub fn try_threads<R: Threads + Wait + Sync>(
     rt: &HostRuntime,
     threads: &R,
@@ -79,7 +79,7 @@ pub fn try_threads<R: Threads + Wait + Sync>(
     code: &CompiledScript,
 ) -> io::Result<()> {
     for _ in 0..TRIES {
-        match run_threads(threads, alloc, code, 1, 1, LIMIT, &DirectGate) {
+        match run_threads(threads, alloc, code, 1, 1, MAX_EVENTS_OF_A_RUN, &DirectGate) {
             Ok((report, _)) => return print_report(rt, &report),
             Err(RunFault::Memory) => note(rt, "run_threads")?,
             Err(RunFault::Spawn) => note(rt, "start of a thread")?,

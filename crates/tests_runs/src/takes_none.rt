@@ -23,7 +23,7 @@ use work_queue::queue::Queue;
 const WORKER: u8 = 4;
 
 /// The most events.
-const LIMIT: u32 = 1_000_000;
+const MAX_EVENTS_OF_A_RUN: u32 = 1_000_000;
 
 /// Makes the calls on a queue, on rules, on a pool and on a store, and on a board of the code at each of its items.
 pub fn try_calls(rt: &HostRuntime, alloc: Global, code: &CompiledScript) -> io::Result<()> {
@@ -186,13 +186,13 @@ fn try_store(rt: &HostRuntime, alloc: Global) -> io::Result<()> {
 /// A board of a copy of the code.
 fn opened(alloc: Global, code: &CompiledScript) -> Result<Board, AllocError> {
     let copy = code.copy()?;
-    new_board(alloc, copy, LIMIT)
+    new_board(alloc, copy, MAX_EVENTS_OF_A_RUN)
 }
 
 /// Moves a board until nothing is left to be done or memory is refused. Each item is given back once before it is computed.
 fn try_board(rt: &HostRuntime, board: Board) -> io::Result<()> {
     let mut board = board;
-    for _ in 0..LIMIT {
+    for _ in 0..MAX_EVENTS_OF_A_RUN {
         match board.first() {
             None => return Ok(()),
             Some((_, item)) => {

@@ -1,4 +1,4 @@
-//! What is said of the calls.
+//! Lines about the calls.
 
 use host::Stream;
 use host_system::stream::Standard;

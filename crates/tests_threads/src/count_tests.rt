@@ -1,4 +1,4 @@
-//! How many engines and workers a run may have.
+//! The numbers of engines and workers that a run may have.
 use crate::asserts::holds;
 use crate::threaded::{MANY, RunOutput, adds_up, code_of, is_cut, is_whole, run_of, tried};
 use std::alloc::Global;
@@ -34,7 +34,7 @@ fn there_are_some_of_each_and_64_of_both_at_most(rt: HostRuntime) {
     }
 }
 
-/// So many engines and workers run the script.
+/// The script runs on these numbers of engines and workers.
 fn runs_on<R: Threads + Wait + Sync + Abort>(
     rt: &R,
     alloc: Global,

@@ -36,7 +36,7 @@ fn eight_leaves_run_side_by_side(rt: HostRuntime) {
     run_side_by_side(&rt, rt.alloc(), script, 8, &gate);
 }
 
-/// Each item that came to be ready, in that loop, was offered or found no hole, and some were drawn.
+/// Each item of that loop that became ready was offered or found no hole, and some were drawn.
 fn were_offered(rt: &impl Abort, count: &PoolCount) {
     is_equal(rt, count.offered.saturating_add(count.full), 1016);
     holds(rt, count.drawn > 0);

@@ -6,10 +6,10 @@ use std::thread;
 use std::time::Duration;
 use workers::gate::{Gate, Progress};
 
-/// So many milliseconds an item is held at most. Once one was held for so long none is held any more.
+/// Maximum number of milliseconds for which an item is held. Once one was held that long, no further item is held.
 const TURNS: u32 = 10_000;
 
-/// Holds each leaf item until so many leaf items and so many control items have begun.
+/// Holds each leaf item until these numbers of leaf items and of control items have begun.
 #[derive(Drop)]
 pub(crate) struct BarrierGate<'a> {
     clock: &'a HostRuntime,

@@ -45,7 +45,7 @@ impl Sink for MemorySink {
     }
 }
 
-/// What a run reports, and what its pool counted.
+/// The report of a run, and the counts of its pool.
 pub(crate) type RunOutput = (Report, PoolCount);
 
 /// The code of a script.
@@ -54,13 +54,13 @@ pub(crate) fn code_of(rt: &impl Abort, alloc: Global, script: &[u8]) -> Box<Code
     boxed(rt, alloc, code)
 }
 
-/// The code with all that is worked out of it.
+/// The code with its tables.
 fn program_of(rt: &impl Abort, alloc: Global, code: &Code) -> Program {
     let code = code.copy().expect(rt, "memory");
     Program::new(alloc, code).expect(rt, "memory")
 }
 
-/// A run of the code on so many engines and workers, or why there is none.
+/// A run of the code on these numbers of engines and workers, or why there is none.
 pub(crate) fn tried<R: Threads + Wait + Sync + Abort, G: Gate>(
     rt: &R,
     alloc: Global,
@@ -74,7 +74,7 @@ pub(crate) fn tried<R: Threads + Wait + Sync + Abort, G: Gate>(
     boxed(rt, alloc, answer)
 }
 
-/// A run of the script on so many engines and workers.
+/// A run of the script on these numbers of engines and workers.
 pub(crate) fn run_of<R: Threads + Wait + Sync + Abort, G: Gate>(
     rt: &R,
     alloc: Global,
@@ -89,13 +89,13 @@ pub(crate) fn run_of<R: Threads + Wait + Sync + Abort, G: Gate>(
     boxed(rt, alloc, ran)
 }
 
-/// Returns true if the report's trace, run again, gives the same report.
+/// Returns true if a replay of the report's trace returns the same report.
 fn is_replayed(rt: &impl Abort, alloc: Global, report: &Report) -> bool {
     let again = again(rt, alloc, report);
     tells_same(rt, alloc, &again, report)
 }
 
-/// What the report's trace, run again, gives.
+/// The report of a replay of the report's trace.
 fn again(rt: &impl Abort, alloc: Global, report: &Report) -> Box<Report> {
     let trace = trace_of(rt, alloc, report);
     let again = replay(alloc, report.program.code(), trace.bytes.as_slice()).expect(rt, "a trace");
@@ -155,14 +155,14 @@ fn is_done(report: &Report) -> bool {
     matches!(report.end, End::Quiet) && report.blocked.is_empty()
 }
 
-/// The run is done and printed so many lines, and its trace, run again, gives the same report.
+/// The run is done and printed `lines` lines, and a replay of its trace returns the same report.
 pub(crate) fn is_whole(rt: &impl Abort, alloc: Global, report: &Report, lines: usize) {
     holds(rt, is_done(report));
     is_equal(rt, report.lines.len(), lines);
     holds(rt, is_replayed(rt, alloc, report));
 }
 
-/// The run was cut off after at most so many events, and its trace, run again, gives the same report.
+/// The run was cut off after at most `limit` events, and a replay of its trace returns the same report.
 pub(crate) fn is_cut(rt: &impl Abort, alloc: Global, report: &Report, limit: u32) {
     is_equal(rt, is_done(report), false);
     holds(rt, report.history.len() <= limit as usize);

@@ -1,11 +1,16 @@
 -- What the threads of one number counted, one thread after the other.
-use Rattle.std.proofs.Common.{◌≡◌, ◌≢◌, ◌∙◌, ap, refl, sym, ℕ, ◌+◌, ◌<◌, List, [], ◌∷◌, length, nat_eq, if◌then◌else◌, arith, inl, inr, get_or-set_other, get_or-set_same, slice_index, slice_set, sum}
+use Rattle.std.proofs.Common.{◌≡◌, ◌≢◌, ◌∙◌, ap, refl, sym, ℕ, ◌+◌, ◌<◌, List, [], ◌∷◌, length, map, nat_eq, if◌then◌else◌, arith, inl, inr, get_or-set_other, get_or-set_same, slice_index, slice_index_or, slice_set, sum}
 use Rattle.std.specs.List.{sum_by}
 use Rattle.std.proofs.lemmas.Bool.Decides.{eqb_tells}
 use Rattle.std.proofs.lemmas.Grind.{common_steps}
+use Rattle.std.proofs.lemmas.List.{length-map}
+use Rattle.std.proofs.lemmas.List.Elements.{All-map}
+use Rattle.std.proofs.lemmas.List.Folds.{fold-map}
 use Rattle.std.proofs.lemmas.List.Sums.{sum_by-cons, sum_by-set}
 use Rattle.task_code.specs.Code.{Control, Kind, Leaf}
-use Rattle.workers.specs.Threads.{MayRun}
+use Rattle.values.specs.Limits.{max_threads}
+use Rattle.workers.specs.Reports.{AreCounted, OwnCount}
+use Rattle.workers.specs.Threads.{IsRunWorker, MayRun}
 
 its_own : (v w t : ℕ) → v ≡ w → (if nat_eq v w then t else 0) ≡ t
 its_own v w t same = grind (arith, common_steps)
@@ -51,3 +56,15 @@ sum_set ts v t within = let e = sum_by-set (λ (x : ℕ). x) ts v (slice_index t
 pub theirs : (e k w : ℕ) (kind : Kind) → MayRun e k w kind → w < e + k
 theirs e k w Control p = let a = p.engine refl in omega (arith, a)
 theirs e k w Leaf p = let a = p.worker refl in omega (arith, a.1)
+
+-- what each of them counted under its number, where the tallies are the sums
+pub own_counts : {H : Type 0} (number count : H → ℕ) (e k n : ℕ) (tallies : List ℕ) (items : List H) → length items ≡ n → ((h : H) → IsRunWorker e k (number h))
+    → ((w : ℕ) → w < max_threads → slice_index tallies w ≡ sum_by (λ h. if nat_eq (number h) w then count h else 0) items) → AreCounted e k n tallies
+own_counts {H} number count e k n tallies items len theirs each =
+    let counted : H → OwnCount = λ h. record { worker = number h; events = count h } in
+    record {
+      counts = map counted items;
+      states = length-map items counted ∙ len;
+      theirs = All-map (λ (o : OwnCount). IsRunWorker e k o.worker) counted items (λ i d lt. theirs (slice_index_or items i d));
+      each = λ w lt. each w lt ∙ sym (fold-map (λ (a : ℕ) (o : OwnCount). a + (if nat_eq o.worker w then o.events else 0)) counted 0 items);
+    }

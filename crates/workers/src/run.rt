@@ -5,7 +5,8 @@ ghost use Rattle.pool.specs.Seats.{view, seat_pool, pool_id, seats_of, IsSeatOf}
 ghost use Rattle.pool.specs.Views.{beginner};
 ghost use Rattle.task_code.specs.System.{code_system};
 ghost use Rattle.board_runs.specs.Report.{Reports, Tells};
-ghost use Rattle.workers.specs.Reports.{IsReport};
+ghost use Rattle.board_runs.specs.Stopped.{IsStopped};
+ghost use Rattle.workers.specs.Reports.{AreCounted, IsReport};
 ghost use Rattle.values.specs.Limits.{max_threads};
 
 use crate::audited_board::{AuditedBoard, StopReason};
@@ -19,7 +20,8 @@ use crate::totals::RunTotals;
 use crate::worker_state::{DrainedWorker, WorkerState};
 use board::board::Board;
 use board_program::program::Program;
-use board_runs::report::{Report, last_report};
+use board_runs::report::Report;
+use board_runs::stopped::{StoppedRun, stopped_run};
 use pool::{Pool, PoolSeat};
 use std::alloc::{AllocError, Global};
 use std::marker::Brand;
@@ -169,7 +171,7 @@ fn tallies_match(reported: &[u32; MAX_THREADS], tallies: &[u64; MAX_THREADS]) ->
     true
 }
 
-/// Creates the report of a board on which no event is left to happen.
+/// Creates the report of a board on which no event is left to happen. The board is kept if that is wanted.
 ///
 /// # Errors
 ///
@@ -180,9 +182,11 @@ fn report(
     board: Board,
     stop: Option<StopReason>,
     lost: u64,
-) -> Result<Report, RunFault>
+    keeps: bool,
+) -> Result<StoppedRun, RunFault>
     ensures stopped { IfOk result (λ r. stop ≡ None) }
-    ensures tells { IfOk result (Tells board) }
+    ensures tells { IfOk result (λ r. Tells board r.report) }
+    ensures kept { IfOk result (IsStopped keeps) }
     ensures none_lost { IfOk result (λ r. lost ≡ 0) }
     ensures fault { IfErr result (λ e. e ≢ RunFault.BadCount) }
 {
@@ -198,7 +202,7 @@ fn report(
     if lost > 0 {
         return Err(RunFault::Memory);
     }
-    Ok(last_report(alloc, board)?)
+    Ok(stopped_run(alloc, board, keeps)?)
 }
 
 /// Checks that the tallies of a report equal those that the workers counted, and returns the report.
@@ -206,14 +210,14 @@ fn report(
 /// # Errors
 ///
 /// Returns `Stranger` if they differ.
-fn check_tallies(report: Report, tallies: &[u64; MAX_THREADS]) -> Result<Report, RunFault>
-    ensures same { IfOk result (λ r. r ≡ report) }
-    ensures counted { OnOk result (report.tallies ≡ tallies.now) }
-    ensures differs { OnErr result (report.tallies ≢ tallies.now) }
+fn check_tallies(run: StoppedRun, tallies: &[u64; MAX_THREADS]) -> Result<StoppedRun, RunFault>
+    ensures same { IfOk result (λ r. r ≡ run) }
+    ensures counted { OnOk result (run.report.tallies ≡ tallies.now) }
+    ensures differs { OnErr result (run.report.tallies ≢ tallies.now) }
     ensures fault { IfErr result (λ e. e ≡ RunFault.Stranger) }
 {
-    if tallies_match(&report.tallies, tallies) {
-        Ok(report)
+    if tallies_match(&run.report.tallies, tallies) {
+        Ok(run)
     } else {
         Err(RunFault::Stranger)
     }
@@ -262,12 +266,15 @@ fn finish_run<J: RunParams, E: Ledger, N: Ledger>(
     pool: Pool,
     audited_board: AuditedBoard<J, E, N>,
     totals: RunTotals<J, E, N>,
-) -> Result<(Report, PoolCount), RunFault>
+    keeps: bool,
+) -> Result<(StoppedRun, PoolCount), RunFault>
     requires pool { pool_id pool ≡ J.pool }
     requires seats { seats_of pool ≡ vec_len totals.seats }
     requires parts { (E.parts ≡ vec_len totals.seats) × (N.parts ≡ vec_len totals.seats) }
-    ensures report { IfOk result (λ r. IsReport J.code J.limit J.engines J.workers r.0 r.1) }
-    ensures own { IfOk result (λ r. r.0.tallies ≡ totals.tallies) }
+    requires counted { AreCounted J.engines J.workers (J.engines + J.workers) totals.tallies }
+    ensures report { IfOk result (λ r. IsReport J.code J.limit J.engines J.workers r.0.report r.1) }
+    ensures kept { IfOk result (λ r. IsStopped keeps r.0) }
+    ensures own { IfOk result (λ r. r.0.report.tallies ≡ totals.tallies) }
     ensures counts { IfOk result (λ r. (r.1.offered ≡ totals.offered) × (r.1.full ≡ totals.full) × (r.1.drawn ≡ sum totals.draws.items)) }
     ensures fault { IfErr result (λ e. e ≢ RunFault.BadCount) }
 {
@@ -284,10 +291,10 @@ fn finish_run<J: RunParams, E: Ledger, N: Ledger>(
     } = totals;
     let (board, stop) = audited_board.close(&mut events, &mut enabled);
     let rest = pool.close(seats);
-    let report = report(alloc, board, stop, lost)?;
-    let report = check_tallies(report, &tallies)?;
+    let run = report(alloc, board, stop, lost, keeps)?;
+    let run = check_tallies(run, &tallies)?;
     let count = pool_count(offered, full, draws.as_slice(), &rest.holes);
-    Ok((report, count))
+    Ok((run, count))
 }
 
 /// Runs a team of `count` threads until the run is over, and merges what the workers counted.
@@ -314,6 +321,7 @@ fn run_and_collect<
     requires shares { (events.parts ≡ 0) × (enabled.parts ≡ 0) × (events.amount ≡ 0) × (enabled.amount ≡ 0) }
     requires pool { pool_id pool.now ≡ J.pool }
     ensures seats { IfOk result (λ s. vec_len s.seats ≡ count) }
+    ensures own { IfOk result (λ s. AreCounted J.engines J.workers count s.tallies) }
     ensures fault { IfErr result (λ e. e ≢ RunFault.BadCount) }
 {
     let signal = WakeSignal::new();
@@ -351,7 +359,8 @@ fn run<
     engines: u8,
     count: usize,
     gate: &G,
-) -> Result<(Report, PoolCount), RunFault>
+    keeps: bool,
+) -> Result<(StoppedRun, PoolCount), RunFault>
     requires count { (count ≤ max_threads) × (engines ≡ J.engines) × (count ≡ J.engines + J.workers) × (vec_len seats ≡ count) × (seats_of pool ≡ count) }
     requires ledgers { (events.name ≡ E.name) × (events.parts ≡ E.parts) × (enabled.name ≡ N.name) × (enabled.parts ≡ N.parts) }
     requires parts { (events.parts ≡ count) × (enabled.parts ≡ count) }
@@ -359,7 +368,8 @@ fn run<
     requires seats { All (λ s. IsSeatOf pool s × (view s ≡ beginner 1)) seats.items }
     requires opened { opened.seen.book ≡ J.book }
     requires board { (board.code ≡ J.code) × (board.limit ≡ J.limit) × (board.history ≡ []) × (board.state ≡ start (code_system board.code)) }
-    ensures report { IfOk result (λ r. IsReport J.code J.limit J.engines J.workers r.0 r.1) }
+    ensures report { IfOk result (λ r. IsReport J.code J.limit J.engines J.workers r.0.report r.1) }
+    ensures kept { IfOk result (λ r. IsStopped keeps r.0) }
     ensures fault { IfErr result (λ e. e ≢ RunFault.BadCount) }
 {
     let (event_ledger, mut all_events) = events.open::<E>();
@@ -391,20 +401,15 @@ fn run<
         gate,
     )?;
     let Scheduler { audited_board, .. } = shared.into_inner();
-    finish_run(alloc, pool, audited_board, totals)
+    finish_run(alloc, pool, audited_board, totals, keeps)
 }
 
-/// Runs a program on threads, and returns its report with the pool counts.
-///
-/// Engines have the numbers from 0 on and run control items; workers follow and run leaf items. At most `limit` events
-/// happen. The gate computes each item outside the lock. Blocks until all threads have ended.
+/// Runs a program on threads, and returns its report with the pool counts. See `run_threads_to_stop`, which can keep the
+/// board.
 ///
 /// # Errors
 ///
-/// Returns `BadCount` if and only if there is no engine or no worker, or more than `MAX_THREADS` in total. Returns `Spawn` if a
-/// thread could not be started; the other threads then stop. Returns `Stranger` if the counts of the threads differ
-/// from those of the board. Returns `Memory` if an allocation fails: the worker returns its item to the board, and the
-/// run stops.
+/// Returns the errors of `run_threads_to_stop`.
 pub fn run_threads<R: Threads + Wait + Sync, G: Gate>(
     rt: &R,
     alloc: Global,
@@ -416,6 +421,39 @@ pub fn run_threads<R: Threads + Wait + Sync, G: Gate>(
 ) -> Result<(Report, PoolCount), RunFault>
     ensures report { IfOk result (λ r. IsReport program.now limit engines workers r.0 r.1) }
     ensures reports { IfOk result (λ r. Reports program.now limit r.0) }
+    ensures count { (result ≡ Err RunFault.BadCount) ↔ ((engines ≡ 0) ⊎ ((workers ≡ 0) ⊎ (max_threads < engines + workers))) }
+{
+    match run_threads_to_stop(rt, alloc, program, engines, workers, limit, gate, false) {
+        Ok((run, count)) => Ok((run.into_report(), count)),
+        Err(fault) => Err(fault),
+    }
+}
+
+/// Runs a program on threads, and returns its report with the pool counts, and the board on which it ended if that is
+/// wanted.
+///
+/// Engines have the numbers from 0 on and run control items; workers follow and run leaf items. At most `limit` events
+/// happen. The gate computes each item outside the lock. Blocks until all threads have ended.
+///
+/// # Errors
+///
+/// Returns `BadCount` if and only if there is no engine or no worker, or more than `MAX_THREADS` in total. Returns `Spawn` if a
+/// thread could not be started; the other threads then stop. Returns `Stranger` if the counts of the threads differ
+/// from those of the board. Returns `Memory` if an allocation fails: the worker returns its item to the board, and the
+/// run stops.
+pub fn run_threads_to_stop<R: Threads + Wait + Sync, G: Gate>(
+    rt: &R,
+    alloc: Global,
+    program: &Program,
+    engines: u8,
+    workers: u8,
+    limit: u32,
+    gate: &G,
+    keeps: bool,
+) -> Result<(StoppedRun, PoolCount), RunFault>
+    ensures report { IfOk result (λ r. IsReport program.now limit engines workers r.0.report r.1) }
+    ensures reports { IfOk result (λ r. Reports program.now limit r.0.report) }
+    ensures kept { IfOk result (λ r. IsStopped keeps r.0) }
     ensures count { (result ≡ Err RunFault.BadCount) ↔ ((engines ≡ 0) ⊎ ((workers ≡ 0) ⊎ (max_threads < engines + workers))) }
 {
     let count = engines as usize + workers as usize;
@@ -439,5 +477,6 @@ pub fn run_threads<R: Threads + Wait + Sync, G: Gate>(
         engines,
         count,
         gate,
+        keeps,
     )
 }

@@ -6,8 +6,8 @@ ghost use Rattle.explain_warnings.specs.Mentions as specs;
 
 use crate::mistakes::failures::never_holds;
 use crate::mistakes::forms::{always_holds, below_one, is_empty, is_extra_line};
+use crate::mistakes::lists::list_mistakes;
 use crate::mistakes::needs::right_needs;
-use crate::mistakes::repeats::list_repeats;
 use crate::name_use::{NameUse, NameUseKind};
 use crate::occurrences::reads::{add, add_all, at_expression, note, read, read_call, read_right};
 use lexer::token::Span;
@@ -53,7 +53,7 @@ pub fn function_body<A: Allocator>(
 ) -> Result<(), AllocError>
     ensures { OnOk result (name_uses.new.items ≡ name_uses.old.items ++ specs.function_mentions (body_view body.now)) }
 {
-    list_repeats(alloc, &body.statements, name_uses)?;
+    list_mistakes(alloc, &body.statements, name_uses)?;
     each(alloc, &body.statements, name_uses)
 }
 
@@ -326,8 +326,7 @@ fn command<A: Allocator>(
     }
 }
 
-/// Appends an occurrence for a block without statements, at its brace, and those of keys that two of its statements
-/// write.
+/// Appends an occurrence for a block without statements, at its brace, and the mistakes of its statements as a whole.
 fn block_mistakes<A: Allocator>(
     alloc: Global,
     body: &Block<A>,
@@ -346,7 +345,7 @@ fn block_mistakes<A: Allocator>(
         at: brace,
     };
     note(body.statements.is_empty(), name_use, name_uses)?;
-    list_repeats(alloc, &body.statements, name_uses)
+    list_mistakes(alloc, &body.statements, name_uses)
 }
 
 /// Appends the occurrences in a block.

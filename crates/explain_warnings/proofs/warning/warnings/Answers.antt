@@ -13,7 +13,7 @@ returns g c =
     IfOk-weaker c.parts.result _ _
     (λ found said. said ∙ ap (λ ms. warnings_at (uses_by (is_marked c.as_slice-4.result.now) (is_marked c.as_slice-5.result.now) (is_marked c.as_slice-6.result.now) (is_marked c.as_slice-7.result.now)) ms
     ++ parts_warnings (table_of c.args.typed.now) (uses_by (is_marked c.as_slice-4.result.now) (is_marked c.as_slice-5.result.now) (is_marked c.as_slice-6.result.now) (is_marked c.as_slice-7.result.now)) 0
-    (tree_of {A = g.row.A.Denot} c.args.script.now)) (c.as_slice-8.ensures.value ∙ c.in_ok-repeats.ensures)
+    (tree_of {A = g.row.A.Denot} c.args.script.now)) (c.as_slice-8.ensures.value ∙ c.in_ok-first.ensures)
     ∙ warned_by (table_of c.args.typed.now) (tree_of {A = g.row.A.Denot} c.args.script.now)
     (is_marked c.as_slice-4.result.now) (is_marked c.as_slice-5.result.now) (is_marked c.as_slice-6.result.now) (is_marked c.as_slice-7.result.now)
     (λ k. ap (λ marks. is_marked marks k) c.as_slice-4.ensures.value ∙ c.in_ok-read.ensures k

@@ -3,6 +3,7 @@ use Rattle.std.proofs.Math.Seq.{take-length}
 use Rattle.task_code.specs.declared.event.Event.{Event}
 use Rattle.task_code.specs.declared.event.Event.TheVariants.{Begin}
 use Rattle.task_code.specs.View.{event_view}
+use Rattle.swt_trace.proofs.Refusals.{left_at}
 use Rattle.swt_trace.proofs.Replays.{by_worker, no_step_at}
 use Rattle.swt_trace.proofs.replay.take_all.Goals as goal
 
@@ -17,6 +18,12 @@ returns-then-not-branch-clause-no_step c = λ n e bytes ending trace.
     no_step_at c.args.board.now.code bytes items items c.loop-place.place n (Begin 0 0) c.loop-place.board c.take_step.new.board c.in_ok-take_step.field-0
     ending trace refl c.loop-place-test.true c.loop-place.invariant.code c.loop-place.invariant.history
     c.in_ok-take_step.ensures refused c.history-replays.ensures.replays e
+
+pub returns-then-not-branch-clause-left : goal.returns-then-not-branch-clause-left
+returns-then-not-branch-clause-left c = λ n e.
+    let refused : c.in_ok-take_step.field-0 ≡ false = search rules in
+    left_at c.args.board.now.code c.args.events.now c.loop-place.place (Begin 0 0) c.loop-place.board c.take_step.new.board c.in_ok-take_step.field-0
+    c.loop-place.invariant.code c.loop-place.invariant.history c.in_ok-take_step.ensures refused
 
 pub returns-clause-history : goal.returns-clause-history
 returns-clause-history c =

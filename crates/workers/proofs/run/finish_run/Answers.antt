@@ -1,5 +1,6 @@
-use Rattle.std.proofs.Common.{rules, arith, ◌≡◌, ◌∙◌, ◌+◌, subst, None, ℕ}
+use Rattle.std.proofs.Common.{rules, arith, ◌≡◌, ◌∙◌, ◌+◌, List, subst, sym, None, ℕ}
 use Rattle.board_runs.specs.Report.{Tells}
+use Rattle.workers.specs.Reports.{AreCounted}
 use Rattle.workers.specs.Threads.{RunsTo}
 use Rattle.workers.proofs.SharedFacts.{is_run, newly_told}
 use Rattle.workers.proofs.run.finish_run.Goals as goal
@@ -17,7 +18,8 @@ returns-clause-report g c =
     let p = c.pool_count-count.result in
     let count : s.enabled.amount ≡ p.offered + p.full = omega (arith, s.enabled_total, none_lost, offers.0, offers.1) in
     let run : RunsTo C e k b.history (p.offered + p.full) b.state = subst (λ (n : ℕ). RunsTo C e k b.history n b.state) count c.close-board.ensures.run in
-    let tells : Tells b c.in_ok-report-2.report = search rules in
+    let tells : Tells b c.in_ok-run-2.run'.report = search rules in
+    let own : c.in_ok-run-2.run'.report.tallies ≡ s.tallies = search rules in
     record {
       board = b;
       code = c.close-board.ensures.code.0;
@@ -29,6 +31,7 @@ returns-clause-report g c =
       no_back = c.close-board.ensures.no_back stopped;
       tells = tells;
       tallies = tells.tallies.each;
+      own = subst (λ (ts : List ℕ). AreCounted e k (e + k) ts) (sym own) c.requires.counted;
       drawn = offers.0 ∙ c.pool_count-count.ensures.drawn;
       few_left = c.pool_count-count.ensures.few;
     }

@@ -1,4 +1,4 @@
-use Rattle.std.proofs.Common.{rules, map}
+use Rattle.std.proofs.Common.{map}
 use Rattle.task_code.specs.View.{event_view}
 use Rattle.board.proofs.Storing.{exact_here, so_many}
 use Rattle.board.proofs.board.Board.stored.Goals as goal

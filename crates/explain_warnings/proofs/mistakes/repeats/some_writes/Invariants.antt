@@ -1,4 +1,4 @@
-use Rattle.std.proofs.Common.{◌≡◌, map, drop}
+use Rattle.std.proofs.Common.{◌≡◌, drop}
 use Rattle.syntax_trees.specs.View.{form_view}
 use Rattle.explain_warnings.specs.Repeats.{some_writes}
 use Rattle.explain_warnings.specs.View.{statements_in}

@@ -1,0 +1,4 @@
+//! Tests of the pool of ready items.
+
+mod offers_tests;
+mod pool_tests;
